@@ -1,0 +1,8 @@
+//! Problems, certificates of their least costs, and the check of a certificate.
+#![tactic(auto)]
+
+mod certificate;
+mod problem;
+
+pub use certificate::{Certificate, Fault};
+pub use problem::{BundleFault, Chain};
