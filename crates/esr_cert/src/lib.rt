@@ -2,7 +2,9 @@
 #![tactic(auto)]
 
 mod certificate;
+mod network;
 mod problem;
 
 pub use certificate::{Certificate, Fault};
+pub use network::Arc;
 pub use problem::{BundleFault, Chain};
