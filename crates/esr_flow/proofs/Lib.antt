@@ -1,0 +1,12 @@
+pub mod Count
+pub mod Distance
+pub mod Labels
+pub mod Phases
+pub mod FlowLaws
+pub mod SearchLaws
+pub mod ScanLaws
+pub mod PathLaws
+pub mod LabelLaws
+pub mod MaximumLaws
+pub mod WalkLaws
+pub mod PhaseLaws
