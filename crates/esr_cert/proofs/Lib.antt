@@ -1,1 +1,4 @@
 mod Worked
+pub mod Sound
+pub mod Cut
+pub mod Least
