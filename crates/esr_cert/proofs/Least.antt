@@ -273,6 +273,7 @@ module _ (p : Problem) (ok : IsProblem p) where
         )
 
     -- weak duality
-    pub worth_le_cost : (flow : List ℕ) → IsFlow (network p) flow → IsClosed p has → worth (network p) flow ≤ cost p has
-    worth_le_cost flow f c =
+    pub worth_le_cost : (flow : List ℕ) → IsFlow (network p) flow → is_closed p has ≡ true → worth (network p) flow ≤ cost p has
+    worth_le_cost flow f closed =
+        let c : IsClosed p has = closed_facts p has closed in
         omega (arith, cost_across c, weak (network p) is_network flow f nodes (with_the_source count has) (without_sink count has) (limited c))
