@@ -8,17 +8,11 @@ use Rattle.esr_flow.specs.declared.step.Step.TheVariants.{Along, Against}
 use Rattle.esr_flow.specs.Residual.{Falls, left_of, arc_of, start, finish, room, IsPath, shift, raise}
 use Rattle.esr_cert.specs.Flow.{within, amount_at, carried, inflow, outflow, IsFlow, worth}
 use Rattle.esr_cert.specs.Network.{arc_at, Network, IsNetwork}
+use Rattle.esr_cert.proofs.Cut.{pick, pick_add, pick_zero, nothing_into_source}
 use Rattle.esr_flow.specs.Augmentation.{Augments, Takes}
 use Rattle.esr_flow.proofs.Labels.{Levels, Rooms, rooms_kept, above_step, untouched, shift_other, length-shift, levels_from}
 use Rattle.esr_flow.proofs.Distance.{distance, distance_sink, distance_falls, distance_limit}
 use Rattle.esr_flow.proofs.Phases.{rooms_from, bottle_from, amount_pos, length-raise}
-
-abbrev pub pick : Bool → ℕ → ℕ
-pick b x = cond b x 0
-
-pub pick_add : (b : Bool) (x y : ℕ) → pick b (x + y) ≡ pick b x + pick b y
-pick_add true x y = refl
-pick_add false x y = omega arith
 
 carried_set : (p : Arc → Bool) (arcs : List Arc) (flow : List ℕ) (i y : ℕ) → length flow ≡ length arcs → i < length arcs → carried p arcs (set flow i y) + pick (p (arc_at arcs i)) (amount_at flow i) ≡ carried p arcs flow + pick (p (arc_at arcs i)) y
 carried_set p [] flow i y e l = absurd (omega arith)
@@ -114,15 +108,6 @@ linked_from : (arcs : List Arc) (flow : List ℕ) (path : List Step) (a b : ℕ)
 linked_from arcs flow [] a b h = h
 linked_from arcs flow (s ∷ path) a b h = (h.0, linked_from arcs flow path (finish arcs s) b h.2)
 
-carried_none_lem : (p : Arc → Bool) (arcs : List Arc) (flow : List ℕ) → ((i : ℕ) → i < length arcs → p (arc_at arcs i) ≡ false) → carried p arcs flow ≡ 0
-carried_none_lem p [] flow h = refl
-carried_none_lem p (a ∷ arcs) [] h = refl
-carried_none_lem p (a ∷ arcs) (x ∷ flow) h =
-    omega (arith, ap (λ b. pick b x) (h 0 (omega arith)), carried_none_lem p arcs flow (λ i l. h (suc i) (omega arith)))
-
-pub nothing_into_source : (net : Network) → IsNetwork net → (flow : List ℕ) → inflow net.arcs flow net.source ≡ 0
-nothing_into_source net ok flow = carried_none_lem (λ arc. eqb arc.to net.source) net.arcs flow (λ i l. ne_eqb _ _ (ok.no_way_back i l))
-
 -- what an augmentation leaves
 pub record After (net : Network) (flow after : List ℕ) (x : ℕ) : Type 0 where
   pub is_flow : IsFlow net after
@@ -164,10 +149,6 @@ augmented net ok flow after f a =
       positive = amount_pos net.arcs flow a.amount a.path net.source net.sink a.is_path (bottle_from net.arcs flow a.amount a.path a.is_least);
       at_most = λ i. raise_at_most p.0 net.arcs flow a.amount a.path (p.0 net.source) i p.4;
     })
-
-pub pick_zero : (b : Bool) → pick b 0 ≡ 0
-pick_zero true = refl
-pick_zero false = refl
 
 zero_within : (o : Option ℕ) → within 0 o ≡ true
 zero_within None = refl

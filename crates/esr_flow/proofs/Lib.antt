@@ -3,6 +3,9 @@ pub mod Distance
 pub mod Labels
 pub mod Phases
 pub mod FlowLaws
+pub mod Keeps
+pub mod Smallest
+pub mod SolveLaws
 pub mod SearchLaws
 pub mod ScanLaws
 pub mod PathLaws
