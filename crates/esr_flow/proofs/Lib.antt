@@ -13,3 +13,7 @@ pub mod LabelLaws
 pub mod MaximumLaws
 pub mod WalkLaws
 pub mod PhaseLaws
+pub mod StepsLaws
+pub mod BuildLaws
+pub mod RowsLaws
+pub mod ArcsLaws

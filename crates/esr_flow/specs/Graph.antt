@@ -1,5 +1,6 @@
 -- A network with the steps that start at each node, which lie together.
-use Rattle.std.specs.Prelude.{◌≡◌, ℕ, ◌-◌, ◌<◌, ◌≤◌, ◌||◌, ◌==◌, Bool, true, false, List, [], ◌∷◌, length, get_or, take, drop, Contains}
+use Rattle.std.specs.Prelude.{◌≡◌, ℕ, ◌-◌, ◌<◌, ◌≤◌, ◌||◌, ◌==◌, Bool, true, false, List, [], ◌∷◌, length, get_or, take, drop, map, Contains, Vec}
+use Rattle.std.specs.declared.alloc.Global.{Global}
 use Rattle.esr_cert.specs.declared.network.Arc.{Arc}
 use Rattle.esr_cert.specs.Network.{Network, IsNetwork}
 use Rattle.esr_flow.specs.declared.step.Step.{Step}
@@ -61,3 +62,10 @@ pub record HasSteps (arcs : List Arc) (v : ℕ) (steps : List Step) : Type 0 whe
 
 abbrev pub entry_of : List Arc → Step → Entry
 entry_of arcs step = record { to = finish arcs step; step = step }
+
+-- the entries of the first n rows of steps, one row after another, with their spans
+pub record IsLaid (arcs : List Arc) (steps : List (Vec Step Global)) (n : ℕ) (spans : List Span) (entries : List Entry) : Type 0 where
+  pub count : length spans ≡ n
+  pub ordered : (v : ℕ) → v < n → (span_at spans v).begin ≤ (span_at spans v).end
+  pub inside : (v : ℕ) → v < n → (span_at spans v).end ≤ length entries
+  pub rows : (v : ℕ) (row : Vec Step Global) → v < n → get_or steps v row ≡ row → row_in entries (span_at spans v) ≡ map (entry_of arcs) row.items

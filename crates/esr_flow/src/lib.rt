@@ -1,8 +1,15 @@
 //! Greatest flows by shortest augmenting paths, and the problems of queries solved by them.
 #![tactic(auto)]
 
+mod arcs;
 mod graph;
 mod maximum;
+mod network;
+mod rows;
 mod search;
+mod solve;
 mod step;
 mod walk;
+
+pub use network::Network;
+pub use solve::{Solved, solve};
