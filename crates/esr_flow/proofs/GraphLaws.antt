@@ -1,5 +1,5 @@
 -- The graph of a problem.
-use Rattle.std.proofs.Common.{◌≡◌, ℕ, ◌+◌, ◌<◌, List, length, get_or, Vec, Global, sym, ap, ◌∙◌, subst, arith, Some}
+use Rattle.std.proofs.Common.{zero, suc, refl, [], ◌∷◌, ◌≡◌, ℕ, ◌+◌, ◌<◌, List, length, get_or, Vec, Global, sym, ap, ◌∙◌, subst, arith, Some}
 use Rattle.std.proofs.lemmas.List.{get_or_default}
 use Rattle.esr_cert.specs.declared.network.Arc.{Arc}
 use Rattle.esr_cert.specs.Problem.{Problem, size}
@@ -27,6 +27,11 @@ net_is p g a b c d =
     let by_sink : ℕ → Network = λ n. record { nodes = size p + 2; arcs = (network p).arcs; source = size p; sink = n } in
     ap by_nodes a ∙ ap by_arcs b ∙ ap by_source c ∙ ap by_sink d
 
+element : {X : Type 0} (xs : List X) (v : ℕ) → v < length xs → (x : X) × (get_or xs v x ≡ x)
+element [] v l = absurd (omega arith)
+element (x ∷ xs) zero l = (x, refl)
+element (x ∷ xs) (suc v) l = element xs v (omega arith)
+
 pub graph_is : (p : Problem) → IsProblem p → (g : Graph) → net_of g ≡ network p → (steps : List (Vec Step Global)) → length steps ≡ g.nodes
     → ((v : ℕ) (row : Vec Step Global) → v < g.nodes → get_or steps v row ≡ row → HasSteps g.arcs.items v row.items)
     → IsLaid g.arcs.items steps (length steps) g.spans.items g.entries.items → IsGraph g
@@ -36,7 +41,7 @@ graph_is p ok g e steps count has laid = record {
   ordered = λ v l. laid.ordered v (omega (arith, count));
   inside = λ v l. laid.inside v (omega (arith, count));
   lists = λ v l.
-      let row : Vec Step Global = get_or steps v (get_or steps 0 (any l)) in
-      lists_of v l;
+      let r : (row : Vec Step Global) × (get_or steps v row ≡ row) = element steps v (omega (arith, count)) in
+      subst (Lists g.arcs.items v) (sym (laid.rows v r.0 (omega (arith, count)) r.1)) (lists_from g.arcs.items v (r.0).items (has v r.0 l r.1));
   sink_is_node = omega (arith, ap (λ n. n.sink) e, ap (λ n. n.nodes) e);
 }

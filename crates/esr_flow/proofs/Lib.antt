@@ -17,3 +17,5 @@ pub mod StepsLaws
 pub mod BuildLaws
 pub mod RowsLaws
 pub mod ArcsLaws
+pub mod GraphLaws
+pub mod CertificateLaws

@@ -7,9 +7,9 @@ mod maximum;
 mod network;
 mod rows;
 mod search;
-mod solve;
+mod solver;
 mod step;
 mod walk;
 
 pub use network::Network;
-pub use solve::{Solved, solve};
+pub use solver::{Solved, solve};

@@ -1,5 +1,6 @@
 //! The network of a problem, ready to be solved.
-ghost use Rattle.std.specs.Prelude.{◌≡◌, ◌+◌, ◌<◌, IfOk};
+ghost use Rattle.std.specs.Prelude.{◌≡◌, ◌+◌, ◌<◌, true, IfOk};
+ghost use Rattle.esr_cert.specs.Problem.{is_sound};
 ghost use Rattle.esr_cert.specs.Network as networks;
 ghost use Rattle.esr_flow.specs.Graph.{net_of, IsGraph};
 
@@ -44,6 +45,7 @@ fn graph_of(alloc: Global, problem: &Problem) -> Result<Graph, AllocError>
 pub struct Network<'a> {
     pub problem: &'a Problem,
     pub(crate) graph: Graph,
+    ghost sound: { is_sound problem.now ≡ true },
     ghost kept: { IsGraph graph },
     ghost same: { net_of graph ≡ networks.network problem.now },
 }
@@ -54,6 +56,7 @@ impl<'a> Network<'a> {
         ensures { IfOk result (λ n. n.problem.now ≡ problem.now) }
     {
         let graph = graph_of(alloc, problem)?;
+        let _sound = problem.updates();
         Ok(Network { problem, graph })
     }
 }
