@@ -3,6 +3,7 @@ use Rattle.std.proofs.Common.{◌≡◌, ℕ, zero, suc, ◌+◌, ◌<◌, ◌�
 use Rattle.std.specs.List.{list_all, list_any, filter}
 use Rattle.std.proofs.lemmas.Bool.{and_parts, and_from, or_cases, or_left, or_right, not_from_false, not-true, ltb-true, leb-true, eqb-true, ne_eqb}
 use Rattle.esr_cert.specs.Problem.{Chain, Problem, size, in_set, is_closed, is_ascending, are_pairs_ascending, has_pair, are_linked, is_distinct, chain_has_shape, has_shape, max_txn, max_item, greatest, max_cost, chain_is_in_range, is_in_range, is_sound}
+use Rattle.esr_cert.proofs.Distinct.{distinct_few}
 
 pub here : {X : Type 0} → (x : X) (xs : List X) → Contains (x ∷ xs) x
 here x xs = (0, omega arith, refl)
@@ -144,3 +145,9 @@ facts p h =
       chains = λ chain k. chain_facts p chain (all_in (chain_has_shape p.before) p.chains chain s.chains k) (all_in (chain_is_in_range (size p)) p.chains chain r.chains k);
       small = leb-true _ _ r.costs;
     }
+
+-- positions fit 16 bits
+pub few : (p : Problem) → is_sound p ≡ true → size p ≤ 65535
+few p h =
+    let both : (has_shape p ≡ true) × (is_in_range p ≡ true) = and_parts _ _ h in
+    distinct_few max_txn p.updates (shape_facts p both.0).distinct (range_facts p both.1).numbers
