@@ -1,5 +1,5 @@
 -- The sums at a node over the touches of a problem are those over the arcs of its network.
-use Rattle.std.proofs.Common.{Contains, ◌≡◌, ◌≢◌, ℕ, zero, suc, ◌+◌, ◌-◌, ◌≤◌, ◌<◌, List, [], ◌∷◌, ◌++◌, Bool, true, false, not, ◌&&◌, ◌||◌, cond, eqb, refl, sym, ap, ◌∙◌, inl, inr, arith, length, get_or, map, flat_map, sum_by, drop, true≢false, ne_eqb}
+use Rattle.std.proofs.Common.{append_assoc, Contains, ◌≡◌, ◌≢◌, ℕ, zero, suc, ◌+◌, ◌-◌, ◌≤◌, ◌<◌, List, [], ◌∷◌, ◌++◌, Bool, true, false, not, ◌&&◌, ◌||◌, cond, eqb, refl, sym, ap, ◌∙◌, inl, inr, arith, length, get_or, map, flat_map, sum_by, drop, true≢false, ne_eqb}
 use Rattle.std.specs.List.{concat}
 use Rattle.std.proofs.lemmas.Bool.{and_parts, eqb-true}
 use Rattle.std.proofs.lemmas.List.{drop_more, length-append, length-map}
@@ -21,10 +21,12 @@ links_length from sink [] (c ∷ []) e = refl
 links_length from sink [] (c ∷ d ∷ costs) e = absurd (omega arith)
 links_length from sink (w ∷ writers) (c ∷ costs) e = omega (arith, links_length w sink writers costs (omega arith))
 
--- what an update has at a touch
-abbrev pub at_node : ℕ → ℕ → ℕ → ℕ
-at_node v node amount = pick (eqb node v) amount
+-- the touches of one chain more
+pub chains_more : (touches : List Touch) (k : ℕ) (chain : Chain) (rest : List Chain) {chains : List Chain} {all : List Touch} → chains ≡ chain ∷ rest → touches ++ chain_touches k chains ≡ all → (touches ++ link_touches k 0 chain.writers) ++ chain_touches (k + 1) rest ≡ all
+chains_more touches k chain rest e h =
+    append_assoc touches (link_touches k 0 chain.writers) (chain_touches (k + 1) rest) ∙ ap (λ (chains : List Chain). touches ++ chain_touches k chains) (sym e) ∙ h
 
+-- what an update has at a touch
 abbrev pub in_at : Certificate → ℕ → Touch → ℕ
 in_at c v touch = pick (eqb touch.node v) (amount_in c touch.place)
 
