@@ -25,15 +25,15 @@ carried_none p (a ∷ arcs) (x ∷ flow) h =
 pub nothing_into_source : (net : Network) → IsNetwork net → (flow : List ℕ) → inflow net.arcs flow net.source ≡ 0
 nothing_into_source net ok flow = carried_none (λ arc. eqb arc.to net.source) net.arcs flow (λ i l. ne_eqb _ _ (ok.no_way_back i l))
 
-abbrev node_sum : (ℕ → Bool) → (ℕ → ℕ) → ℕ → ℕ
+abbrev pub node_sum : (ℕ → Bool) → (ℕ → ℕ) → ℕ → ℕ
 node_sum has g zero = 0
 node_sum has g (suc n) = pick (has n) (g n) + node_sum has g n
 
-node_sum_add : (has : ℕ → Bool) (g h : ℕ → ℕ) (n : ℕ) → node_sum has (λ v. g v + h v) n ≡ node_sum has g n + node_sum has h n
+pub node_sum_add : (has : ℕ → Bool) (g h : ℕ → ℕ) (n : ℕ) → node_sum has (λ v. g v + h v) n ≡ node_sum has g n + node_sum has h n
 node_sum_add has g h zero = refl
 node_sum_add has g h (suc n) = omega (arith, pick_add (has n) (g n) (h n), node_sum_add has g h n)
 
-node_sum_zero : (has : ℕ → Bool) (g : ℕ → ℕ) (n : ℕ) → ((v : ℕ) → v < n → g v ≡ 0) → node_sum has g n ≡ 0
+pub node_sum_zero : (has : ℕ → Bool) (g : ℕ → ℕ) (n : ℕ) → ((v : ℕ) → v < n → g v ≡ 0) → node_sum has g n ≡ 0
 node_sum_zero has g zero h = refl
 node_sum_zero has g (suc n) h =
     omega (arith, ap (pick (has n)) (h n (omega arith)), pick_zero (has n), node_sum_zero has g n (λ v l. h v (omega arith)))
@@ -47,7 +47,7 @@ node_sum_same has g h (suc n) e =
     same true k = k refl
     same false k = refl
 
-node_sum_point : (has : ℕ → Bool) (u x n : ℕ) → u < n → node_sum has (λ v. pick (eqb u v) x) n ≡ pick (has u) x
+pub node_sum_point : (has : ℕ → Bool) (u x n : ℕ) → u < n → node_sum has (λ v. pick (eqb u v) x) n ≡ pick (has u) x
 node_sum_point has u x zero l = absurd (omega arith)
 node_sum_point has u x (suc n) l =
     let later : u < n → node_sum has (λ v. pick (eqb u v) x) n ≡ pick (has u) x = λ k. node_sum_point has u x n k in

@@ -4,3 +4,7 @@ pub mod Flows
 pub mod Cut
 pub mod Least
 pub mod Certified
+mod Steps
+mod Search
+mod Distinct
+mod Touches

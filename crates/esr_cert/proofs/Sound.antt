@@ -1,8 +1,10 @@
 -- What the tests of a problem say, of its parts and of a closed set.
-use Rattle.std.proofs.Common.{◌≡◌, ℕ, zero, suc, ◌+◌, ◌<◌, ◌≤◌, Bool, true, false, not, ◌&&◌, ◌||◌, eqb, ltb, leb, List, [], ◌∷◌, length, get_or, map, sum_by, Contains, refl, sym, ap, ◌∙◌, subst, arith, true≢false, inl, inr}
+use Rattle.std.proofs.Common.{◌*◌, ◌≡◌, ℕ, zero, suc, ◌+◌, ◌<◌, ◌≤◌, Bool, true, false, not, ◌&&◌, ◌||◌, eqb, ltb, leb, List, [], ◌∷◌, length, get_or, map, sum_by, Contains, refl, sym, ap, ◌∙◌, subst, arith, true≢false, inl, inr}
 use Rattle.std.specs.List.{list_all, list_any, filter}
-use Rattle.std.proofs.lemmas.Bool.{and_parts, and_from, or_cases, or_left, or_right, not_from_false, not-true, ltb-true, leb-true, eqb-true, ne_eqb}
-use Rattle.esr_cert.specs.Problem.{Chain, Problem, size, in_set, is_closed, is_ascending, are_pairs_ascending, has_pair, are_linked, is_distinct, chain_has_shape, has_shape, max_txn, max_item, greatest, max_cost, chain_is_in_range, is_in_range, is_sound}
+use Rattle.std.proofs.lemmas.Bool.{and_parts, and_from, or_cases, or_left, or_right, not_from_false, not-true, ltb-true, leb-true, eqb-true, ne_eqb, lt-ltb}
+use Rattle.std.proofs.lemmas.List.{length-map}
+use Rattle.esr_cert.specs.Problem.{Chain, Problem, size, in_set, is_closed, is_ascending, pair_lt, are_pairs_ascending, has_pair, are_linked, is_distinct, chain_has_shape, has_shape, max_txn, max_item, greatest, max_cost, chain_is_in_range, is_in_range, is_sound}
+use Rattle.esr_cert.proofs.Distinct.{distinct_few, ascending_few, all_at}
 
 pub here : {X : Type 0} → (x : X) (xs : List X) → Contains (x ∷ xs) x
 here x xs = (0, omega arith, refl)
@@ -144,3 +146,69 @@ facts p h =
       chains = λ chain k. chain_facts p chain (all_in (chain_has_shape p.before) p.chains chain s.chains k) (all_in (chain_is_in_range (size p)) p.chains chain r.chains k);
       small = leb-true _ _ r.costs;
     }
+
+-- positions fit 16 bits
+pub few : (p : Problem) → is_sound p ≡ true → size p ≤ 65535
+few p h =
+    let both : (has_shape p ≡ true) × (is_in_range p ≡ true) = and_parts _ _ h in
+    distinct_few max_txn p.updates (shape_facts p both.0).distinct (range_facts p both.1).numbers
+
+-- how many parts there are, so that their places fit 32 bits
+pub record AreFew (p : Problem) : Type 0 where
+  pub pairs : length p.before ≤ 4294967296
+  pub chains : length p.chains ≤ 4096
+  pub writers : (i : ℕ) (d : Chain) → i < length p.chains → length (get_or p.chains i d).writers ≤ 65535
+  pub must : length p.must ≤ 65535
+
+abbrev code : ℕ × ℕ → ℕ
+code e = 65536 * e.0 + e.1
+
+codes_ascend : (pairs : List (ℕ × ℕ)) → are_pairs_ascending pairs ≡ true → list_all (λ (e : ℕ × ℕ). ltb e.0 65536 && ltb e.1 65536) pairs ≡ true → is_ascending (map code pairs) ≡ true
+codes_ascend [] h r = refl
+codes_ascend (a ∷ []) h r = refl
+codes_ascend (a ∷ b ∷ pairs) h r =
+    let both : (pair_lt a b ≡ true) × (are_pairs_ascending (b ∷ pairs) ≡ true) = and_parts (pair_lt a b) (are_pairs_ascending (b ∷ pairs)) h in
+    let small : ((ltb a.0 65536 && ltb a.1 65536) ≡ true) × (list_all (λ (e : ℕ × ℕ). ltb e.0 65536 && ltb e.1 65536) (b ∷ pairs) ≡ true) = and_parts (ltb a.0 65536 && ltb a.1 65536) (list_all (λ (e : ℕ × ℕ). ltb e.0 65536 && ltb e.1 65536) (b ∷ pairs)) r in
+    let second : a.1 < 65536 = ltb-true a.1 65536 (and_parts (ltb a.0 65536) (ltb a.1 65536) small.0).1 in
+    and_from (ltb (code a) (code b)) (is_ascending (map code (b ∷ pairs))) (lt-ltb (code a) (code b) (below second both.0)) (codes_ascend (b ∷ pairs) both.1 small.1)
+  where
+    below : a.1 < 65536 → pair_lt a b ≡ true → code a < code b
+    below s h =
+        elim (or_cases (ltb a.0 b.0) (eqb a.0 b.0 && ltb a.1 b.1) h) [
+          | inl l ↦ omega (arith, ltb-true a.0 b.0 l)
+          | inr r ↦ (let e : (eqb a.0 b.0 ≡ true) × (ltb a.1 b.1 ≡ true) = and_parts (eqb a.0 b.0) (ltb a.1 b.1) r in omega (arith, eqb-true a.0 b.0 e.0, ltb-true a.1 b.1 e.1))
+        ]
+
+pub are_few : (p : Problem) → is_sound p ≡ true → AreFew p
+are_few p h =
+    let both : (has_shape p ≡ true) × (is_in_range p ≡ true) = and_parts _ _ h in
+    let s : HasShape p = shape_facts p both.0 in
+    let r : InRange p = range_facts p both.1 in
+    let n : size p ≤ 65535 = few p h in
+    let small : (e : ℕ × ℕ) → Contains p.before e → (ltb e.0 65536 && ltb e.1 65536) ≡ true =
+        λ e k. let f : (ltb e.0 (size p) ≡ true) × (ltb e.1 (size p) ≡ true) = and_parts _ _ (all_in (λ (e : ℕ × ℕ). ltb e.0 (size p) && ltb e.1 (size p)) p.before e r.pairs k) in
+          and_from (ltb e.0 65536) (ltb e.1 65536) (lt-ltb e.0 65536 (omega (arith, ltb-true e.0 (size p) f.0))) (lt-ltb e.1 65536 (omega (arith, ltb-true e.1 (size p) f.1))) in
+    let in_bounds : list_all (λ (e : ℕ × ℕ). ltb e.0 65536 && ltb e.1 65536) p.before ≡ true = all_from (λ (e : ℕ × ℕ). ltb e.0 65536 && ltb e.1 65536) p.before small in
+    record {
+      pairs = omega (arith, ascending_few 4294967296 (map code p.before) (codes_ascend p.before s.pairs in_bounds) (codes_small p.before in_bounds), length-map p.before code);
+      chains = omega (arith, ascending_few 4096 (map (λ (chain : Chain). chain.item) p.chains) s.items (items_small p.chains r.chains), length-map p.chains (λ (chain : Chain). chain.item));
+      writers = λ i d l.
+          let shape : chain_has_shape p.before (get_or p.chains i d) ≡ true = all_at (chain_has_shape p.before) p.chains s.chains i d l in
+          let range : chain_is_in_range (size p) (get_or p.chains i d) ≡ true = all_at (chain_is_in_range (size p)) p.chains r.chains i d l in
+          omega (arith, ascending_few (size p) (get_or p.chains i d).writers (chain_facts p (get_or p.chains i d) shape range).ascending (and_parts (leb (get_or p.chains i d).item max_item) (list_all (λ w. ltb w (size p)) (get_or p.chains i d).writers) range).1);
+      must = omega (arith, ascending_few (size p) p.must s.must r.must);
+    }
+  where
+    codes_small : (pairs : List (ℕ × ℕ)) → list_all (λ (e : ℕ × ℕ). ltb e.0 65536 && ltb e.1 65536) pairs ≡ true → list_all (λ t. ltb t 4294967296) (map code pairs) ≡ true
+    codes_small [] k = refl
+    codes_small (e ∷ pairs) k =
+        let b : ((ltb e.0 65536 && ltb e.1 65536) ≡ true) × (list_all (λ (e : ℕ × ℕ). ltb e.0 65536 && ltb e.1 65536) pairs ≡ true) = and_parts (ltb e.0 65536 && ltb e.1 65536) (list_all (λ (e : ℕ × ℕ). ltb e.0 65536 && ltb e.1 65536) pairs) k in
+        let f : (ltb e.0 65536 ≡ true) × (ltb e.1 65536 ≡ true) = and_parts (ltb e.0 65536) (ltb e.1 65536) b.0 in
+        and_from (ltb (code e) 4294967296) (list_all (λ t. ltb t 4294967296) (map code pairs)) (lt-ltb (code e) 4294967296 (omega (arith, ltb-true e.0 65536 f.0, ltb-true e.1 65536 f.1))) (codes_small pairs b.1)
+
+    items_small : (chains : List Chain) → list_all (chain_is_in_range (size p)) chains ≡ true → list_all (λ t. ltb t 4096) (map (λ (chain : Chain). chain.item) chains) ≡ true
+    items_small [] k = refl
+    items_small (chain ∷ chains) k =
+        let b : (chain_is_in_range (size p) chain ≡ true) × (list_all (chain_is_in_range (size p)) chains ≡ true) = and_parts (chain_is_in_range (size p) chain) (list_all (chain_is_in_range (size p)) chains) k in
+        let f : (leb chain.item max_item ≡ true) × (list_all (λ w. ltb w (size p)) chain.writers ≡ true) = and_parts (leb chain.item max_item) (list_all (λ w. ltb w (size p)) chain.writers) b.0 in
+        and_from (ltb chain.item 4096) (list_all (λ t. ltb t 4096) (map (λ (chain : Chain). chain.item) chains)) (lt-ltb chain.item 4096 (omega (arith, leb-true chain.item max_item f.0))) (items_small chains b.1)

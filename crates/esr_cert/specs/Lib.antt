@@ -4,3 +4,5 @@ pub mod Flow
 pub mod Cut
 pub mod Certificate
 pub mod Views
+pub mod Index
+pub mod Faults

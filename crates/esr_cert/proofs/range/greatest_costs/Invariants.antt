@@ -1,0 +1,8 @@
+use Rattle.std.proofs.Common.{◌≡◌, ◌+◌, ◌-◌, ◌*◌, ◌≤◌, ◌&&◌, nat_lt, nat_le, max, take, drop, map, sum_by}
+use Rattle.std.specs.List.{list_all}
+use Rattle.esr_cert.specs.Problem.{greatest}
+use Rattle.esr_cert.specs.Views.{chain_of}
+use Rattle.esr_cert.proofs.range.greatest_costs.Given as goal
+
+abbrev pub invariant-loop-chain : goal.invariant-loop-chain
+invariant-loop-chain l = (l.sum ≡ sum_by (λ k. greatest k.costs) (take l.chain-index (map chain_of l.chains))) × (l.sum ≤ l.chain-index * 18446744073709551615)
