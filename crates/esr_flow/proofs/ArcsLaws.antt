@@ -14,7 +14,7 @@ pub chains_long : (p : Problem) → IsProblem p → (chains : List code.Chain) �
 chains_long p ok chains is k d l =
     let inside : k < length p.chains = omega (arith, ap length is, length-map chains chain_of) in
     let here : get_or p.chains k (chain_of (get_or chains k d)) ≡ chain_of (get_or chains k d) =
-      ap (λ (xs : List Chain). get_or xs k (chain_of (get_or chains k d))) (sym is) ∙ get_or-map chain_of chains k d (chain_of (get_or chains k d)) l in
+    ap (λ (xs : List Chain). get_or xs k (chain_of (get_or chains k d))) (sym is) ∙ get_or-map chain_of chains k d (chain_of (get_or chains k d)) l in
     (ok.chains (chain_of (get_or chains k d)) (k, inside, here)).one_more
 
 pub arcs_whole : (p : Problem) (n : ℕ) (chains : List code.Chain) (before : List (ℕ × ℕ)) (must : List ℕ) (a b c : List Arc)
@@ -23,7 +23,7 @@ pub arcs_whole : (p : Problem) (n : ℕ) (chains : List code.Chain) (before : Li
     → c ≡ (network p).arcs
 arcs_whole p n chains before must a b c size_is chains_are before_is must_is first second third =
     let links : a ≡ flat_map (chain_links (size p)) p.chains =
-      first ∙ sym (flat_map-map (chain_links n) chain_of chains) ∙ ap (flat_map (chain_links n)) chains_are ∙ ap (λ m. flat_map (chain_links m) p.chains) size_is in
+    first ∙ sym (flat_map-map (chain_links n) chain_of chains) ∙ ap (flat_map (chain_links n)) chains_are ∙ ap (λ m. flat_map (chain_links m) p.chains) size_is in
     let backs : b ≡ flat_map (chain_links (size p)) p.chains ++ map back_arc p.before = second ∙ ap (λ xs. xs ++ map back_arc before) links ∙ ap (λ (xs : List (ℕ × ℕ)). flat_map (chain_links (size p)) p.chains ++ map back_arc xs) before_is in
     third ∙ ap (λ xs. xs ++ map (must_arc n) must) backs ∙ ap (λ m. (flat_map (chain_links (size p)) p.chains ++ map back_arc p.before) ++ map (must_arc m) must) size_is
     ∙ ap (λ xs. (flat_map (chain_links (size p)) p.chains ++ map back_arc p.before) ++ map (must_arc (size p)) xs) must_is

@@ -30,18 +30,26 @@ links_length from sink (w ∷ writers) (c ∷ costs) e = omega (arith, links_len
 chains_length : (p : Problem) (n : ℕ) (chains : List Chain) → ((chain : Chain) → Contains chains chain → IsChain p chain) → length (flat_map (chain_links n) chains) ≡ sum_by (λ chain. length chain.costs) chains
 chains_length p n [] h = refl
 chains_length p n (c ∷ chains) h =
-    omega (arith, length-append (links n (n + 1) c.writers c.costs) (flat_map (chain_links n) chains),
+    omega (
+      arith,
+      length-append (links n (n + 1) c.writers c.costs) (flat_map (chain_links n) chains),
       links_length n (n + 1) c.writers c.costs (h c (here c chains)).one_more,
       chains_length p n chains (λ d k. h d (there c d chains k)),
-      sum_by-cons (λ chain. length chain.costs) c chains)
+      sum_by-cons (λ chain. length chain.costs) c chains,
+    )
 
 -- as many amounts as costs, pairs and what a set must have
 pub flow_length : (p : Problem) → IsProblem p → (flow : List ℕ) → IsFlow (network p) flow → length flow ≡ sum_by (λ chain. length chain.costs) p.chains + length p.before + length p.must
 flow_length p ok flow f =
-    omega (arith, f.same_length, length-append (chain_arcs p ++ back_arcs p) (must_arcs p), length-append (chain_arcs p) (back_arcs p),
+    omega (
+      arith,
+      f.same_length,
+      length-append (chain_arcs p ++ back_arcs p) (must_arcs p),
+      length-append (chain_arcs p) (back_arcs p),
       chains_length p (size p) p.chains ok.chains,
       length-map {B = Arc} p.before back_arc,
-      length-map {B = Arc} p.must (must_arc (size p)))
+      length-map {B = Arc} p.must (must_arc (size p)),
+    )
 
 pub costs_mapped : (chains : List code.Chain) → sum_by (λ (chain : Chain). length chain.costs) (map chain_of chains) ≡ sum_by (λ (chain : code.Chain). length chain.costs.items) chains
 costs_mapped [] = refl
@@ -97,8 +105,8 @@ pub record Parts (p : Problem) (flow xs bs ms : List ℕ) : Type 0 where
 pub least_set : (p : Problem) → IsProblem p → (flow : List ℕ) → IsFlow (network p) flow → (marks : List Bool) → IsReach (network p) flow (is_marked marks) → is_marked marks (size p + 1) ≡ false → (set : List ℕ) → set ≡ positions (is_marked marks) (size p) → IsSmallestLeast p (in_set set)
 least_set p ok flow f marks r s set e =
     smallest_same p ok (is_marked marks) (in_set set)
-      (λ u l. sym (positions_at (is_marked marks) (size p) u l) ∙ ap (λ xs. in_set xs u) (sym e))
-      (smallest_least p ok flow (is_marked marks) f r s)
+    (λ u l. sym (positions_at (is_marked marks) (size p) u l) ∙ ap (λ xs. in_set xs u) (sym e))
+    (smallest_least p ok flow (is_marked marks) f r s)
 
 pub certified : (p : Problem) → IsProblem p → (flow : List ℕ) → IsFlow (network p) flow → (marks : List Bool) → IsReach (network p) flow (is_marked marks) → is_marked marks (size p + 1) ≡ false
     → (c : Certificate) → c.set ≡ positions (is_marked marks) (size p) → Parts p flow (concat c.chain_flow) c.back_flow c.must_flow → are_rows_matched p.chains c.chain_flow ≡ true
@@ -106,7 +114,7 @@ pub certified : (p : Problem) → IsProblem p → (flow : List ℕ) → IsFlow (
 certified p ok flow f marks r s c set_is parts rows worth_is n count few =
     let smallest : IsSmallestLeast p (in_set c.set) = least_set p ok flow f marks r s c.set set_is in
     let same : cost p (is_marked marks) ≡ cost p (in_set c.set) =
-        same_cost p ok (is_marked marks) (in_set c.set) (λ u l. sym (positions_at (is_marked marks) (size p) u l) ∙ ap (λ xs. in_set xs u) (sym set_is)) in
+    same_cost p ok (is_marked marks) (in_set c.set) (λ u l. sym (positions_at (is_marked marks) (size p) u l) ∙ ap (λ xs. in_set xs u) (sym set_is)) in
     let g : IsFlow (network p) (amounts c) = subst (IsFlow (network p)) (sym parts.whole) f in
     let inside : are_within (network p).arcs (amounts c) ≡ true = within_from (network p).arcs (amounts c) g.same_length g.within_capacity in
     let tight : c.worth ≡ worth (network p) (amounts c) = worth_is ∙ ap (worth (network p)) (sym parts.whole) in

@@ -103,7 +103,7 @@ module _ (net : Network) (ok : IsNetwork net) (flow : List ℕ) (row : List Entr
   searched_more e h l is r f =
       let q : IsEntry net.arcs (visit_at visits head).node e = entry_in e h l is in
       let more : Searched net flow (visits ++ record { node = finish net.arcs e.step; level = (visit_at visits head).level + 1; step = e.step; parent = head } ∷ []) (set marks (finish net.arcs e.step) true) head =
-        visit_more net flow visits marks head e.step ok h.searched h.in_visits (q.in_arcs, r) q.starts (ap (is_marked marks) (sym q.leads) ∙ f) in
+      visit_more net flow visits marks head e.step ok h.searched h.in_visits (q.in_arcs, r) q.starts (ap (is_marked marks) (sym q.leads) ∙ f) in
       subst (λ n. Searched net flow (visits ++ visit_of e n head ∷ []) (set marks e.to true) head) (sym h.next_level)
       (subst (λ n. Searched net flow (visits ++ record { node = n; level = (visit_at visits head).level + 1; step = e.step; parent = head } ∷ []) (set marks n true) head) (sym q.leads) more)
 

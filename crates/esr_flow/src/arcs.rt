@@ -4,9 +4,8 @@ ghost use Rattle.esr_cert.specs.declared.problem.Chain.{Chain};
 ghost use Rattle.esr_cert.specs.Views.{chain_of};
 ghost use Rattle.esr_cert.specs.Network.{links, chain_links, back_arc, must_arc, network};
 
-use std::alloc::{AllocError, Global};
-
 use esr_cert::{Arc, Chain, Problem};
+use std::alloc::{AllocError, Global};
 
 /// Adds the arcs of a chain.
 fn push_links(

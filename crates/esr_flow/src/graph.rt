@@ -5,11 +5,9 @@ ghost use Rattle.esr_flow.specs.declared.step.Step.{Step};
 ghost use Rattle.esr_cert.specs.Flow.{within};
 ghost use Rattle.esr_flow.specs.Residual.{room, arc_of, start, finish};
 
-use std::alloc::{AllocError, Global};
-
-use esr_cert::Arc;
-
 use crate::step::Step;
+use esr_cert::Arc;
+use std::alloc::{AllocError, Global};
 
 /// A step, and the node that it leads to.
 #[derive(Clone, Copy)]

@@ -13,3 +13,6 @@ mod walk;
 
 pub use network::Network;
 pub use solver::{Solved, solve};
+
+#[cfg(test)]
+mod tests;

@@ -9,14 +9,12 @@ ghost use Rattle.esr_flow.specs.Graph.{net_of, IsGraph};
 ghost use Rattle.esr_flow.specs.Search.{IsShortestPath, Guides, IsGuided, is_marked};
 ghost use Rattle.esr_flow.specs.Maximum.{InArcs, HasLimit, LIMIT};
 
-use std::alloc::{AllocError, Global};
-
-use esr_cert::Arc;
-
 use crate::graph::{Graph, room_of};
 use crate::search::{Found, search};
 use crate::step::Step;
 use crate::walk::{rewind, walk};
+use esr_cert::Arc;
+use std::alloc::{AllocError, Global};
 
 fn lesser_of(a: Option<u64>, b: Option<u64>) -> Option<u64>
     ensures { result ≡ lesser a b }
@@ -113,7 +111,10 @@ fn run_phase(
         augmentations += 1;
         rewind(graph, &mut next, &path);
         match walk(alloc, graph, flow, labels, &mut next)? {
-            None => return Ok(Progress { augmentations, worth }),
+            None => return Ok(Progress {
+                augmentations,
+                worth,
+            }),
             Some(found) => path = found,
         }
     }
@@ -143,7 +144,10 @@ pub fn find_maximum(alloc: Global, graph: &Graph) -> Result<MaximumFlow, AllocEr
     ensures end { IfOk result (λ m. (is_marked m.marks.items graph.now.sink ≡ false) × (length m.marks.items ≡ graph.now.nodes)) }
 {
     let mut flow = vec![in alloc; 0u64; graph.arcs.len()]?;
-    let mut progress = Progress { augmentations: 0, worth: 0 };
+    let mut progress = Progress {
+        augmentations: 0,
+        worth: 0,
+    };
     loop {
         match search(alloc, graph, &flow)? {
             Found::Reach(marks) => return Ok(MaximumFlow {

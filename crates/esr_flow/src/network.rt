@@ -4,14 +4,12 @@ ghost use Rattle.esr_cert.specs.Problem.{is_sound};
 ghost use Rattle.esr_cert.specs.Network as networks;
 ghost use Rattle.esr_flow.specs.Graph.{net_of, IsGraph};
 
-use std::alloc::{AllocError, Global};
-
-use esr_cert::Problem;
-use esr_history::NoMemory;
-
 use crate::arcs::arcs_of;
 use crate::graph::Graph;
 use crate::rows::{Rows, lay, steps_of};
+use esr_cert::Problem;
+use esr_history::NoMemory;
+use std::alloc::{AllocError, Global};
 
 /// The graph of a problem's network: updates are nodes by their positions, and the
 /// source and the sink come after them.

@@ -6,12 +6,10 @@ ghost use Rattle.esr_flow.specs.declared.step.Step.{Step};
 ghost use Rattle.esr_flow.specs.Residual.{arc_of};
 ghost use Rattle.esr_flow.specs.Graph.{HasSteps, IsLaid, entry_of};
 
-use std::alloc::{AllocError, Global};
-
-use esr_cert::Arc;
-
 use crate::graph::{Entry, Span, finish_of};
 use crate::step::Step;
+use esr_cert::Arc;
+use std::alloc::{AllocError, Global};
 
 /// Adds a step to a node's row.
 fn add_step(steps: &mut Vec<Vec<Step>>, node: usize, step: Step) -> Result<(), AllocError>

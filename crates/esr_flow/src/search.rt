@@ -8,10 +8,9 @@ ghost use Rattle.esr_flow.specs.Augmentation.{IsReach};
 ghost use Rattle.esr_flow.specs.Graph.{net_of, IsGraph, Lists};
 ghost use Rattle.esr_flow.specs.Search.{Searched, visit_at, is_marked, IsShortestPath, AfterScan, FoundSink, IsFound, Guides, IsGuided, label_at};
 
-use std::alloc::{AllocError, Global};
-
 use crate::graph::{Entry, Graph, has_room};
 use crate::step::Step;
+use std::alloc::{AllocError, Global};
 
 /// A node that was reached, by a step from the node of an earlier visit.
 #[derive(Clone, Copy)]

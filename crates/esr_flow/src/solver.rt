@@ -10,13 +10,11 @@ ghost use Rattle.esr_flow.specs.Augmentation.{IsReach, Takes};
 ghost use Rattle.esr_flow.specs.Search.{is_marked};
 ghost use Rattle.esr_flow.specs.Certificate.{positions};
 
-use std::alloc::{AllocError, Global};
-
-use esr_cert::{Certificate, Chain, Problem};
-use esr_history::NoMemory;
-
 use crate::maximum::{MaximumFlow, find_maximum};
 use crate::network::Network;
+use esr_cert::{Certificate, Chain, Problem};
+use esr_history::NoMemory;
+use std::alloc::{AllocError, Global};
 
 /// The marked positions, ascending.
 fn members(alloc: Global, marks: &[bool], count: usize) -> Result<Vec<u32>, AllocError>

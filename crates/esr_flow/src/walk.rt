@@ -8,14 +8,20 @@ ghost use Rattle.esr_flow.specs.Graph.{net_of, IsGraph, Lists, entry_at};
 ghost use Rattle.esr_flow.specs.Search.{Guides, IsGuided, label_at};
 ghost use Rattle.esr_flow.specs.Maximum.{InArcs};
 
-use std::alloc::{AllocError, Global};
-
 use crate::graph::{Entry, Graph, has_room, start_of};
 use crate::step::Step;
+use std::alloc::{AllocError, Global};
 
 /// The first place of a node's row, from a place on, with a step that has room and
 /// leads to a lesser label; the row's length where there is none.
-fn next_down(graph: &Graph, flow: &[u64], labels: &[usize], at: usize, row: &[Entry], from: usize) -> usize
+fn next_down(
+    graph: &Graph,
+    flow: &[u64],
+    labels: &[usize],
+    at: usize,
+    row: &[Entry],
+    from: usize,
+) -> usize
     requires graph { IsGraph graph.now }
     requires node { at < graph.now.nodes }
     requires row { Lists graph.now.arcs.items at row.now }

@@ -19,7 +19,7 @@ returns-clause-graph c =
     let g : Graph = record { nodes = length c.updates-source.result.now + 2; arcs = c.in_ok-arcs.arcs; spans = c.in_ok-spans.field-0.spans; entries = c.in_ok-spans.field-0.entries; source = length c.updates-source.result.now; sink = length c.updates-source.result.now + 1 } in
     let laid : IsLaid c.deref-2.result.now c.deref-3.result.now (length c.deref-3.result.now) c.in_ok-spans.field-0.spans.items c.in_ok-spans.field-0.entries.items = c.in_ok-spans.ensures in
     graph_is c.args.problem.now (facts c.args.problem.now c.updates-source.ensures.sound) g (net_is c.args.problem.now g (omega (arith, count)) c.in_ok-arcs.ensures count (omega (arith, count)))
-      c.in_ok-steps.steps.items c.in_ok-steps.ensures.rows
-      (λ v row l e. subst (λ arcs. HasSteps arcs v row.items) c.deref.ensures.value (c.in_ok-steps.ensures.lists v row l e))
-      (subst (λ arcs. IsLaid arcs c.in_ok-steps.steps.items (length c.in_ok-steps.steps.items) c.in_ok-spans.field-0.spans.items c.in_ok-spans.field-0.entries.items) c.deref-2.ensures.value
-        (subst (λ (steps : List (Vec Step Global)). IsLaid c.deref-2.result.now steps (length steps) c.in_ok-spans.field-0.spans.items c.in_ok-spans.field-0.entries.items) c.deref-3.ensures.value laid))
+    c.in_ok-steps.steps.items c.in_ok-steps.ensures.rows
+    (λ v row l e. subst (λ arcs. HasSteps arcs v row.items) c.deref.ensures.value (c.in_ok-steps.ensures.lists v row l e))
+    (subst (λ arcs. IsLaid arcs c.in_ok-steps.steps.items (length c.in_ok-steps.steps.items) c.in_ok-spans.field-0.spans.items c.in_ok-spans.field-0.entries.items) c.deref-2.ensures.value
+    (subst (λ (steps : List (Vec Step Global)). IsLaid c.deref-2.result.now steps (length steps) c.in_ok-spans.field-0.spans.items c.in_ok-spans.field-0.entries.items) c.deref-3.ensures.value laid))

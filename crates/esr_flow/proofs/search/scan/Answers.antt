@@ -11,13 +11,13 @@ use Rattle.esr_flow.proofs.search.scan.Goals.{then-not-index+then-has_room+in_ok
 pub index-requires-in-loop-entry : goal.index-requires-in-loop-entry
 index-requires-in-loop-entry c =
     let inside : (entry_at c.args.row.now c.loop-entry.entry-index).to < length c.loop-entry.marks.items =
-      entry_marked (net_of c.args.graph.now) c.requires.graph.is_network c.args.flow.now c.args.row.now c.loop-entry.visits.items c.loop-entry.marks.items c.args.head (c.index.result.now.level + 1) c.loop-entry.entry-index (entry_at c.args.row.now c.loop-entry.entry-index) c.loop-entry.invariant c.loop-entry-test.true refl in
+    entry_marked (net_of c.args.graph.now) c.requires.graph.is_network c.args.flow.now c.args.row.now c.loop-entry.visits.items c.loop-entry.marks.items c.args.head (c.index.result.now.level + 1) c.loop-entry.entry-index (entry_at c.args.row.now c.loop-entry.entry-index) c.loop-entry.invariant c.loop-entry-test.true refl in
     omega (arith, inside, c.loop-entry.marks.ok.0)
 
 pub index_mut-requires : goal.index_mut-requires
 index_mut-requires c =
     let inside : (entry_at c.args.row.now c.loop-entry.entry-index).to < length c.loop-entry.marks.items =
-      entry_marked (net_of c.args.graph.now) c.requires.graph.is_network c.args.flow.now c.args.row.now c.loop-entry.visits.items c.loop-entry.marks.items c.args.head (c.index.result.now.level + 1) c.loop-entry.entry-index (entry_at c.args.row.now c.loop-entry.entry-index) c.loop-entry.invariant c.loop-entry-test.true refl in
+    entry_marked (net_of c.args.graph.now) c.requires.graph.is_network c.args.flow.now c.args.row.now c.loop-entry.visits.items c.loop-entry.marks.items c.args.head (c.index.result.now.level + 1) c.loop-entry.entry-index (entry_at c.args.row.now c.loop-entry.entry-index) c.loop-entry.invariant c.loop-entry-test.true refl in
     omega (arith, inside, c.loop-entry.marks.ok.0)
 
 pub returns-then-entry-graph : goal.returns-then-entry-graph

@@ -13,12 +13,12 @@ loop-chain-preserved c =
     let i : ℕ = c.loop-chain.chain-index in
     let row : c.in_ok-row.row.items ≡ take ((c.loop-chain.at + c.len.result) - c.loop-chain.at) (drop c.loop-chain.at c.args.flow.now) = c.in_ok-row.ensures.items_if_clones_equal (λ x y e. e) in
     let more : sum_by (λ (chain : Chain). length chain.costs.items) (take (i + 1) c.args.chains.now) ≡ sum_by (λ (chain : Chain). length chain.costs.items) (take i c.args.chains.now) + length (get_or c.args.chains.now i c.chain-item.result).costs.items =
-      sum_by_more (λ (chain : Chain). length chain.costs.items) c.args.chains.now i c.chain-item.result c.loop-chain-test.true in
+    sum_by_more (λ (chain : Chain). length chain.costs.items) c.args.chains.now i c.chain-item.result c.loop-chain-test.true in
     let size : c.len.result ≡ length c.chain-item.result.costs.items = omega (arith, c.len.ensures, c.chain-item.result.costs.ok.0) in
     let item : length c.chain-item.result.costs.items ≡ length (get_or c.args.chains.now i c.chain-item.result).costs.items = ap (λ (x : Chain). length x.costs.items) c.chain-item.is in
     let long : length c.in_ok-row.row.items ≡ c.len.result = row_long c.in_ok-row.row.items c.args.flow.now c.loop-chain.at c.len.result row (omega (arith, c.loop-chain.invariant.place, sum_take c.args.chains.now (i + 1), c.requires)) in
     let front : take (i + 1) c.args.chains.now ≡ take i c.args.chains.now ++ c.chain-item.result ∷ [] =
-      take_more c.args.chains.now i c.chain-item.result c.loop-chain-test.true ∙ ap (λ (x : Chain). take i c.args.chains.now ++ x ∷ []) (sym c.chain-item.is) in
+    take_more c.args.chains.now i c.chain-item.result c.loop-chain-test.true ∙ ap (λ (x : Chain). take i c.args.chains.now ++ x ∷ []) (sym c.chain-item.is) in
     record {
       place = omega (arith, c.loop-chain.invariant.place);
       cut = ap (λ rs. concat (rows_of rs)) c.in_ok-push.ensures.items ∙ cut_more c.loop-chain.rows.items c.in_ok-row.row c.args.flow.now c.loop-chain.at c.len.result c.loop-chain.invariant.cut row;

@@ -14,7 +14,7 @@ loop-at-smaller-then-i-row c =
     let span = span_at c.args.graph.now.spans.items c.loop-at.at in
     let long : length c.row-row.result.now ≤ span.end - span.begin = omega (arith, ap length c.row-row.ensures, length-take (span.end - span.begin) (drop span.begin c.args.graph.now.entries.items)) in
     let less : suc (untried c.args.graph.now.spans.items (set c.loop-at.next c.loop-at.at (c.next_down-i.result + 1))) ≤ untried c.args.graph.now.spans.items c.loop-at.next =
-      untried_less c.args.graph.now.spans.items c.loop-at.next c.loop-at.at c.next_down-i.result (omega (arith, c.requires.graph.count, c.loop-at.invariant.0.node)) (omega (arith, c.loop-at.invariant.1, c.loop-at.invariant.0.node)) c.next_down-i.ensures.later (omega (arith, long, c.if-i-row.true)) in
+    untried_less c.args.graph.now.spans.items c.loop-at.next c.loop-at.at c.next_down-i.result (omega (arith, c.requires.graph.count, c.loop-at.invariant.0.node)) (omega (arith, c.loop-at.invariant.1, c.loop-at.invariant.0.node)) c.next_down-i.ensures.later (omega (arith, long, c.if-i-row.true)) in
     omega (arith, less, length_push c.loop-at.path.items (entry_at c.row-row.result.now c.next_down-i.result).step, ap length c.in_ok-push.ensures.items)
 
 pub loop-at-preserved-then-i-row : goal.loop-at-preserved-then-i-row
@@ -40,7 +40,7 @@ start_of-at-requires c =
 pub loop-at-smaller : goal.loop-at-smaller
 loop-at-smaller c =
     let same : untried c.args.graph.now.spans.items (set c.loop-at.next c.loop-at.at c.next_down-i.result) ≤ untried c.args.graph.now.spans.items c.loop-at.next =
-      untried_same c.args.graph.now.spans.items c.loop-at.next c.loop-at.at c.next_down-i.result (omega (arith, c.loop-at.invariant.1, c.loop-at.invariant.0.node)) c.next_down-i.ensures.later in
+    untried_same c.args.graph.now.spans.items c.loop-at.next c.loop-at.at c.next_down-i.result (omega (arith, c.loop-at.invariant.1, c.loop-at.invariant.0.node)) c.next_down-i.ensures.later in
     omega (arith, same, length_push c.pop.new.self.items c.in-Some.step, ap length c.in-Some.ensures.items)
 
 pub loop-at-preserved : goal.loop-at-preserved
