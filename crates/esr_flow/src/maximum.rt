@@ -75,10 +75,11 @@ fn augment(graph: &Graph, flow: &mut [u64], path: &[Step]) -> u64
     }
 }
 
-/// How many augmentations a flow took, and what it is worth.
+/// How many augmentations a flow took, in how many phases, and what it is worth.
 #[derive(Clone, Copy)]
 pub struct Progress {
     pub augmentations: u64,
+    pub phases: u64,
     pub worth: u64,
 }
 
@@ -98,9 +99,11 @@ fn run_phase(
     requires first { IsGuided (net_of graph.now) flow.old labels.now first.items }
     requires takes { Takes (net_of graph.now) before.augmentations flow.old }
     requires worth { before.worth ≡ worth (net_of graph.now) flow.old }
+    requires phases { before.phases ≤ before.augmentations }
     ensures takes { IfOk result (λ p. Takes (net_of graph.now) p.augmentations flow.new) }
     ensures worth { IfOk result (λ p. p.worth ≡ worth (net_of graph.now) flow.new) }
     ensures more { IfOk result (λ p. before.augmentations < p.augmentations) }
+    ensures phases { IfOk result (λ p. p.phases ≤ p.augmentations) }
 {
     let mut next = vec![in alloc; 0usize; graph.nodes]?;
     let mut augmentations = before.augmentations;
@@ -111,10 +114,7 @@ fn run_phase(
         augmentations += 1;
         rewind(graph, &mut next, &path);
         match walk(alloc, graph, flow, labels, &mut next)? {
-            None => return Ok(Progress {
-                augmentations,
-                worth,
-            }),
+            None => return Ok(Progress { augmentations, phases: before.phases + 1, worth }),
             Some(found) => path = found,
         }
     }
@@ -125,6 +125,7 @@ fn run_phase(
 pub struct MaximumFlow {
     pub flow: Vec<u64>,
     pub augmentations: u64,
+    pub phases: u64,
     pub worth: u64,
     pub marks: Vec<bool>,
 }
@@ -140,12 +141,14 @@ pub fn find_maximum(alloc: Global, graph: &Graph) -> Result<MaximumFlow, AllocEr
     ensures worth_is { IfOk result (λ m. m.worth ≡ worth (net_of graph.now) m.flow.items) }
     ensures worth { IfOk result (λ m. m.augmentations ≤ worth (net_of graph.now) m.flow.items) }
     ensures amounts { IfOk result (λ m. (i : ℕ) → amount_at m.flow.items i ≤ m.worth) }
+    ensures phases { IfOk result (λ m. m.phases ≤ m.augmentations) }
     ensures reach { IfOk result (λ m. IsReach (net_of graph.now) m.flow.items (is_marked m.marks.items)) }
     ensures end { IfOk result (λ m. (is_marked m.marks.items graph.now.sink ≡ false) × (length m.marks.items ≡ graph.now.nodes)) }
 {
     let mut flow = vec![in alloc; 0u64; graph.arcs.len()]?;
     let mut progress = Progress {
         augmentations: 0,
+        phases: 0,
         worth: 0,
     };
     loop {
@@ -153,6 +156,7 @@ pub fn find_maximum(alloc: Global, graph: &Graph) -> Result<MaximumFlow, AllocEr
             Found::Reach(marks) => return Ok(MaximumFlow {
                 flow,
                 augmentations: progress.augmentations,
+                phases: progress.phases,
                 worth: progress.worth,
                 marks,
             }),

@@ -91,6 +91,8 @@ pub struct Solved {
     pub certificate: Certificate,
     /// How many augmentations led to the flow.
     pub augmentations: u64,
+    /// In how many phases: searches that found a path.
+    pub phases: u64,
 }
 
 /// Solves a network's problem by augmentations along shortest paths, in phases
@@ -105,11 +107,13 @@ pub fn solve(alloc: Global, net: &Network) -> Result<Solved, NoMemory>
     ensures few { IfOk result (λ s. s.augmentations ≤ (size net.now.problem.now + 2) * length (network net.now.problem.now).arcs) }
     ensures amounts { IfOk result (λ s. (i : ℕ) → get_or (amounts (certificate_of s.certificate)) i 0 ≤ s.certificate.worth) }
     ensures count { IfOk result (λ s. s.certificate.augmentations ≡ Some s.augmentations) }
+    ensures phases { IfOk result (λ s. s.phases ≤ s.augmentations) }
 {
     let maximum = find_maximum(alloc, &net.graph)?;
     let certificate = certify(alloc, net.problem, &maximum)?;
     Ok(Solved {
         certificate,
         augmentations: maximum.augmentations,
+        phases: maximum.phases,
     })
 }

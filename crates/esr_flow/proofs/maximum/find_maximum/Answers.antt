@@ -32,7 +32,7 @@ pub loop-flow-init : goal.loop-flow-init
 loop-flow-init c =
     let e : c.in_ok-flow.flow.items ≡ replicate (length c.args.graph.now.arcs.items) 0 =
     c.in_ok-flow.ensures.items_if_clones_equal (λ y e. e) ∙ ap (λ n. replicate n 0) (omega (arith, c.len.ensures, c.args.graph.now.arcs.ok.0)) in
-    (e, sym (ap (worth (net_of c.args.graph.now)) e ∙ zero_worth (net_of c.args.graph.now)))
+    (e, sym (ap (worth (net_of c.args.graph.now)) e ∙ zero_worth (net_of c.args.graph.now)), omega arith)
 
 pub loop-flow-smaller : goal.loop-flow-smaller
 loop-flow-smaller c =

@@ -29,6 +29,11 @@ overflow_add-augmentations c =
     let t : Taken (net_of c.args.graph.now) c.loop-path.augmentations c.loop-path.flow = running_flow (net_of c.args.graph.now) c.requires.graph.is_network c.loop-path.flow c.args.labels.now c.loop-path.augmentations c.loop-path.worth c.loop-path.invariant.0 in
     omega (arith, t.count_small, c.requires.small c.loop-path.flow t.is_flow)
 
+pub overflow_add-result : goal.overflow_add-result
+overflow_add-result c =
+    let t : Taken (net_of c.args.graph.now) c.loop-path.augmentations c.loop-path.flow = running_flow (net_of c.args.graph.now) c.requires.graph.is_network c.loop-path.flow c.args.labels.now c.loop-path.augmentations c.loop-path.worth c.loop-path.invariant.0 in
+    omega (arith, c.requires.phases, c.loop-path.invariant.3, t.count_small, c.requires.small c.loop-path.flow t.is_flow)
+
 pub rewind-requires-clause-path : goal.rewind-requires-clause-path
 rewind-requires-clause-path c =
     subst (λ path. InArcs c.args.graph.now.arcs.items path) (sym c.deref-in-loop-path.ensures.value)
