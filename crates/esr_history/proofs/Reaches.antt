@@ -66,7 +66,7 @@ count_none p (x ∷ xs) h =
     let r = or_parts (p x) (list_any p xs) h in
     sum_by-cons (λ y. cond (p y) 1 0) x xs ∙ (ap (λ b. cond b 1 0 + count_by p xs) r.0 ∙ ap (λ z. 0 + z) (count_none p xs r.1))
 
-import-cons : (c : Charge) (cs : List Charge) (q : ℕ) → import_in (c ∷ cs) q ≡ cond (eqb c.query q) c.amount 0 + import_in cs q
+pub import-cons : (c : Charge) (cs : List Charge) (q : ℕ) → import_in (c ∷ cs) q ≡ cond (eqb c.query q) c.amount 0 + import_in cs q
 import-cons c cs q = sum_by-cons (λ (c : Charge). cond (eqb c.query q) c.amount 0) c cs
 
 first_amount : (c : Charge) (cs : List Charge) → c.amount ≤ import_in (c ∷ cs) c.query
@@ -107,7 +107,7 @@ module _ (d : Distance) (h : Schedule) where
   same_begins : (e : Event) → beginning_of e ≡ None → beginning (done h ++ e ∷ []) ≡ beginning (done h)
   same_begins e none = fun_ext (λ u. beginning-kept (done h) e u none)
 
-  with_imports : (e : Event) (r : Reply) → is_refusal r ≡ false → (q : ℕ) → imports d (extended h e r) q ≡ imports d h q + import_in (due_in d h e) q
+  pub with_imports : (e : Event) (r : Reply) → is_refusal r ≡ false → (q : ℕ) → imports d (extended h e r) q ≡ imports d h q + import_in (due_in d h e) q
   with_imports e r is q = ap (λ (es : List Event). import_in (charges (distance_in d h) h.opening es) q) (done-accepted h e r is) ∙ import-push (distance_in d h) h.opening (done h) e q
 
   no_imports : (e : Event) (r : Reply) → is_refusal r ≡ false → ((q : ℕ) → import_in (due_in d h e) q ≡ 0) → imports d (extended h e r) ≡ imports d h
@@ -117,12 +117,16 @@ module _ (d : Distance) (h : Schedule) where
   linked e r t m same sums reached =
       subst (λ (w : Trace). Reached (setting d h) w (imports d (extended h e r))) (sym same) (subst (λ (w : ℕ → ℕ). Reached (setting d h) t w) (sym sums) reached)
 
-  refused_step : (e : Event) (why : Refusal) → IsReached d h → IsReached d (extended h e (Refused why))
-  refused_step e why reached =
+  pub refused_trace : (e : Event) (why : Refusal) → trace (extended h e (Refused why)) ≡ trace h
+  refused_trace e why =
       let events : done (extended h e (Refused why)) ≡ done h = done-refused h e why in
-      linked e (Refused why) (trace h) (imports d h)
-          (λ i. record { operations = operations-refused h e why i; commits = commit_order (events i); aborts = filter_map aborter (events i); beginning = beginning (events i) })
-          (ap (λ (es : List Event). import_in (charges (distance_in d h) h.opening es)) events) reached
+      λ i. record { operations = operations-refused h e why i; commits = commit_order (events i); aborts = filter_map aborter (events i); beginning = beginning (events i) }
+
+  pub refused_imports : (e : Event) (why : Refusal) → imports d (extended h e (Refused why)) ≡ imports d h
+  refused_imports e why = ap (λ (es : List Event). import_in (charges (distance_in d h) h.opening es)) (done-refused h e why)
+
+  refused_step : (e : Event) (why : Refusal) → IsReached d h → IsReached d (extended h e (Refused why))
+  refused_step e why reached = linked e (Refused why) (trace h) (imports d h) (refused_trace e why) (refused_imports e why) reached
 
   -- where no update holds a lock, all who used the item have ended
   active_user : (u : ℕ) → is_update (done h) u ≡ true → ended_in (trace h) u ≡ false → is_active (done h) u ≡ true
@@ -175,38 +179,44 @@ module _ (d : Distance) (h : Schedule) where
           (and_right_false (not (u == t)) (is_update (done h) u && p u) (ap not (ne_eqb u t other)) (find_none (λ u. not (u == t) && (is_update (done h) u && p u)) 1 (length (beginnings (done h))) none u n.0 n.1))
 
   -- the trace after an operation
-  operation_trace : (e : Event) (r : Reply) (o : Operation) → is_refusal r ≡ false → operation_by e r ≡ Some o → committer e ≡ None → aborter e ≡ None → beginning_of e ≡ None → trace (extended h e r) ≡ with_operation (trace h) o
+  pub operation_trace : (e : Event) (r : Reply) (o : Operation) → is_refusal r ≡ false → operation_by e r ≡ Some o → committer e ≡ None → aborter e ≡ None → beginning_of e ≡ None → trace (extended h e r) ≡ with_operation (trace h) o
   operation_trace e r o is op c a b =
       grown e r is (operations h ++ o ∷ []) (commit_order (done h)) (filter_map aborter (done h)) (beginning (done h))
           (ap (λ p. operations h ++ cons_option p []) op) (ap (λ p. commit_order (done h) ++ cons_option p []) c ∙ append-nil (commit_order (done h)))
           (ap (λ p. filter_map aborter (done h) ++ cons_option p []) a ∙ append-nil (filter_map aborter (done h))) (same_begins e b)
 
+  pub begin_trace : (e : Event) (r : Reply) → is_refusal r ≡ false → operation_by e r ≡ None → committer e ≡ None → aborter e ≡ None → trace (extended h e r) ≡ with_begins (trace h) (beginning (done h ++ e ∷ []))
+  begin_trace e r is op c a =
+      grown e r is (operations h) (commit_order (done h)) (filter_map aborter (done h)) (beginning (done h ++ e ∷ []))
+          (ap (λ p. operations h ++ cons_option p []) op ∙ append-nil (operations h)) (ap (λ p. commit_order (done h) ++ cons_option p []) c ∙ append-nil (commit_order (done h)))
+          (ap (λ p. filter_map aborter (done h) ++ cons_option p []) a ∙ append-nil (filter_map aborter (done h))) refl
+
+  pub commit_trace : (t : TxnId) → trace (extended h (Commit t) Committed) ≡ with_commit (trace h) t.0
+  commit_trace t =
+      grown (Commit t) Committed refl (operations h) (commit_order (done h) ++ t.0 ∷ []) (filter_map aborter (done h)) (beginning (done h)) (append-nil (operations h)) refl (append-nil (filter_map aborter (done h))) (same_begins (Commit t) refl)
+
+  pub abort_trace : (t : TxnId) → trace (extended h (Abort t) Aborted) ≡ with_abort (trace h) t.0
+  abort_trace t =
+      grown (Abort t) Aborted refl (operations h) (commit_order (done h)) (filter_map aborter (done h) ++ t.0 ∷ []) (beginning (done h)) (append-nil (operations h)) (append-nil (commit_order (done h))) refl (same_begins (Abort t) refl)
+
+  pub begins_kept : (e : Event) → Keeps (beginning (done h)) (beginning (done h ++ e ∷ []))
+  begins_kept e u begun = at (beginning (done h) u) refl begun
+    where
+      at : (b : Option Beginning) → beginning (done h) u ≡ b → is_some b ≡ true → beginning (done h ++ e ∷ []) u ≡ beginning (done h) u
+      at None was is_it = absurd (true≢false (sym is_it))
+      at (Some b) was is_it = beginning-push (done h) e u b was ∙ sym was
+
   begin_step : (e : Event) (r : Reply) → is_refusal r ≡ false → operation_by e r ≡ None → committer e ≡ None → aborter e ≡ None → ((q : ℕ) → import_in (due_in d h e) q ≡ 0) → IsReached d h → IsReached d (extended h e r)
   begin_step e r is op c a free reached =
-      linked e r (with_begins (trace h) (beginning (done h ++ e ∷ []))) (imports d h)
-          (grown e r is (operations h) (commit_order (done h)) (filter_map aborter (done h)) (beginning (done h ++ e ∷ []))
-              (ap (λ p. operations h ++ cons_option p []) op ∙ append-nil (operations h)) (ap (λ p. commit_order (done h) ++ cons_option p []) c ∙ append-nil (commit_order (done h)))
-              (ap (λ p. filter_map aborter (done h) ++ cons_option p []) a ∙ append-nil (filter_map aborter (done h))) refl)
-          (no_imports e r is free) (begin reached (beginning (done h ++ e ∷ [])) keeps)
-    where
-      keeps : Keeps (beginning (done h)) (beginning (done h ++ e ∷ []))
-      keeps u begun = at (beginning (done h) u) refl begun
-        where
-          at : (b : Option Beginning) → beginning (done h) u ≡ b → is_some b ≡ true → beginning (done h ++ e ∷ []) u ≡ beginning (done h) u
-          at None was is_it = absurd (true≢false (sym is_it))
-          at (Some b) was is_it = beginning-push (done h) e u b was ∙ sym was
+      linked e r (with_begins (trace h) (beginning (done h ++ e ∷ []))) (imports d h) (begin_trace e r is op c a) (no_imports e r is free) (begin reached (beginning (done h ++ e ∷ [])) (begins_kept e))
 
   commit_step : (t : TxnId) → IsReached d h → is_active (done h) t.0 ≡ true → IsReached d (extended h (Commit t) Committed)
   commit_step t reached act =
-      linked (Commit t) Committed (with_commit (trace h) t.0) (imports d h)
-          (grown (Commit t) Committed refl (operations h) (commit_order (done h) ++ t.0 ∷ []) (filter_map aborter (done h)) (beginning (done h)) (append-nil (operations h)) refl (append-nil (filter_map aborter (done h))) (same_begins (Commit t) refl))
-          (no_imports (Commit t) Committed refl (λ q. refl)) (commit reached t.0 (active_trace h t.0 act))
+      linked (Commit t) Committed (with_commit (trace h) t.0) (imports d h) (commit_trace t) (no_imports (Commit t) Committed refl (λ q. refl)) (commit reached t.0 (active_trace h t.0 act))
 
   abort_step : (t : TxnId) → IsReached d h → is_active (done h) t.0 ≡ true → IsReached d (extended h (Abort t) Aborted)
   abort_step t reached act =
-      linked (Abort t) Aborted (with_abort (trace h) t.0) (imports d h)
-          (grown (Abort t) Aborted refl (operations h) (commit_order (done h)) (filter_map aborter (done h) ++ t.0 ∷ []) (beginning (done h)) (append-nil (operations h)) (append-nil (commit_order (done h))) refl (same_begins (Abort t) refl))
-          (no_imports (Abort t) Aborted refl (λ q. refl)) (abort reached t.0 (active_trace h t.0 act))
+      linked (Abort t) Aborted (with_abort (trace h) t.0) (imports d h) (abort_trace t) (no_imports (Abort t) Aborted refl (λ q. refl)) (abort reached t.0 (active_trace h t.0 act))
 
   query_not_update : (t : ℕ) → is_query (done h) t ≡ true → is_update (done h) t ≡ false
   query_not_update t is = at (beginning (done h) t) is
@@ -291,7 +301,7 @@ module _ (d : Distance) (h : Schedule) where
   accepted_step (Commit t) reached none = commit_step t reached (not_ended h t.0 none.1.0)
   accepted_step (Abort t) reached none = abort_step t reached (not_ended h t.0 none.1.0)
 
-  reached_step : (e : Event) (r : Reply) → r ≡ reply_to d h e → IsReached d h → IsReached d (extended h e r)
+  pub reached_step : (e : Event) (r : Reply) → r ≡ reply_to d h e → IsReached d h → IsReached d (extended h e r)
   reached_step e r is reached = at (refusal d h e) refl
     where
       at : (why : Option Refusal) → refusal d h e ≡ why → IsReached d (extended h e r)

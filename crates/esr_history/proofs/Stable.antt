@@ -27,6 +27,7 @@ any_pair_keep r (x ∷ xs) y h =
 -- of a committed query: its updates, its reads, the writes of its updates and their order, as in the trace t0
 pub record SameFor (q : ℕ) (t0 t : Trace) : Type 0 where
   pub committed : is_among t.commits q ≡ true
+  pub begins : t.beginning q ≡ t0.beginning q
   pub updates : updates_of_in t q ≡ updates_of_in t0 q
   pub reads : filter (read_by q) t.operations ≡ filter (read_by q) t0.operations
   pub writes : (u x : ℕ) → In u (updates_of_in t0 q) → filter (wrote_by x u) t.operations ≡ filter (wrote_by x u) t0.operations
@@ -39,6 +40,7 @@ same_from_iff false b f g = sym (false_from_ne_true b (λ h. true≢false (sym (
 pub same_with_begins : (q : ℕ) (t0 t : Trace) (b : ℕ → Option Beginning) → Keeps t.beginning b → Known t → SameFor q t0 t → SameFor q t0 (with_begins t b)
 same_with_begins q t0 t b keeps k h = record {
     committed = h.committed;
+    begins = keeps q (k.of_ends q (or_left (is_among t.commits q) (is_among t.aborts q) h.committed)) ∙ h.begins;
     updates = filter_agree_in (update_in (with_begins t b)) (update_in t) (before_first (λ u. eqb u q) t.commits)
         (λ u i. update_stays t b u keeps (k.of_ends u (or_left (is_among t.commits u) (is_among t.aborts u) (any-from_number t.commits u (In-before_first (λ u. eqb u q) t.commits u i)))))
         ∙ h.updates;
@@ -49,6 +51,7 @@ same_with_begins q t0 t b keeps k h = record {
 pub same_with_operation : (q : ℕ) (t0 t : Trace) (o : Operation) → ended_in t o.txn ≡ false → SameFor q t0 t → SameFor q t0 (with_operation t o)
 same_with_operation q t0 t o running h = record {
     committed = h.committed;
+    begins = h.begins;
     updates = h.updates;
     reads = filter_push_false (read_by q) t.operations o (and_right (not o.writes) (eqb o.txn q) (ne_eqb o.txn q (λ e. apart q h.committed e))) ∙ h.reads;
     writes = λ u x i. filter_push_false (wrote_by x u) t.operations o (and_right (o.writes && eqb o.item x) (eqb o.txn u) (ne_eqb o.txn u (λ e. apart u (in_commits u i) e))) ∙ h.writes u x i;
@@ -70,10 +73,11 @@ same_with_operation q t0 t o running h = record {
 pub same_with_commit : (q : ℕ) (t0 t : Trace) (u : ℕ) → SameFor q t0 t → SameFor q t0 (with_commit t u)
 same_with_commit q t0 t u h = record {
     committed = Rattle.esr_history.proofs.Locking.among_keep t.commits u q h.committed;
+    begins = h.begins;
     updates = ap (filter (update_in t)) (before_first-kept (λ u. eqb u q) t.commits (u ∷ []) h.committed) ∙ h.updates;
     reads = h.reads;
     writes = h.writes;
     order = h.order }
 
 pub same_with_abort : (q : ℕ) (t0 t : Trace) (u : ℕ) → SameFor q t0 t → SameFor q t0 (with_abort t u)
-same_with_abort q t0 t u h = record { committed = h.committed; updates = h.updates; reads = h.reads; writes = h.writes; order = h.order }
+same_with_abort q t0 t u h = record { committed = h.committed; begins = h.begins; updates = h.updates; reads = h.reads; writes = h.writes; order = h.order }
