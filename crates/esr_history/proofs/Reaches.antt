@@ -44,11 +44,11 @@ abbrev entry : Event → Reply → Entry
 entry e r = record { event = e; reply = r }
 
 -- operations after one more entry
-operations-refused : (h : Schedule) (e : Event) (why : Refusal) → operations (extended h e (Refused why)) ≡ operations h
+pub operations-refused : (h : Schedule) (e : Event) (why : Refusal) → operations (extended h e (Refused why)) ≡ operations h
 operations-refused h e why =
     ap (filter_map operation_of) (filter-append (λ (n : Entry). not (is_refusal n.reply)) h.entries (entry e (Refused why) ∷ []) ∙ append-nil (filter (λ (n : Entry). not (is_refusal n.reply)) h.entries))
 
-operations-accepted : (h : Schedule) (e : Event) (r : Reply) → is_refusal r ≡ false → operations (extended h e r) ≡ operations h ++ cons_option (operation_by e r) []
+pub operations-accepted : (h : Schedule) (e : Event) (r : Reply) → is_refusal r ≡ false → operations (extended h e r) ≡ operations h ++ cons_option (operation_by e r) []
 operations-accepted h e r is =
     ap (filter_map operation_of) (filter-append (λ (n : Entry). not (is_refusal n.reply)) h.entries (entry e r ∷ []) ∙ ap (λ l. filter (λ (n : Entry). not (is_refusal n.reply)) h.entries ++ l) one)
     ∙ filter_map-append operation_of (filter (λ (n : Entry). not (is_refusal n.reply)) h.entries) (entry e r ∷ [])
