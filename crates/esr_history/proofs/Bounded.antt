@@ -1,15 +1,14 @@
 -- The distance of a committed query from the version at its commit is at most what it was charged.
-use Rattle.std.proofs.Common.{◌≡◌, ◌≢◌, ℕ, zero, suc, ◌+◌, ◌*◌, ◌<◌, ◌≤◌, ℤ, Bool, true, false, cond, not, ◌&&◌, ◌||◌, ◌⊎◌, ◌↔◌, List, [], ◌∷◌, ◌++◌, length, take, drop, get_or, refl, sym, ◌∙◌, ap, subst, inl, inr, ⊎_elim, arith, filter, eqb, fold, Option, Some, None, count_by, slice_get, flat_map, sum_by}
-use Rattle.std.specs.List.{AllByRecursion, list_any, before_first, position_or_len, prefix_len}
+use Rattle.std.proofs.Common.{◌≡◌, ℕ, suc, ◌+◌, ◌≤◌, ℤ, Bool, true, false, cond, not, List, [], ◌∷◌, ◌++◌, take, drop, refl, sym, ◌∙◌, ap, subst, inl, ⊎_elim, arith, filter, eqb, sum_by}
+use Rattle.std.specs.List.{list_any, before_first, position_or_len}
 use Rattle.std.proofs.Math.Path.{fun_ext}
-use Rattle.std.proofs.lemmas.List.{append-nil, take-append-drop}
-use Rattle.std.proofs.lemmas.Bool.{true≢false, cond_both, cases_Bool, cases_eq, and_parts, and_from, and_left, and_right, or_cases, or_left, or_right, or_parts, or_from, eqb-true, eq-eqb, ne_eqb, not-true, not_from_false, not_from_true, not-false, false_from_ne_true, true_from_ne_false, eqb-false, cond-true, cond-false}
+use Rattle.std.proofs.lemmas.List.{take-append-drop}
+use Rattle.std.proofs.lemmas.Bool.{true≢false, cases_Bool, and_right, or_cases, or_left, or_parts, eq-eqb, ne_eqb}
 use Rattle.esr_history.specs.Operations.{Operation}
-use Rattle.esr_history.specs.Events.{Beginning}
-use Rattle.esr_history.proofs.Membership.{In, Pairs, each_at, In-append_cases, In-append_left, In-of_filter, In-filter, In-push, filter_agree_in, filter_none_in, In-from_any, In-any, any-from_number}
-use Rattle.esr_history.proofs.Traces.{is_among, says, after_writes, writes_item, Setting, IsMetric, reads_item, Trace, update_in, query_in, begun_in, ended_in, Active, NoOtherWriter, NoOtherUser, with_operation, with_commit, with_abort, with_begins, Keeps, read_of, write_of, current_in, committed_in, read_count_in, Reached, Reached.nothing, Reached.begin, Reached.read_update, Reached.read_query, Reached.write, Reached.commit, Reached.abort}
+use Rattle.esr_history.proofs.Membership.{In, In-append_left, In-of_filter, filter_agree_in, any-from_number}
+use Rattle.esr_history.proofs.Traces.{is_among, Setting, IsMetric, Trace, update_in, ended_in, with_operation, with_commit, with_begins, read_of, write_of, current_in, committed_in, Reached, Reached.nothing, Reached.begin, Reached.read_update, Reached.read_query, Reached.write, Reached.commit, Reached.abort}
 use Rattle.esr_history.proofs.Locking.{known, update_stays, among_push, committed_updates_in}
-use Rattle.esr_history.proofs.Versions.{filter_push_false, state_in, state_with, committed_version, wrote_by}
+use Rattle.esr_history.proofs.Versions.{filter_push_false, state_in, state_with, committed_version}
 use Rattle.esr_history.proofs.Covered.{read_by, distance_in, covered}
 
 pub before_first-here : {X : Type 0} (p : X → Bool) (x : X) (xs : List X) → p x ≡ true → before_first p (x ∷ xs) ≡ []
@@ -26,8 +25,8 @@ before_first-kept p [] ys h = absurd (true≢false (sym h))
 before_first-kept p (x ∷ xs) ys h =
     ⊎_elim (λ t. before_first-here p x (xs ++ ys) t ∙ sym (before_first-here p x xs t))
     (λ f. before_first-later p x (xs ++ ys) f
-        ∙ (ap (λ zs. x ∷ zs) (before_first-kept p xs ys (⊎_elim (λ t. absurd (true≢false (sym t ∙ f))) (λ t. t) (or_cases (p x) (list_any p xs) h)))
-        ∙ sym (before_first-later p x xs f)))
+    ∙ (ap (λ zs. x ∷ zs) (before_first-kept p xs ys (⊎_elim (λ t. absurd (true≢false (sym t ∙ f))) (λ t. t) (or_cases (p x) (list_any p xs) h)))
+    ∙ sym (before_first-later p x xs f)))
     (cases_Bool (p x))
 
 pub before_first-all : {X : Type 0} (p : X → Bool) (xs : List X) (y : X) (ys : List X) → list_any p xs ≡ false → p y ≡ true → before_first p (xs ++ y ∷ ys) ≡ xs
@@ -53,19 +52,19 @@ distance_with : (d : ℕ → ℤ → ℤ → ℕ) (o : ℕ → ℤ) (t : Trace) 
 distance_with d o t w q h c =
     let oc : is_among t.commits w.txn ≡ false = (or_parts (is_among t.commits w.txn) (is_among t.aborts w.txn) h).0 in
     ap (λ l. sum_by (λ a. d a.item a.value (state_in o (with_operation t w) (updates_of_in t q) a.item)) l)
-        (filter_push_false (read_by q) t.operations w (and_right (not w.writes) (eqb w.txn q) (ne_eqb w.txn q (λ e. true≢false (sym c ∙ (ap (is_among t.commits) (sym e) ∙ oc))))))
+    (filter_push_false (read_by q) t.operations w (and_right (not w.writes) (eqb w.txn q) (ne_eqb w.txn q (λ e. true≢false (sym c ∙ (ap (is_among t.commits) (sym e) ∙ oc))))))
     ∙ ap (λ f. distance_in d t q f) (fun_ext (λ x. state_with o t w (updates_of_in t q) x
-        (λ u i e. true≢false (sym (listed_committed t q u i) ∙ (ap (is_among t.commits) (sym e) ∙ oc)))))
+    (λ u i e. true≢false (sym (listed_committed t q u i) ∙ (ap (is_among t.commits) (sym e) ∙ oc)))))
 
 pub bounded : {s : Setting} {t : Trace} {m : ℕ → ℕ} → IsMetric s.distance → Reached s t m →
     (q : ℕ) → is_among t.commits q ≡ true → update_in t q ≡ false → distance_in s.distance t q (state_in s.opening t (updates_of_in t q)) ≤ m q
 bounded d nothing q c nu = absurd (true≢false (sym c))
 bounded {s = s} d (begin {t = t} {m = m} r b keeps) q c nu =
     let stays : (u : ℕ) → is_among t.commits u ≡ true → update_in (with_begins t b) u ≡ update_in t u =
-        λ u h. update_stays t b u keeps ((known r).of_ends u (or_left (is_among t.commits u) (is_among t.aborts u) h)) in
+    λ u h. update_stays t b u keeps ((known r).of_ends u (or_left (is_among t.commits u) (is_among t.aborts u) h)) in
     subst (λ us. distance_in s.distance t q (state_in s.opening t us) ≤ m q)
     (filter_agree_in (update_in t) (update_in (with_begins t b)) (before_first (λ u. eqb u q) t.commits)
-        (λ u i. sym (stays u (any-from_number t.commits u (In-before_first (λ u. eqb u q) t.commits u i)))))
+    (λ u i. sym (stays u (any-from_number t.commits u (In-before_first (λ u. eqb u q) t.commits u i)))))
     (bounded d r q c (sym (stays q c) ∙ nu))
 bounded {s = s} d (read_update {t = t} {m = m} r u x ac up free) q c nu =
     subst (λ n. n ≤ m q) (sym (distance_with s.distance s.opening t (read_of u x (current_in s.opening t x)) q ac.open_ended c)) (bounded d r q c nu)
@@ -78,14 +77,14 @@ bounded {s = s} d (write {t = t} {m = m} r u x v k ac up free paid) q c nu =
 bounded {s = s} d (commit {t = t} {m = m} r u a) q c nu =
     ⊎_elim
     (λ old.
-        subst (λ us. distance_in s.distance t q (state_in s.opening t us) ≤ m q)
-        (ap (filter (update_in t)) (sym (before_first-kept (λ u. eqb u q) t.commits (u ∷ []) old)))
-        (bounded d r q old nu))
+    subst (λ us. distance_in s.distance t q (state_in s.opening t us) ≤ m q)
+    (ap (filter (update_in t)) (sym (before_first-kept (λ u. eqb u q) t.commits (u ∷ []) old)))
+    (bounded d r q old nu))
     (λ no.
-        let e : u ≡ q = ⊎_elim (λ h. absurd (true≢false (sym h ∙ no))) (λ h. h) (among_push t.commits u q c) in
-        let l : updates_of_in (with_commit t u) q ≡ committed_updates_in t = ap (filter (update_in t)) (before_first-all (λ u. eqb u q) t.commits u [] no (eq-eqb u q e)) in
-        subst (λ us. distance_in s.distance t q (state_in s.opening t us) ≤ m q) (sym l)
-        (subst (λ f. distance_in s.distance t q f ≤ m q) (sym (fun_ext (committed_version r s.opening)))
-            (covered d r q (ap (ended_in t) (sym e) ∙ a.open_ended) nu (committed_in s.opening t) (λ x. inl refl))))
+    let e : u ≡ q = ⊎_elim (λ h. absurd (true≢false (sym h ∙ no))) (λ h. h) (among_push t.commits u q c) in
+    let l : updates_of_in (with_commit t u) q ≡ committed_updates_in t = ap (filter (update_in t)) (before_first-all (λ u. eqb u q) t.commits u [] no (eq-eqb u q e)) in
+    subst (λ us. distance_in s.distance t q (state_in s.opening t us) ≤ m q) (sym l)
+    (subst (λ f. distance_in s.distance t q f ≤ m q) (sym (fun_ext (committed_version r s.opening)))
+    (covered d r q (ap (ended_in t) (sym e) ∙ a.open_ended) nu (committed_in s.opening t) (λ x. inl refl))))
     (cases_Bool (is_among t.commits q))
 bounded d (abort r u a) q c nu = bounded d r q c nu

@@ -1,7 +1,6 @@
 -- Two lists of the same updates, each of which keeps the conflict order, leave the same value of an item.
-use Rattle.std.proofs.Common.{◌≡◌, ◌≢◌, ℕ, zero, suc, ◌+◌, ◌<◌, ◌≤◌, ℤ, Bool, true, false, cond, not, ◌&&◌, ◌||◌, ◌⊎◌, ◌↔◌, List, [], ◌∷◌, ◌++◌, length, take, drop, get_or, refl, sym, ◌∙◌, ap, subst, inl, inr, ⊎_elim, arith, All, AllPairs, Contains, filter, eqb, fold, flat_map}
-use Rattle.std.specs.List.{AllByRecursion, list_any}
-use Rattle.std.proofs.lemmas.Bool.{true≢false, cond_both, cases_Bool, cases_eq}
+use Rattle.std.proofs.Common.{◌≡◌, ℕ, ℤ, Bool, true, false, ◌⊎◌, List, [], ◌∷◌, ◌++◌, refl, sym, ◌∙◌, ap, subst, inl, inr, ⊎_elim, flat_map}
+use Rattle.std.proofs.lemmas.Bool.{true≢false, cases_eq}
 use Rattle.esr_history.specs.Events.{last_value}
 use Rattle.esr_history.proofs.Membership.{In, Pairs, each_at}
 
@@ -35,22 +34,31 @@ last_writer before w [] v p = inl (record { none = λ t h. absurd h; leaves = re
 last_writer before w (a ∷ ps) v p =
     ⊎_elim
     (λ none. ⊎_elim
-        (λ e. inl (record {
-            none = λ t h. ⊎_elim (λ q. ap w (sym q) ∙ e) (λ i. none.none t i) h;
-            leaves = split ∙ (none.leaves ∙ ap (last_value v) e) }))
-        (λ ne. inr (a, record {
-            is_in = inl refl;
-            writes = ne;
-            leaves = split ∙ none.leaves;
-            last = λ t h nt. ⊎_elim (λ q. inl (sym q)) (λ i. absurd (nt (none.none t i))) h }))
-        (empty_or_not (w a)))
-    (λ r. inr (r.0, record {
+    (λ e. inl (record {
+      none = λ t h. ⊎_elim (λ q. ap w (sym q) ∙ e) (λ i. none.none t i) h;
+      leaves = split ∙ (none.leaves ∙ ap (last_value v) e);
+    }))
+    (λ ne. inr (
+      a,
+      record {
+        is_in = inl refl;
+        writes = ne;
+        leaves = split ∙ none.leaves;
+        last = λ t h nt. ⊎_elim (λ q. inl (sym q)) (λ i. absurd (nt (none.none t i))) h;
+      },
+    ))
+    (empty_or_not (w a)))
+    (λ r. inr (
+      r.0,
+      record {
         is_in = inr r.1.is_in;
         writes = r.1.writes;
         leaves = split ∙ (r.1.leaves ∙ last_value-some (w r.0) (last_value v (w a)) v r.1.writes);
         last = λ t h nt. ⊎_elim
             (λ q. inr (subst (λ z. before r.0 z ≡ false) q (each_at (λ b. before b a ≡ false) ps r.0 p.0 r.1.is_in)))
-            (λ i. r.1.last t i nt) h }))
+            (λ i. r.1.last t i nt) h;
+      },
+    ))
     (last_writer before w ps (last_value v (w a)) p.1)
   where
     split : last_value v (w a ++ flat_map w ps) ≡ last_value (last_value v (w a)) (flat_map w ps)
@@ -67,13 +75,13 @@ pub same_left : (before : ℕ → ℕ → Bool) (w : ℕ → List ℤ) (ps qs : 
 same_left before w ps qs v orders pa pb to from =
     ⊎_elim
     (λ na. ⊎_elim
-        (λ nb. na.leaves ∙ sym nb.leaves)
-        (λ b. absurd (b.1.writes (na.none b.0 (from b.0 b.1.is_in))))
-        (last_writer before w qs v pb))
+    (λ nb. na.leaves ∙ sym nb.leaves)
+    (λ b. absurd (b.1.writes (na.none b.0 (from b.0 b.1.is_in))))
+    (last_writer before w qs v pb))
     (λ a. ⊎_elim
-        (λ nb. absurd (a.1.writes (nb.none a.0 (to a.0 a.1.is_in))))
-        (λ b. a.1.leaves ∙ (ap (λ u. last_value v (w u)) (one a.0 b.0 a.1 b.1) ∙ sym b.1.leaves))
-        (last_writer before w qs v pb))
+    (λ nb. absurd (a.1.writes (nb.none a.0 (to a.0 a.1.is_in))))
+    (λ b. a.1.leaves ∙ (ap (λ u. last_value v (w u)) (one a.0 b.0 a.1 b.1) ∙ sym b.1.leaves))
+    (last_writer before w qs v pb))
     (last_writer before w ps v pa)
   where
     one : (x y : ℕ) → LastWriter before w ps v x → LastWriter before w qs v y → x ≡ y
@@ -81,9 +89,9 @@ same_left before w ps qs v orders pa pb to from =
         ⊎_elim
         (λ e. e)
         (λ ne. ⊎_elim (λ e. sym e)
-            (λ yx. ⊎_elim (λ e. e)
-                (λ xy. ⊎_elim (λ t. absurd (true≢false (sym t ∙ yx))) (λ t. absurd (true≢false (sym t ∙ xy)))
-                    (orders x y a.writes b.writes ne))
-                (b.last x (to x a.is_in) a.writes))
-            (a.last y (from y b.is_in) b.writes))
+        (λ yx. ⊎_elim (λ e. e)
+        (λ xy. ⊎_elim (λ t. absurd (true≢false (sym t ∙ yx))) (λ t. absurd (true≢false (sym t ∙ xy)))
+        (orders x y a.writes b.writes ne))
+        (b.last x (to x a.is_in) a.writes))
+        (a.last y (from y b.is_in) b.writes))
         (cases_eq x y)

@@ -1,15 +1,15 @@
 -- What two-phase locking keeps: who conflicts has ended first, so commits keep the conflict order.
-use Rattle.std.proofs.Common.{◌≡◌, ◌≢◌, ℕ, zero, suc, ◌+◌, ◌*◌, ◌<◌, ◌≤◌, ℤ, Bool, true, false, cond, not, ◌&&◌, ◌||◌, ◌⊎◌, ◌↔◌, List, [], ◌∷◌, ◌++◌, length, take, drop, get_or, refl, sym, ◌∙◌, ap, subst, inl, inr, ⊎_elim, arith, filter, eqb, fold, Option, Some, None, count_by, slice_get}
+use Rattle.std.proofs.Common.{◌≡◌, ℕ, Bool, true, false, not, ◌&&◌, ◌||◌, ◌⊎◌, List, [], ◌∷◌, ◌++◌, refl, sym, ◌∙◌, ap, subst, inl, inr, ⊎_elim, filter, eqb, Option}
 use Rattle.std.specs.Prelude.{is_some}
-use Rattle.std.specs.List.{AllByRecursion, list_any}
+use Rattle.std.specs.List.{list_any}
 use Rattle.std.proofs.lemmas.List.Folds.{list_any-append}
 use Rattle.std.proofs.lemmas.List.Elements.{filter-append}
-use Rattle.std.proofs.lemmas.Bool.{true≢false, cond_both, cases_Bool, cases_eq, and_parts, and_from, or_cases, or_left, or_right, or_parts, or_from, eqb-true, eq-eqb, ne_eqb, not-true, not_from_false, not_from_true, not-false, false_from_ne_true, eqb-false}
+use Rattle.std.proofs.lemmas.Bool.{true≢false, cond_both, cases_Bool, and_parts, or_cases, or_left, or_right, eqb-true, eq-eqb, not-true, false_from_ne_true, eqb-false}
 use Rattle.esr_history.specs.Operations.{Operation}
 use Rattle.esr_history.specs.Events.{Beginning}
 use Rattle.esr_history.specs.Serial.{any_pair, conflict}
-use Rattle.esr_history.proofs.Membership.{In, Pairs, each_at, In-append_cases, In-of_filter, In-filter, Pairs-filter, Pairs-append, Pairs-left, Pairs-map, Pairs-push, In-push, filter_agree_in, In-from_any, In-any, any-from_number}
-use Rattle.esr_history.proofs.Traces.{is_among, says, Setting, Trace, update_in, query_in, begun_in, ended_in, Active, NoOtherWriter, NoOtherUser, with_operation, with_commit, with_abort, with_begins, Keeps, read_of, write_of, current_in, committed_in, Reached, Reached.nothing, Reached.begin, Reached.read_update, Reached.read_query, Reached.write, Reached.commit, Reached.abort}
+use Rattle.esr_history.proofs.Membership.{In, Pairs, each_at, In-of_filter, Pairs-append, Pairs-map, Pairs-push, In-push, filter_agree_in, In-any, any-from_number}
+use Rattle.esr_history.proofs.Traces.{is_among, says, Setting, Trace, update_in, begun_in, ended_in, with_operation, with_commit, with_abort, with_begins, Keeps, read_of, write_of, current_in, Reached, Reached.nothing, Reached.begin, Reached.read_update, Reached.read_query, Reached.write, Reached.commit, Reached.abort}
 
 pub among_push : (us : List ℕ) (u v : ℕ) → is_among (us ++ u ∷ []) v ≡ true → (is_among us v ≡ true) ⊎ (u ≡ v)
 among_push us u v h =
@@ -63,7 +63,8 @@ known (begin {t = t} r b keeps) =
     let k = known r in
     record {
       of_operations = λ o i. ap is_some (keeps o.txn (k.of_operations o i)) ∙ k.of_operations o i;
-      of_ends = λ u h. ap is_some (keeps u (k.of_ends u h)) ∙ k.of_ends u h }
+      of_ends = λ u h. ap is_some (keeps u (k.of_ends u h)) ∙ k.of_ends u h;
+    }
 known (read_update {t = t} r u x a up free) =
     let k = known r in
     record { of_operations = In-push (λ o. begun_in t o.txn ≡ true) t.operations _ k.of_operations a.begun; of_ends = k.of_ends }
@@ -108,8 +109,8 @@ locks {s = s} (read_update {t = t} r u x a up free) =
     let o = read_of u x (current_in s.opening t x) in
     Pairs-push (Locked t) t.operations o (locks r)
     (λ y iy c uy uo.
-        let p = conflict_parts y o c in
-        free.none y iy (⊎_elim (λ e. e) (λ e. absurd (true≢false (sym e))) (or_cases y.writes false p.one_writes)) p.same_item p.apart uy)
+    let p = conflict_parts y o c in
+    free.none y iy (⊎_elim (λ e. e) (λ e. absurd (true≢false (sym e))) (or_cases y.writes false p.one_writes)) p.same_item p.apart uy)
 locks (read_query {t = t} r u x c a up free) =
     Pairs-push (Locked t) t.operations _ (locks r) (λ y iy c uy uo. absurd (true≢false (sym uo ∙ up)))
 locks (write {t = t} r u x v c a up free paid) =
@@ -135,8 +136,8 @@ any_pair_push r [] y h = absurd (true≢false (sym h))
 any_pair_push r (x ∷ xs) y h =
     ⊎_elim
     (λ e. ⊎_elim (λ f. inl (or_left (list_any (r x) xs) (any_pair r xs) f))
-        (λ f. ⊎_elim (λ g. inr (x, inl refl, g)) (λ g. absurd (true≢false (sym g))) (or_cases (r x y) false f))
-        (or_cases (list_any (r x) xs) (list_any (r x) (y ∷ [])) (sym (list_any-append (r x) xs (y ∷ [])) ∙ e)))
+    (λ f. ⊎_elim (λ g. inr (x, inl refl, g)) (λ g. absurd (true≢false (sym g))) (or_cases (r x y) false f))
+    (or_cases (list_any (r x) xs) (list_any (r x) (y ∷ [])) (sym (list_any-append (r x) xs (y ∷ [])) ∙ e)))
     (λ e. ⊎_elim (λ f. inl (or_right (list_any (r x) xs) (any_pair r xs) f)) (λ f. inr (f.0, inr f.1, f.2)) (any_pair_push r xs y e))
     (or_cases (list_any (r x) (xs ++ y ∷ [])) (any_pair r (xs ++ y ∷ [])) h)
 
@@ -163,13 +164,13 @@ order_with_operation : (t : Trace) (o : Operation) → ended_in t o.txn ≡ fals
 order_with_operation t o running p =
     Pairs-map (InOrderOf t) (InOrderOf (with_operation t o)) (committed_updates_in t)
     (λ u v iu iv b. false_from_ne_true (is_before_in (with_operation t o) v u)
-        (λ h. ⊎_elim (λ e. true≢false (sym e ∙ b))
-            (λ f.
-                let p1 = and_parts (eqb f.0.txn v) ((eqb o.txn u) && conflict f.0 o) f.2 in
-                let p2 = and_parts (eqb o.txn u) (conflict f.0 o) p1.1 in
-                let e : o.txn ≡ u = eqb-true o.txn u p2.0 in
-                true≢false (sym (commit_ended t u (In-of_filter (update_in t) t.commits u iu).0) ∙ subst (λ w. ended_in t w ≡ false) e running))
-            (any_pair_push (λ a b. (eqb a.txn v) && ((eqb b.txn u) && conflict a b)) t.operations o h)))
+    (λ h. ⊎_elim (λ e. true≢false (sym e ∙ b))
+    (λ f.
+    let p1 = and_parts (eqb f.0.txn v) ((eqb o.txn u) && conflict f.0 o) f.2 in
+    let p2 = and_parts (eqb o.txn u) (conflict f.0 o) p1.1 in
+    let e : o.txn ≡ u = eqb-true o.txn u p2.0 in
+    true≢false (sym (commit_ended t u (In-of_filter (update_in t) t.commits u iu).0) ∙ subst (λ w. ended_in t w ≡ false) e running))
+    (any_pair_push (λ a b. (eqb a.txn v) && ((eqb b.txn u) && conflict a b)) t.operations o h)))
     p
 
 pub commits_in_order : {s : Setting} {t : Trace} {m : ℕ → ℕ} → Reached s t m → Pairs (InOrderOf t) (committed_updates_in t)
@@ -184,10 +185,10 @@ commits_in_order (write {t = t} r u x v c a up free paid) = order_with_operation
 commits_in_order (commit {t = t} r u a) =
     subst (Pairs (InOrderOf t)) (sym (filter-append (update_in t) t.commits (u ∷ [])))
     (cond_both (update_in t u) (u ∷ []) [] (λ zs. Pairs (InOrderOf t) (committed_updates_in t ++ zs))
-        (λ up. Pairs-push (InOrderOf t) (committed_updates_in t) u (commits_in_order r)
-            (λ w iw. false_from_ne_true (is_before_in t u w)
-                (λ h. true≢false (sym (before_ended r u w up (In-of_filter (update_in t) t.commits w iw).1 h) ∙ a.open_ended))))
-        (λ _. Pairs-append (InOrderOf t) (committed_updates_in t) [] (commits_in_order r) tt (λ x y ix iy. absurd iy)))
+    (λ up. Pairs-push (InOrderOf t) (committed_updates_in t) u (commits_in_order r)
+    (λ w iw. false_from_ne_true (is_before_in t u w)
+    (λ h. true≢false (sym (before_ended r u w up (In-of_filter (update_in t) t.commits w iw).1 h) ∙ a.open_ended))))
+    (λ _. Pairs-append (InOrderOf t) (committed_updates_in t) [] (commits_in_order r) tt (λ x y ix iy. absurd iy)))
 commits_in_order (abort {t = t} r u a) = commits_in_order r
 
 pub commits_once : {s : Setting} {t : Trace} {m : ℕ → ℕ} → Reached s t m → Pairs (λ u v. u ≡ v → ⊥) t.commits

@@ -1,32 +1,29 @@
 -- The counts and ranges of legal histories.
-use Rattle.std.proofs.Common.{◌≡◌, ℕ, zero, suc, ℤ, pos, ◌+◌, ◌<◌, ◌≤◌, ◌^◌, Bool, true, false, not, ◌&&◌, ◌||◌, ◌==◌, List, [], ◌∷◌, ◌++◌, length, refl, sym, ◌∙◌, ap, subst, arith, inl, inr, filter, map, Option, Some, None, All, cond, count_by}
-use Rattle.std.specs.Prelude.{IsTrue, unwrap_or, nat_le, slice_index_or}
+use Rattle.std.proofs.Common.{◌≡◌, ℕ, zero, suc, ℤ, pos, ◌+◌, ◌<◌, ◌≤◌, ◌^◌, Bool, true, false, not, ◌&&◌, ◌||◌, ◌==◌, List, [], ◌∷◌, ◌++◌, length, refl, sym, ◌∙◌, ap, subst, arith, inl, inr, filter, map, Option, Some, None, All, cond, count_by, ◌⊎◌}
+use Rattle.std.specs.Prelude.{IsTrue, unwrap_or, nat_le, slice_index_or, is_some, unsigned_abs}
 use Rattle.std.specs.List.{AllByRecursion, filter_map, list_any, cons_option, slice_get}
 use Rattle.std.specs.Option.{option_map}
-use Rattle.std.proofs.Math.Nat.{le_trans}
-use Rattle.std.proofs.lemmas.Bool.{cases_Bool, true≢false, and_parts, and_from, leb-false, leb-true, not-false, false_from_ne_true, eqb-true}
+use Rattle.std.proofs.lemmas.Bool.{cases_Bool, true≢false, leb-false, leb-true, not-false, false_from_ne_true, eqb-true}
 use Rattle.std.proofs.lemmas.List.Elements.{All-from_recursion, recursion_from_All}
 use Rattle.std.proofs.lemmas.List.Sums.{sum_by-append, sum_by-cons}
 use Rattle.std.proofs.lemmas.List.{length-append}
 use Rattle.esr_items.specs.Values.{value_at, IsValue, is_value}
-use Rattle.esr_history.specs.declared.event.TxnId.{TxnId}
-use Rattle.esr_items.specs.declared.metric.ItemId.{ItemId}
 use Rattle.esr_history.specs.declared.event.Event.{Event}
 use Rattle.esr_history.specs.declared.event.Event.TheVariants.{BeginUpdate, BeginQuery, Read, Write, Commit, Abort}
 use Rattle.esr_history.specs.declared.event.Reply.{Reply}
 use Rattle.esr_history.specs.declared.event.Reply.TheVariants.{Refused}
 use Rattle.esr_history.specs.declared.event.Refusal.{Refusal}
 use Rattle.esr_history.specs.declared.event.Refusal.TheVariants.{NoSuchItem, ValueOutOfRange, TooManyTransactions, TooManyReads}
-use Rattle.esr_history.specs.Events.{Beginning, beginning, beginnings, beginning_of, is_query, is_update, is_begun, is_active, is_aborted, is_refusal, reads_any, all_reads_of, last_value, current_value}
-use Rattle.esr_history.specs.Machine.{Distance, Schedule, done, extended, blank, reply_to, reasons, refusal, acceptance, answered, IsLegal}
+use Rattle.esr_history.specs.Events.{Beginning, beginning, beginnings, beginning_of, is_query, is_update, is_active, is_refusal, reads_any, all_reads_of, current_value}
+use Rattle.esr_history.specs.Machine.{Distance, Schedule, done, extended, blank, reply_to, reasons, refusal, acceptance, answered, IsLegal, no_item}
 use Rattle.esr_history.specs.Legal.{legal_induction}
 use Rattle.esr_history.specs.Operations.{Operation, operation_by, operations}
 use Rattle.esr_history.specs.Ranges.{IsWithinRanges}
 use Rattle.esr_history.proofs.Lists.{filter_map_push}
-use Rattle.esr_history.proofs.Lawful.{done-refused, done-accepted, none_applies, NoneApplies, acceptance_accepts, not_ended, when_none}
+use Rattle.esr_history.proofs.Lawful.{done-refused, done-accepted, none_applies, NoneApplies, not_ended, when_none}
 use Rattle.esr_history.proofs.Orderly.{is_update-push, active_parts}
-use Rattle.esr_history.proofs.Membership.{In, each_in, In-push, In-of_filter}
-use Rattle.esr_history.proofs.Traces.{writes_item, is_among, after_writes, current_in}
+use Rattle.esr_history.proofs.Membership.{In, each_in, In-push, In-of_filter, In-append_cases}
+use Rattle.esr_history.proofs.Traces.{writes_item, is_among, after_writes}
 use Rattle.esr_history.proofs.Words.{trace, current_trace}
 use Rattle.esr_history.proofs.Reaches.{operations-refused, operations-accepted}
 
@@ -50,8 +47,8 @@ module _ (d : Distance) (h : Schedule) (opened : AllByRecursion IsValue h.openin
   current-range : (x : ℕ) → IsValue (current_value h.opening (done h) x)
   current-range x =
       rw (current_trace h x)
-          (after_writes-range (value_at h.opening x) (filter (λ w. writes_item x w && not (is_among (trace h).aborts w.txn)) (operations h)) (value_at-range h.opening x opened)
-              (λ o i. was.values o (In-of_filter (λ w. writes_item x w && not (is_among (trace h).aborts w.txn)) (operations h) o i).0))
+      (after_writes-range (value_at h.opening x) (filter (λ w. writes_item x w && not (is_among (trace h).aborts w.txn)) (operations h)) (value_at-range h.opening x opened)
+      (λ o i. was.values o (In-of_filter (λ w. writes_item x w && not (is_among (trace h).aborts w.txn)) (operations h) o i).0))
 
   reads-push : (e : Event) (t : ℕ) → all_reads_of (done h ++ e ∷ []) t ≡ all_reads_of (done h) t + cond (reads_any t e) 1 0
   reads-push e t =
@@ -87,8 +84,8 @@ module _ (d : Distance) (h : Schedule) (opened : AllByRecursion IsValue h.openin
         items = λ o i. elim (one o i) [ inl j ↦ was.items o j | inr j ↦ (new o j).1 ];
       }
     where
-      one : (o : Operation) → In o (operations (extended h e r)) → Rattle.std.proofs.Common.◌⊎◌ (In o (operations h)) (In o (cons_option (operation_by e r) []))
-      one o i = Rattle.esr_history.proofs.Membership.In-append_cases (operations h) (cons_option (operation_by e r) []) o (subst (In o) (operations-accepted h e r is) i)
+      one : (o : Operation) → In o (operations (extended h e r)) → In o (operations h) ⊎ In o (cons_option (operation_by e r) [])
+      one o i = In-append_cases (operations h) (cons_option (operation_by e r) []) o (subst (In o) (operations-accepted h e r is) i)
 
   begin_in_ranges : (e : Event) (r : Reply) (b : Beginning) → is_refusal r ≡ false → beginning_of e ≡ Some b → operation_by e r ≡ None → ((t : ℕ) → reads_any t e ≡ false) → nat_le 65535 (length (beginnings (done h))) ≡ false → InRanges (extended h e r)
   begin_in_ranges e r b is begins none no_read room =
@@ -103,7 +100,7 @@ module _ (d : Distance) (h : Schedule) (opened : AllByRecursion IsValue h.openin
   single : (P : Operation → Type 0) (o : Operation) → P o → (w : Operation) → In w (o ∷ []) → P w
   single P o p w i = elim i [ inl e ↦ subst P e p | inr none ↦ absurd none ]
 
-  item_below : (x : ℕ) → Rattle.esr_history.specs.Machine.no_item h x ≡ None → x < length h.opening
+  item_below : (x : ℕ) → no_item h x ≡ None → x < length h.opening
   item_below x none = leb-false (length h.opening) x (when_none (nat_le (length h.opening) x) NoSuchItem none)
 
   accepted_in_ranges : (e : Event) → NoneApplies (reasons d h e) → InRanges (extended h e (acceptance h e))
@@ -113,32 +110,34 @@ module _ (d : Distance) (h : Schedule) (opened : AllByRecursion IsValue h.openin
       begin_in_ranges (BeginQuery l s) (acceptance h (BeginQuery l s)) (record { query = true; strict = s; limit = l }) refl refl refl (λ t. refl) (when_none (nat_le 65535 (length (beginnings (done h)))) TooManyTransactions none.1.0)
   accepted_in_ranges (Read t x) none =
       about (Read t x) (acceptance h (Read t x)) refl (same_begins (Read t x) refl) reads
-          (single (λ o. IsValue o.value × (o.item < length h.opening)) (record { txn = t.0; item = x.0; writes = false; value = current_value h.opening (done h) x.0 }) (current-range x.0, item_below x.0 none.1.1.0))
+      (single (λ o. IsValue o.value × (o.item < length h.opening)) (record { txn = t.0; item = x.0; writes = false; value = current_value h.opening (done h) x.0 }) (current-range x.0, item_below x.0 none.1.1.0))
     where
       act : is_active (done h) t.0 ≡ true
       act = not_ended h t.0 none.1.0
+
       room : is_query (done h) t.0 ≡ true → all_reads_of (done h) t.0 < 1000
       room query = leb-false 1000 (all_reads_of (done h) t.0) (sym (ap (λ b. b && nat_le 1000 (all_reads_of (done h) t.0)) query) ∙ when_none (is_query (done h) t.0 && nat_le 1000 (all_reads_of (done h) t.0)) TooManyReads none.1.1.1.0)
+
       reads : (u : ℕ) → is_update (done h ++ Read t x ∷ []) u ≡ false → all_reads_of (done h ++ Read t x ∷ []) u ≤ 1000
       reads u fails =
           let before : is_update (done h) u ≡ false = no_update_before (Read t x) u fails in
           rw (reads-push (Read t x) u)
           (elim (cases_Bool (t.0 == u)) [
-            inl own ↦
-              let below : all_reads_of (done h) u < 1000 = subst (λ w. all_reads_of (done h) w < 1000) (eqb-true t.0 u own) (room (query_from (beginning (done h) t.0) (active_parts (done h) t.0 act).0 (subst (λ w. is_update (done h) w ≡ false) (sym (eqb-true t.0 u own)) before))) in
-              rw own (omega arith)
-          | inr other ↦
-              let low : all_reads_of (done h) u ≤ 1000 = was.reads u before in
-              rw other (omega arith)
+            | inl own ↦
+                let below : all_reads_of (done h) u < 1000 = subst (λ w. all_reads_of (done h) w < 1000) (eqb-true t.0 u own) (room (query_from (beginning (done h) t.0) (active_parts (done h) t.0 act).0 (subst (λ w. is_update (done h) w ≡ false) (sym (eqb-true t.0 u own)) before))) in
+                rw own (omega arith)
+            | inr other ↦
+                let low : all_reads_of (done h) u ≤ 1000 = was.reads u before in
+                rw other (omega arith)
           ])
         where
-          query_from : (b : Option Beginning) → Rattle.std.specs.Prelude.is_some b ≡ true → unwrap_or (option_map (λ c. not c.query) b) false ≡ false → unwrap_or (option_map (λ c. c.query) b) false ≡ true
+          query_from : (b : Option Beginning) → is_some b ≡ true → unwrap_or (option_map (λ c. not c.query) b) false ≡ false → unwrap_or (option_map (λ c. c.query) b) false ≡ true
           query_from None some q = absurd (true≢false (sym some))
           query_from (Some b) some q = not-false b.query q
   accepted_in_ranges (Write t x v) none =
       about (Write t x v) (acceptance h (Write t x v)) refl (same_begins (Write t x v) refl) (fewer_reads (Write t x v) (λ u. refl))
-          (single (λ o. IsValue o.value × (o.item < length h.opening)) (record { txn = t.0; item = x.0; writes = true; value = v })
-              (leb-true (Rattle.std.specs.Prelude.unsigned_abs v) (10 ^ 12) (not-false (is_value v) (when_none (not (is_value v)) ValueOutOfRange none.1.1.1.1.0)), item_below x.0 none.1.1.0))
+      (single (λ o. IsValue o.value × (o.item < length h.opening)) (record { txn = t.0; item = x.0; writes = true; value = v })
+      (leb-true (unsigned_abs v) (10 ^ 12) (not-false (is_value v) (when_none (not (is_value v)) ValueOutOfRange none.1.1.1.1.0)), item_below x.0 none.1.1.0))
   accepted_in_ranges (Commit t) none = about (Commit t) (acceptance h (Commit t)) refl (same_begins (Commit t) refl) (fewer_reads (Commit t) (λ u. refl)) (λ o i. absurd i)
   accepted_in_ranges (Abort t) none = about (Abort t) (acceptance h (Abort t)) refl (same_begins (Abort t) refl) (fewer_reads (Abort t) (λ u. refl)) (λ o i. absurd i)
 
@@ -163,7 +162,7 @@ module _ (d : Distance) (h : Schedule) (opened : AllByRecursion IsValue h.openin
 legal_in_ranges : (d : Distance) (h : Schedule) → AllByRecursion IsValue h.opening → IsLegal d h → InRanges h
 legal_in_ranges d h opened legal =
     legal_induction d (λ g. AllByRecursion IsValue g.opening → InRanges g) (λ g e r is was all. InRanges-extended d g all (was all) e r is) h
-        (λ all. record { begins = omega arith; reads = λ t is. omega arith; values = λ o i. absurd i; items = λ o i. absurd i }) legal opened
+    (λ all. record { begins = omega arith; reads = λ t is. omega arith; values = λ o i. absurd i; items = λ o i. absurd i }) legal opened
 
 -- the counts and ranges of a legal history
 pub legal_within_ranges : (d : Distance) (h : Schedule) → All IsValue h.opening → IsLegal d h → IsWithinRanges h

@@ -1,11 +1,11 @@
 -- Each legal history reaches its trace.
-use Rattle.std.proofs.Common.{◌≡◌, ℕ, zero, suc, ℤ, ◌+◌, ◌*◌, ◌<◌, ◌≤◌, List, [], ◌∷◌, ◌++◌, length, Bool, true, false, cond, not, ◌&&◌, ◌||◌, ◌==◌, ◌⊎◌, refl, sym, ◌∙◌, ap, subst, arith, inl, inr, ⊎_elim, Option, None, Some, if◌then◌else◌, map, filter, eqb, count_by, append-nil, add-zero}
+use Rattle.std.proofs.Common.{◌≡◌, ℕ, zero, suc, ℤ, ◌+◌, ◌*◌, ◌<◌, ◌≤◌, List, [], ◌∷◌, ◌++◌, length, Bool, true, false, cond, not, ◌&&◌, ◌||◌, ◌==◌, ◌⊎◌, refl, sym, ◌∙◌, ap, subst, arith, inl, inr, Option, None, Some, if◌then◌else◌, filter, eqb, count_by, append-nil, add-zero}
 use Rattle.std.specs.Prelude.{is_some, find, unwrap_or}
 use Rattle.std.specs.List.{filter_map, list_any, cons_option, range_with_len}
 use Rattle.std.specs.Option.{option_map}
 use Rattle.std.proofs.Math.Path.{fun_ext}
 use Rattle.std.proofs.Math.Nat.{le_trans}
-use Rattle.std.proofs.lemmas.Bool.{cases_Bool, true≢false, cases_eq, eq-eqb, ne_eqb, eqb-true, and_parts, and_from, or_cases, or_left, or_right, or_parts, not-false, not_from_false}
+use Rattle.std.proofs.lemmas.Bool.{cases_Bool, true≢false, cases_eq, eq-eqb, ne_eqb, and_from, or_parts}
 use Rattle.std.proofs.lemmas.List.Elements.{filter_map-append, filter-append}
 use Rattle.std.proofs.lemmas.List.Sums.{sum_by-cons}
 use Rattle.esr_items.specs.Values.{value_at}
@@ -18,18 +18,18 @@ use Rattle.esr_history.specs.declared.event.Reply.TheVariants.{Value, Wrote, Com
 use Rattle.esr_history.specs.declared.event.Refusal.{Refusal}
 use Rattle.esr_history.specs.declared.event.Refusal.TheVariants.{QueryMayNotWrite, BlockedByLock}
 use Rattle.esr_history.specs.declared.event.Entry.{Entry}
-use Rattle.esr_history.specs.Events.{Beginning, is_refusal, beginning, beginning_of, beginnings, numbers, is_query, is_update, is_begun, is_active, holds_read, holds_write, reads, writes, reads_of, committed_value, current_value}
-use Rattle.esr_history.specs.Machine.{Distance, Schedule, Charge, done, extended, blank, distance_in, charges, charges_in, due, due_in, charge_of_read, charge_of_write, import_in, writer, other_writer, other_holder, blocked_by, read_blocked, reply_to, reasons, refusal, acceptance, answered, IsLegal}
+use Rattle.esr_history.specs.Events.{Beginning, is_refusal, beginning, beginning_of, beginnings, numbers, is_query, is_update, is_active, holds_read, holds_write, reads, writes, reads_of, committed_value, current_value}
+use Rattle.esr_history.specs.Machine.{Distance, Schedule, Charge, done, extended, distance_in, charges, charges_in, due_in, charge_of_read, charge_of_write, import_in, writer, other_writer, other_holder, blocked_by, reply_to, reasons, refusal, acceptance, answered, IsLegal}
 use Rattle.esr_history.specs.Legal.{legal_induction}
-use Rattle.esr_history.specs.Operations.{Operation, operation_by, operation_of, operations_in, operations, committer, commit_order}
-use Rattle.esr_history.proofs.Lists.{filter_map_push, filter_map_push_none, filter_map_push_some, find_none}
+use Rattle.esr_history.specs.Operations.{Operation, operation_by, operation_of, operations, committer, commit_order}
+use Rattle.esr_history.proofs.Lists.{filter_map_push, find_none}
 use Rattle.esr_history.proofs.Orderly.{beginning-push, beginning-kept, update_begun, active_parts}
-use Rattle.esr_history.proofs.Lawful.{done-refused, done-accepted, none_applies, NoneApplies, acceptance_accepts, not_ended, begun_number, update_from, when_none}
+use Rattle.esr_history.proofs.Lawful.{done-refused, done-accepted, none_applies, NoneApplies, not_ended, begun_number, update_from, when_none}
 use Rattle.esr_history.proofs.Charges.{import-push}
 use Rattle.esr_history.proofs.Membership.{In, any-from_In}
-use Rattle.esr_history.proofs.Traces.{Setting, Trace, Keeps, is_among, ended_in, update_in, query_in, begun_in, writes_item, reads_item, read_of, write_of, current_in, committed_in, read_count_in, Active, NoOtherWriter, NoOtherUser, with_operation, with_commit, with_abort, with_begins, Reached, Reached.nothing, Reached.begin, Reached.read_update, Reached.read_query, Reached.write, Reached.commit, Reached.abort}
+use Rattle.esr_history.proofs.Traces.{Setting, Trace, Keeps, ended_in, query_in, read_of, write_of, current_in, committed_in, read_count_in, Active, NoOtherWriter, NoOtherUser, with_operation, with_commit, with_abort, with_begins, Reached, Reached.nothing, Reached.begin, Reached.read_update, Reached.read_query, Reached.write, Reached.commit, Reached.abort}
 use Rattle.esr_history.proofs.Versions.{wrote_by}
-use Rattle.esr_history.proofs.Words.{trace, aborter, committed_among, aborted_among, read_by, wrote_trace, read_trace, reads_trace, committed_trace, current_trace, active_trace, trace_active}
+use Rattle.esr_history.proofs.Words.{trace, aborter, read_by, wrote_trace, read_trace, reads_trace, committed_trace, current_trace, active_trace, trace_active}
 
 abbrev pub setting : Distance → Schedule → Setting
 setting d h = record { opening = value_at h.opening; distance = distance_in d h }
@@ -77,10 +77,10 @@ amount_listed : (f : ℕ → Option Charge) (c : Charge) (q a n : ℕ) → f q �
 amount_listed f c q a zero is own low high = absurd (omega arith)
 amount_listed f c q a (suc n) is own low high =
     elim (cases_eq a q) [
-      inl e ↦
-        let here : f a ≡ Some c = ap f e ∙ is in
-        rw here (subst (λ k. c.amount ≤ import_in (c ∷ filter_map f (range_with_len (a + 1) n)) k) own (first_amount c (filter_map f (range_with_len (a + 1) n))))
-    | inr ne ↦ le_trans (amount_listed f c q (a + 1) n is own (omega arith) (omega arith)) (more (f a) (filter_map f (range_with_len (a + 1) n)))
+      | inl e ↦
+          let here : f a ≡ Some c = ap f e ∙ is in
+          rw here (subst (λ k. c.amount ≤ import_in (c ∷ filter_map f (range_with_len (a + 1) n)) k) own (first_amount c (filter_map f (range_with_len (a + 1) n))))
+      | inr ne ↦ le_trans (amount_listed f c q (a + 1) n is own (omega arith) (omega arith)) (more (f a) (filter_map f (range_with_len (a + 1) n)))
     ]
   where
     more : (o : Option Charge) (cs : List Charge) → import_in cs q ≤ import_in (cons_option o cs) q
@@ -135,36 +135,36 @@ module _ (d : Distance) (h : Schedule) where
   holds_written : (o : Operation) → In o (operations h) → o.writes ≡ true → is_active (done h) o.txn ≡ true → holds_write (done h) o.txn o.item ≡ true
   holds_written o i w act =
       and_from (is_active (done h) o.txn) (list_any (writes o.txn o.item) (done h)) act
-          (wrote_trace h o.txn o.item ∙ any-from_In (wrote_by o.item o.txn) (operations h) o i (rw (w, eq-eqb o.item o.item refl, eq-eqb o.txn o.txn refl) refl))
+      (wrote_trace h o.txn o.item ∙ any-from_In (wrote_by o.item o.txn) (operations h) o i (rw (w, eq-eqb o.item o.item refl, eq-eqb o.txn o.txn refl) refl))
 
   holds_taken : (o : Operation) → In o (operations h) → o.writes ≡ false → is_active (done h) o.txn ≡ true → holds_read (done h) o.txn o.item ≡ true
   holds_taken o i w act =
       and_from (is_active (done h) o.txn) (list_any (reads o.txn o.item) (done h)) act
-          (read_trace h o.txn o.item ∙ any-from_In (read_by o.item o.txn) (operations h) o i (rw (w, eq-eqb o.item o.item refl, eq-eqb o.txn o.txn refl) refl))
+      (read_trace h o.txn o.item ∙ any-from_In (read_by o.item o.txn) (operations h) o i (rw (w, eq-eqb o.item o.item refl, eq-eqb o.txn o.txn refl) refl))
 
   no_writer : (t x : ℕ) → ((u : ℕ) → (u ≡ t → ⊥) → is_update (done h) u ≡ true → holds_write (done h) u x ≡ false) → NoOtherWriter (trace h) t x
   no_writer t x free = record {
-      none = λ o i w here other update.
-          elim (cases_Bool (ended_in (trace h) o.txn)) [
-            inl over ↦ over
+    none = λ o i w here other update.
+        elim (cases_Bool (ended_in (trace h) o.txn)) [
+          | inl over ↦ over
           | inr running ↦ absurd (true≢false (sym (subst (λ y. holds_write (done h) o.txn y ≡ true) here (holds_written o i w (active_user o.txn update running))) ∙ free o.txn other update))
-          ];
-    }
+        ];
+  }
 
   no_user : (t x : ℕ) → ((u : ℕ) → (u ≡ t → ⊥) → is_update (done h) u ≡ true → (holds_read (done h) u x || holds_write (done h) u x) ≡ false) → NoOtherUser (trace h) t x
   no_user t x free = record {
-      none = λ o i here other update.
-          elim (cases_Bool (ended_in (trace h) o.txn)) [
-            inl over ↦ over
+    none = λ o i here other update.
+        elim (cases_Bool (ended_in (trace h) o.txn)) [
+          | inl over ↦ over
           | inr running ↦
               let act = active_user o.txn update running in
               let p = or_parts (holds_read (done h) o.txn o.item) (holds_write (done h) o.txn o.item) (subst (λ y. (holds_read (done h) o.txn y || holds_write (done h) o.txn y) ≡ false) (sym here) (free o.txn other update)) in
               elim (cases_Bool o.writes) [
-                inl w ↦ absurd (true≢false (sym (holds_written o i w act) ∙ p.1))
-              | inr r ↦ absurd (true≢false (sym (holds_taken o i r act) ∙ p.0))
+                | inl w ↦ absurd (true≢false (sym (holds_written o i w act) ∙ p.1))
+                | inr r ↦ absurd (true≢false (sym (holds_taken o i r act) ∙ p.0))
               ]
-          ];
-    }
+        ];
+  }
 
   -- who is not found fails the test
   unfound : (p : ℕ → Bool) → find (λ u. is_update (done h) u && p u) (numbers (done h)) ≡ None → (u : ℕ) → is_update (done h) u ≡ true → p u ≡ false
@@ -176,20 +176,20 @@ module _ (d : Distance) (h : Schedule) where
   unfound_other p t none u other update =
       let n = begun_number (done h) u (update_begun (done h) u update) in
       and_right_false (is_update (done h) u) (p u) update
-          (and_right_false (not (u == t)) (is_update (done h) u && p u) (ap not (ne_eqb u t other)) (find_none (λ u. not (u == t) && (is_update (done h) u && p u)) 1 (length (beginnings (done h))) none u n.0 n.1))
+      (and_right_false (not (u == t)) (is_update (done h) u && p u) (ap not (ne_eqb u t other)) (find_none (λ u. not (u == t) && (is_update (done h) u && p u)) 1 (length (beginnings (done h))) none u n.0 n.1))
 
   -- the trace after an operation
   pub operation_trace : (e : Event) (r : Reply) (o : Operation) → is_refusal r ≡ false → operation_by e r ≡ Some o → committer e ≡ None → aborter e ≡ None → beginning_of e ≡ None → trace (extended h e r) ≡ with_operation (trace h) o
   operation_trace e r o is op c a b =
       grown e r is (operations h ++ o ∷ []) (commit_order (done h)) (filter_map aborter (done h)) (beginning (done h))
-          (ap (λ p. operations h ++ cons_option p []) op) (ap (λ p. commit_order (done h) ++ cons_option p []) c ∙ append-nil (commit_order (done h)))
-          (ap (λ p. filter_map aborter (done h) ++ cons_option p []) a ∙ append-nil (filter_map aborter (done h))) (same_begins e b)
+      (ap (λ p. operations h ++ cons_option p []) op) (ap (λ p. commit_order (done h) ++ cons_option p []) c ∙ append-nil (commit_order (done h)))
+      (ap (λ p. filter_map aborter (done h) ++ cons_option p []) a ∙ append-nil (filter_map aborter (done h))) (same_begins e b)
 
   pub begin_trace : (e : Event) (r : Reply) → is_refusal r ≡ false → operation_by e r ≡ None → committer e ≡ None → aborter e ≡ None → trace (extended h e r) ≡ with_begins (trace h) (beginning (done h ++ e ∷ []))
   begin_trace e r is op c a =
       grown e r is (operations h) (commit_order (done h)) (filter_map aborter (done h)) (beginning (done h ++ e ∷ []))
-          (ap (λ p. operations h ++ cons_option p []) op ∙ append-nil (operations h)) (ap (λ p. commit_order (done h) ++ cons_option p []) c ∙ append-nil (commit_order (done h)))
-          (ap (λ p. filter_map aborter (done h) ++ cons_option p []) a ∙ append-nil (filter_map aborter (done h))) refl
+      (ap (λ p. operations h ++ cons_option p []) op ∙ append-nil (operations h)) (ap (λ p. commit_order (done h) ++ cons_option p []) c ∙ append-nil (commit_order (done h)))
+      (ap (λ p. filter_map aborter (done h) ++ cons_option p []) a ∙ append-nil (filter_map aborter (done h))) refl
 
   pub commit_trace : (t : TxnId) → trace (extended h (Commit t) Committed) ≡ with_commit (trace h) t.0
   commit_trace t =
@@ -231,20 +231,20 @@ module _ (d : Distance) (h : Schedule) where
   update_reads t x reached act not_query free =
       let o : Operation = read_of t.0 x.0 (current_value h.opening (done h) x.0) in
       linked (Read t x) (Value (current_value h.opening (done h) x.0)) (with_operation (trace h) (read_of t.0 x.0 (current_in (value_at h.opening) (trace h) x.0))) (imports d h)
-          (operation_trace (Read t x) (Value (current_value h.opening (done h) x.0)) o refl refl refl refl refl ∙ ap (λ v. with_operation (trace h) (read_of t.0 x.0 v)) (current_trace h x.0))
-          (no_imports (Read t x) (Value (current_value h.opening (done h) x.0)) refl
-              (λ q. ap (λ b. import_in (if b then charge_of_read (distance_in d h) h.opening (done h) t.0 x.0 (writer (done h) x.0) else []) q) not_query))
-          (read_update reached t.0 x.0 (active_trace h t.0 act) (update_from (done h) t.0 (active_parts (done h) t.0 act).0 not_query)
-              (no_writer t.0 x.0 (unfound_other (λ u. holds_write (done h) u x.0) t.0 (mapped_none (λ u. BlockedByLock (record { 0 = u })) (other_writer (done h) t.0 x.0) free))))
+      (operation_trace (Read t x) (Value (current_value h.opening (done h) x.0)) o refl refl refl refl refl ∙ ap (λ v. with_operation (trace h) (read_of t.0 x.0 v)) (current_trace h x.0))
+      (no_imports (Read t x) (Value (current_value h.opening (done h) x.0)) refl
+      (λ q. ap (λ b. import_in (if b then charge_of_read (distance_in d h) h.opening (done h) t.0 x.0 (writer (done h) x.0) else []) q) not_query))
+      (read_update reached t.0 x.0 (active_trace h t.0 act) (update_from (done h) t.0 (active_parts (done h) t.0 act).0 not_query)
+      (no_writer t.0 x.0 (unfound_other (λ u. holds_write (done h) u x.0) t.0 (mapped_none (λ u. BlockedByLock (record { 0 = u })) (other_writer (done h) t.0 x.0) free))))
 
   query_reads : (t : TxnId) (x : ItemId) → IsReached d h → is_active (done h) t.0 ≡ true → is_query (done h) t.0 ≡ true
       → IsReached d (extended h (Read t x) (Value (current_value h.opening (done h) x.0)))
   query_reads t x reached act query =
       let o : Operation = read_of t.0 x.0 (current_value h.opening (done h) x.0) in
       linked (Read t x) (Value (current_value h.opening (done h) x.0)) (with_operation (trace h) (read_of t.0 x.0 (current_in (value_at h.opening) (trace h) x.0))) (λ q. imports d h q + import_in (due_in d h (Read t x)) q)
-          (operation_trace (Read t x) (Value (current_value h.opening (done h) x.0)) o refl refl refl refl refl ∙ ap (λ v. with_operation (trace h) (read_of t.0 x.0 v)) (current_trace h x.0))
-          (fun_ext (with_imports (Read t x) (Value (current_value h.opening (done h) x.0)) refl))
-          (read_query reached t.0 x.0 (import_in (due_in d h (Read t x))) (active_trace h t.0 act) (query_not_update t.0 query) (paid (writer (done h) x.0) refl))
+      (operation_trace (Read t x) (Value (current_value h.opening (done h) x.0)) o refl refl refl refl refl ∙ ap (λ v. with_operation (trace h) (read_of t.0 x.0 v)) (current_trace h x.0))
+      (fun_ext (with_imports (Read t x) (Value (current_value h.opening (done h) x.0)) refl))
+      (read_query reached t.0 x.0 (import_in (due_in d h (Read t x))) (active_trace h t.0 act) (query_not_update t.0 query) (paid (writer (done h) x.0) refl))
     where
       paid : (w : Option ℕ) → writer (done h) x.0 ≡ w
           → NoOtherWriter (trace h) t.0 x.0 ⊎ (distance_in d h x.0 (current_in (value_at h.opening) (trace h) x.0) (committed_in (value_at h.opening) (trace h) x.0) ≤ import_in (due_in d h (Read t x)) t.0)
@@ -253,7 +253,7 @@ module _ (d : Distance) (h : Schedule) where
           let c : Charge = record { query = t.0; update = u; amount = distance_in d h x.0 (current_value h.opening (done h) x.0) (committed_value h.opening (done h) x.0) } in
           let one : due_in d h (Read t x) ≡ c ∷ [] = ap (λ b. if b then charge_of_read (distance_in d h) h.opening (done h) t.0 x.0 (writer (done h) x.0) else []) query ∙ ap (charge_of_read (distance_in d h) h.opening (done h) t.0 x.0) some in
           let amount : distance_in d h x.0 (current_in (value_at h.opening) (trace h) x.0) (committed_in (value_at h.opening) (trace h) x.0) ≡ c.amount =
-              ap (λ v. distance_in d h x.0 v (committed_in (value_at h.opening) (trace h) x.0)) (sym (current_trace h x.0)) ∙ ap (distance_in d h x.0 (current_value h.opening (done h) x.0)) (sym (committed_trace h x.0)) in
+          ap (λ v. distance_in d h x.0 v (committed_in (value_at h.opening) (trace h) x.0)) (sym (current_trace h x.0)) ∙ ap (distance_in d h x.0 (current_value h.opening (done h) x.0)) (sym (committed_trace h x.0)) in
           inr (rw (amount, one) (first_amount c []))
 
   -- a write is charged to each active query that has read the item
@@ -261,30 +261,33 @@ module _ (d : Distance) (h : Schedule) where
       → IsReached d (extended h (Write t x v) Wrote)
   write_step t x v reached act not_query free =
       linked (Write t x v) Wrote (with_operation (trace h) (write_of t.0 x.0 v)) (λ q. imports d h q + import_in (due_in d h (Write t x v)) q)
-          (operation_trace (Write t x v) Wrote (write_of t.0 x.0 v) refl refl refl refl refl)
-          (fun_ext (with_imports (Write t x v) Wrote refl))
-          (write reached t.0 x.0 v (import_in (due_in d h (Write t x v))) (active_trace h t.0 act) update
-              (no_user t.0 x.0 (unfound_other (λ u. holds_read (done h) u x.0 || holds_write (done h) u x.0) t.0 (mapped_none (λ u. BlockedByLock (record { 0 = u })) (other_holder (done h) t.0 x.0) free)))
-              paid)
+      (operation_trace (Write t x v) Wrote (write_of t.0 x.0 v) refl refl refl refl refl)
+      (fun_ext (with_imports (Write t x v) Wrote refl))
+      (write reached t.0 x.0 v (import_in (due_in d h (Write t x v))) (active_trace h t.0 act) update
+      (no_user t.0 x.0 (unfound_other (λ u. holds_read (done h) u x.0 || holds_write (done h) u x.0) t.0 (mapped_none (λ u. BlockedByLock (record { 0 = u })) (other_holder (done h) t.0 x.0) free)))
+      paid)
     where
       update : is_update (done h) t.0 ≡ true
       update = update_from (done h) t.0 (active_parts (done h) t.0 act).0 not_query
+
       charge : ℕ → Option Charge
       charge = charge_of_write (distance_in d h) h.opening (done h) t.0 x.0 v
+
       listed : due_in d h (Write t x v) ≡ filter_map charge (numbers (done h))
       listed = ap (λ b. if b then filter_map charge (numbers (done h)) else []) update
+
       paid : (q : ℕ) → Active (trace h) q → query_in (trace h) q ≡ true → read_count_in (trace h) x.0 q * distance_in d h x.0 v (current_in (value_at h.opening) (trace h) x.0) ≤ import_in (due_in d h (Write t x v)) q
       paid q a query =
           rw (sym (reads_trace h q x.0), sym (current_trace h x.0), listed)
           (elim (cases_Bool (list_any (reads q x.0) (done h))) [
-            inl did ↦
-              let n = begun_number (done h) q a.begun in
-              let held : holds_read (done h) q x.0 ≡ true = and_from (is_active (done h) q) (list_any (reads q x.0) (done h)) (trace_active h q a) did in
-              amount_listed charge (record { query = q; update = t.0; amount = reads_of (done h) q x.0 * distance_in d h x.0 v (current_value h.opening (done h) x.0) }) q 1 (length (beginnings (done h)))
-                  (rw (query, held) refl) refl n.0 n.1
-          | inr not_did ↦
-              let none : reads_of (done h) q x.0 ≡ 0 = count_none (reads q x.0) (done h) not_did in
-              rw none (omega arith)
+            | inl did ↦
+                let n = begun_number (done h) q a.begun in
+                let held : holds_read (done h) q x.0 ≡ true = and_from (is_active (done h) q) (list_any (reads q x.0) (done h)) (trace_active h q a) did in
+                amount_listed charge (record { query = q; update = t.0; amount = reads_of (done h) q x.0 * distance_in d h x.0 v (current_value h.opening (done h) x.0) }) q 1 (length (beginnings (done h)))
+                (rw (query, held) refl) refl n.0 n.1
+            | inr not_did ↦
+                let none : reads_of (done h) q x.0 ≡ 0 = count_none (reads q x.0) (done h) not_did in
+                rw none (omega arith)
           ])
 
   accepted_step : (e : Event) → IsReached d h → NoneApplies (reasons d h e) → IsReached d (extended h e (acceptance h e))
@@ -293,8 +296,8 @@ module _ (d : Distance) (h : Schedule) where
   accepted_step (Read t x) reached none =
       let act : is_active (done h) t.0 ≡ true = not_ended h t.0 none.1.0 in
       elim (cases_Bool (is_query (done h) t.0)) [
-        inl query ↦ query_reads t x reached act query
-      | inr not_query ↦ update_reads t x reached act not_query (sym (ap (λ b. if b then None else blocked_by (other_writer (done h) t.0 x.0)) not_query) ∙ none.1.1.1.1.0)
+        | inl query ↦ query_reads t x reached act query
+        | inr not_query ↦ update_reads t x reached act not_query (sym (ap (λ b. if b then None else blocked_by (other_writer (done h) t.0 x.0)) not_query) ∙ none.1.1.1.1.0)
       ]
   accepted_step (Write t x v) reached none =
       write_step t x v reached (not_ended h t.0 none.1.0) (when_none (is_query (done h) t.0) QueryMayNotWrite none.1.1.1.0) none.1.1.1.1.1.0

@@ -1,5 +1,5 @@
 -- What a legal history accepts, step by step: its operations, ends and begins, and what each step may rest on.
-use Rattle.std.proofs.Common.{◌≡◌, ℕ, ◌+◌, ◌*◌, ◌≤◌, ℤ, Bool, true, false, not, ◌&&◌, ◌||◌, ◌⊎◌, List, [], ◌∷◌, ◌++◌, refl, filter, eqb, Option, Some, None, count_by, map}
+use Rattle.std.proofs.Common.{◌≡◌, ℕ, ◌+◌, ◌*◌, ◌≤◌, ℤ, Bool, true, false, not, ◌&&◌, ◌||◌, ◌⊎◌, List, [], ◌∷◌, ◌++◌, filter, eqb, Option, count_by, map}
 use Rattle.std.specs.Prelude.{is_some, unwrap_or}
 use Rattle.std.specs.List.{list_any}
 use Rattle.std.specs.Option.{option_map}
@@ -100,12 +100,12 @@ pub data Reached (s : Setting) : Trace → (ℕ → ℕ) → Type 0 where
   nothing : {b : ℕ → Option Beginning} → Reached s (record { operations = []; commits = []; aborts = []; beginning = b }) (λ _. 0)
   begin : {t : Trace} {m : ℕ → ℕ} → Reached s t m → (b : ℕ → Option Beginning) → Keeps t.beginning b → Reached s (with_begins t b) m
   read_update : {t : Trace} {m : ℕ → ℕ} → Reached s t m → (u x : ℕ) → Active t u → update_in t u ≡ true → NoOtherWriter t u x →
-    Reached s (with_operation t (read_of u x (current_in s.opening t x))) m
+      Reached s (with_operation t (read_of u x (current_in s.opening t x))) m
   read_query : {t : Trace} {m : ℕ → ℕ} → Reached s t m → (u x : ℕ) (c : ℕ → ℕ) → Active t u → update_in t u ≡ false →
-    NoOtherWriter t u x ⊎ (s.distance x (current_in s.opening t x) (committed_in s.opening t x) ≤ c u) →
-    Reached s (with_operation t (read_of u x (current_in s.opening t x))) (λ q. m q + c q)
+      NoOtherWriter t u x ⊎ (s.distance x (current_in s.opening t x) (committed_in s.opening t x) ≤ c u) →
+      Reached s (with_operation t (read_of u x (current_in s.opening t x))) (λ q. m q + c q)
   write : {t : Trace} {m : ℕ → ℕ} → Reached s t m → (u x : ℕ) (v : ℤ) (c : ℕ → ℕ) → Active t u → update_in t u ≡ true → NoOtherUser t u x →
-    ((q : ℕ) → Active t q → query_in t q ≡ true → read_count_in t x q * s.distance x v (current_in s.opening t x) ≤ c q) →
-    Reached s (with_operation t (write_of u x v)) (λ q. m q + c q)
+      ((q : ℕ) → Active t q → query_in t q ≡ true → read_count_in t x q * s.distance x v (current_in s.opening t x) ≤ c q) →
+      Reached s (with_operation t (write_of u x v)) (λ q. m q + c q)
   commit : {t : Trace} {m : ℕ → ℕ} → Reached s t m → (u : ℕ) → Active t u → Reached s (with_commit t u) m
   abort : {t : Trace} {m : ℕ → ℕ} → Reached s t m → (u : ℕ) → Active t u → Reached s (with_abort t u) m

@@ -1,17 +1,14 @@
 -- Committed and current values of a trace, and how each step moves them.
-use Rattle.std.proofs.Common.{◌≡◌, ◌≢◌, ℕ, zero, suc, ◌+◌, ◌*◌, ◌<◌, ◌≤◌, ℤ, Bool, true, false, cond, not, ◌&&◌, ◌||◌, ◌⊎◌, ◌↔◌, List, [], ◌∷◌, ◌++◌, length, take, drop, get_or, refl, sym, ◌∙◌, ap, subst, inl, inr, ⊎_elim, arith, filter, eqb, fold, Option, Some, None, count_by, slice_get, flat_map}
-use Rattle.std.specs.List.{AllByRecursion, list_any}
+use Rattle.std.proofs.Common.{◌≡◌, ℕ, ℤ, Bool, true, false, cond, not, ◌&&◌, ◌||◌, ◌⊎◌, List, [], ◌∷◌, ◌++◌, refl, sym, ◌∙◌, ap, subst, inl, inr, ⊎_elim, filter, eqb, flat_map}
 use Rattle.std.proofs.lemmas.List.{append-nil}
 use Rattle.std.proofs.lemmas.List.Concat.{flat_map-append}
-use Rattle.std.proofs.lemmas.List.Sums.{fold-append}
 use Rattle.std.proofs.lemmas.List.Elements.{filter-append}
-use Rattle.std.proofs.lemmas.Bool.{true≢false, cond_both, cases_Bool, cases_eq, and_parts, and_from, and_left, and_right, or_cases, or_left, or_right, or_parts, or_from, eqb-true, eq-eqb, ne_eqb, not-true, not_from_false, not_from_true, not-false, false_from_ne_true, true_from_ne_false, eqb-false, cond-true, cond-false}
+use Rattle.std.proofs.lemmas.Bool.{true≢false, cond_both, cases_Bool, cases_eq, and_parts, and_from, and_left, and_right, or_cases, or_left, or_parts, eqb-true, eq-eqb, ne_eqb, not-true, not_from_false, not_from_true, false_from_ne_true, eqb-false, cond-true, cond-false}
 use Rattle.esr_history.specs.Operations.{Operation}
-use Rattle.esr_history.specs.Events.{Beginning}
 use Rattle.esr_history.specs.Serial.{conflict}
-use Rattle.esr_history.proofs.Membership.{In, Pairs, each_at, In-append_cases, In-of_filter, In-filter, Pairs-filter, Pairs-append, Pairs-left, Pairs-map, Pairs-push, In-push, filter_agree_in, filter_none_in, In-from_any, In-any, any-from_number}
+use Rattle.esr_history.proofs.Membership.{In, Pairs, each_at, In-append_cases, In-of_filter, In-filter, Pairs-filter, Pairs-append, Pairs-left, Pairs-map, Pairs-push, In-push, filter_agree_in, filter_none_in, In-from_any, In-any, any-from_number, filter-some}
 use Rattle.esr_history.proofs.LastWriter.{empty_or_not}
-use Rattle.esr_history.proofs.Traces.{is_among, says, after_writes, writes_item, Setting, Trace, update_in, query_in, begun_in, ended_in, Active, NoOtherWriter, NoOtherUser, with_operation, with_commit, with_abort, with_begins, Keeps, read_of, write_of, current_in, committed_in, Reached, Reached.nothing, Reached.begin, Reached.read_update, Reached.read_query, Reached.write, Reached.commit, Reached.abort}
+use Rattle.esr_history.proofs.Traces.{is_among, after_writes, writes_item, Setting, Trace, update_in, ended_in, Active, with_operation, with_commit, with_abort, with_begins, read_of, write_of, current_in, committed_in, Reached, Reached.nothing, Reached.begin, Reached.read_update, Reached.read_query, Reached.write, Reached.commit, Reached.abort}
 use Rattle.esr_history.proofs.Locking.{known, locks, Locked, update_stays, among_push, among_new, among_other, committed_updates_in}
 
 pub after_writes-append : (v : ℤ) (xs ys : List Operation) → after_writes v (xs ++ ys) ≡ after_writes (after_writes v xs) ys
@@ -55,27 +52,27 @@ filter_tail n m [] p f = refl
 filter_tail n m (x ∷ xs) p f =
     ⊎_elim
     (λ t.
-        let rest : filter (λ y. n y && not (m y)) xs ≡ [] = filter_none_in (λ y. n y && not (m y)) xs (λ y i. false_from_ne_true (n y && not (m y))
-            (λ b. let q = and_parts (n y) (not (m y)) b in true≢false (sym (each_at (λ b. m x ≡ true → n b ≡ true → m b ≡ true) xs y p.0 i t q.0) ∙ not-true (m y) q.1))) in
-        let same : filter n xs ≡ filter m xs = filter_tail n m xs p.1 f ∙ ap (λ zs. zs ++ filter m xs) rest in
-        cond-true (n x) (x ∷ filter n xs) (filter n xs) (f x t)
-        ∙ (ap (λ zs. x ∷ zs) same
-        ∙ sym (ap (λ zs. zs ++ cond (m x) (x ∷ filter m xs) (filter m xs))
-            (cond-false (n x && not (m x)) (x ∷ filter (λ y. n y && not (m y)) xs) (filter (λ y. n y && not (m y)) xs) (and_right (n x) (not (m x)) (not_from_true (m x) t)) ∙ rest)
-            ∙ cond-true (m x) (x ∷ filter m xs) (filter m xs) t)))
+    let rest : filter (λ y. n y && not (m y)) xs ≡ [] = filter_none_in (λ y. n y && not (m y)) xs (λ y i. false_from_ne_true (n y && not (m y))
+    (λ b. let q = and_parts (n y) (not (m y)) b in true≢false (sym (each_at (λ b. m x ≡ true → n b ≡ true → m b ≡ true) xs y p.0 i t q.0) ∙ not-true (m y) q.1))) in
+    let same : filter n xs ≡ filter m xs = filter_tail n m xs p.1 f ∙ ap (λ zs. zs ++ filter m xs) rest in
+    cond-true (n x) (x ∷ filter n xs) (filter n xs) (f x t)
+    ∙ (ap (λ zs. x ∷ zs) same
+    ∙ sym (ap (λ zs. zs ++ cond (m x) (x ∷ filter m xs) (filter m xs))
+    (cond-false (n x && not (m x)) (x ∷ filter (λ y. n y && not (m y)) xs) (filter (λ y. n y && not (m y)) xs) (and_right (n x) (not (m x)) (not_from_true (m x) t)) ∙ rest)
+    ∙ cond-true (m x) (x ∷ filter m xs) (filter m xs) t)))
     (λ no.
-        ⊎_elim
-        (λ t. cond-true (n x) (x ∷ filter n xs) (filter n xs) t
-            ∙ (ap (λ zs. x ∷ zs) (filter_tail n m xs p.1 f)
-            ∙ sym (ap (λ zs. zs ++ cond (m x) (x ∷ filter m xs) (filter m xs))
-                (cond-true (n x && not (m x)) (x ∷ filter (λ y. n y && not (m y)) xs) (filter (λ y. n y && not (m y)) xs) (and_from (n x) (not (m x)) t (not_from_false (m x) no)))
-                ∙ ap (λ zs. x ∷ (filter (λ y. n y && not (m y)) xs ++ zs)) (cond-false (m x) (x ∷ filter m xs) (filter m xs) no))))
-        (λ g. cond-false (n x) (x ∷ filter n xs) (filter n xs) g
-            ∙ (filter_tail n m xs p.1 f
-            ∙ sym (ap (λ zs. zs ++ cond (m x) (x ∷ filter m xs) (filter m xs))
-                (cond-false (n x && not (m x)) (x ∷ filter (λ y. n y && not (m y)) xs) (filter (λ y. n y && not (m y)) xs) (and_left (n x) (not (m x)) g))
-                ∙ ap (λ zs. filter (λ y. n y && not (m y)) xs ++ zs) (cond-false (m x) (x ∷ filter m xs) (filter m xs) no))))
-        (cases_Bool (n x)))
+    ⊎_elim
+    (λ t. cond-true (n x) (x ∷ filter n xs) (filter n xs) t
+    ∙ (ap (λ zs. x ∷ zs) (filter_tail n m xs p.1 f)
+    ∙ sym (ap (λ zs. zs ++ cond (m x) (x ∷ filter m xs) (filter m xs))
+    (cond-true (n x && not (m x)) (x ∷ filter (λ y. n y && not (m y)) xs) (filter (λ y. n y && not (m y)) xs) (and_from (n x) (not (m x)) t (not_from_false (m x) no)))
+    ∙ ap (λ zs. x ∷ (filter (λ y. n y && not (m y)) xs ++ zs)) (cond-false (m x) (x ∷ filter m xs) (filter m xs) no))))
+    (λ g. cond-false (n x) (x ∷ filter n xs) (filter n xs) g
+    ∙ (filter_tail n m xs p.1 f
+    ∙ sym (ap (λ zs. zs ++ cond (m x) (x ∷ filter m xs) (filter m xs))
+    (cond-false (n x && not (m x)) (x ∷ filter (λ y. n y && not (m y)) xs) (filter (λ y. n y && not (m y)) xs) (and_left (n x) (not (m x)) g))
+    ∙ ap (λ zs. filter (λ y. n y && not (m y)) xs ++ zs) (cond-false (m x) (x ∷ filter m xs) (filter m xs) no))))
+    (cases_Bool (n x)))
     (cases_Bool (m x))
 
 -- the writes of x by u
@@ -102,16 +99,16 @@ own_tail : {s : Setting} {t : Trace} {m : ℕ → ℕ} → Reached s t m → (u 
 own_tail {t = t} r u x running c =
     Pairs-map (Locked t) (λ a b. wrote_by x u a ≡ true → (writes_item x b && c b) ≡ true → wrote_by x u b ≡ true) t.operations
     (λ a b ia ib l ma nb.
-        let pa = wrote_parts x u a ma in
-        let wb = (and_parts (writes_item x b) (c b) nb).0 in
-        let pb = item_parts x b wb in
-        ⊎_elim
-        (λ e. and_from (writes_item x b) (eqb b.txn u) wb e)
-        (λ ne. absurd (true≢false (sym
-            (l (conflict_of a b (λ e. eqb-false b.txn u ne (sym e ∙ pa.2)) (pa.1 ∙ sym pb.1) (or_left a.writes b.writes pa.0))
-                (writers r a ia pa.0) (writers r b ib pb.0))
-            ∙ (ap (ended_in t) pa.2 ∙ running))))
-        (cases_Bool (eqb b.txn u)))
+    let pa = wrote_parts x u a ma in
+    let wb = (and_parts (writes_item x b) (c b) nb).0 in
+    let pb = item_parts x b wb in
+    ⊎_elim
+    (λ e. and_from (writes_item x b) (eqb b.txn u) wb e)
+    (λ ne. absurd (true≢false (sym
+    (l (conflict_of a b (λ e. eqb-false b.txn u ne (sym e ∙ pa.2)) (pa.1 ∙ sym pb.1) (or_left a.writes b.writes pa.0))
+    (writers r a ia pa.0) (writers r b ib pb.0))
+    ∙ (ap (ended_in t) pa.2 ∙ running))))
+    (cases_Bool (eqb b.txn u)))
     (locks r)
 
 pub right_true : (x y : Bool) → y ≡ true → (x && y) ≡ x
@@ -125,9 +122,9 @@ committed_after {t = t} r o u x a =
     let n : Operation → Bool = λ w. writes_item x w && is_among (t.commits ++ u ∷ []) w.txn in
     let n0 : Operation → Bool = λ w. writes_item x w && is_among t.commits w.txn in
     let e1 : filter n t.operations ≡ filter (λ w. n w && not (wrote_by x u w)) t.operations ++ filter (wrote_by x u) t.operations =
-        filter_tail n (wrote_by x u) t.operations (own_tail r u x a.open_ended (λ w. is_among (t.commits ++ u ∷ []) w.txn))
-        (λ w h. let p = and_parts (writes_item x w) (eqb w.txn u) h in
-            and_from (writes_item x w) (is_among (t.commits ++ u ∷ []) w.txn) p.0 (ap (is_among (t.commits ++ u ∷ [])) (eqb-true w.txn u p.1) ∙ among_new t.commits u)) in
+    filter_tail n (wrote_by x u) t.operations (own_tail r u x a.open_ended (λ w. is_among (t.commits ++ u ∷ []) w.txn))
+    (λ w h. let p = and_parts (writes_item x w) (eqb w.txn u) h in
+    and_from (writes_item x w) (is_among (t.commits ++ u ∷ []) w.txn) p.0 (ap (is_among (t.commits ++ u ∷ [])) (eqb-true w.txn u p.1) ∙ among_new t.commits u)) in
     let open_commit : is_among t.commits u ≡ false = (or_parts (is_among t.commits u) (is_among t.aborts u) a.open_ended).0 in
     let e2 : filter (λ w. n w && not (wrote_by x u w)) t.operations ≡ filter n0 t.operations = filter_agree_in (λ w. n w && not (wrote_by x u w)) n0 t.operations (λ w i. agree w open_commit) in
     ap (after_writes (o x)) (e1 ∙ ap (λ zs. zs ++ filter (wrote_by x u) t.operations) e2)
@@ -137,13 +134,13 @@ committed_after {t = t} r o u x a =
     agree w oc =
         ⊎_elim
         (λ wi. ⊎_elim
-            (λ e. and_right (writes_item x w && is_among (t.commits ++ u ∷ []) w.txn) (not (writes_item x w && eqb w.txn u)) (not_from_true (writes_item x w && eqb w.txn u) (and_from (writes_item x w) (eqb w.txn u) wi e))
-                ∙ sym (and_right (writes_item x w) (is_among t.commits w.txn) (ap (is_among t.commits) (eqb-true w.txn u e) ∙ oc)))
-            (λ ne. right_true (writes_item x w && is_among (t.commits ++ u ∷ []) w.txn) (not (writes_item x w && eqb w.txn u)) (not_from_false (writes_item x w && eqb w.txn u) (and_right (writes_item x w) (eqb w.txn u) ne))
-                ∙ ap (λ b. writes_item x w && b) (among_other t.commits u w.txn (λ q. eqb-false w.txn u ne (sym q))))
-            (cases_Bool (eqb w.txn u)))
+        (λ e. and_right (writes_item x w && is_among (t.commits ++ u ∷ []) w.txn) (not (writes_item x w && eqb w.txn u)) (not_from_true (writes_item x w && eqb w.txn u) (and_from (writes_item x w) (eqb w.txn u) wi e))
+        ∙ sym (and_right (writes_item x w) (is_among t.commits w.txn) (ap (is_among t.commits) (eqb-true w.txn u e) ∙ oc)))
+        (λ ne. right_true (writes_item x w && is_among (t.commits ++ u ∷ []) w.txn) (not (writes_item x w && eqb w.txn u)) (not_from_false (writes_item x w && eqb w.txn u) (and_right (writes_item x w) (eqb w.txn u) ne))
+        ∙ ap (λ b. writes_item x w && b) (among_other t.commits u w.txn (λ q. eqb-false w.txn u ne (sym q))))
+        (cases_Bool (eqb w.txn u)))
         (λ nwi. and_left (writes_item x w && is_among (t.commits ++ u ∷ []) w.txn) (not (writes_item x w && eqb w.txn u)) (and_left (writes_item x w) (is_among (t.commits ++ u ∷ []) w.txn) nwi)
-            ∙ sym (and_left (writes_item x w) (is_among t.commits w.txn) nwi))
+        ∙ sym (and_left (writes_item x w) (is_among t.commits w.txn) nwi))
         (cases_Bool (writes_item x w))
 
 -- an ended transaction has not aborted just where it has committed
@@ -160,10 +157,10 @@ pub settled : {s : Setting} {t : Trace} {m : ℕ → ℕ} → Reached s t m → 
 settled {t = t} r o x f =
     ap (after_writes (o x))
     (filter_agree_in (λ w. writes_item x w && not (is_among t.aborts w.txn)) (λ w. writes_item x w && is_among t.commits w.txn) t.operations
-        (λ w i. ⊎_elim
-            (λ y. ap (λ b. writes_item x w && b) (ended_agree r w.txn (f w i y)))
-            (λ n. and_left (writes_item x w) (not (is_among t.aborts w.txn)) n ∙ sym (and_left (writes_item x w) (is_among t.commits w.txn) n))
-            (cases_Bool (writes_item x w))))
+    (λ w i. ⊎_elim
+    (λ y. ap (λ b. writes_item x w && b) (ended_agree r w.txn (f w i y)))
+    (λ n. and_left (writes_item x w) (not (is_among t.aborts w.txn)) n ∙ sym (and_left (writes_item x w) (is_among t.commits w.txn) n))
+    (cases_Bool (writes_item x w))))
 
 -- the current value, with the writes of an update that has not ended set apart
 pub current_split : {s : Setting} {t : Trace} {m : ℕ → ℕ} → Reached s t m → (o : ℕ → ℤ) (u x : ℕ) → Active t u →
@@ -173,9 +170,9 @@ current_split {t = t} r o u x a =
     let n0 : Operation → Bool = λ w. writes_item x w && not (is_among (t.aborts ++ u ∷ []) w.txn) in
     let open_abort : is_among t.aborts u ≡ false = (or_parts (is_among t.commits u) (is_among t.aborts u) a.open_ended).1 in
     let e1 : filter n t.operations ≡ filter (λ w. n w && not (wrote_by x u w)) t.operations ++ filter (wrote_by x u) t.operations =
-        filter_tail n (wrote_by x u) t.operations (own_tail r u x a.open_ended (λ w. not (is_among t.aborts w.txn)))
-        (λ w h. let p = and_parts (writes_item x w) (eqb w.txn u) h in
-            and_from (writes_item x w) (not (is_among t.aborts w.txn)) p.0 (not_from_false (is_among t.aborts w.txn) (ap (is_among t.aborts) (eqb-true w.txn u p.1) ∙ open_abort))) in
+    filter_tail n (wrote_by x u) t.operations (own_tail r u x a.open_ended (λ w. not (is_among t.aborts w.txn)))
+    (λ w h. let p = and_parts (writes_item x w) (eqb w.txn u) h in
+    and_from (writes_item x w) (not (is_among t.aborts w.txn)) p.0 (not_from_false (is_among t.aborts w.txn) (ap (is_among t.aborts) (eqb-true w.txn u p.1) ∙ open_abort))) in
     let e2 : filter (λ w. n w && not (wrote_by x u w)) t.operations ≡ filter n0 t.operations = filter_agree_in (λ w. n w && not (wrote_by x u w)) n0 t.operations (λ w i. agree w) in
     ap (after_writes (o x)) (e1 ∙ ap (λ zs. zs ++ filter (wrote_by x u) t.operations) e2)
     ∙ after_writes-append (o x) (filter n0 t.operations) (filter (wrote_by x u) t.operations)
@@ -184,13 +181,13 @@ current_split {t = t} r o u x a =
     agree w =
         ⊎_elim
         (λ wi. ⊎_elim
-            (λ e. and_right (writes_item x w && not (is_among t.aborts w.txn)) (not (writes_item x w && eqb w.txn u)) (not_from_true (writes_item x w && eqb w.txn u) (and_from (writes_item x w) (eqb w.txn u) wi e))
-                ∙ sym (and_right (writes_item x w) (not (is_among (t.aborts ++ u ∷ []) w.txn)) (not_from_true (is_among (t.aborts ++ u ∷ []) w.txn) (ap (is_among (t.aborts ++ u ∷ [])) (eqb-true w.txn u e) ∙ among_new t.aborts u))))
-            (λ ne. right_true (writes_item x w && not (is_among t.aborts w.txn)) (not (writes_item x w && eqb w.txn u)) (not_from_false (writes_item x w && eqb w.txn u) (and_right (writes_item x w) (eqb w.txn u) ne))
-                ∙ ap (λ b. writes_item x w && not b) (sym (among_other t.aborts u w.txn (λ q. eqb-false w.txn u ne (sym q)))))
-            (cases_Bool (eqb w.txn u)))
+        (λ e. and_right (writes_item x w && not (is_among t.aborts w.txn)) (not (writes_item x w && eqb w.txn u)) (not_from_true (writes_item x w && eqb w.txn u) (and_from (writes_item x w) (eqb w.txn u) wi e))
+        ∙ sym (and_right (writes_item x w) (not (is_among (t.aborts ++ u ∷ []) w.txn)) (not_from_true (is_among (t.aborts ++ u ∷ []) w.txn) (ap (is_among (t.aborts ++ u ∷ [])) (eqb-true w.txn u e) ∙ among_new t.aborts u))))
+        (λ ne. right_true (writes_item x w && not (is_among t.aborts w.txn)) (not (writes_item x w && eqb w.txn u)) (not_from_false (writes_item x w && eqb w.txn u) (and_right (writes_item x w) (eqb w.txn u) ne))
+        ∙ ap (λ b. writes_item x w && not b) (sym (among_other t.aborts u w.txn (λ q. eqb-false w.txn u ne (sym q)))))
+        (cases_Bool (eqb w.txn u)))
         (λ nwi. and_left (writes_item x w && not (is_among t.aborts w.txn)) (not (writes_item x w && eqb w.txn u)) (and_left (writes_item x w) (not (is_among t.aborts w.txn)) nwi)
-            ∙ sym (and_left (writes_item x w) (not (is_among (t.aborts ++ u ∷ []) w.txn)) nwi))
+        ∙ sym (and_left (writes_item x w) (not (is_among (t.aborts ++ u ∷ []) w.txn)) nwi))
         (cases_Bool (writes_item x w))
 
 -- of two elements, one is ahead
@@ -221,24 +218,25 @@ pub current_after_abort : {s : Setting} {t : Trace} {m : ℕ → ℕ} → Reache
 current_after_abort {t = t} r o u x a =
     ⊎_elim
     (λ none. inr (sym (current_split r o u x a ∙ ap (after_writes (current_in o (with_abort t u) x)) none)))
-    (λ some. let f = Rattle.esr_history.proofs.Membership.filter-some (wrote_by x u) t.operations some in
-        inl (ap (after_writes (o x))
-            (filter_agree_in (λ w. writes_item x w && not (is_among (t.aborts ++ u ∷ []) w.txn)) (λ w. writes_item x w && is_among t.commits w.txn) t.operations
-                (λ w i. agree w i f.0 f.1 f.2))))
+    (λ some. let f = filter-some (wrote_by x u) t.operations some in
+    inl (ap (after_writes (o x))
+    (filter_agree_in (λ w. writes_item x w && not (is_among (t.aborts ++ u ∷ []) w.txn)) (λ w. writes_item x w && is_among t.commits w.txn) t.operations
+    (λ w i. agree w i f.0 f.1 f.2))))
     (empty_or_not (filter (wrote_by x u) t.operations))
   where
     open_commit : is_among t.commits u ≡ false
     open_commit = (or_parts (is_among t.commits u) (is_among t.aborts u) a.open_ended).0
+
     agree : (w : Operation) → In w t.operations → (b : Operation) → In b t.operations → wrote_by x u b ≡ true →
         (writes_item x w && not (is_among (t.aborts ++ u ∷ []) w.txn)) ≡ (writes_item x w && is_among t.commits w.txn)
     agree w i b ib mb =
         ⊎_elim
         (λ wi. ⊎_elim
-            (λ e. and_right (writes_item x w) (not (is_among (t.aborts ++ u ∷ []) w.txn)) (not_from_true (is_among (t.aborts ++ u ∷ []) w.txn) (ap (is_among (t.aborts ++ u ∷ [])) e ∙ among_new t.aborts u))
-                ∙ sym (and_right (writes_item x w) (is_among t.commits w.txn) (ap (is_among t.commits) e ∙ open_commit)))
-            (λ ne. ap (λ b. writes_item x w && not b) (among_other t.aborts u w.txn (λ q. ne (sym q)))
-                ∙ ap (λ b. writes_item x w && b) (ended_agree r w.txn (others_ended r u x a b ib mb w i wi ne)))
-            (cases_eq w.txn u))
+        (λ e. and_right (writes_item x w) (not (is_among (t.aborts ++ u ∷ []) w.txn)) (not_from_true (is_among (t.aborts ++ u ∷ []) w.txn) (ap (is_among (t.aborts ++ u ∷ [])) e ∙ among_new t.aborts u))
+        ∙ sym (and_right (writes_item x w) (is_among t.commits w.txn) (ap (is_among t.commits) e ∙ open_commit)))
+        (λ ne. ap (λ b. writes_item x w && not b) (among_other t.aborts u w.txn (λ q. ne (sym q)))
+        ∙ ap (λ b. writes_item x w && b) (ended_agree r w.txn (others_ended r u x a b ib mb w i wi ne)))
+        (cases_eq w.txn u))
         (λ n. and_left (writes_item x w) (not (is_among (t.aborts ++ u ∷ []) w.txn)) n ∙ sym (and_left (writes_item x w) (is_among t.commits w.txn) n))
         (cases_Bool (writes_item x w))
 
@@ -249,7 +247,7 @@ committed_after_commit {t = t} r o u x a =
     ⊎_elim
     (λ none. inl (committed_after r o u x a ∙ ap (after_writes (committed_in o t x)) none))
     (λ some. inr (committed_after r o u x a
-        ∙ (after_writes-some (filter (wrote_by x u) t.operations) (committed_in o t x) (current_in o (with_abort t u) x) some ∙ sym (current_split r o u x a))))
+    ∙ (after_writes-some (filter (wrote_by x u) t.operations) (committed_in o t x) (current_in o (with_abort t u) x) some ∙ sym (current_split r o u x a))))
     (empty_or_not (filter (wrote_by x u) t.operations))
 
 pub filter_push_false : {X : Type 0} (p : X → Bool) (xs : List X) (y : X) → p y ≡ false → filter p (xs ++ y ∷ []) ≡ filter p xs
@@ -262,17 +260,17 @@ filter_push_true p xs y h = filter-append p xs (y ∷ []) ∙ ap (λ zs. filter 
 pub committed_with : (o : ℕ → ℤ) (t : Trace) (w : Operation) (x : ℕ) → ended_in t w.txn ≡ false → committed_in o (with_operation t w) x ≡ committed_in o t x
 committed_with o t w x h =
     ap (after_writes (o x)) (filter_push_false (λ w. writes_item x w && is_among t.commits w.txn) t.operations w
-        (and_right (writes_item x w) (is_among t.commits w.txn) (or_parts (is_among t.commits w.txn) (is_among t.aborts w.txn) h).0))
+    (and_right (writes_item x w) (is_among t.commits w.txn) (or_parts (is_among t.commits w.txn) (is_among t.aborts w.txn) h).0))
 
 pub current_with_other : (o : ℕ → ℤ) (t : Trace) (w : Operation) (x : ℕ) → writes_item x w ≡ false → current_in o (with_operation t w) x ≡ current_in o t x
 current_with_other o t w x h =
     ap (after_writes (o x)) (filter_push_false (λ w. writes_item x w && not (is_among t.aborts w.txn)) t.operations w
-        (and_left (writes_item x w) (not (is_among t.aborts w.txn)) h))
+    (and_left (writes_item x w) (not (is_among t.aborts w.txn)) h))
 
 pub current_with_write : (o : ℕ → ℤ) (t : Trace) (w : Operation) (x : ℕ) → ended_in t w.txn ≡ false → writes_item x w ≡ true → current_in o (with_operation t w) x ≡ w.value
 current_with_write o t w x h wi =
     ap (after_writes (o x)) (filter_push_true (λ w. writes_item x w && not (is_among t.aborts w.txn)) t.operations w
-        (and_from (writes_item x w) (not (is_among t.aborts w.txn)) wi (not_from_false (is_among t.aborts w.txn) (or_parts (is_among t.commits w.txn) (is_among t.aborts w.txn) h).1)))
+    (and_from (writes_item x w) (not (is_among t.aborts w.txn)) wi (not_from_false (is_among t.aborts w.txn) (or_parts (is_among t.commits w.txn) (is_among t.aborts w.txn) h).1)))
     ∙ after_writes-append (o x) (filter (λ w. writes_item x w && not (is_among t.aborts w.txn)) t.operations) (w ∷ [])
 
 -- the value of x after the updates us
@@ -287,7 +285,7 @@ flat_map_agree f g (x ∷ xs) h = ap (λ zs. zs ++ flat_map f xs) (h x (inl refl
 pub state_with : (o : ℕ → ℤ) (t : Trace) (w : Operation) (us : List ℕ) (x : ℕ) → ((u : ℕ) → In u us → w.txn ≡ u → ⊥) → state_in o (with_operation t w) us x ≡ state_in o t us x
 state_with o t w us x h =
     ap (after_writes (o x)) (flat_map_agree (λ u. filter (wrote_by x u) (t.operations ++ w ∷ [])) (λ u. filter (wrote_by x u) t.operations) us
-        (λ u i. filter_push_false (wrote_by x u) t.operations w (and_right (writes_item x w) (eqb w.txn u) (ne_eqb w.txn u (h u i)))))
+    (λ u i. filter_push_false (wrote_by x u) t.operations w (and_right (writes_item x w) (eqb w.txn u) (ne_eqb w.txn u (h u i)))))
 
 commit_among : (t : Trace) (u : ℕ) → In u (committed_updates_in t) → is_among t.commits u ≡ true
 commit_among t u i = any-from_number t.commits u (In-of_filter (update_in t) t.commits u i).0
@@ -296,7 +294,7 @@ version_with : (o : ℕ → ℤ) (t : Trace) (w : Operation) (x : ℕ) → ended
     state_in o (with_operation t w) (committed_updates_in t) x ≡ committed_in o (with_operation t w) x
 version_with o t w x h e =
     state_with o t w (committed_updates_in t) x
-        (λ u i q. true≢false (sym (commit_among t u i) ∙ (sym (ap (is_among t.commits) q) ∙ (or_parts (is_among t.commits w.txn) (is_among t.aborts w.txn) h).0)))
+    (λ u i q. true≢false (sym (commit_among t u i) ∙ (sym (ap (is_among t.commits) q) ∙ (or_parts (is_among t.commits w.txn) (is_among t.aborts w.txn) h).0)))
     ∙ (e ∙ sym (committed_with o t w x h))
 
 -- the committed updates, one after another in the order of their commits, leave the committed values
@@ -304,7 +302,7 @@ pub committed_version : {s : Setting} {t : Trace} {m : ℕ → ℕ} → Reached 
 committed_version nothing o x = refl
 committed_version (begin {t = t} r b keeps) o x =
     ap (λ us. state_in o t us x) (filter_agree_in (update_in (with_begins t b)) (update_in t) t.commits
-        (λ u i. update_stays t b u keeps ((known r).of_ends u (or_left (is_among t.commits u) (is_among t.aborts u) (any-from_number t.commits u i)))))
+    (λ u i. update_stays t b u keeps ((known r).of_ends u (or_left (is_among t.commits u) (is_among t.aborts u) (any-from_number t.commits u i)))))
     ∙ committed_version r o x
 committed_version {s = s} (read_update {t = t} r v y ac up free) o x = version_with o t (read_of v y (current_in s.opening t y)) x ac.open_ended (committed_version r o x)
 committed_version {s = s} (read_query {t = t} r v y n ac up free) o x = version_with o t (read_of v y (current_in s.opening t y)) x ac.open_ended (committed_version r o x)
@@ -314,10 +312,10 @@ committed_version (commit {t = t} r u a) o x =
     let c : List ℕ = committed_updates_in t in
     ap (λ us. after_writes (o x) (flat_map wb us)) (filter-append (update_in t) t.commits (u ∷ []))
     ∙ ((cond_both (update_in t u) (u ∷ []) [] (λ zs. after_writes (o x) (flat_map wb (c ++ zs)) ≡ after_writes (committed_in o t x) (wb u))
-        (λ up. ap (after_writes (o x)) (flat_map-append wb c (u ∷ []) ∙ ap (λ zs. flat_map wb c ++ zs) (append-nil (wb u)))
-            ∙ (after_writes-append (o x) (flat_map wb c) (wb u) ∙ ap (λ v. after_writes v (wb u)) (committed_version r o x)))
-        (λ nup. ap (λ us. after_writes (o x) (flat_map wb us)) (append-nil c)
-            ∙ (committed_version r o x ∙ sym (ap (after_writes (committed_in o t x)) (filter_none_in (wrote_by x u) t.operations
-                (λ w i. false_from_ne_true (wrote_by x u w) (λ h. let p = wrote_parts x u w h in true≢false (sym (sym (ap (update_in t) p.2) ∙ writers r w i p.0) ∙ nup))))))))
+    (λ up. ap (after_writes (o x)) (flat_map-append wb c (u ∷ []) ∙ ap (λ zs. flat_map wb c ++ zs) (append-nil (wb u)))
+    ∙ (after_writes-append (o x) (flat_map wb c) (wb u) ∙ ap (λ v. after_writes v (wb u)) (committed_version r o x)))
+    (λ nup. ap (λ us. after_writes (o x) (flat_map wb us)) (append-nil c)
+    ∙ (committed_version r o x ∙ sym (ap (after_writes (committed_in o t x)) (filter_none_in (wrote_by x u) t.operations
+    (λ w i. false_from_ne_true (wrote_by x u w) (λ h. let p = wrote_parts x u w h in true≢false (sym (sym (ap (update_in t) p.2) ∙ writers r w i p.0) ∙ nup))))))))
     ∙ sym (committed_after r o u x a))
 committed_version (abort {t = t} r u a) o x = committed_version r o x

@@ -1,9 +1,8 @@
 -- The words of a history and those of its trace say the same.
-use Rattle.std.proofs.Common.{◌≡◌, ℕ, ◌+◌, ◌<◌, ◌≤◌, ℤ, Bool, true, false, cond, not, ◌&&◌, ◌||◌, ◌==◌, List, [], ◌∷◌, ◌++◌, refl, sym, ◌∙◌, ap, subst, inl, inr, ⊎_elim, arith, filter, eqb, Option, Some, None, count_by, map, flat_map, if◌then◌else◌, append-nil}
-use Rattle.std.specs.Prelude.{is_some, unwrap_or}
+use Rattle.std.proofs.Common.{◌≡◌, ℕ, ◌+◌, ℤ, Bool, true, false, cond, not, ◌&&◌, ◌||◌, ◌==◌, List, [], ◌∷◌, ◌++◌, refl, sym, ◌∙◌, ap, arith, filter, eqb, Option, Some, None, count_by, map, flat_map, if◌then◌else◌}
 use Rattle.std.specs.List.{list_any, filter_map, cons_option}
 use Rattle.std.proofs.Math.Path.{fun_ext}
-use Rattle.std.proofs.lemmas.Bool.{cases_Bool, true≢false, and_parts, and_from, or_parts, or_from}
+use Rattle.std.proofs.lemmas.Bool.{or_parts, or_from}
 use Rattle.std.proofs.lemmas.List.{map-append}
 use Rattle.std.proofs.lemmas.List.Sums.{sum_by-cons}
 use Rattle.esr_items.specs.Values.{value_at}
@@ -11,12 +10,12 @@ use Rattle.esr_history.specs.declared.event.Event.{Event}
 use Rattle.esr_history.specs.declared.event.Event.TheVariants.{BeginUpdate, BeginQuery, Read, Write, Commit, Abort}
 use Rattle.esr_history.specs.declared.event.Reply.{Reply}
 use Rattle.esr_history.specs.declared.event.Entry.{Entry}
-use Rattle.esr_history.specs.Events.{is_refusal, beginning, accepted, is_query, is_update, is_begun, is_active, is_committed, is_aborted, commits, aborts, reads, writes, reads_of, written, last_value, committed_value, current_value}
+use Rattle.esr_history.specs.Events.{is_refusal, beginning, is_active, is_committed, is_aborted, commits, aborts, reads, writes, reads_of, written, last_value, committed_value, current_value}
 use Rattle.esr_history.specs.Machine.{Schedule, done}
-use Rattle.esr_history.specs.Operations.{Operation, operation_by, operation_of, operations_in, operations, committer, commit_order}
+use Rattle.esr_history.specs.Operations.{Operation, operation_by, operation_of, operations_in, operations, committer, commit_order, answer}
 use Rattle.esr_history.specs.Serial.{values_by, state}
 use Rattle.esr_history.proofs.Orderly.{active_parts}
-use Rattle.esr_history.proofs.Traces.{Trace, is_among, ended_in, writes_item, reads_item, after_writes, committed_in, current_in, Active, read_count_in}
+use Rattle.esr_history.proofs.Traces.{Trace, is_among, writes_item, reads_item, after_writes, committed_in, current_in, Active, read_count_in}
 use Rattle.esr_history.proofs.Versions.{wrote_by, state_in}
 
 abbrev pub aborter : Event → Option ℕ
@@ -73,6 +72,7 @@ written_kept k x (e ∷ es) = at e.event (written_kept k x es)
     both : (b : Bool) (o : Operation) (vs : List ℤ) (os : List Operation) → vs ≡ map (λ w. w.value) os → cons_option (if b then Some o.value else None) vs ≡ map (λ w. w.value) (cond b (o ∷ os) os)
     both true o vs os same = ap (λ l. o.value ∷ l) same
     both false o vs os same = same
+
     at : (ev : Event) → filter_map (written k x) (map (λ e. e.event) es) ≡ map (λ o. o.value) (filter (λ o. writes_item x o && k o.txn) (filter_map operation_of es))
         → cons_option (written k x ev) (filter_map (written k x) (map (λ e. e.event) es)) ≡ map (λ o. o.value) (filter (λ o. writes_item x o && k o.txn) (cons_option (operation_by ev e.reply) (filter_map operation_of es)))
     at (BeginUpdate l) same = same
@@ -112,7 +112,7 @@ read_kept t x (e ∷ es) =
     at (BeginQuery l s) r os = omega arith
     at (Read u y) r os =
         ap (λ b. cond b 1 0 + count_by (λ o. reads_item x o && eqb o.txn t) os) (and_swap (u.0 == t) (y.0 == x))
-        ∙ sym (sum_by-cons (λ o. cond (reads_item x o && eqb o.txn t) 1 0) (record { txn = u.0; item = y.0; writes = false; value = Rattle.esr_history.specs.Operations.answer r }) os)
+        ∙ sym (sum_by-cons (λ o. cond (reads_item x o && eqb o.txn t) 1 0) (record { txn = u.0; item = y.0; writes = false; value = answer r }) os)
     at (Write u y v) r os = sym (sum_by-cons (λ o. cond (reads_item x o && eqb o.txn t) 1 0) (record { txn = u.0; item = y.0; writes = true; value = v }) os)
     at (Commit u) r os = omega arith
     at (Abort u) r os = omega arith

@@ -1,5 +1,5 @@
 -- What the transactions of a history did to its items.
-use Rattle.std.specs.Prelude.{◌≡◌, ℕ, ℤ, pos, List, Bool, true, false, not, ◌&&◌, ◌==◌, Option, None, Some, filter}
+use Rattle.std.specs.Prelude.{ℕ, ℤ, pos, List, Bool, true, false, not, Option, None, Some, filter}
 use Rattle.std.specs.List.{filter_map}
 use Rattle.esr_history.specs.declared.event.Event.{Event}
 use Rattle.esr_history.specs.declared.event.Event.TheVariants.{Read, Write, Commit}

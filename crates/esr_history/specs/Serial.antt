@@ -1,5 +1,5 @@
 -- The conflict order of the transactions of a history, serial orders, and what a serial run leaves (textbook).
-use Rattle.std.specs.Prelude.{◌≡◌, ◌≢◌, ◌↔◌, ℕ, ℤ, Bool, true, false, not, ◌&&◌, ◌||◌, ◌==◌, IsTrue, List, [], ◌∷◌, ◌++◌, filter, flat_map, AllPairs, Contains}
+use Rattle.std.specs.Prelude.{◌≡◌, ◌≢◌, ◌↔◌, ℕ, ℤ, Bool, false, not, ◌&&◌, ◌||◌, ◌==◌, IsTrue, List, [], ◌∷◌, ◌++◌, filter, flat_map, AllPairs, Contains}
 use Rattle.std.specs.List.{before_first, filter_map, list_any}
 use Rattle.esr_items.specs.Values.{value_at}
 use Rattle.esr_items.specs.declared.metric.ItemId.{ItemId}
@@ -47,6 +47,6 @@ pub record IsSerializable (h : Schedule) : Type 0 where
   pub serial : IsSerialOrder h (committed_updates h) (committed_updates h)
   -- a read of x by a committed update answers its own last write of x before it, else the state after the updates ahead of it
   pub reads : (before after : List Entry) (t : TxnId) (x : ItemId) (v : ℤ)
-    → h.entries ≡ before ++ record { event = Read t x; reply = Value v } ∷ after → IsTrue (is_update (done h) t.0 && is_committed (done h) t.0)
-    → v ≡ last_value (state h (before_first (λ u. u == t.0) (committed_updates h)) x.0) (filter_map (written (λ u. u == t.0) x.0) (accepted before))
+      → h.entries ≡ before ++ record { event = Read t x; reply = Value v } ∷ after → IsTrue (is_update (done h) t.0 && is_committed (done h) t.0)
+      → v ≡ last_value (state h (before_first (λ u. u == t.0) (committed_updates h)) x.0) (filter_map (written (λ u. u == t.0) x.0) (accepted before))
   pub leaves : (x : ℕ) → state h (committed_updates h) x ≡ committed_value h.opening (done h) x

@@ -1,5 +1,5 @@
 -- Worked examples: the conflict order, costs and imports of some histories.
-use Rattle.std.specs.Prelude.{◌≡◌, ℕ, pos, List, [], ◌∷◌, Bool, true, false, refl, map, ◌==◌}
+use Rattle.std.specs.Prelude.{◌≡◌, pos, [], ◌∷◌, Bool, true, false, refl, map, ◌==◌}
 use Rattle.esr_history.specs.declared.event.Event.TheVariants.{BeginUpdate, BeginQuery, Read, Write, Commit, Abort}
 use Rattle.esr_history.specs.declared.event.Reply.TheVariants.{Begun, Value, Wrote, Committed}
 use Rattle.esr_history.specs.Machine.{Schedule, charges_in, import_in}
@@ -11,8 +11,8 @@ use Rattle.esr_history.specs.Queries.{updates_of, must, cost}
 abbrev pub order_through_a_third_item : Schedule
 order_through_a_third_item =
     played (opened (pos 0 ∷ pos 0 ∷ pos 0 ∷ [])) (
-        BeginQuery 9 false ∷ BeginUpdate 9 ∷ BeginUpdate 9 ∷ Read (txn 1) (item 0) ∷ Write (txn 2) (item 0) (pos 6) ∷ Write (txn 2) (item 2) (pos 1) ∷ Commit (txn 2)
-        ∷ Read (txn 3) (item 2) ∷ Write (txn 3) (item 1) (pos 2) ∷ Commit (txn 3) ∷ Read (txn 1) (item 1) ∷ Commit (txn 1) ∷ [])
+    BeginQuery 9 false ∷ BeginUpdate 9 ∷ BeginUpdate 9 ∷ Read (txn 1) (item 0) ∷ Write (txn 2) (item 0) (pos 6) ∷ Write (txn 2) (item 2) (pos 1) ∷ Commit (txn 2)
+    ∷ Read (txn 3) (item 2) ∷ Write (txn 3) (item 1) (pos 2) ∷ Commit (txn 3) ∷ Read (txn 1) (item 1) ∷ Commit (txn 1) ∷ [])
 
 third_item_replies :
     replies order_through_a_third_item ≡ Begun (txn 1) ∷ Begun (txn 2) ∷ Begun (txn 3) ∷ Value (pos 0) ∷ Wrote ∷ Wrote ∷ Committed ∷ Value (pos 1) ∷ Wrote ∷ Committed ∷ Value (pos 2) ∷ Committed ∷ []
@@ -44,8 +44,8 @@ third_item_import = refl
 abbrev pub two_updates_over_a_report : Schedule
 two_updates_over_a_report =
     played (opened (pos 0 ∷ pos 0 ∷ [])) (
-        BeginQuery 100 false ∷ BeginUpdate 100 ∷ BeginUpdate 100 ∷ Read (txn 1) (item 0) ∷ Write (txn 2) (item 0) (pos 10) ∷ Commit (txn 2)
-        ∷ Write (txn 3) (item 0) (pos 1) ∷ Write (txn 3) (item 1) (pos 8) ∷ Commit (txn 3) ∷ Read (txn 1) (item 1) ∷ Commit (txn 1) ∷ [])
+    BeginQuery 100 false ∷ BeginUpdate 100 ∷ BeginUpdate 100 ∷ Read (txn 1) (item 0) ∷ Write (txn 2) (item 0) (pos 10) ∷ Commit (txn 2)
+    ∷ Write (txn 3) (item 0) (pos 1) ∷ Write (txn 3) (item 1) (pos 8) ∷ Commit (txn 3) ∷ Read (txn 1) (item 1) ∷ Commit (txn 1) ∷ [])
 
 two_updates_costs : map (cost plain two_updates_over_a_report 1) ((λ _. false) ∷ (λ u. u == 2) ∷ (λ _. true) ∷ []) ≡ 8 ∷ 18 ∷ 1 ∷ []
 two_updates_costs = refl
@@ -57,8 +57,8 @@ two_updates_import = refl
 abbrev pub strict_report : Bool → Schedule
 strict_report strict =
     played (opened (pos 0 ∷ [])) (
-        BeginUpdate 9 ∷ Write (txn 1) (item 0) (pos 5) ∷ Commit (txn 1) ∷ BeginQuery 9 strict ∷ BeginUpdate 9
-        ∷ Write (txn 3) (item 0) (pos 0) ∷ Read (txn 2) (item 0) ∷ Abort (txn 3) ∷ Commit (txn 2) ∷ [])
+    BeginUpdate 9 ∷ Write (txn 1) (item 0) (pos 5) ∷ Commit (txn 1) ∷ BeginQuery 9 strict ∷ BeginUpdate 9
+    ∷ Write (txn 3) (item 0) (pos 0) ∷ Read (txn 2) (item 0) ∷ Abort (txn 3) ∷ Commit (txn 2) ∷ [])
 
 strict_report_must : must (strict_report true) 2 ≡ 1 ∷ []
 strict_report_must = refl
