@@ -1,0 +1,3 @@
+pub mod Writers
+pub mod Placed
+pub mod Ordered

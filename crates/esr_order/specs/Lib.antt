@@ -1,0 +1,2 @@
+pub mod Placements
+pub mod Statements
