@@ -2,5 +2,6 @@
 #![tactic(auto)]
 
 mod laws;
+mod scan;
 
 pub use laws::{longer_histories_agree, parts_are_closed_sets};
