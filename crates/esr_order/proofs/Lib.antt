@@ -1,0 +1,4 @@
+pub mod Writers
+pub mod Placed
+pub mod Ordered
+pub mod Entries

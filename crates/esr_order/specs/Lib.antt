@@ -1,0 +1,3 @@
+pub mod Placements
+pub mod Statements
+pub mod Scans

@@ -1,0 +1,7 @@
+//! The conflict order among the updates that a query could have seen, and the placements of queries.
+#![tactic(auto)]
+
+mod laws;
+mod scan;
+
+pub use laws::{longer_histories_agree, parts_are_closed_sets};
