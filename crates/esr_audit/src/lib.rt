@@ -1,0 +1,3 @@
+//! Audits of committed queries: the least distance of what a query read from any
+//! serial placement, with a certificate.
+#![tactic(auto)]
