@@ -2,3 +2,4 @@ pub mod Values
 pub mod Places
 pub mod Costs
 pub mod Smallest
+pub mod Positions
