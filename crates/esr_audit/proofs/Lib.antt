@@ -3,3 +3,4 @@ pub mod Places
 pub mod Costs
 pub mod Smallest
 pub mod Positions
+pub mod Found
