@@ -4,3 +4,4 @@ pub mod Costs
 pub mod Smallest
 pub mod Positions
 pub mod Found
+pub mod Stays
