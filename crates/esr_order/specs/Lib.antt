@@ -1,3 +1,4 @@
 pub mod Placements
 pub mod Statements
 pub mod Scans
+pub mod Listing

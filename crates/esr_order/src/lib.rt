@@ -2,6 +2,7 @@
 #![tactic(auto)]
 
 mod laws;
+mod pairs;
 mod scan;
 
 pub use laws::{longer_histories_agree, parts_are_closed_sets};
