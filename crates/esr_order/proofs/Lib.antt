@@ -5,3 +5,5 @@ pub mod Entries
 pub mod Listings
 pub mod Rows
 pub mod Tables
+pub mod LastSteps
+pub mod ChainSteps

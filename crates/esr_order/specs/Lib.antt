@@ -2,3 +2,4 @@ pub mod Placements
 pub mod Statements
 pub mod Scans
 pub mod Listing
+pub mod Chains

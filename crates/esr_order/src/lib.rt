@@ -1,6 +1,7 @@
 //! The conflict order among the updates that a query could have seen, and the placements of queries.
 #![tactic(auto)]
 
+mod chains;
 mod laws;
 mod pairs;
 mod scan;
