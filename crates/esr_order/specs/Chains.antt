@@ -28,9 +28,13 @@ some_chain c = if_written c.writers c
 abbrev pub last_of : List ℤ → Option ℤ
 last_of vs = last_or None vs
 
--- the last value that the update of q at a position wrote to item x, if it wrote it
+-- the update of q at a position in commit order
+abbrev pub update_at : Schedule → ℕ → ℕ → ℕ
+update_at h q i = slice_index_or (updates_of h q) i 0
+
+-- the last value that it wrote to item x, if it wrote it
 abbrev pub last_written : Schedule → ℕ → ℕ → ℕ → Option ℤ
-last_written h q x i = last_of (values_by h x (slice_index_or (updates_of h q) i 0))
+last_written h q x i = last_of (values_by h x (update_at h q i))
 
 -- the updates of q that wrote item x, if there is one
 abbrev pub chain_of : Schedule → ℕ → ℕ → Option Chain

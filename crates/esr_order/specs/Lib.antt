@@ -3,3 +3,4 @@ pub mod Statements
 pub mod Scans
 pub mod Listing
 pub mod Chains
+pub mod Orders

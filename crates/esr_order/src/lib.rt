@@ -3,7 +3,10 @@
 
 mod chains;
 mod laws;
+mod order;
 mod pairs;
 mod scan;
 
+pub use chains::Links;
 pub use laws::{longer_histories_agree, parts_are_closed_sets};
+pub use order::{Order, OrderError};
