@@ -2,3 +2,8 @@ pub mod Writers
 pub mod Placed
 pub mod Ordered
 pub mod Entries
+pub mod Listings
+pub mod Rows
+pub mod Tables
+pub mod LastSteps
+pub mod ChainSteps

@@ -1,3 +1,6 @@
 pub mod Placements
 pub mod Statements
 pub mod Scans
+pub mod Listing
+pub mod Chains
+pub mod Orders
