@@ -5,3 +5,4 @@ pub mod Smallest
 pub mod Positions
 pub mod Found
 pub mod Stays
+pub mod Gathered

@@ -1,3 +1,9 @@
 //! Audits of committed queries: the least distance of what a query read from any
 //! serial placement, with a certificate.
 #![tactic(auto)]
+
+mod chains;
+mod finding;
+mod reads;
+
+pub use finding::{AuditError, Finding};

@@ -32,7 +32,7 @@ all_entries es = later [] es
 abbrev accepts : Entry → Bool
 accepts e = not (is_refusal e.reply)
 
-given_accepted : {Y : Type 0} (f : Entry → Option Y) (es : List Entry) → filter_map (if_accepted f) es ≡ filter_map f (filter accepts es)
+pub given_accepted : {Y : Type 0} (f : Entry → Option Y) (es : List Entry) → filter_map (if_accepted f) es ≡ filter_map f (filter accepts es)
 given_accepted f [] = refl
 given_accepted f (e ∷ es) = at (is_refusal e.reply) (given_accepted f es)
   where
