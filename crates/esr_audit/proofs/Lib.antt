@@ -6,3 +6,4 @@ pub mod Positions
 pub mod Found
 pub mod Stays
 pub mod Gathered
+pub mod Versions

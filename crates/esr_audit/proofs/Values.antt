@@ -60,7 +60,7 @@ version_leaves w S (u ∷ ws) v a =
     ]
 
 -- who did not write the item left no value, and who did left one
-values_none : (x u : ℕ) (es : List Event) → list_any (writes u x) es ≡ false → filter_map (written (λ t. eqb t u) x) es ≡ []
+pub values_none : (x u : ℕ) (es : List Event) → list_any (writes u x) es ≡ false → filter_map (written (λ t. eqb t u) x) es ≡ []
 values_none x u [] h = refl
 values_none x u (BeginUpdate l ∷ es) h = values_none x u es h
 values_none x u (BeginQuery l s ∷ es) h = values_none x u es h
@@ -77,7 +77,7 @@ values_none x u (Write t y v ∷ es) h =
     swap false true e = refl
     swap false false e = refl
 
-values_some : (x u : ℕ) (es : List Event) → list_any (writes u x) es ≡ true → filter_map (written (λ t. eqb t u) x) es ≡ [] → ⊥
+pub values_some : (x u : ℕ) (es : List Event) → list_any (writes u x) es ≡ true → filter_map (written (λ t. eqb t u) x) es ≡ [] → ⊥
 values_some x u [] h = absurd (false≢true h)
 values_some x u (BeginUpdate l ∷ es) h = values_some x u es h
 values_some x u (BeginQuery l s ∷ es) h = values_some x u es h
