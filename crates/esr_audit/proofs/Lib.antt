@@ -7,3 +7,4 @@ pub mod Found
 pub mod Stays
 pub mod Gathered
 pub mod Versions
+pub mod Standing

@@ -63,7 +63,7 @@ tail_ascends : (x : ℕ) (rest : List ℕ) → is_ascending (x ∷ rest) ≡ tru
 tail_ascends x [] a = refl
 tail_ascends x (y ∷ rest) a = (and_parts (nat_lt x y) (is_ascending (y ∷ rest)) a).1
 
-filter_agree : (P Q : ℕ → Bool) (a n : ℕ) → ((x : ℕ) → a ≤ x → x < a + n → P x ≡ Q x) → filter P (range_with_len a n) ≡ filter Q (range_with_len a n)
+pub filter_agree : (P Q : ℕ → Bool) (a n : ℕ) → ((x : ℕ) → a ≤ x → x < a + n → P x ≡ Q x) → filter P (range_with_len a n) ≡ filter Q (range_with_len a n)
 filter_agree P Q a zero same = refl
 filter_agree P Q a (suc n) same =
     ap (λ b. cond b (a ∷ filter P (range_with_len (a + 1) n)) (filter P (range_with_len (a + 1) n))) (same a (omega arith) (omega arith))
