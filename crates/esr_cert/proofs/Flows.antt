@@ -36,7 +36,7 @@ range_from p a zero h = refl
 range_from p a (suc n) h =
     and_from (p a) (list_all p (range_with_len (a + 1) n)) (h a (omega arith) (omega arith)) (range_from p (a + 1) n (λ v l m. h v (omega arith) (omega arith)))
 
-conserved_each : (net : Network) (flow : List ℕ) → is_conserved net flow ≡ true → (v : ℕ) → v < net.nodes → v ≢ net.source → v ≢ net.sink → inflow net.arcs flow v ≡ outflow net.arcs flow v
+pub conserved_each : (net : Network) (flow : List ℕ) → is_conserved net flow ≡ true → (v : ℕ) → v < net.nodes → v ≢ net.source → v ≢ net.sink → inflow net.arcs flow v ≡ outflow net.arcs flow v
 conserved_each net flow h v l ns nt =
     let at : (eqb v net.source || (eqb v net.sink || is_conserved_at net.arcs flow v)) ≡ true =
         range_each (λ v. eqb v net.source || (eqb v net.sink || is_conserved_at net.arcs flow v)) 0 net.nodes v h (omega arith) (omega arith) in

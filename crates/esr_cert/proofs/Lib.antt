@@ -8,3 +8,4 @@ mod Steps
 mod Search
 mod Distinct
 mod Touches
+mod Balance

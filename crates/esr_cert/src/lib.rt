@@ -6,6 +6,7 @@
 #![tactic(auto)]
 
 mod certificate;
+mod checker;
 mod index;
 mod lists;
 mod problem;
@@ -13,4 +14,5 @@ mod range;
 mod shape;
 
 pub use certificate::{Certificate, Fault};
+pub use checker::check;
 pub use problem::{BundleFault, Chain, Problem};
