@@ -7,5 +7,7 @@ pub mod Certified
 mod Steps
 mod Search
 mod Distinct
-mod Touches
+pub mod Touches
 mod Balance
+mod Rows
+pub mod Worth

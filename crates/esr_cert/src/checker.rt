@@ -194,11 +194,12 @@ fn is_tight(problem: &Problem, certificate: &Certificate) -> bool
     requires within { is_within problem.now (certificate_of certificate.now) ≡ true }
     ensures { result ≡ is_tight problem.now (certificate_of certificate.now) }
 {
+    let chains = problem.chains();
     let worth = u128::from(certificate.worth);
     if worth != first_amounts(&certificate.chain_flow) + total(&certificate.must_flow) {
         return false;
     }
-    worth == set_cost(problem.chains(), &certificate.set)
+    worth == set_cost(chains, &certificate.set)
 }
 
 /// How many arcs the chains have.

@@ -145,7 +145,8 @@ impl Problem {
 
     /// What each update has part in, those of one update side by side.
     pub(crate) fn touches(&self) -> &[Touch]
-        ensures { IsIndex self.now.before self.now.chains self.now.must result.now }
+        ensures index { IsIndex self.now.before self.now.chains self.now.must result.now }
+        ensures sound { is_sound self.now ≡ true }
     {
         &self.touches
     }
