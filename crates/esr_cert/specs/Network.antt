@@ -1,13 +1,8 @@
 -- Networks with one source and one sink, and the network of a problem.
 use Rattle.std.specs.Prelude.{◌≡◌, ◌≢◌, ℕ, ◌+◌, ◌<◌, List, [], ◌∷◌, ◌++◌, length, get_or, map, Option, Some, None}
 use Rattle.std.specs.List.{flat_map}
+pub use Rattle.esr_cert.specs.declared.network.Arc.{Arc}
 use Rattle.esr_cert.specs.Problem.{Chain, Problem, size}
-
--- with no capacity an arc is unlimited
-pub record Arc : Type 0 where
-  pub from : ℕ
-  pub to : ℕ
-  pub capacity : Option ℕ
 
 -- nodes are numbered from 0
 pub record Network : Type 0 where

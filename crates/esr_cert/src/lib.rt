@@ -9,10 +9,12 @@ mod certificate;
 mod checker;
 mod index;
 mod lists;
+mod network;
 mod problem;
 mod range;
 mod shape;
 
 pub use certificate::{Certificate, Fault};
 pub use checker::check;
+pub use network::Arc;
 pub use problem::{BundleFault, Chain, Problem};
