@@ -18,3 +18,6 @@ pub use certificate::{Certificate, Fault};
 pub use checker::check;
 pub use network::Arc;
 pub use problem::{BundleFault, Chain, Problem};
+
+#[cfg(test)]
+mod tests;
