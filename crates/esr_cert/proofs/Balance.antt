@@ -1,8 +1,7 @@
 -- Where the touches of each update stand side by side, one walk over them tells whether a flow is conserved.
-use Rattle.std.proofs.Common.{Contains, ◌≡◌, ◌≢◌, ℕ, zero, suc, ◌+◌, ◌-◌, ◌≤◌, ◌<◌, List, [], ◌∷◌, ◌++◌, Bool, true, false, ◌&&◌, cond, eqb, refl, sym, ap, ◌∙◌, subst, inl, inr, arith, length, get_or, sum_by, drop, eq-eqb, ne_eqb, true≢false}
+use Rattle.std.proofs.Common.{Contains, ◌≡◌, ◌≢◌, ℕ, suc, ◌+◌, ◌≤◌, ◌<◌, List, [], ◌∷◌, ◌++◌, true, ◌&&◌, cond, eqb, refl, sym, ap, ◌∙◌, subst, inl, inr, arith, length, get_or, sum_by, eq-eqb, ne_eqb}
 use Rattle.std.specs.List.Sorted.{IsNonDecreasingBy}
-use Rattle.std.proofs.lemmas.Bool.{and_parts, and_from, cases_Bool, cases_lt, cases_eq, cases_order, eqb-true, eqb-false}
-use Rattle.std.proofs.lemmas.List.{drop_more, drop_all}
+use Rattle.std.proofs.lemmas.Bool.{and_parts, and_from, cases_lt, cases_eq, cases_order, eqb-true}
 use Rattle.std.proofs.lemmas.List.Sums.{sum_by-cons, sum_by-append}
 use Rattle.esr_cert.specs.Problem.{Chain, Problem, size, is_sound}
 use Rattle.esr_cert.specs.Network.{network}
@@ -12,7 +11,7 @@ use Rattle.esr_cert.specs.Index.{link_touches, chain_touches, pair_touches, must
 use Rattle.esr_cert.specs.declared.index.Place.TheVariants.{Writer, First, Second, Must}
 use Rattle.esr_cert.specs.declared.index.Touch.{Touch}
 use Rattle.esr_cert.proofs.Cut.{pick}
-use Rattle.esr_cert.proofs.Sound.{here, there, IsChain, IsProblem, facts}
+use Rattle.esr_cert.proofs.Sound.{here, there, IsProblem, facts}
 use Rattle.esr_cert.proofs.Flows.{conserved_each, conserved_from}
 use Rattle.esr_cert.proofs.Distinct.{same_tests}
 use Rattle.esr_cert.proofs.Certified.{IsWithin, within_facts}
@@ -71,10 +70,10 @@ module _ (c : Certificate) where
   balanced_says node into from [] r h = record { first = omega (arith, eqb-true into from h); later = λ v l. refl }
   balanced_says node into from (touch ∷ touches) r h =
       let on : touch.node ≡ node → Balanced node (into + in_of touch) (from + out_of touch) touches =
-          λ e. balanced_says node (into + in_of touch) (from + out_of touch) touches (subst (λ n. Rises n touches) e r.1) (sym (same_node node into from touch touches e) ∙ h) in
+      λ e. balanced_says node (into + in_of touch) (from + out_of touch) touches (subst (λ n. Rises n touches) e r.1) (sym (same_node node into from touch touches e) ∙ h) in
       let past : touch.node ≢ node → (into ≡ from) × Balanced touch.node (in_of touch) (out_of touch) touches =
-          λ ne. let both : (eqb into from ≡ true) × (are_balanced c touch.node (in_of touch) (out_of touch) touches ≡ true) = and_parts (eqb into from) (are_balanced c touch.node (in_of touch) (out_of touch) touches) (sym (next_node node into from touch touches ne) ∙ h) in
-            (eqb-true into from both.0, balanced_says touch.node (in_of touch) (out_of touch) touches r.1 both.1) in
+      λ ne. let both : (eqb into from ≡ true) × (are_balanced c touch.node (in_of touch) (out_of touch) touches ≡ true) = and_parts (eqb into from) (are_balanced c touch.node (in_of touch) (out_of touch) touches) (sym (next_node node into from touch touches ne) ∙ h) in
+      (eqb-true into from both.0, balanced_says touch.node (in_of touch) (out_of touch) touches r.1 both.1) in
       elim (cases_eq touch.node node) [ inl e ↦ stay e (on e) | inr ne ↦ go ne (past ne) ]
     where
       stay : touch.node ≡ node → Balanced node (into + in_of touch) (from + out_of touch) touches → Balanced node into from (touch ∷ touches)
@@ -94,11 +93,11 @@ module _ (c : Certificate) where
                 elim (cases_order touch.node v) [
                   | inl e ↦ subst (λ w. sum_by (in_at c w) (touch ∷ touches) ≡ sum_by (out_at c w) (touch ∷ touches)) e (omega (arith, b.1.first, sum_by-cons (in_at c touch.node) touch touches, sum_by-cons (out_at c touch.node) touch touches, at_same in_of touch.node touch refl, at_same out_of touch.node touch refl))
                   | inr o ↦ elim o [
-                      | inl k ↦
-                          let other : touch.node ≢ v = λ (q : touch.node ≡ v). omega arith in
-                          omega (arith, b.1.later v k, sum_by-cons (in_at c v) touch touches, sum_by-cons (out_at c v) touch touches, at_other in_of v touch other, at_other out_of v touch other)
-                      | inr k ↦ omega (arith, none_before in_of touch.node v (touch ∷ touches) (omega arith, r.1) k, none_before out_of touch.node v (touch ∷ touches) (omega arith, r.1) k)
-                    ]
+                    | inl k ↦
+                        let other : touch.node ≢ v = λ (q : touch.node ≡ v). omega arith in
+                        omega (arith, b.1.later v k, sum_by-cons (in_at c v) touch touches, sum_by-cons (out_at c v) touch touches, at_other in_of v touch other, at_other out_of v touch other)
+                    | inr k ↦ omega (arith, none_before in_of touch.node v (touch ∷ touches) (omega arith, r.1) k, none_before out_of touch.node v (touch ∷ touches) (omega arith, r.1) k)
+                  ]
                 ];
           }
 
@@ -106,9 +105,9 @@ module _ (c : Certificate) where
   balanced_from node into from [] r b = eq-eqb into from (omega (arith, b.first))
   balanced_from node into from (touch ∷ touches) r b =
       let on : touch.node ≡ node → are_balanced c node (into + in_of touch) (from + out_of touch) touches ≡ true =
-          λ e. balanced_from node (into + in_of touch) (from + out_of touch) touches (subst (λ n. Rises n touches) e r.1) (stay e) in
+      λ e. balanced_from node (into + in_of touch) (from + out_of touch) touches (subst (λ n. Rises n touches) e r.1) (stay e) in
       let past : touch.node ≢ node → are_balanced c touch.node (in_of touch) (out_of touch) touches ≡ true =
-          λ ne. balanced_from touch.node (in_of touch) (out_of touch) touches r.1 (go ne) in
+      λ ne. balanced_from touch.node (in_of touch) (out_of touch) touches r.1 (go ne) in
       elim (cases_eq touch.node node) [
         | inl e ↦ same_node node into from touch touches e ∙ on e
         | inr ne ↦ next_node node into from touch touches ne ∙ and_from (eqb into from) (are_balanced c touch.node (in_of touch) (out_of touch) touches) (eq-eqb into from (level ne)) (past ne)

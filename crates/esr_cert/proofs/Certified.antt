@@ -1,10 +1,10 @@
 -- What it says of a certificate that it has no fault.
-use Rattle.std.proofs.Common.{◌≡◌, ℕ, suc, ◌+◌, ◌≤◌, Bool, true, false, not, ◌&&◌, cond, eqb, List, [], ◌∷◌, length, Option, Some, None, refl, sym, ap, ◌∙◌, arith, eq-eqb, true≢false}
-use Rattle.std.proofs.lemmas.Bool.{and_parts, and_from, eqb-true}
-use Rattle.esr_cert.specs.Problem.{Chain, Problem, size, in_set, is_ascending, is_closed, cost, is_sound}
+use Rattle.std.proofs.Common.{◌≡◌, ℕ, ◌≤◌, Bool, true, false, not, ◌&&◌, cond, eqb, length, Option, Some, None, refl, arith}
+use Rattle.std.proofs.lemmas.Bool.{and_parts, eqb-true}
+use Rattle.esr_cert.specs.Problem.{Problem, in_set, is_ascending, is_closed, cost, is_sound}
 use Rattle.esr_cert.specs.Network.{network}
 use Rattle.esr_cert.specs.Flow.{are_within, is_conserved, worth, IsFlow}
-use Rattle.esr_cert.specs.Certificate.{Certificate, amounts, is_known, are_rows_matched, is_within, is_tight, is_short, fault, Certifies}
+use Rattle.esr_cert.specs.Certificate.{Certificate, amounts, is_known, are_rows_matched, is_within, is_tight, is_short, Certifies}
 use Rattle.esr_cert.specs.declared.certificate.Fault.{Fault}
 use Rattle.esr_cert.proofs.Flows.{flow_facts}
 use Rattle.esr_cert.proofs.Sound.{facts}

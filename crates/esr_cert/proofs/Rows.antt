@@ -1,5 +1,5 @@
 -- The test of amounts against capacities: arc by arc it is the one row by row.
-use Rattle.std.proofs.Common.{Contains, ◌≡◌, ◌≢◌, ℕ, zero, suc, ◌+◌, ◌≤◌, ◌<◌, List, [], ◌∷◌, ◌++◌, Bool, true, false, ◌&&◌, nat_le, eqb, Some, None, refl, sym, ap, ◌∙◌, arith, length, map, true≢false, eq-eqb}
+use Rattle.std.proofs.Common.{Contains, ◌≡◌, ℕ, suc, ◌+◌, ◌≤◌, List, [], ◌∷◌, ◌++◌, Bool, true, false, ◌&&◌, nat_le, eqb, refl, sym, ap, ◌∙◌, arith, length, map, true≢false, eq-eqb}
 use Rattle.std.specs.List.{flat_map, concat}
 use Rattle.std.proofs.lemmas.Bool.{and_parts, and_from, eqb-true}
 use Rattle.std.proofs.lemmas.List.{length-append, length-map}
@@ -8,7 +8,7 @@ use Rattle.esr_cert.specs.Network.{Arc, links, chain_links, back_arc, must_arc, 
 use Rattle.esr_cert.specs.Flow.{within, are_within}
 use Rattle.esr_cert.specs.Certificate.{Certificate, amounts, are_rows_matched, is_within}
 use Rattle.esr_cert.specs.Parts.{is_row_within, are_rows_within}
-use Rattle.esr_cert.proofs.Sound.{here, there, IsChain, IsProblem}
+use Rattle.esr_cert.proofs.Sound.{here, there, IsProblem}
 use Rattle.esr_cert.proofs.Distinct.{same_tests}
 use Rattle.esr_cert.proofs.Certified.{IsWithin, within_facts}
 use Rattle.esr_cert.proofs.Touches.{links_length}
@@ -55,11 +55,12 @@ rows_are_within n (chain ∷ chains) (row ∷ rows) h m =
     let both : (eqb (length row) (length chain.costs) ≡ true) × (are_rows_matched chains rows ≡ true) = and_parts (eqb (length row) (length chain.costs)) (are_rows_matched chains rows) m in
     let one : length chain.costs ≡ length chain.writers + 1 = h chain (here chain chains) in
     let same : length row ≡ length (chain_links n chain) = eqb-true (length row) (length chain.costs) both.0 ∙ sym (links_length n (n + 1) chain.writers chain.costs one) in
-    let rest : (are_within (flat_map (chain_links n) chains) (concat rows) ≡ are_rows_within chains rows) × (length (concat rows) ≡ length (flat_map (chain_links n) chains)) = rows_are_within n chains rows (λ x z. h x (there chain x chains z)) both.1 in
-    (within_append (chain_links n chain) (flat_map (chain_links n) chains) row (concat rows) same
-       ∙ ap (λ b. b && are_within (flat_map (chain_links n) chains) (concat rows)) (row_is_within n (n + 1) chain.writers chain.costs row (omega (arith, one)))
-       ∙ ap (λ b. is_row_within chain.costs row && b) rest.0,
-     omega (arith, length-append row (concat rows), length-append (chain_links n chain) (flat_map (chain_links n) chains), same, rest.1))
+    let rest : (are_within (flat_map (chain_links n) chains) (concat rows) ≡ are_rows_within chains rows) × (length (concat rows) ≡ length (flat_map (chain_links n) chains)) = rows_are_within n chains rows (λ x z. h x (there chain x chains z)) both.1 in (
+      within_append (chain_links n chain) (flat_map (chain_links n) chains) row (concat rows) same
+          ∙ ap (λ b. b && are_within (flat_map (chain_links n) chains) (concat rows)) (row_is_within n (n + 1) chain.writers chain.costs row (omega (arith, one)))
+          ∙ ap (λ b. is_row_within chain.costs row && b) rest.0,
+      omega (arith, length-append row (concat rows), length-append (chain_links n chain) (flat_map (chain_links n) chains), same, rest.1),
+    )
 
 unlimited_pairs : (pairs : List (ℕ × ℕ)) (flow : List ℕ) → length flow ≡ length pairs → are_within (map back_arc pairs) flow ≡ true
 unlimited_pairs [] [] h = refl
@@ -78,7 +79,7 @@ arcs_within : (p : Problem) → IsProblem p → (c : Certificate) → are_rows_m
 arcs_within p ok c m b u =
     let rows : (are_within (chain_arcs p) (concat c.chain_flow) ≡ are_rows_within p.chains c.chain_flow) × (length (concat c.chain_flow) ≡ length (chain_arcs p)) = rows_are_within (size p) p.chains c.chain_flow (λ chain z. (ok.chains chain z).one_more) m in
     let first : length (concat c.chain_flow ++ c.back_flow) ≡ length (chain_arcs p ++ back_arcs p) =
-        omega (arith, rows.1, b, length-map {B = Arc} p.before back_arc, length-append (concat c.chain_flow) c.back_flow, length-append (chain_arcs p) (back_arcs p)) in
+    omega (arith, rows.1, b, length-map {B = Arc} p.before back_arc, length-append (concat c.chain_flow) c.back_flow, length-append (chain_arcs p) (back_arcs p)) in
     within_append (chain_arcs p ++ back_arcs p) (must_arcs p) (concat c.chain_flow ++ c.back_flow) c.must_flow first
     ∙ ap (λ x. are_within (chain_arcs p ++ back_arcs p) (concat c.chain_flow ++ c.back_flow) && x) (unlimited_must (size p) p.must c.must_flow u)
     ∙ and_true (are_within (chain_arcs p ++ back_arcs p) (concat c.chain_flow ++ c.back_flow))
@@ -95,16 +96,16 @@ pub within_rows : (p : Problem) → IsProblem p → (c : Certificate) → is_wit
 within_rows p ok c =
     same_tests (is_within p c) (are_rows_within p.chains c.chain_flow && eqb (length c.back_flow) (length p.before) && eqb (length c.must_flow) (length p.must))
     (λ h. let w : IsWithin p c = within_facts p c h in
-      and_from (are_rows_within p.chains c.chain_flow && eqb (length c.back_flow) (length p.before)) (eqb (length c.must_flow) (length p.must))
-      (and_from (are_rows_within p.chains c.chain_flow) (eqb (length c.back_flow) (length p.before)) (sym (arcs_within p ok c w.rows w.backs w.musts) ∙ w.amounts) (eq-eqb (length c.back_flow) (length p.before) w.backs))
-      (eq-eqb (length c.must_flow) (length p.must) w.musts))
+    and_from (are_rows_within p.chains c.chain_flow && eqb (length c.back_flow) (length p.before)) (eqb (length c.must_flow) (length p.must))
+    (and_from (are_rows_within p.chains c.chain_flow) (eqb (length c.back_flow) (length p.before)) (sym (arcs_within p ok c w.rows w.backs w.musts) ∙ w.amounts) (eq-eqb (length c.back_flow) (length p.before) w.backs))
+    (eq-eqb (length c.must_flow) (length p.must) w.musts))
     (λ h.
-      let a : ((are_rows_within p.chains c.chain_flow && eqb (length c.back_flow) (length p.before)) ≡ true) × (eqb (length c.must_flow) (length p.must) ≡ true) = and_parts (are_rows_within p.chains c.chain_flow && eqb (length c.back_flow) (length p.before)) (eqb (length c.must_flow) (length p.must)) h in
-      let b : (are_rows_within p.chains c.chain_flow ≡ true) × (eqb (length c.back_flow) (length p.before) ≡ true) = and_parts (are_rows_within p.chains c.chain_flow) (eqb (length c.back_flow) (length p.before)) a.0 in
-      let m : are_rows_matched p.chains c.chain_flow ≡ true = rows_matched p.chains c.chain_flow b.0 in
-      let backs : length c.back_flow ≡ length p.before = eqb-true (length c.back_flow) (length p.before) b.1 in
-      let musts : length c.must_flow ≡ length p.must = eqb-true (length c.must_flow) (length p.must) a.1 in
-      and_from (are_rows_matched p.chains c.chain_flow && eqb (length c.back_flow) (length p.before) && eqb (length c.must_flow) (length p.must)) (are_within (network p).arcs (amounts c))
-      (and_from (are_rows_matched p.chains c.chain_flow && eqb (length c.back_flow) (length p.before)) (eqb (length c.must_flow) (length p.must))
-        (and_from (are_rows_matched p.chains c.chain_flow) (eqb (length c.back_flow) (length p.before)) m b.1) a.1)
-      (arcs_within p ok c m backs musts ∙ b.0))
+    let a : ((are_rows_within p.chains c.chain_flow && eqb (length c.back_flow) (length p.before)) ≡ true) × (eqb (length c.must_flow) (length p.must) ≡ true) = and_parts (are_rows_within p.chains c.chain_flow && eqb (length c.back_flow) (length p.before)) (eqb (length c.must_flow) (length p.must)) h in
+    let b : (are_rows_within p.chains c.chain_flow ≡ true) × (eqb (length c.back_flow) (length p.before) ≡ true) = and_parts (are_rows_within p.chains c.chain_flow) (eqb (length c.back_flow) (length p.before)) a.0 in
+    let m : are_rows_matched p.chains c.chain_flow ≡ true = rows_matched p.chains c.chain_flow b.0 in
+    let backs : length c.back_flow ≡ length p.before = eqb-true (length c.back_flow) (length p.before) b.1 in
+    let musts : length c.must_flow ≡ length p.must = eqb-true (length c.must_flow) (length p.must) a.1 in
+    and_from (are_rows_matched p.chains c.chain_flow && eqb (length c.back_flow) (length p.before) && eqb (length c.must_flow) (length p.must)) (are_within (network p).arcs (amounts c))
+    (and_from (are_rows_matched p.chains c.chain_flow && eqb (length c.back_flow) (length p.before)) (eqb (length c.must_flow) (length p.must))
+    (and_from (are_rows_matched p.chains c.chain_flow) (eqb (length c.back_flow) (length p.before)) m b.1) a.1)
+    (arcs_within p ok c m backs musts ∙ b.0))

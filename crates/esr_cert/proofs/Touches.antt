@@ -1,11 +1,11 @@
 -- The sums at a node over the touches of a problem are those over the arcs of its network.
-use Rattle.std.proofs.Common.{append_assoc, Contains, ◌≡◌, ◌≢◌, ℕ, zero, suc, ◌+◌, ◌-◌, ◌≤◌, ◌<◌, List, [], ◌∷◌, ◌++◌, Bool, true, false, not, ◌&&◌, ◌||◌, cond, eqb, refl, sym, ap, ◌∙◌, inl, inr, arith, length, get_or, map, flat_map, sum_by, drop, true≢false, ne_eqb}
+use Rattle.std.proofs.Common.{append_assoc, Contains, ◌≡◌, ◌≢◌, ℕ, zero, suc, ◌+◌, ◌<◌, List, [], ◌∷◌, ◌++◌, Bool, true, false, eqb, refl, sym, ap, ◌∙◌, arith, length, get_or, map, flat_map, sum_by, drop, true≢false, ne_eqb}
 use Rattle.std.specs.List.{concat}
 use Rattle.std.proofs.lemmas.Bool.{and_parts, eqb-true}
 use Rattle.std.proofs.lemmas.List.{drop_more, length-append, length-map}
 use Rattle.std.proofs.lemmas.List.Sums.{sum_by-cons, sum_by-append}
 use Rattle.esr_cert.specs.Problem.{Chain, Problem, size}
-use Rattle.esr_cert.specs.Network.{Arc, links, chain_links, back_arc, must_arc, chain_arcs, back_arcs, must_arcs, network}
+use Rattle.esr_cert.specs.Network.{Arc, links, chain_links, back_arc, must_arc, network}
 use Rattle.esr_cert.specs.Flow.{carried, inflow, outflow}
 use Rattle.esr_cert.specs.Certificate.{Certificate, amounts, are_rows_matched}
 use Rattle.esr_cert.specs.Index.{link_touches, chain_touches, pair_touches, must_touches, all_touches, amount_in, amount_out}
@@ -13,7 +13,7 @@ use Rattle.esr_cert.specs.declared.index.Place.TheVariants.{Writer, First, Secon
 use Rattle.esr_cert.specs.declared.index.Touch.{Touch}
 use Rattle.esr_cert.proofs.Cut.{pick}
 use Rattle.esr_cert.proofs.Flows.{carried_append}
-use Rattle.esr_cert.proofs.Sound.{here, there, IsChain, IsProblem}
+use Rattle.esr_cert.proofs.Sound.{here, there, IsProblem}
 
 pub links_length : (from sink : ℕ) (writers costs : List ℕ) → length costs ≡ length writers + 1 → length (links from sink writers costs) ≡ length costs
 links_length from sink writers [] e = refl
@@ -112,15 +112,16 @@ module _ (c : Certificate) (n : ℕ) (p : Arc → Bool) (f : Touch → ℕ) (agr
       let same : length row ≡ length (chain_links n chain) = size ∙ sym (links_length n (n + 1) chain.writers chain.costs one) in
       let split : (get_or c.chain_flow k [] ≡ row) × (drop (k + 1) c.chain_flow ≡ rows) = drop_parts c.chain_flow k row rows d in
       let rest : (carried p (flat_map (chain_links n) chains) (concat rows) ≡ sum_by f (chain_touches (k + 1) chains)) × (length (concat rows) ≡ length (flat_map (chain_links n) chains)) =
-          chains_sum (k + 1) chains rows (λ x z. h x (there chain x chains z)) split.1 both.1 in
-      (omega (
-         arith,
-         carried_append p (chain_links n chain) (flat_map (chain_links n) chains) row (concat rows) same,
-         agrees.chain k chain row split.0 one size,
-         rest.0,
-         sum_by-append f (link_touches k 0 chain.writers) (chain_touches (k + 1) chains),
-       ),
-       omega (arith, length-append row (concat rows), length-append (chain_links n chain) (flat_map (chain_links n) chains), same, rest.1))
+      chains_sum (k + 1) chains rows (λ x z. h x (there chain x chains z)) split.1 both.1 in (
+        omega (
+          arith,
+          carried_append p (chain_links n chain) (flat_map (chain_links n) chains) row (concat rows) same,
+          agrees.chain k chain row split.0 one size,
+          rest.0,
+          sum_by-append f (link_touches k 0 chain.writers) (chain_touches (k + 1) chains),
+        ),
+        omega (arith, length-append row (concat rows), length-append (chain_links n chain) (flat_map (chain_links n) chains), same, rest.1),
+      )
     where
       drop_parts : (xs : List (List ℕ)) (k : ℕ) (x : List ℕ) (rest : List (List ℕ)) → drop k xs ≡ x ∷ rest → (get_or xs k [] ≡ x) × (drop (k + 1) xs ≡ rest)
       drop_parts [] zero x rest e = cc
@@ -134,9 +135,9 @@ module _ (c : Certificate) (n : ℕ) (p : Arc → Bool) (f : Touch → ℕ) (agr
   pub touches_sum : (q : Problem) → n ≡ size q → IsProblem q → are_rows_matched q.chains c.chain_flow ≡ true → length c.back_flow ≡ length q.before → length c.must_flow ≡ length q.must → carried p (flat_map (chain_links n) q.chains ++ map back_arc q.before ++ map (must_arc n) q.must) (amounts c) ≡ sum_by f (all_touches q.before q.chains q.must)
   touches_sum q e ok rows backs musts =
       let chains : (carried p (flat_map (chain_links n) q.chains) (concat c.chain_flow) ≡ sum_by f (chain_touches 0 q.chains)) × (length (concat c.chain_flow) ≡ length (flat_map (chain_links n) q.chains)) =
-          chains_sum 0 q.chains c.chain_flow (λ chain z. (ok.chains chain z).one_more) refl rows in
+      chains_sum 0 q.chains c.chain_flow (λ chain z. (ok.chains chain z).one_more) refl rows in
       let both : length (concat c.chain_flow ++ c.back_flow) ≡ length (flat_map (chain_links n) q.chains ++ map back_arc q.before) =
-          omega (arith, chains.1, backs, length-map {B = Arc} q.before back_arc, length-append (concat c.chain_flow) c.back_flow, length-append (flat_map (chain_links n) q.chains) (map back_arc q.before)) in
+      omega (arith, chains.1, backs, length-map {B = Arc} q.before back_arc, length-append (concat c.chain_flow) c.back_flow, length-append (flat_map (chain_links n) q.chains) (map back_arc q.before)) in
       omega (
         arith,
         carried_append p (flat_map (chain_links n) q.chains ++ map back_arc q.before) (map (must_arc n) q.must) (concat c.chain_flow ++ c.back_flow) c.must_flow both,

@@ -1,9 +1,8 @@
 -- The worth of a certificate's flow is the sum of the first amounts of its chains and of the amounts into what a set must hold.
-use Rattle.std.proofs.Common.{Contains, ◌≡◌, ◌≢◌, ℕ, zero, suc, ◌+◌, ◌<◌, List, [], ◌∷◌, ◌++◌, Bool, true, ◌&&◌, eqb, refl, sym, ap, ◌∙◌, arith, length, get_or, map, sum, sum_by, eq-eqb, ne_eqb, true≢false}
+use Rattle.std.proofs.Common.{Contains, ◌≡◌, ◌≢◌, ℕ, ◌+◌, ◌<◌, List, [], ◌∷◌, ◌++◌, Bool, true, eqb, refl, sym, ap, ◌∙◌, arith, length, get_or, map, sum, sum_by, eq-eqb, ne_eqb, true≢false}
 use Rattle.std.specs.List.{flat_map, concat}
 use Rattle.std.proofs.lemmas.Bool.{and_parts, eqb-true}
 use Rattle.std.proofs.lemmas.List.{length-append, length-map}
-use Rattle.std.proofs.lemmas.List.Concat.{flat_map-cons}
 use Rattle.std.proofs.lemmas.List.Sums.{sum_by-cons}
 use Rattle.esr_cert.specs.Problem.{Chain, Problem, size}
 use Rattle.esr_cert.specs.Network.{Arc, links, chain_links, back_arc, must_arc, chain_arcs, back_arcs, must_arcs, network}
@@ -49,15 +48,16 @@ module _ (p : Problem) (ok : IsProblem p) where
       let good : IsChain p chain = h chain (here chain chains) in
       let long : length row ≡ length chain.costs = eqb-true (length row) (length chain.costs) both.0 in
       let same : length row ≡ length (chain_links (size p) chain) = long ∙ sym (links_length (size p) (size p + 1) chain.writers chain.costs good.one_more) in
-      let rest : (carried (leaves (size p)) (flat_map (chain_links (size p)) chains) (concat rows) ≡ sum_by first_of rows) × (length (concat rows) ≡ length (flat_map (chain_links (size p)) chains)) = chains_first chains rows (λ d k. h d (there chain d chains k)) both.1 in
-      (omega (
-         arith,
-         carried_append (leaves (size p)) (chain_links (size p) chain) (flat_map (chain_links (size p)) chains) row (concat rows) same,
-         links_first (size p) (size p + 1) chain.writers chain.costs row good.one_more long good.writers,
-         rest.0,
-         sum_by-cons first_of row rows,
-       ),
-       omega (arith, length-append row (concat rows), length-append (chain_links (size p) chain) (flat_map (chain_links (size p)) chains), same, rest.1))
+      let rest : (carried (leaves (size p)) (flat_map (chain_links (size p)) chains) (concat rows) ≡ sum_by first_of rows) × (length (concat rows) ≡ length (flat_map (chain_links (size p)) chains)) = chains_first chains rows (λ d k. h d (there chain d chains k)) both.1 in (
+        omega (
+          arith,
+          carried_append (leaves (size p)) (chain_links (size p) chain) (flat_map (chain_links (size p)) chains) row (concat rows) same,
+          links_first (size p) (size p + 1) chain.writers chain.costs row good.one_more long good.writers,
+          rest.0,
+          sum_by-cons first_of row rows,
+        ),
+        omega (arith, length-append row (concat rows), length-append (chain_links (size p) chain) (flat_map (chain_links (size p)) chains), same, rest.1),
+      )
 
   pairs_none : (pairs : List (ℕ × ℕ)) (flow : List ℕ) → ((u v : ℕ) → Contains pairs (u, v) → (u < size p) × (v < size p)) → carried (leaves (size p)) (map back_arc pairs) flow ≡ 0
   pairs_none [] flow h = refl
@@ -77,7 +77,7 @@ module _ (p : Problem) (ok : IsProblem p) where
   worth_firsts c rows backs musts =
       let chains : (carried (leaves (size p)) (chain_arcs p) (concat c.chain_flow) ≡ sum_by first_of c.chain_flow) × (length (concat c.chain_flow) ≡ length (chain_arcs p)) = chains_first p.chains c.chain_flow ok.chains rows in
       let both : length (concat c.chain_flow ++ c.back_flow) ≡ length (chain_arcs p ++ back_arcs p) =
-          omega (arith, chains.1, backs, length-map {B = Arc} p.before back_arc, length-append (concat c.chain_flow) c.back_flow, length-append (chain_arcs p) (back_arcs p)) in
+      omega (arith, chains.1, backs, length-map {B = Arc} p.before back_arc, length-append (concat c.chain_flow) c.back_flow, length-append (chain_arcs p) (back_arcs p)) in
       omega (
         arith,
         carried_append (leaves (size p)) (chain_arcs p ++ back_arcs p) (must_arcs p) (concat c.chain_flow ++ c.back_flow) c.must_flow both,

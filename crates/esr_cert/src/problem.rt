@@ -44,6 +44,7 @@ impl BundleFault {
 
 impl From<AllocError> for BundleFault {
     ghost use Rattle.esr_cert.specs.declared.problem.BundleFault.TheVariants.{NoMemory};
+
     ghost from_gives = { λ _ e. e ≡ NoMemory };
 
     fn from(_error: AllocError) -> BundleFault {
@@ -71,6 +72,7 @@ pub struct Problem {
 impl Model for Problem {
     ghost use Rattle.std.specs.Prelude.{◌≡◌, true, map};
     ghost use Rattle.esr_cert.specs.Problem as spec;
+
     ghost Value = { spec.Problem };
 
     ghost use Rattle.esr_cert.specs.Views.{chain_of, problem_of};

@@ -142,7 +142,10 @@ fn a_count_of_augmentations_is_at_most_nodes_times_arcs(rt: HostRuntime) -> Resu
         certificate.augmentations = Some(count);
         assert_eq!(rt; check(&problem, &certificate).is_ok(), short, "at {count}");
     }
-    assert_eq!(rt; check(&problem, &certificate), Err(Fault::TooManyAugmentations));
+    assert_eq!(rt;
+        check(&problem, &certificate),
+        Err(Fault::TooManyAugmentations)
+    );
     Ok(())
 }
 
@@ -166,7 +169,10 @@ fn a_problem_with_no_update(rt: HostRuntime) -> Result<(), Fail> {
     )?;
     assert_eq!(rt; check(&nothing, &certificate), Ok(()));
     certificate.augmentations = Some(1);
-    assert_eq!(rt; check(&nothing, &certificate), Err(Fault::TooManyAugmentations));
+    assert_eq!(rt;
+        check(&nothing, &certificate),
+        Err(Fault::TooManyAugmentations)
+    );
     let mut chains = Vec::new(alloc);
     chains.push(chain(alloc, 0, &[], &[4])?)?;
     let one_item = Problem::new(

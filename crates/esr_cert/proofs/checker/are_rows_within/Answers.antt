@@ -1,5 +1,5 @@
-use Rattle.std.proofs.Common.{◌≡◌, ◌+◌, ◌&&◌, ◌≢◌, ◌<◌, false, true, map, drop, length, sym, ap, ◌∙◌, rules, arith}
-use Rattle.std.proofs.lemmas.List.{length-map, drop_all}
+use Rattle.std.proofs.Common.{◌≡◌, ◌+◌, ◌&&◌, ◌≢◌, ◌<◌, false, true, map, drop, length, sym, ap, ◌∙◌, arith}
+use Rattle.std.proofs.lemmas.List.{length-map}
 use Rattle.esr_cert.specs.Parts.{is_row_within, are_rows_within}
 use Rattle.esr_cert.specs.Views.{chain_of, rows_of}
 use Rattle.esr_cert.proofs.Steps.{drop_map_more, rows_within_step, rows_within_apart}

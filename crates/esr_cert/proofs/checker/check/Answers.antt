@@ -1,8 +1,7 @@
-use Rattle.std.proofs.Common.{◌≡◌, ◌∙◌, ℕ, true, nat_lt, sym, ap, length}
+use Rattle.std.proofs.Common.{◌≡◌, ◌∙◌, nat_lt, sym, ap, length}
 use Rattle.std.specs.List.{list_all}
 use Rattle.std.proofs.lemmas.List.{length-map}
 use Rattle.esr_cert.specs.Problem.{size, in_set, is_ascending, is_closed}
-use Rattle.esr_cert.specs.Certificate.{is_known}
 use Rattle.esr_cert.specs.Views.{certificate_of}
 use Rattle.esr_cert.proofs.Certified.{certifies_from, worth_least}
 use Rattle.esr_cert.proofs.checker.check.Goals as goal

@@ -1,4 +1,4 @@
-use Rattle.std.proofs.Common.{◌≡◌, ◌∙◌, ap, get_or, arith}
+use Rattle.std.proofs.Common.{◌∙◌, ap, get_or, arith}
 use Rattle.esr_cert.proofs.Steps.{sum_step}
 use Rattle.esr_cert.proofs.checker.first_amounts.Goals as goal
 

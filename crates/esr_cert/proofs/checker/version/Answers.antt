@@ -1,5 +1,4 @@
-use Rattle.std.proofs.Common.{◌≡◌, ◌<◌, ◌+◌, ◌-◌, ◌∙◌, ℕ, suc, sym, ap, length, take, arith}
-use Rattle.std.proofs.lemmas.List.{take_all}
+use Rattle.std.proofs.Common.{◌≡◌, ◌+◌, ◌-◌, ◌∙◌, ℕ, suc, sym, ap, length, take, arith}
 use Rattle.esr_cert.specs.Problem.{in_set, version}
 use Rattle.esr_cert.proofs.Steps.{version_last, version_less}
 use Rattle.esr_cert.proofs.checker.version.Goals as goal
