@@ -14,7 +14,7 @@ use Rattle.esr_cert.proofs.Cut.{pick}
 use Rattle.esr_cert.proofs.Sound.{here, there, IsProblem, facts}
 use Rattle.esr_cert.proofs.Flows.{conserved_each, conserved_from}
 use Rattle.esr_cert.proofs.Distinct.{same_tests}
-use Rattle.esr_cert.proofs.Certified.{IsWithin, within_facts}
+use Rattle.esr_cert.proofs.Certified.{matched}
 use Rattle.esr_cert.proofs.Touches.{in_at, out_at, inflow_is, outflow_is}
 
 -- from node n on, each touch's node is at most the next one's
@@ -199,10 +199,10 @@ none_past p ok g v l =
 
 module _ (p : Problem) (sound : is_sound p ≡ true) (c : Certificate) (within : is_within p c ≡ true) (touches : List Touch) (index : IsIndex p.before p.chains p.must touches) where
   in_is : (v : ℕ) → v < size p → inflow (network p).arcs (amounts c) v ≡ sum_by (in_at c v) touches
-  in_is v l = let w : IsWithin p c = within_facts p c within in inflow_is p (facts p sound) c w.rows w.backs w.musts v l ∙ sym (index.same (in_at c v))
+  in_is v l = inflow_is p (facts p sound) c (matched p c within) v l ∙ sym (index.same (in_at c v))
 
   out_is : (v : ℕ) → v < size p → outflow (network p).arcs (amounts c) v ≡ sum_by (out_at c v) touches
-  out_is v l = let w : IsWithin p c = within_facts p c within in outflow_is p (facts p sound) c w.rows w.backs w.musts v l ∙ sym (index.same (out_at c v))
+  out_is v l = outflow_is p (facts p sound) c (matched p c within) v l ∙ sym (index.same (out_at c v))
 
   rises : Rises 0 touches
   rises = rises_from 0 touches index.ascending (λ d l. omega arith)

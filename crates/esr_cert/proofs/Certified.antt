@@ -8,6 +8,7 @@ use Rattle.esr_cert.specs.Certificate.{Certificate, amounts, is_known, are_rows_
 use Rattle.esr_cert.specs.declared.certificate.Fault.{Fault}
 use Rattle.esr_cert.proofs.Flows.{flow_facts}
 use Rattle.esr_cert.proofs.Sound.{facts}
+use Rattle.esr_cert.proofs.Matched.{IsMatched}
 use Rattle.esr_cert.proofs.Least.{worth_le_cost}
 
 pub record IsWithin (p : Problem) (c : Certificate) : Type 0 where
@@ -22,6 +23,9 @@ within_facts p c h =
     let b : ((are_rows_matched p.chains c.chain_flow && eqb (length c.back_flow) (length p.before)) ≡ true) × (eqb (length c.must_flow) (length p.must) ≡ true) = and_parts _ _ a.0 in
     let d : (are_rows_matched p.chains c.chain_flow ≡ true) × (eqb (length c.back_flow) (length p.before) ≡ true) = and_parts _ _ b.0 in
     record { rows = d.0; backs = eqb-true _ _ d.1; musts = eqb-true _ _ b.1; amounts = a.1 }
+
+pub matched : (p : Problem) (c : Certificate) → is_within p c ≡ true → IsMatched p c
+matched p c h = let w : IsWithin p c = within_facts p c h in record { rows = w.rows; backs = w.backs; musts = w.musts }
 
 pub record IsFaultless (p : Problem) (c : Certificate) : Type 0 where
   pub ascending : is_ascending c.set ≡ true

@@ -3,6 +3,7 @@ pub mod Sound
 pub mod Flows
 pub mod Cut
 pub mod Least
+pub mod Matched
 pub mod Certified
 mod Steps
 mod Search

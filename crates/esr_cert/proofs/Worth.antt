@@ -1,7 +1,6 @@
 -- The worth of a certificate's flow is the sum of the first amounts of its chains and of the amounts into what a set must hold.
-use Rattle.std.proofs.Common.{Contains, ◌≡◌, ◌≢◌, ℕ, ◌+◌, ◌<◌, List, [], ◌∷◌, ◌++◌, Bool, true, eqb, refl, sym, ap, ◌∙◌, arith, length, get_or, map, sum, sum_by, eq-eqb, ne_eqb, true≢false}
+use Rattle.std.proofs.Common.{Contains, ◌≡◌, ◌≢◌, ℕ, ◌+◌, ◌<◌, List, [], ◌∷◌, ◌++◌, Bool, true, eqb, refl, sym, ap, arith, length, get_or, map, sum, sum_by, eq-eqb, ne_eqb, true≢false}
 use Rattle.std.specs.List.{flat_map, concat}
-use Rattle.std.proofs.lemmas.Bool.{and_parts, eqb-true}
 use Rattle.std.proofs.lemmas.List.{length-append, length-map}
 use Rattle.std.proofs.lemmas.List.Sums.{sum_by-cons}
 use Rattle.esr_cert.specs.Problem.{Chain, Problem, size}
@@ -10,8 +9,8 @@ use Rattle.esr_cert.specs.Flow.{carried, worth}
 use Rattle.esr_cert.specs.Certificate.{Certificate, amounts, are_rows_matched}
 use Rattle.esr_cert.proofs.Cut.{pick}
 use Rattle.esr_cert.proofs.Flows.{carried_append}
-use Rattle.esr_cert.proofs.Sound.{here, there, IsChain, IsProblem}
-use Rattle.esr_cert.proofs.Touches.{links_length}
+use Rattle.esr_cert.proofs.Sound.{here, there, IsProblem}
+use Rattle.esr_cert.proofs.Matched.{IsMatched, AreWhole, MatchesFirst, links_length, first_matched, are_whole, carried_parts}
 
 abbrev leaves : ℕ → Arc → Bool
 leaves n arc = eqb arc.from n
@@ -38,58 +37,47 @@ links_first n sink (w ∷ writers) (c ∷ costs) (x ∷ row) e m h =
 abbrev first_of : List ℕ → ℕ
 first_of row = get_or row 0 0
 
-module _ (p : Problem) (ok : IsProblem p) where
-  chains_first : (chains : List Chain) (rows : List (List ℕ)) → ((chain : Chain) → Contains chains chain → IsChain p chain) → are_rows_matched chains rows ≡ true → (carried (leaves (size p)) (flat_map (chain_links (size p)) chains) (concat rows) ≡ sum_by first_of rows) × (length (concat rows) ≡ length (flat_map (chain_links (size p)) chains))
-  chains_first [] [] h m = (refl, refl)
-  chains_first [] (row ∷ rows) h m = absurd (true≢false (sym m))
-  chains_first (chain ∷ chains) [] h m = absurd (true≢false (sym m))
-  chains_first (chain ∷ chains) (row ∷ rows) h m =
-      let both : (eqb (length row) (length chain.costs) ≡ true) × (are_rows_matched chains rows ≡ true) = and_parts (eqb (length row) (length chain.costs)) (are_rows_matched chains rows) m in
-      let good : IsChain p chain = h chain (here chain chains) in
-      let long : length row ≡ length chain.costs = eqb-true (length row) (length chain.costs) both.0 in
-      let same : length row ≡ length (chain_links (size p) chain) = long ∙ sym (links_length (size p) (size p + 1) chain.writers chain.costs good.one_more) in
-      let rest : (carried (leaves (size p)) (flat_map (chain_links (size p)) chains) (concat rows) ≡ sum_by first_of rows) × (length (concat rows) ≡ length (flat_map (chain_links (size p)) chains)) = chains_first chains rows (λ d k. h d (there chain d chains k)) both.1 in (
-        omega (
-          arith,
-          carried_append (leaves (size p)) (chain_links (size p) chain) (flat_map (chain_links (size p)) chains) row (concat rows) same,
-          links_first (size p) (size p + 1) chain.writers chain.costs row good.one_more long good.writers,
-          rest.0,
-          sum_by-cons first_of row rows,
-        ),
-        omega (arith, length-append row (concat rows), length-append (chain_links (size p) chain) (flat_map (chain_links (size p)) chains), same, rest.1),
-      )
+chains_first : (n : ℕ) (chains : List Chain) (rows : List (List ℕ)) → AreWhole chains → ((chain : Chain) → Contains chains chain → (u : ℕ) → Contains chain.writers u → u < n) → are_rows_matched chains rows ≡ true → carried (leaves n) (flat_map (chain_links n) chains) (concat rows) ≡ sum_by first_of rows
+chains_first n [] [] whole h m = refl
+chains_first n [] (row ∷ rows) whole h m = absurd (true≢false (sym m))
+chains_first n (chain ∷ chains) [] whole h m = absurd (true≢false (sym m))
+chains_first n (chain ∷ chains) (row ∷ rows) whole h m =
+    let first : MatchesFirst n chain chains row rows = first_matched n chain chains row rows whole m in
+    omega (
+      arith,
+      carried_append (leaves n) (chain_links n chain) (flat_map (chain_links n) chains) row (concat rows) first.links,
+      links_first n (n + 1) chain.writers chain.costs row first.whole first.costs (h chain (here chain chains)),
+      chains_first n chains rows first.others_whole (λ d k. h d (there chain d chains k)) first.others,
+      sum_by-cons first_of row rows,
+    )
 
-  pairs_none : (pairs : List (ℕ × ℕ)) (flow : List ℕ) → ((u v : ℕ) → Contains pairs (u, v) → (u < size p) × (v < size p)) → carried (leaves (size p)) (map back_arc pairs) flow ≡ 0
-  pairs_none [] flow h = refl
-  pairs_none (q ∷ pairs) [] h = refl
-  pairs_none (q ∷ pairs) (x ∷ flow) h =
-      let m : (q.0 < size p) × (q.1 < size p) = h q.0 q.1 (here q pairs) in
-      omega (arith, ap (λ b. pick b x) (ne_eqb q.1 (size p) (λ (e : q.1 ≡ size p). omega arith)), pairs_none pairs flow (λ u v k. h u v (there q (u, v) pairs k)))
+pairs_none : (n : ℕ) (pairs : List (ℕ × ℕ)) (flow : List ℕ) → ((u v : ℕ) → Contains pairs (u, v) → (u < n) × (v < n)) → carried (leaves n) (map back_arc pairs) flow ≡ 0
+pairs_none n [] flow h = refl
+pairs_none n (q ∷ pairs) [] h = refl
+pairs_none n (q ∷ pairs) (x ∷ flow) h =
+    let m : (q.0 < n) × (q.1 < n) = h q.0 q.1 (here q pairs) in
+    omega (arith, ap (λ b. pick b x) (ne_eqb q.1 n (λ (e : q.1 ≡ n). omega arith)), pairs_none n pairs flow (λ u v k. h u v (there q (u, v) pairs k)))
 
-  must_all : (must flow : List ℕ) → length flow ≡ length must → carried (leaves (size p)) (map (must_arc (size p)) must) flow ≡ sum flow
-  must_all [] [] e = refl
-  must_all [] (x ∷ flow) e = absurd (omega arith)
-  must_all (u ∷ must) [] e = absurd (omega arith)
-  must_all (u ∷ must) (x ∷ flow) e =
-      omega (arith, ap (λ b. pick b x) (eq-eqb (size p) (size p) refl), must_all must flow (omega arith), sum_by-cons (λ (y : ℕ). y) x flow)
+must_all : (n : ℕ) (must flow : List ℕ) → length flow ≡ length must → carried (leaves n) (map (must_arc n) must) flow ≡ sum flow
+must_all n [] [] e = refl
+must_all n [] (x ∷ flow) e = absurd (omega arith)
+must_all n (u ∷ must) [] e = absurd (omega arith)
+must_all n (u ∷ must) (x ∷ flow) e =
+    omega (arith, ap (λ b. pick b x) (eq-eqb n n refl), must_all n must flow (omega arith), sum_by-cons (λ (y : ℕ). y) x flow)
 
-  pub worth_firsts : (c : Certificate) → are_rows_matched p.chains c.chain_flow ≡ true → length c.back_flow ≡ length p.before → length c.must_flow ≡ length p.must → worth (network p) (amounts c) ≡ sum_by first_of c.chain_flow + sum c.must_flow
-  worth_firsts c rows backs musts =
-      let chains : (carried (leaves (size p)) (chain_arcs p) (concat c.chain_flow) ≡ sum_by first_of c.chain_flow) × (length (concat c.chain_flow) ≡ length (chain_arcs p)) = chains_first p.chains c.chain_flow ok.chains rows in
-      let both : length (concat c.chain_flow ++ c.back_flow) ≡ length (chain_arcs p ++ back_arcs p) =
-      omega (arith, chains.1, backs, length-map {B = Arc} p.before back_arc, length-append (concat c.chain_flow) c.back_flow, length-append (chain_arcs p) (back_arcs p)) in
-      omega (
-        arith,
-        carried_append (leaves (size p)) (chain_arcs p ++ back_arcs p) (must_arcs p) (concat c.chain_flow ++ c.back_flow) c.must_flow both,
-        carried_append (leaves (size p)) (chain_arcs p) (back_arcs p) (concat c.chain_flow) c.back_flow chains.1,
-        chains.0,
-        pairs_none p.before c.back_flow ok.pairs,
-        must_all p.must c.must_flow musts,
-      )
+pub worth_firsts : (p : Problem) → IsProblem p → (c : Certificate) → IsMatched p c → worth (network p) (amounts c) ≡ sum_by first_of c.chain_flow + sum c.must_flow
+worth_firsts p ok c m =
+    omega (
+      arith,
+      carried_parts p ok c m (leaves (size p)),
+      chains_first (size p) p.chains c.chain_flow (are_whole p ok c m) (λ chain k. (ok.chains chain k).writers) m.rows,
+      pairs_none (size p) p.before c.back_flow ok.pairs,
+      must_all (size p) p.must c.must_flow m.musts,
+    )
 
 -- ---- how many arcs there are
 
-chain_count : (n : ℕ) (chains : List Chain) → ((chain : Chain) → Contains chains chain → length chain.costs ≡ length chain.writers + 1) → length (flat_map (chain_links n) chains) ≡ sum_by (λ chain. length chain.costs) chains
+chain_count : (n : ℕ) (chains : List Chain) → AreWhole chains → length (flat_map (chain_links n) chains) ≡ sum_by (λ chain. length chain.costs) chains
 chain_count n [] h = refl
 chain_count n (chain ∷ chains) h =
     omega (

@@ -6,7 +6,7 @@ use Rattle.esr_cert.specs.Flow.{worth}
 use Rattle.esr_cert.specs.Certificate.{amounts}
 use Rattle.esr_cert.specs.Views.{chain_of, rows_of, certificate_of}
 use Rattle.esr_cert.proofs.Sound.{facts}
-use Rattle.esr_cert.proofs.Certified.{IsWithin, within_facts}
+use Rattle.esr_cert.proofs.Certified.{matched}
 use Rattle.esr_cert.proofs.Worth.{worth_firsts}
 use Rattle.esr_cert.proofs.checker.is_tight.Goals as goal
 use Rattle.esr_cert.proofs.checker.is_tight.Goals.{After-total}
@@ -16,10 +16,9 @@ flow_worth : (c : After-total) → worth (network c.args.problem.now) (amounts (
 flow_worth c =
     let p = c.args.problem.now in
     let q = certificate_of c.args.certificate.now in
-    let w : IsWithin p q = within_facts p q c.requires.within in
     let firsts : c.first_amounts.result ≡ sum_by (λ row. get_or row 0 0) q.chain_flow = c.first_amounts.ensures.value ∙ ap (λ rows. sum_by (λ row. get_or row 0 0) (rows_of rows)) c.deref.ensures.value in
     let must : c.total.result ≡ sum q.must_flow = c.total.ensures.value ∙ ap sum c.deref-2.ensures.value in
-    omega (arith, worth_firsts p (facts p c.chains-chains.ensures.sound) q w.rows w.backs w.musts, firsts, must)
+    omega (arith, worth_firsts p (facts p c.chains-chains.ensures.sound) q (matched p q c.requires.within), firsts, must)
 
 pub returns-then-worth-first_amounts : goal.returns-then-worth-first_amounts
 returns-then-worth-first_amounts c =
