@@ -1,4 +1,5 @@
-//! The check of a certificate. It goes over each arc a fixed number of times, and takes no memory.
+//! The check of a certificate. It goes over each arc a fixed number of times, and takes no memory. Members of the set
+//! are found by binary search.
 ghost use Rattle.std.specs.Prelude.{◌≡◌, ℕ, ◌+◌, ◌*◌, ◌<◌, ◌≤◌, ◌^◌, ◌||◌, not, List, length, get_or, map, Bool, true, IsOk};
 ghost use Rattle.std.specs.List.{list_all, sum, sum_by};
 ghost use Rattle.esr_cert.specs.Problem.{in_set, is_ascending, is_closed, version, chain_cost, cost};

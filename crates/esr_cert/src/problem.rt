@@ -84,7 +84,10 @@ impl Model for Problem {
 }
 
 impl Problem {
-    /// A problem of these parts. Of two faults the lower is given, over all parts.
+    /// A problem of these parts.
+    ///
+    /// `Shape` where a rule of shape is broken, `Range` where only a rule of range is, over all parts. `NoMemory` where
+    /// memory was refused, which may come in place of either.
     pub fn new(
         alloc: Global,
         updates: Vec<TxnId>,
