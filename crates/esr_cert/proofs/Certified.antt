@@ -1,13 +1,14 @@
 -- What it says of a certificate that it has no fault.
-use Rattle.std.proofs.Common.{◌≡◌, ℕ, suc, ◌+◌, ◌≤◌, Bool, true, false, not, ◌&&◌, cond, eqb, List, [], ◌∷◌, length, Option, Some, None, refl, sym, ap, ◌∙◌, arith, eq-eqb, true≢false}
-use Rattle.std.proofs.lemmas.Bool.{and_parts, and_from, eqb-true}
-use Rattle.esr_cert.specs.Problem.{Chain, Problem, size, in_set, is_ascending, is_closed, cost, is_sound}
+use Rattle.std.proofs.Common.{◌≡◌, ℕ, ◌≤◌, Bool, true, false, not, ◌&&◌, cond, eqb, length, Option, Some, None, refl, arith}
+use Rattle.std.proofs.lemmas.Bool.{and_parts, eqb-true}
+use Rattle.esr_cert.specs.Problem.{Problem, in_set, is_ascending, is_closed, cost, is_sound}
 use Rattle.esr_cert.specs.Network.{network}
 use Rattle.esr_cert.specs.Flow.{are_within, is_conserved, worth, IsFlow}
-use Rattle.esr_cert.specs.Certificate.{Certificate, amounts, is_known, are_rows_matched, is_within, is_tight, is_short, fault, Certifies}
+use Rattle.esr_cert.specs.Certificate.{Certificate, amounts, is_known, are_rows_matched, is_within, is_tight, is_short, Certifies}
 use Rattle.esr_cert.specs.declared.certificate.Fault.{Fault}
 use Rattle.esr_cert.proofs.Flows.{flow_facts}
 use Rattle.esr_cert.proofs.Sound.{facts}
+use Rattle.esr_cert.proofs.Matched.{IsMatched}
 use Rattle.esr_cert.proofs.Least.{worth_le_cost}
 
 pub record IsWithin (p : Problem) (c : Certificate) : Type 0 where
@@ -22,6 +23,9 @@ within_facts p c h =
     let b : ((are_rows_matched p.chains c.chain_flow && eqb (length c.back_flow) (length p.before)) ≡ true) × (eqb (length c.must_flow) (length p.must) ≡ true) = and_parts _ _ a.0 in
     let d : (are_rows_matched p.chains c.chain_flow ≡ true) × (eqb (length c.back_flow) (length p.before) ≡ true) = and_parts _ _ b.0 in
     record { rows = d.0; backs = eqb-true _ _ d.1; musts = eqb-true _ _ b.1; amounts = a.1 }
+
+pub matched : (p : Problem) (c : Certificate) → is_within p c ≡ true → IsMatched p c
+matched p c h = let w : IsWithin p c = within_facts p c h in record { rows = w.rows; backs = w.backs; musts = w.musts }
 
 pub record IsFaultless (p : Problem) (c : Certificate) : Type 0 where
   pub ascending : is_ascending c.set ≡ true

@@ -1,5 +1,5 @@
 -- Numbers of which none stands twice: a sorted copy ascends, and there are no more than the greatest.
-use Rattle.std.proofs.Common.{◌≡◌, ℕ, zero, suc, ◌+◌, ◌-◌, ◌≤◌, ◌<◌, List, [], ◌∷◌, Bool, true, false, not, ◌&&◌, ◌||◌, eqb, ltb, leb, refl, sym, ap, ◌∙◌, inl, inr, arith, length, get_or, sum_by, true≢false, lt-ltb, ltb-true, leb-true, eq-eqb, ne_eqb}
+use Rattle.std.proofs.Common.{◌≡◌, ℕ, zero, suc, ◌+◌, ◌≤◌, ◌<◌, List, [], ◌∷◌, Bool, true, false, not, ◌&&◌, eqb, ltb, leb, refl, sym, ap, ◌∙◌, inl, inr, arith, length, get_or, sum_by, true≢false, lt-ltb, ltb-true, leb-true, eq-eqb}
 use Rattle.std.specs.List.{list_all}
 use Rattle.std.specs.List.Sorted.{IsPermutation, IsNonDecreasingBy}
 use Rattle.std.proofs.lemmas.Bool.{and_parts, and_from, or_parts, or_cases, cases_Bool, cases_eq, eqb-true, eqb-false, not-true, not_from_false}
@@ -112,7 +112,7 @@ at_most_one g (suc n) h z = omega (arith, h (suc n), at_most_one g n h z)
 pub distinct_few : (n : ℕ) (xs : List ℕ) → is_distinct xs ≡ true → list_all (λ t. ltb 0 t && leb t n) xs ≡ true → length xs ≤ n
 distinct_few n xs d r =
     let range : (i : ℕ) → i < length xs → (0 < get_or xs i 0) × (get_or xs i 0 ≤ n) =
-        λ i l. let b : (ltb 0 (get_or xs i 0) ≡ true) × (leb (get_or xs i 0) n ≡ true) = and_parts (ltb 0 (get_or xs i 0)) (leb (get_or xs i 0) n) (all_at (λ t. ltb 0 t && leb t n) xs r i 0 l) in (ltb-true 0 (get_or xs i 0) b.0, leb-true (get_or xs i 0) n b.1) in
+    λ i l. let b : (ltb 0 (get_or xs i 0) ≡ true) × (leb (get_or xs i 0) n ≡ true) = and_parts (ltb 0 (get_or xs i 0)) (leb (get_or xs i 0) n) (all_at (λ t. ltb 0 t && leb t n) xs r i 0 l) in (ltb-true 0 (get_or xs i 0) b.0, leb-true (get_or xs i 0) n b.1) in
     let none : times 0 xs ≡ 0 = none_times 0 xs (not_in_set xs 0 (λ k l e. omega (arith, (range k l).0))) in
     omega (arith, count_all (suc n) xs (λ i l. omega (arith, (range i l).1)), at_most_one (λ v. times v xs) n (distinct_times xs d) none)
 

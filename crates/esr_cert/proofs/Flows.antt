@@ -1,5 +1,5 @@
 -- What the tests of a flow say, arc by arc and node by node.
-use Rattle.std.proofs.Common.{◌≡◌, ◌≢◌, ℕ, zero, suc, ◌+◌, ◌<◌, ◌≤◌, Bool, true, false, ◌&&◌, ◌||◌, eqb, List, [], ◌∷◌, ◌++◌, length, refl, sym, ap, ◌∙◌, inl, inr, arith, true≢false, eq-eqb, ne_eqb}
+use Rattle.std.proofs.Common.{◌≡◌, ◌≢◌, ℕ, zero, suc, ◌+◌, ◌<◌, ◌≤◌, Bool, true, ◌||◌, eqb, List, [], ◌∷◌, ◌++◌, length, refl, sym, ap, ◌∙◌, inl, inr, arith, true≢false, eq-eqb}
 use Rattle.std.specs.List.{list_all, range_with_len}
 use Rattle.std.proofs.lemmas.Bool.{and_parts, and_from, or_cases, or_left, or_right, cases_eq, eqb-true}
 use Rattle.esr_cert.specs.Network.{Arc, arc_at, Network}
@@ -36,10 +36,10 @@ range_from p a zero h = refl
 range_from p a (suc n) h =
     and_from (p a) (list_all p (range_with_len (a + 1) n)) (h a (omega arith) (omega arith)) (range_from p (a + 1) n (λ v l m. h v (omega arith) (omega arith)))
 
-conserved_each : (net : Network) (flow : List ℕ) → is_conserved net flow ≡ true → (v : ℕ) → v < net.nodes → v ≢ net.source → v ≢ net.sink → inflow net.arcs flow v ≡ outflow net.arcs flow v
+pub conserved_each : (net : Network) (flow : List ℕ) → is_conserved net flow ≡ true → (v : ℕ) → v < net.nodes → v ≢ net.source → v ≢ net.sink → inflow net.arcs flow v ≡ outflow net.arcs flow v
 conserved_each net flow h v l ns nt =
     let at : (eqb v net.source || (eqb v net.sink || is_conserved_at net.arcs flow v)) ≡ true =
-        range_each (λ v. eqb v net.source || (eqb v net.sink || is_conserved_at net.arcs flow v)) 0 net.nodes v h (omega arith) (omega arith) in
+    range_each (λ v. eqb v net.source || (eqb v net.sink || is_conserved_at net.arcs flow v)) 0 net.nodes v h (omega arith) (omega arith) in
     elim (or_cases (eqb v net.source) (eqb v net.sink || is_conserved_at net.arcs flow v) at) [
       | inl e ↦ absurd (ns (eqb-true _ _ e))
       | inr r ↦ elim (or_cases (eqb v net.sink) (is_conserved_at net.arcs flow v) r) [ inl e ↦ absurd (nt (eqb-true _ _ e)) | inr e ↦ eqb-true _ _ e ]
@@ -51,10 +51,10 @@ conserved_from net flow h = range_from (λ v. eqb v net.source || (eqb v net.sin
     at : (v : ℕ) → 0 ≤ v → v < 0 + net.nodes → (eqb v net.source || (eqb v net.sink || is_conserved_at net.arcs flow v)) ≡ true
     at v k l =
         let past : v ≢ net.source → (eqb v net.sink || is_conserved_at net.arcs flow v) ≡ true =
-            λ ns. elim (cases_eq v net.sink) [
-              | inl e ↦ or_left (eqb v net.sink) (is_conserved_at net.arcs flow v) (eq-eqb v net.sink e)
-              | inr nt ↦ or_right (eqb v net.sink) (is_conserved_at net.arcs flow v) (eq-eqb (inflow net.arcs flow v) (outflow net.arcs flow v) (h v (omega arith) ns nt))
-            ] in
+        λ ns. elim (cases_eq v net.sink) [
+          | inl e ↦ or_left (eqb v net.sink) (is_conserved_at net.arcs flow v) (eq-eqb v net.sink e)
+          | inr nt ↦ or_right (eqb v net.sink) (is_conserved_at net.arcs flow v) (eq-eqb (inflow net.arcs flow v) (outflow net.arcs flow v) (h v (omega arith) ns nt))
+        ] in
         elim (cases_eq v net.source) [
           | inl e ↦ or_left (eqb v net.source) (eqb v net.sink || is_conserved_at net.arcs flow v) (eq-eqb v net.source e)
           | inr ns ↦ or_right (eqb v net.source) (eqb v net.sink || is_conserved_at net.arcs flow v) (past ns)

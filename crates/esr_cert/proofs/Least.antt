@@ -1,9 +1,9 @@
 -- The cuts of a problem's network are its closed sets, and their capacities the costs: a flow is worth at most what a closed set costs.
-use Rattle.std.proofs.Common.{◌≡◌, ◌≢◌, ℕ, zero, suc, ◌+◌, ◌<◌, ◌≤◌, Bool, true, false, cond, not, ◌&&◌, ◌||◌, ltb, eqb, List, [], ◌∷◌, ◌++◌, length, get_or, map, flat_map, sum_by, Contains, Some, None, refl, sym, ap, ◌∙◌, inl, inr, arith, lt-ltb, le-ltb, eq-eqb, ne_eqb, true≢false}
+use Rattle.std.proofs.Common.{◌≡◌, ◌≢◌, ℕ, zero, suc, ◌+◌, ◌<◌, ◌≤◌, Bool, true, false, cond, not, ◌&&◌, ◌||◌, eqb, List, [], ◌∷◌, ◌++◌, length, get_or, map, flat_map, sum_by, Contains, Some, refl, sym, ap, ◌∙◌, inl, inr, arith, lt-ltb, le-ltb, eq-eqb, ne_eqb, true≢false}
 use Rattle.std.specs.List.{list_any}
 use Rattle.std.proofs.lemmas.Bool.{cases_Bool, and_left, or_left, or_from, cond-true, cond-false}
 use Rattle.std.proofs.lemmas.List.Sums.{sum_by-cons}
-use Rattle.esr_cert.specs.Problem.{Chain, Problem, size, is_closed, version, chain_cost, cost, is_sound}
+use Rattle.esr_cert.specs.Problem.{Chain, Problem, size, is_closed, version, chain_cost, cost}
 use Rattle.esr_cert.specs.Network.{Arc, arc_at, IsNetwork, links, chain_links, back_arc, must_arc, chain_arcs, back_arcs, must_arcs, network}
 use Rattle.esr_cert.specs.Flow.{IsFlow, worth}
 use Rattle.esr_cert.specs.Cut.{crosses, across, IsLimited, AreLimited, with_source}

@@ -3,8 +3,12 @@ pub mod Sound
 pub mod Flows
 pub mod Cut
 pub mod Least
+pub mod Matched
 pub mod Certified
 mod Steps
 mod Search
 mod Distinct
-mod Touches
+pub mod Touches
+mod Balance
+mod Rows
+pub mod Worth

@@ -1,13 +1,12 @@
 -- What a binary search of an ascending list finds.
-use Rattle.std.proofs.Common.{◌≡◌, ℕ, zero, suc, ◌+◌, ◌≤◌, ◌<◌, List, [], ◌∷◌, Bool, true, false, ◌&&◌, ◌||◌, cond, eqb, ltb, refl, sym, ap, ◌∙◌, subst, inl, inr, arith, length, get_or, Contains, Result, Ok, Err, MatchResult, true≢false, ltb-true, le-ltb, lt-ltb, eq-eqb, ne_eqb}
-use Rattle.std.specs.List.{list_any}
+use Rattle.std.proofs.Common.{◌≡◌, ℕ, zero, suc, ◌+◌, ◌≤◌, ◌<◌, List, [], ◌∷◌, true, false, ◌&&◌, cond, eqb, ltb, refl, sym, ap, ◌∙◌, subst, inl, inr, arith, length, get_or, Result, Ok, Err, MatchResult, ltb-true, le-ltb, lt-ltb, eq-eqb, ne_eqb}
 use Rattle.std.specs.declared.cmp.Ordering.{Ordering}
 use Rattle.std.specs.declared.cmp.Ordering.TheVariants.{Less, Equal, Greater}
-use Rattle.std.specs.Ordering.{nat_cmp, is_lt, ordering_index, ordering_then}
+use Rattle.std.specs.Ordering.{nat_cmp, is_lt, ordering_then}
 use Rattle.std.specs.Result.{is_ok}
 use Rattle.std.proofs.lemmas.Cmp.{nat_cmp_total, then_total, on_total}
 use Rattle.std.specs.List.Sorted.{IsBinarySearchResult, IsPartitionPoint, IsSearchInRange}
-use Rattle.std.proofs.lemmas.Bool.{and_parts, or_parts, or_from, or_left, or_right, or_cases, and_from, cases_lt, cases_eq, cases_order, false_from_ne_true, eqb-true}
+use Rattle.std.proofs.lemmas.Bool.{and_parts, or_from, or_left, or_right, or_cases, and_from, cases_lt, cases_order, false_from_ne_true, eqb-true}
 use Rattle.std.proofs.lemmas.List.Sorted.{searched, searchable_from_sorted}
 use Rattle.std.proofs.lemmas.List.Folds.{list_any_at, list_any_none}
 use Rattle.esr_cert.specs.Problem.{in_set, is_ascending, pair_lt, are_pairs_ascending, has_pair}
@@ -119,6 +118,7 @@ found_pair xs u v (Err i) h l s =
   where
     parts : IsPartitionPoint (λ y. pair_cmp y (u, v) ≡ Less) (λ y. pair_cmp y (u, v) ≡ Greater) xs i
     parts = s (searchable_from_sorted (then_total (on_total (λ (t : ℕ × ℕ). t.0) nat_cmp_total) (on_total (λ (t : ℕ × ℕ). t.1) nat_cmp_total)) (λ x. x) xs (u, v) (pairs_sorted xs h))
+
     at : (k : ℕ) (d : ℕ × ℕ) → k < length xs → (eqb (get_or xs k d).0 u && eqb (get_or xs k d).1 v) ≡ false
     at k d m =
         elim (cases_lt k i) [

@@ -1,9 +1,9 @@
 -- What the tests of a problem say, of its parts and of a closed set.
 use Rattle.std.proofs.Common.{◌*◌, ◌≡◌, ℕ, zero, suc, ◌+◌, ◌<◌, ◌≤◌, Bool, true, false, not, ◌&&◌, ◌||◌, eqb, ltb, leb, List, [], ◌∷◌, length, get_or, map, sum_by, Contains, refl, sym, ap, ◌∙◌, subst, arith, true≢false, inl, inr}
-use Rattle.std.specs.List.{list_all, list_any, filter}
-use Rattle.std.proofs.lemmas.Bool.{and_parts, and_from, or_cases, or_left, or_right, not_from_false, not-true, ltb-true, leb-true, eqb-true, ne_eqb, lt-ltb}
+use Rattle.std.specs.List.{list_all, list_any}
+use Rattle.std.proofs.lemmas.Bool.{and_parts, and_from, or_cases, ltb-true, leb-true, eqb-true, lt-ltb}
 use Rattle.std.proofs.lemmas.List.{length-map}
-use Rattle.esr_cert.specs.Problem.{Chain, Problem, size, in_set, is_closed, is_ascending, pair_lt, are_pairs_ascending, has_pair, are_linked, is_distinct, chain_has_shape, has_shape, max_txn, max_item, greatest, max_cost, chain_is_in_range, is_in_range, is_sound}
+use Rattle.esr_cert.specs.Problem.{Chain, Problem, size, is_closed, is_ascending, pair_lt, are_pairs_ascending, has_pair, are_linked, is_distinct, chain_has_shape, has_shape, max_txn, max_item, greatest, max_cost, chain_is_in_range, is_in_range, is_sound}
 use Rattle.esr_cert.proofs.Distinct.{distinct_few, ascending_few, all_at}
 
 pub here : {X : Type 0} → (x : X) (xs : List X) → Contains (x ∷ xs) x
@@ -186,8 +186,8 @@ are_few p h =
     let r : InRange p = range_facts p both.1 in
     let n : size p ≤ 65535 = few p h in
     let small : (e : ℕ × ℕ) → Contains p.before e → (ltb e.0 65536 && ltb e.1 65536) ≡ true =
-        λ e k. let f : (ltb e.0 (size p) ≡ true) × (ltb e.1 (size p) ≡ true) = and_parts _ _ (all_in (λ (e : ℕ × ℕ). ltb e.0 (size p) && ltb e.1 (size p)) p.before e r.pairs k) in
-          and_from (ltb e.0 65536) (ltb e.1 65536) (lt-ltb e.0 65536 (omega (arith, ltb-true e.0 (size p) f.0))) (lt-ltb e.1 65536 (omega (arith, ltb-true e.1 (size p) f.1))) in
+    λ e k. let f : (ltb e.0 (size p) ≡ true) × (ltb e.1 (size p) ≡ true) = and_parts _ _ (all_in (λ (e : ℕ × ℕ). ltb e.0 (size p) && ltb e.1 (size p)) p.before e r.pairs k) in
+    and_from (ltb e.0 65536) (ltb e.1 65536) (lt-ltb e.0 65536 (omega (arith, ltb-true e.0 (size p) f.0))) (lt-ltb e.1 65536 (omega (arith, ltb-true e.1 (size p) f.1))) in
     let in_bounds : list_all (λ (e : ℕ × ℕ). ltb e.0 65536 && ltb e.1 65536) p.before ≡ true = all_from (λ (e : ℕ × ℕ). ltb e.0 65536 && ltb e.1 65536) p.before small in
     record {
       pairs = omega (arith, ascending_few 4294967296 (map code p.before) (codes_ascend p.before s.pairs in_bounds) (codes_small p.before in_bounds), length-map p.before code);

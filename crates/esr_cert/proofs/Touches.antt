@@ -1,25 +1,19 @@
 -- The sums at a node over the touches of a problem are those over the arcs of its network.
-use Rattle.std.proofs.Common.{append_assoc, Contains, ◌≡◌, ◌≢◌, ℕ, zero, suc, ◌+◌, ◌-◌, ◌≤◌, ◌<◌, List, [], ◌∷◌, ◌++◌, Bool, true, false, not, ◌&&◌, ◌||◌, cond, eqb, refl, sym, ap, ◌∙◌, inl, inr, arith, length, get_or, map, flat_map, sum_by, drop, true≢false, ne_eqb}
+use Rattle.std.proofs.Common.{append_assoc, ◌≡◌, ◌≢◌, ℕ, zero, suc, ◌+◌, ◌<◌, List, [], ◌∷◌, ◌++◌, Bool, true, false, eqb, refl, sym, ap, ◌∙◌, arith, length, get_or, map, flat_map, sum_by, drop, true≢false, ne_eqb}
 use Rattle.std.specs.List.{concat}
-use Rattle.std.proofs.lemmas.Bool.{and_parts, eqb-true}
-use Rattle.std.proofs.lemmas.List.{drop_more, length-append, length-map}
+use Rattle.std.proofs.lemmas.List.{drop_more}
 use Rattle.std.proofs.lemmas.List.Sums.{sum_by-cons, sum_by-append}
 use Rattle.esr_cert.specs.Problem.{Chain, Problem, size}
-use Rattle.esr_cert.specs.Network.{Arc, links, chain_links, back_arc, must_arc, chain_arcs, back_arcs, must_arcs, network}
+use Rattle.esr_cert.specs.Network.{Arc, links, chain_links, back_arc, must_arc, network}
 use Rattle.esr_cert.specs.Flow.{carried, inflow, outflow}
 use Rattle.esr_cert.specs.Certificate.{Certificate, amounts, are_rows_matched}
 use Rattle.esr_cert.specs.Index.{link_touches, chain_touches, pair_touches, must_touches, all_touches, amount_in, amount_out}
 use Rattle.esr_cert.specs.declared.index.Place.TheVariants.{Writer, First, Second, Must}
 use Rattle.esr_cert.specs.declared.index.Touch.{Touch}
-use Rattle.esr_cert.proofs.Cut.{pick}
+use Rattle.esr_cert.proofs.Cut.{pick, pick_zero}
 use Rattle.esr_cert.proofs.Flows.{carried_append}
-use Rattle.esr_cert.proofs.Sound.{here, there, IsChain, IsProblem}
-
-pub links_length : (from sink : ℕ) (writers costs : List ℕ) → length costs ≡ length writers + 1 → length (links from sink writers costs) ≡ length costs
-links_length from sink writers [] e = refl
-links_length from sink [] (c ∷ []) e = refl
-links_length from sink [] (c ∷ d ∷ costs) e = absurd (omega arith)
-links_length from sink (w ∷ writers) (c ∷ costs) e = omega (arith, links_length w sink writers costs (omega arith))
+use Rattle.esr_cert.proofs.Sound.{IsProblem}
+use Rattle.esr_cert.proofs.Matched.{IsMatched, AreWhole, MatchesFirst, first_matched, are_whole, carried_parts}
 
 -- the touches of one chain more
 pub chains_more : (touches : List Touch) (k : ℕ) (chain : Chain) (rest : List Chain) {chains : List Chain} {all : List Touch} → chains ≡ chain ∷ rest → touches ++ chain_touches k chains ≡ all → (touches ++ link_touches k 0 chain.writers) ++ chain_touches (k + 1) rest ≡ all
@@ -68,114 +62,90 @@ module _ (c : Certificate) (k v n : ℕ) (row : List ℕ) (is_row : get_or c.cha
         sum_by-cons (out_at c v) (record { node = w; place = Writer k i }) (link_touches k (i + 1) writers),
       )
 
--- ---- all arcs, for a test of arcs and a sum over touches that agree on each part
+-- ---- all arcs
 
-pub record Agrees (c : Certificate) (n : ℕ) (p : Arc → Bool) (f : Touch → ℕ) : Type 0 where
-  pub chain : (k : ℕ) (chain : Chain) (row : List ℕ) → get_or c.chain_flow k [] ≡ row → length chain.costs ≡ length chain.writers + 1 → length row ≡ length chain.costs → carried p (chain_links n chain) row ≡ sum_by f (link_touches k 0 chain.writers)
-  pub pair : (i : ℕ) (e : ℕ × ℕ) → pick (p (back_arc e)) (get_or c.back_flow i 0) ≡ f (record { node = e.0; place = First i }) + f (record { node = e.1; place = Second i })
-  pub must : (i u : ℕ) → pick (p (must_arc n u)) (get_or c.must_flow i 0) ≡ f (record { node = u; place = Must i })
+-- a test of arcs and a sum over touches agree on each part
+record Agrees (c : Certificate) (n : ℕ) (q : Arc → Bool) (f : Touch → ℕ) : Type 0 where
+  chain : (k : ℕ) (chain : Chain) (row : List ℕ) → get_or c.chain_flow k [] ≡ row → length chain.costs ≡ length chain.writers + 1 → length row ≡ length chain.costs → carried q (chain_links n chain) row ≡ sum_by f (link_touches k 0 chain.writers)
+  pair : (i : ℕ) (e : ℕ × ℕ) → pick (q (back_arc e)) (get_or c.back_flow i 0) ≡ f (record { node = e.0; place = First i }) + f (record { node = e.1; place = Second i })
+  must : (i u : ℕ) → pick (q (must_arc n u)) (get_or c.must_flow i 0) ≡ f (record { node = u; place = Must i })
 
-module _ (c : Certificate) (n : ℕ) (p : Arc → Bool) (f : Touch → ℕ) (agrees : Agrees c n p f) where
-  pairs_sum : (i : ℕ) (pairs : List (ℕ × ℕ)) → length pairs + i ≡ length c.back_flow → carried p (map back_arc pairs) (drop i c.back_flow) ≡ sum_by f (pair_touches i pairs)
+drop_parts : (xs : List (List ℕ)) (k : ℕ) (x : List ℕ) (rest : List (List ℕ)) → drop k xs ≡ x ∷ rest → (get_or xs k [] ≡ x) × (drop (k + 1) xs ≡ rest)
+drop_parts [] zero x rest e = cc
+drop_parts [] (suc k) x rest e = cc
+drop_parts (y ∷ ys) zero x rest e = (cc, cc)
+drop_parts (y ∷ ys) (suc k) x rest e =
+    let r : (get_or ys k [] ≡ x) × (drop (k + 1) ys ≡ rest) = drop_parts ys k x rest e in
+    let q : suc k + 1 ≡ suc (k + 1) = omega arith in
+    (r.0, ap (λ m. drop m (y ∷ ys)) q ∙ r.1)
+
+module _ (c : Certificate) (n : ℕ) (q : Arc → Bool) (f : Touch → ℕ) (agrees : Agrees c n q f) where
+  pairs_sum : (i : ℕ) (pairs : List (ℕ × ℕ)) → length pairs + i ≡ length c.back_flow → carried q (map back_arc pairs) (drop i c.back_flow) ≡ sum_by f (pair_touches i pairs)
   pairs_sum i [] e = refl
-  pairs_sum i (q ∷ pairs) e =
+  pairs_sum i (pair ∷ pairs) e =
       let at : drop i c.back_flow ≡ get_or c.back_flow i 0 ∷ drop (i + 1) c.back_flow = drop_more c.back_flow i 0 (omega arith) in
       omega (
         arith,
-        ap (carried p (map back_arc (q ∷ pairs))) at,
+        ap (carried q (map back_arc (pair ∷ pairs))) at,
         pairs_sum (i + 1) pairs (omega arith),
-        agrees.pair i q,
-        sum_by-cons f (record { node = q.0; place = First i }) (record { node = q.1; place = Second i } ∷ pair_touches (i + 1) pairs),
-        sum_by-cons f (record { node = q.1; place = Second i }) (pair_touches (i + 1) pairs),
+        agrees.pair i pair,
+        sum_by-cons f (record { node = pair.0; place = First i }) (record { node = pair.1; place = Second i } ∷ pair_touches (i + 1) pairs),
+        sum_by-cons f (record { node = pair.1; place = Second i }) (pair_touches (i + 1) pairs),
       )
 
-  must_sum : (i : ℕ) (must : List ℕ) → length must + i ≡ length c.must_flow → carried p (map (must_arc n) must) (drop i c.must_flow) ≡ sum_by f (must_touches i must)
+  must_sum : (i : ℕ) (must : List ℕ) → length must + i ≡ length c.must_flow → carried q (map (must_arc n) must) (drop i c.must_flow) ≡ sum_by f (must_touches i must)
   must_sum i [] e = refl
   must_sum i (u ∷ must) e =
       let at : drop i c.must_flow ≡ get_or c.must_flow i 0 ∷ drop (i + 1) c.must_flow = drop_more c.must_flow i 0 (omega arith) in
       omega (
         arith,
-        ap (carried p (map (must_arc n) (u ∷ must))) at,
+        ap (carried q (map (must_arc n) (u ∷ must))) at,
         must_sum (i + 1) must (omega arith),
         agrees.must i u,
         sum_by-cons f (record { node = u; place = Must i }) (must_touches (i + 1) must),
       )
 
-  chains_sum : (k : ℕ) (chains : List Chain) (rows : List (List ℕ)) → ((chain : Chain) → Contains chains chain → length chain.costs ≡ length chain.writers + 1) → drop k c.chain_flow ≡ rows → are_rows_matched chains rows ≡ true → (carried p (flat_map (chain_links n) chains) (concat rows) ≡ sum_by f (chain_touches k chains)) × (length (concat rows) ≡ length (flat_map (chain_links n) chains))
-  chains_sum k [] [] h d m = (refl, refl)
-  chains_sum k [] (row ∷ rows) h d m = absurd (true≢false (sym m))
-  chains_sum k (chain ∷ chains) [] h d m = absurd (true≢false (sym m))
-  chains_sum k (chain ∷ chains) (row ∷ rows) h d m =
-      let both : (eqb (length row) (length chain.costs) ≡ true) × (are_rows_matched chains rows ≡ true) = and_parts (eqb (length row) (length chain.costs)) (are_rows_matched chains rows) m in
-      let one : length chain.costs ≡ length chain.writers + 1 = h chain (here chain chains) in
-      let size : length row ≡ length chain.costs = eqb-true (length row) (length chain.costs) both.0 in
-      let same : length row ≡ length (chain_links n chain) = size ∙ sym (links_length n (n + 1) chain.writers chain.costs one) in
+  chains_sum : (k : ℕ) (chains : List Chain) (rows : List (List ℕ)) → AreWhole chains → drop k c.chain_flow ≡ rows → are_rows_matched chains rows ≡ true → carried q (flat_map (chain_links n) chains) (concat rows) ≡ sum_by f (chain_touches k chains)
+  chains_sum k [] [] whole d m = refl
+  chains_sum k [] (row ∷ rows) whole d m = absurd (true≢false (sym m))
+  chains_sum k (chain ∷ chains) [] whole d m = absurd (true≢false (sym m))
+  chains_sum k (chain ∷ chains) (row ∷ rows) whole d m =
+      let first : MatchesFirst n chain chains row rows = first_matched n chain chains row rows whole m in
       let split : (get_or c.chain_flow k [] ≡ row) × (drop (k + 1) c.chain_flow ≡ rows) = drop_parts c.chain_flow k row rows d in
-      let rest : (carried p (flat_map (chain_links n) chains) (concat rows) ≡ sum_by f (chain_touches (k + 1) chains)) × (length (concat rows) ≡ length (flat_map (chain_links n) chains)) =
-          chains_sum (k + 1) chains rows (λ x z. h x (there chain x chains z)) split.1 both.1 in
-      (omega (
-         arith,
-         carried_append p (chain_links n chain) (flat_map (chain_links n) chains) row (concat rows) same,
-         agrees.chain k chain row split.0 one size,
-         rest.0,
-         sum_by-append f (link_touches k 0 chain.writers) (chain_touches (k + 1) chains),
-       ),
-       omega (arith, length-append row (concat rows), length-append (chain_links n chain) (flat_map (chain_links n) chains), same, rest.1))
-    where
-      drop_parts : (xs : List (List ℕ)) (k : ℕ) (x : List ℕ) (rest : List (List ℕ)) → drop k xs ≡ x ∷ rest → (get_or xs k [] ≡ x) × (drop (k + 1) xs ≡ rest)
-      drop_parts [] zero x rest e = cc
-      drop_parts [] (suc k) x rest e = cc
-      drop_parts (y ∷ ys) zero x rest e = (cc, cc)
-      drop_parts (y ∷ ys) (suc k) x rest e =
-          let r : (get_or ys k [] ≡ x) × (drop (k + 1) ys ≡ rest) = drop_parts ys k x rest e in
-          let q : suc k + 1 ≡ suc (k + 1) = omega arith in
-          (r.0, ap (λ m. drop m (y ∷ ys)) q ∙ r.1)
-
-  pub touches_sum : (q : Problem) → n ≡ size q → IsProblem q → are_rows_matched q.chains c.chain_flow ≡ true → length c.back_flow ≡ length q.before → length c.must_flow ≡ length q.must → carried p (flat_map (chain_links n) q.chains ++ map back_arc q.before ++ map (must_arc n) q.must) (amounts c) ≡ sum_by f (all_touches q.before q.chains q.must)
-  touches_sum q e ok rows backs musts =
-      let chains : (carried p (flat_map (chain_links n) q.chains) (concat c.chain_flow) ≡ sum_by f (chain_touches 0 q.chains)) × (length (concat c.chain_flow) ≡ length (flat_map (chain_links n) q.chains)) =
-          chains_sum 0 q.chains c.chain_flow (λ chain z. (ok.chains chain z).one_more) refl rows in
-      let both : length (concat c.chain_flow ++ c.back_flow) ≡ length (flat_map (chain_links n) q.chains ++ map back_arc q.before) =
-          omega (arith, chains.1, backs, length-map {B = Arc} q.before back_arc, length-append (concat c.chain_flow) c.back_flow, length-append (flat_map (chain_links n) q.chains) (map back_arc q.before)) in
       omega (
         arith,
-        carried_append p (flat_map (chain_links n) q.chains ++ map back_arc q.before) (map (must_arc n) q.must) (concat c.chain_flow ++ c.back_flow) c.must_flow both,
-        carried_append p (flat_map (chain_links n) q.chains) (map back_arc q.before) (concat c.chain_flow) c.back_flow chains.1,
-        chains.0,
-        pairs_sum 0 q.before (omega (arith, backs)),
-        must_sum 0 q.must (omega (arith, musts)),
-        sum_by-append f (chain_touches 0 q.chains ++ pair_touches 0 q.before) (must_touches 0 q.must),
-        sum_by-append f (chain_touches 0 q.chains) (pair_touches 0 q.before),
+        carried_append q (chain_links n chain) (flat_map (chain_links n) chains) row (concat rows) first.links,
+        agrees.chain k chain row split.0 first.whole first.costs,
+        chains_sum (k + 1) chains rows first.others_whole split.1 first.others,
+        sum_by-append f (link_touches k 0 chain.writers) (chain_touches (k + 1) chains),
       )
 
--- ---- the two sums at an update
+module _ (p : Problem) (ok : IsProblem p) (c : Certificate) (m : IsMatched p c) where
+  touches_sum : (q : Arc → Bool) (f : Touch → ℕ) → Agrees c (size p) q f → carried q (network p).arcs (amounts c) ≡ sum_by f (all_touches p.before p.chains p.must)
+  touches_sum q f agrees =
+      omega (
+        arith,
+        carried_parts p ok c m q,
+        chains_sum c (size p) q f agrees 0 p.chains c.chain_flow (are_whole p ok c m) refl m.rows,
+        pairs_sum c (size p) q f agrees 0 p.before (omega (arith, m.backs)),
+        must_sum c (size p) q f agrees 0 p.must (omega (arith, m.musts)),
+        sum_by-append f (chain_touches 0 p.chains ++ pair_touches 0 p.before) (must_touches 0 p.must),
+        sum_by-append f (chain_touches 0 p.chains) (pair_touches 0 p.before),
+      )
 
-module _ (p : Problem) (ok : IsProblem p) (c : Certificate) (rows : are_rows_matched p.chains c.chain_flow ≡ true) (backs : length c.back_flow ≡ length p.before) (musts : length c.must_flow ≡ length p.must) (v : ℕ) (l : v < size p) where
-  in_agrees : Agrees c (size p) (λ arc. eqb arc.to v) (in_at c v)
-  in_agrees = record {
-    chain = λ k chain row is one same. into_links c k v (size p) row is (size p) 0 chain.writers chain.costs (λ (e : size p + 1 ≡ v). omega arith) one (omega (arith, same));
-    pair = λ i e. omega (arith, none (eqb e.1 v));
-    must = λ i u. refl;
-  }
-    where
-      none : (b : Bool) → pick b 0 ≡ 0
-      none true = refl
-      none false = refl
+  pub inflow_is : (v : ℕ) → v < size p → inflow (network p).arcs (amounts c) v ≡ sum_by (in_at c v) (all_touches p.before p.chains p.must)
+  inflow_is v l =
+      touches_sum (λ arc. eqb arc.to v) (in_at c v) (record {
+        chain = λ k chain row is one same. into_links c k v (size p) row is (size p) 0 chain.writers chain.costs (λ (e : size p + 1 ≡ v). omega arith) one (omega (arith, same));
+        pair = λ i e. omega (arith, pick_zero (eqb e.1 v));
+        must = λ i u. refl;
+      })
 
-  out_agrees : Agrees c (size p) (λ arc. eqb arc.from v) (out_at c v)
-  out_agrees = record {
-    chain = λ k chain row is one same.
-        omega (arith, out_of_links c k v (size p) row is (size p) 0 chain.writers chain.costs one (omega (arith, same)), ap (λ b. pick b (get_or row 0 0)) (ne_eqb (size p) v (λ (e : size p ≡ v). omega arith)));
-    pair = λ i e. omega (arith, none (eqb e.0 v));
-    must = λ i u. ap (λ b. pick b (get_or c.must_flow i 0)) (ne_eqb (size p) v (λ (e : size p ≡ v). omega arith)) ∙ sym (none (eqb u v));
-  }
-    where
-      none : (b : Bool) → pick b 0 ≡ 0
-      none true = refl
-      none false = refl
-
-  pub inflow_is : inflow (network p).arcs (amounts c) v ≡ sum_by (in_at c v) (all_touches p.before p.chains p.must)
-  inflow_is = touches_sum c (size p) (λ arc. eqb arc.to v) (in_at c v) in_agrees p refl ok rows backs musts
-
-  pub outflow_is : outflow (network p).arcs (amounts c) v ≡ sum_by (out_at c v) (all_touches p.before p.chains p.must)
-  outflow_is = touches_sum c (size p) (λ arc. eqb arc.from v) (out_at c v) out_agrees p refl ok rows backs musts
+  pub outflow_is : (v : ℕ) → v < size p → outflow (network p).arcs (amounts c) v ≡ sum_by (out_at c v) (all_touches p.before p.chains p.must)
+  outflow_is v l =
+      let no_source : eqb (size p) v ≡ false = ne_eqb (size p) v (λ (e : size p ≡ v). omega arith) in
+      touches_sum (λ arc. eqb arc.from v) (out_at c v) (record {
+        chain = λ k chain row is one same. omega (arith, out_of_links c k v (size p) row is (size p) 0 chain.writers chain.costs one (omega (arith, same)), ap (λ b. pick b (get_or row 0 0)) no_source);
+        pair = λ i e. omega (arith, pick_zero (eqb e.0 v));
+        must = λ i u. ap (λ b. pick b (get_or c.must_flow i 0)) no_source ∙ sym (pick_zero (eqb u v));
+      })

@@ -6,3 +6,4 @@ pub mod Certificate
 pub mod Views
 pub mod Index
 pub mod Faults
+pub mod Parts

@@ -19,7 +19,8 @@ pub enum Place {
     Must(u32),
 }
 
-/// An update, by its position, with amounts that it has part in.
+/// An update, by its position, with amounts that it has part in. A problem keeps its touches sorted by update, so that
+/// a check sums what comes to each and goes from it in one walk.
 #[derive(Clone, Copy, Debug)]
 pub struct Touch {
     pub node: u32,

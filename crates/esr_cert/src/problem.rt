@@ -44,6 +44,7 @@ impl BundleFault {
 
 impl From<AllocError> for BundleFault {
     ghost use Rattle.esr_cert.specs.declared.problem.BundleFault.TheVariants.{NoMemory};
+
     ghost from_gives = { λ _ e. e ≡ NoMemory };
 
     fn from(_error: AllocError) -> BundleFault {
@@ -71,6 +72,7 @@ pub struct Problem {
 impl Model for Problem {
     ghost use Rattle.std.specs.Prelude.{◌≡◌, true, map};
     ghost use Rattle.esr_cert.specs.Problem as spec;
+
     ghost Value = { spec.Problem };
 
     ghost use Rattle.esr_cert.specs.Views.{chain_of, problem_of};
@@ -82,7 +84,10 @@ impl Model for Problem {
 }
 
 impl Problem {
-    /// A problem of these parts. Of two faults the lower is given, over all parts.
+    /// A problem of these parts.
+    ///
+    /// `Shape` where a rule of shape is broken, `Range` where only a rule of range is, over all parts. `NoMemory` where
+    /// memory was refused, which may come in place of either.
     pub fn new(
         alloc: Global,
         updates: Vec<TxnId>,
@@ -145,7 +150,8 @@ impl Problem {
 
     /// What each update has part in, those of one update side by side.
     pub(crate) fn touches(&self) -> &[Touch]
-        ensures { IsIndex self.now.before self.now.chains self.now.must result.now }
+        ensures index { IsIndex self.now.before self.now.chains self.now.must result.now }
+        ensures sound { is_sound self.now ≡ true }
     {
         &self.touches
     }

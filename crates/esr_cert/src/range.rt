@@ -85,12 +85,7 @@ fn greatest_costs(chains: &[Chain]) -> u128
 }
 
 /// Whether no rule of range is broken.
-pub fn is_in_range(
-    updates: &[TxnId],
-    before: &[(u32, u32)],
-    chains: &[Chain],
-    must: &[u32],
-) -> bool
+pub fn is_in_range(updates: &[TxnId], before: &[(u32, u32)], chains: &[Chain], must: &[u32]) -> bool
     ensures { result ≡ is_in_range (problem_of updates.now before.now chains.now must.now) }
 {
     let n = updates.len();

@@ -1,7 +1,5 @@
-use Rattle.std.proofs.Common.{◌≡◌, ◌+◌, ◌-◌, ◌*◌, ◌≤◌, ◌<◌, ◌&&◌, ◌==◌, ◌∙◌, ℕ, List, sym, ap, map, take, drop, length, get_or, nat_lt, nat_le, true, false, sum_by, refl, arith}
-use Rattle.std.specs.List.{list_all}
-use Rattle.esr_cert.specs.Problem.{are_pairs_ascending, pair_lt, chain_has_shape, max_txn, max_item, greatest}
-use Rattle.esr_cert.specs.Views.{chain_of}
+use Rattle.std.proofs.Common.{◌≡◌, ◌+◌, ◌-◌, ◌&&◌, ◌∙◌, sym, ap, drop, get_or, true, refl, arith}
+use Rattle.esr_cert.specs.Problem.{are_pairs_ascending, pair_lt}
 use Rattle.esr_cert.proofs.Steps.{pairs_ascending_end, pairs_ascending_step}
 use Rattle.esr_cert.proofs.lists.are_pairs_ascending.Goals as goal
 

@@ -1,6 +1,5 @@
-use Rattle.std.proofs.Common.{◌≡◌, ◌+◌, ◌-◌, ◌*◌, ◌≤◌, ◌<◌, ◌&&◌, ◌==◌, ◌∙◌, ℕ, List, sym, ap, map, take, drop, length, get_or, nat_lt, nat_le, true, false, sum_by, arith}
-use Rattle.std.specs.List.{list_all}
-use Rattle.esr_cert.specs.Problem.{chain_has_shape, chain_is_in_range}
+use Rattle.std.proofs.Common.{◌∙◌, sym, arith}
+use Rattle.esr_cert.specs.Problem.{chain_is_in_range}
 use Rattle.esr_cert.specs.Views.{chain_of}
 use Rattle.esr_cert.proofs.Steps.{list_all_map_yes, list_all_map_no}
 use Rattle.esr_cert.proofs.range.are_chains_in_range.Goals as goal

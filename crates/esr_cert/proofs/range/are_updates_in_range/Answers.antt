@@ -1,8 +1,6 @@
-use Rattle.std.proofs.Common.{◌≡◌, ◌+◌, ◌-◌, ◌*◌, ◌≤◌, ◌<◌, ◌&&◌, ◌==◌, ◌∙◌, ℕ, List, sym, ap, map, take, drop, length, get_or, nat_lt, nat_le, true, false, sum_by, arith}
+use Rattle.std.proofs.Common.{◌&&◌, ◌∙◌, sym, get_or, nat_lt, nat_le, arith}
 use Rattle.std.proofs.lemmas.List.{get_or_default}
-use Rattle.std.specs.List.{list_all}
-use Rattle.esr_cert.specs.Problem.{chain_has_shape, max_txn, max_item, greatest}
-use Rattle.esr_cert.specs.Views.{chain_of}
+use Rattle.esr_cert.specs.Problem.{max_txn}
 use Rattle.esr_cert.proofs.Steps.{list_all_map_yes, list_all_map_no}
 use Rattle.esr_cert.proofs.range.are_updates_in_range.Goals as goal
 

@@ -1,4 +1,4 @@
-use Rattle.std.proofs.Common.{◌≡◌, ◌+◌, ◌-◌, ◌*◌, ◌≤◌, ◌&&◌, nat_lt, nat_le, max, take, drop, map, sum_by}
+use Rattle.std.proofs.Common.{◌≡◌, ◌&&◌, nat_lt, nat_le, drop, map}
 use Rattle.std.specs.List.{list_all}
 use Rattle.esr_cert.specs.Problem.{max_txn}
 use Rattle.esr_cert.proofs.range.are_updates_in_range.Given as goal

@@ -1,5 +1,4 @@
-use Rattle.std.proofs.Common.{◌≡◌, ◌+◌, ◌-◌, ◌*◌, ◌≤◌, ◌&&◌, nat_lt, nat_le, max, take, drop, map, sum_by}
-use Rattle.std.specs.List.{list_all}
+use Rattle.std.proofs.Common.{◌≡◌, max, drop}
 use Rattle.esr_cert.specs.Problem.{greatest}
 use Rattle.esr_cert.proofs.range.greatest.Given as goal
 

@@ -1,8 +1,7 @@
-use Rattle.std.proofs.Common.{◌≡◌, ◌+◌, ◌-◌, ◌*◌, ◌≤◌, ◌<◌, ◌&&◌, ◌==◌, ◌∙◌, ℕ, List, sym, ap, map, take, drop, length, get_or, nat_lt, nat_le, true, false, sum_by, arith}
+use Rattle.std.proofs.Common.{◌≡◌, ◌<◌, ◌∙◌, sym, ap, map, take, length, get_or, sum_by, arith}
 use Rattle.std.proofs.lemmas.List.{length-map}
 use Rattle.std.proofs.lemmas.List.Sums.{sum_by_more}
-use Rattle.std.specs.List.{list_all}
-use Rattle.esr_cert.specs.Problem.{chain_has_shape, max_txn, max_item, greatest}
+use Rattle.esr_cert.specs.Problem.{greatest}
 use Rattle.esr_cert.specs.Views.{chain_of}
 use Rattle.esr_cert.proofs.Steps.{get_or_map_read}
 use Rattle.esr_cert.proofs.range.greatest_costs.Goals as goal

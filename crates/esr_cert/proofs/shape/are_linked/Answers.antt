@@ -1,7 +1,4 @@
-use Rattle.std.proofs.Common.{◌≡◌, ◌+◌, ◌-◌, ◌*◌, ◌≤◌, ◌<◌, ◌&&◌, ◌==◌, ◌∙◌, ℕ, List, sym, ap, map, take, drop, length, get_or, nat_lt, nat_le, true, false, sum_by, arith}
-use Rattle.std.specs.List.{list_all}
-use Rattle.esr_cert.specs.Problem.{chain_has_shape, max_txn, max_item, greatest}
-use Rattle.esr_cert.specs.Views.{chain_of}
+use Rattle.std.proofs.Common.{◌-◌, ◌∙◌, sym, arith}
 use Rattle.esr_cert.proofs.Steps.{linked_end}
 use Rattle.esr_cert.proofs.shape.are_linked.Goals as goal
 

@@ -1,4 +1,4 @@
-use Rattle.std.proofs.Common.{◌≡◌, ◌+◌, ◌-◌, ◌*◌, ◌≤◌, ◌&&◌, nat_lt, nat_le, max, take, drop, map, sum_by}
+use Rattle.std.proofs.Common.{◌≡◌, drop, map}
 use Rattle.std.specs.List.{list_all}
 use Rattle.esr_cert.specs.Problem.{chain_has_shape}
 use Rattle.esr_cert.specs.Views.{chain_of}
