@@ -7,3 +7,5 @@ pub mod Rows
 pub mod Tables
 pub mod LastSteps
 pub mod ChainSteps
+pub mod Found
+pub mod Placing
