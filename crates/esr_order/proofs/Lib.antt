@@ -9,3 +9,4 @@ pub mod LastSteps
 pub mod ChainSteps
 pub mod Found
 pub mod Placing
+pub mod Early
