@@ -1,9 +1,10 @@
 -- What the scans find, in the words of a legal history.
-use Rattle.std.proofs.Common.{◌≡◌, ◌≢◌, ℕ, zero, suc, ◌+◌, ◌<◌, ◌≤◌, ℤ, Bool, true, false, not, ◌&&◌, ◌||◌, ◌==◌, List, [], ◌∷◌, ◌++◌, length, take, drop, Option, None, Some, AllPairs, All, refl, sym, ◌∙◌, ap, subst, arith, inl, inr, map, filter, eqb, if◌then◌else◌}
+use Rattle.std.proofs.Common.{◌≡◌, ◌≢◌, ℕ, zero, suc, ◌+◌, ◌-◌, ◌<◌, ◌≤◌, ℤ, Bool, true, false, not, ◌&&◌, ◌||◌, ◌==◌, List, [], ◌∷◌, ◌++◌, length, take, drop, Option, None, Some, AllPairs, All, refl, sym, ◌∙◌, ap, subst, arith, inl, inr, map, filter, eqb, if◌then◌else◌}
 use Rattle.std.specs.Prelude.{is_some, unwrap_or}
 use Rattle.std.specs.List.{filter_map, list_any, slice_get, cons_option, before_first, AllByRecursion}
 use Rattle.std.specs.Option.{option_map}
 use Rattle.std.proofs.Math.Path.{fun_ext}
+use Rattle.std.proofs.lemmas.Option.{same_Some}
 use Rattle.std.proofs.lemmas.Bool.{true≢false, cases_Bool, eqb-true, or_left}
 use Rattle.std.proofs.lemmas.List.Elements.{All-from_recursion}
 use Rattle.esr_history.specs.declared.event.TxnId.{TxnId}
@@ -118,3 +119,22 @@ module _ (d : Distance) (h : Schedule) (q : ℕ) (legal : IsLegal d h) where
 
   pub listed_once : AllPairs (λ u v. u ≢ v) (updates_of h q)
   listed_once = All-from_pairs (λ u v. u ≢ v) (updates_of h q) (in_order d h q legal).once
+
+-- how a transaction began, by its number
+pub begin_found : (es : List Entry) (q : ℕ) → (q ≡ 0 → ⊥) → (o : Option Kind) → o ≡ slice_get (filter_map kind_at es) (q - 1) → o ≡ option_map kind_of (beginning (accepted es) q)
+begin_found es zero some o is = absurd (some refl)
+begin_found es (suc k) some o is = let e : suc k - 1 ≡ k = omega arith in is ∙ (ap (slice_get (filter_map kind_at es)) e ∙ kind_found es k)
+
+pub no_query : (es : List Entry) (q : ℕ) → None ≡ option_map kind_of (beginning (accepted es) q) → is_query (accepted es) q ≡ false
+no_query es q none = at (beginning (accepted es) q) none
+  where
+    at : (b : Option Beginning) → None ≡ option_map kind_of b → unwrap_or (option_map (λ b. b.query) b) false ≡ false
+    at None same = refl
+    at (Some b) bad = absurd (cc)
+
+pub kind_says : (es : List Entry) (q : ℕ) (k : Kind) → Some k ≡ option_map kind_of (beginning (accepted es) q) → (k.query ≡ is_query (accepted es) q) × (k.strict ≡ is_strict (accepted es) q)
+kind_says es q k some = at (beginning (accepted es) q) some
+  where
+    at : (b : Option Beginning) → Some k ≡ option_map kind_of b → (k.query ≡ unwrap_or (option_map (λ b. b.query) b) false) × (k.strict ≡ unwrap_or (option_map (λ b. b.strict) b) false)
+    at None bad = absurd (cc)
+    at (Some b) same = (ap (λ (k : Kind). k.query) (same_Some k (kind_of b) same), ap (λ (k : Kind). k.strict) (same_Some k (kind_of b) same))

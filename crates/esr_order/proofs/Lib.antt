@@ -10,3 +10,4 @@ pub mod ChainSteps
 pub mod Found
 pub mod Placing
 pub mod Early
+pub mod Complete
