@@ -11,3 +11,4 @@ pub mod Found
 pub mod Placing
 pub mod Early
 pub mod Complete
+pub mod Gathered

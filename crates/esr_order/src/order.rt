@@ -14,7 +14,7 @@ use esr_items::{ItemId, Metric};
 
 use crate::chains::{Links, chains_of};
 use crate::pairs::{pairs_of, places_of};
-use crate::scan::{Kind, are_updates, count_early, has_committed, nth_kind, steps_in, updates_before};
+use crate::scan::{Kind, are_updates, count_must, has_committed, nth_kind, steps_in, updates_before};
 
 /// Why there is no order of a query.
 #[derive(Clone, Copy, PartialEq, Eq, Debug)]
@@ -102,8 +102,7 @@ impl Order {
         let steps = steps_in(alloc, log, &places)?;
         let before = pairs_of(alloc, &steps, commits.len())?;
         let chains = chains_of(alloc, &steps, history.items(), commits.len())?;
-        let early = if kind.strict { count_early(log, &updates, q.0) } else { 0 };
-        let must = first_positions(alloc, early)?;
+        let must = first_positions(alloc, count_must(log, &updates, q.0, kind.strict))?;
         Ok(Order { commits, before, must, chains })
     }
 

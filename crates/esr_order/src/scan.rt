@@ -1,4 +1,4 @@
-ghost use Rattle.std.specs.Prelude.{◌≡◌, ℕ, suc, List, Bool, not, ◌==◌, IfOk, Some, slice_get, length, map};
+ghost use Rattle.std.specs.Prelude.{◌≡◌, ℕ, suc, List, Bool, not, ◌==◌, IfOk, Some, slice_get, length, map, if◌then◌else◌};
 ghost use Rattle.std.specs.List.{filter_map, list_any};
 ghost use Rattle.esr_history.specs.declared.event.TxnId.{TxnId};
 ghost use Rattle.esr_history.specs.declared.event.Entry.{Entry};
@@ -138,10 +138,21 @@ pub fn updates_before(
 }
 
 /// How many updates committed before the query began.
-pub fn count_early(log: &Log, updates: &[bool], q: u32) -> usize
+fn count_early(log: &Log, updates: &[bool], q: u32) -> usize
     ensures { result ≡ length (found_early log.now.entries updates.now q) }
 {
     (0..log.len()).filter_map(|i| log.get(i)).take_while(|entry| !is_begin_of(entry.reply, q)).filter_map(|entry| commit_in(entry)).filter(|t| is_update(updates, *t)).count()
+}
+
+/// How many updates a query must have seen.
+pub fn count_must(log: &Log, updates: &[bool], q: u32, strict: bool) -> usize
+    ensures { result ≡ (if strict then length (found_early log.now.entries updates.now q) else 0) }
+{
+    if strict {
+        count_early(log, updates, q)
+    } else {
+        0
+    }
 }
 
 fn place_in(places: &[Option<u32>], t: u32) -> Option<u32>
