@@ -32,11 +32,11 @@ not_before_itself [] u h = true≢false (sym h)
 not_before_itself (x ∷ xs) u h =
     ⊎_elim
     (λ e.
-        let f = In-any (λ (b : Operation). eqb x.txn u && (eqb b.txn u && conflict x b)) xs e in
-        let p = and_parts (eqb x.txn u) (eqb f.0.txn u && conflict x f.0) f.2 in
-        let r = and_parts (eqb f.0.txn u) (conflict x f.0) p.1 in
-        let c = and_parts (not (eqb x.txn f.0.txn)) (eqb x.item f.0.item && (x.writes || f.0.writes)) r.1 in
-        eqb-false x.txn f.0.txn (not-true (eqb x.txn f.0.txn) c.0) (eqb-true x.txn u p.0 ∙ sym (eqb-true f.0.txn u r.0)))
+    let f = In-any (λ (b : Operation). eqb x.txn u && (eqb b.txn u && conflict x b)) xs e in
+    let p = and_parts (eqb x.txn u) (eqb f.0.txn u && conflict x f.0) f.2 in
+    let r = and_parts (eqb f.0.txn u) (conflict x f.0) p.1 in
+    let c = and_parts (not (eqb x.txn f.0.txn)) (eqb x.item f.0.item && (x.writes || f.0.writes)) r.1 in
+    eqb-false x.txn f.0.txn (not-true (eqb x.txn f.0.txn) c.0) (eqb-true x.txn u p.0 ∙ sym (eqb-true f.0.txn u r.0)))
     (λ e. not_before_itself xs u e)
     (or_cases (list_any (λ (b : Operation). eqb x.txn u && (eqb b.txn u && conflict x b)) xs) (any_pair (λ (a b : Operation). eqb a.txn u && (eqb b.txn u && conflict a b)) xs) h)
 
@@ -105,9 +105,9 @@ module _ (d : Distance) (h : Schedule) (q : ℕ) (legal : IsLegal d h) (places :
         ⊎_elim
         (λ same. absurd (not_before_itself (operations h) (update_at h q j) (subst (λ k. is_before h (update_at h q k) (update_at h q j) ≡ true) same is)))
         (λ ne. ⊎_elim
-            (λ lt. listed.every i j lt lj (pair_before i j li lj ∙ is))
-            (λ gt. absurd (true≢false (sym is ∙ keeps j i 0 gt li)))
-            ne)
+        (λ lt. listed.every i j lt lj (pair_before i j li lj ∙ is))
+        (λ gt. absurd (true≢false (sym is ∙ keeps j i 0 gt li)))
+        ne)
         (cases_order i j)
 
     upward : All (λ p. (p.0 < p.1) × (p.1 < length us) × IsTrue (is_before h (update_at h q p.0) (update_at h q p.1))) before
@@ -117,26 +117,26 @@ module _ (d : Distance) (h : Schedule) (q : ℕ) (legal : IsLegal d h) (places :
 
     closed_to : (S : ℕ → Bool) → IsClosedIn h q found S → IsClosed h q S
     closed_to S c = record {
-        downward = λ u v cu cv b sv.
-            let at_u : update_at h q cu.0 ≡ u = same_default us cu.0 0 u cu.1 ∙ cu.2 in
-            let at_v : update_at h q cv.0 ≡ v = same_default us cv.0 0 v cv.1 ∙ cv.2 in
-            let pair : Contains before (cu.0, cv.0) = listed_pair cu.0 cv.0 cu.1 cv.1 (ap (λ w. is_before h w (update_at h q cv.0)) at_u ∙ (ap (is_before h u) at_v ∙ b)) in
-            ap S (sym at_u) ∙ All-contains (λ p. S (update_at h q p.1) ≡ true → S (update_at h q p.0) ≡ true) before (cu.0, cv.0) c.downward pair (ap S at_v ∙ sv);
-        holds_must = λ u m.
-            let i : In u (map (update_at h q) (range_with_len 0 n)) = subst (In u) (sym (must_positions d h q legal n count)) (Contains-In (must h q) u m) in
-            let at = mapped_in (update_at h q) (range_with_len 0 n) u i in
-            ap S (sym at.2) ∙ each_at (λ k. S (update_at h q k) ≡ true) (range_with_len 0 n) at.0 (recursion_from_All (λ k. S (update_at h q k) ≡ true) (range_with_len 0 n) c.holds_must) at.1;
-      }
+      downward = λ u v cu cv b sv.
+          let at_u : update_at h q cu.0 ≡ u = same_default us cu.0 0 u cu.1 ∙ cu.2 in
+          let at_v : update_at h q cv.0 ≡ v = same_default us cv.0 0 v cv.1 ∙ cv.2 in
+          let pair : Contains before (cu.0, cv.0) = listed_pair cu.0 cv.0 cu.1 cv.1 (ap (λ w. is_before h w (update_at h q cv.0)) at_u ∙ (ap (is_before h u) at_v ∙ b)) in
+          ap S (sym at_u) ∙ All-contains (λ p. S (update_at h q p.1) ≡ true → S (update_at h q p.0) ≡ true) before (cu.0, cv.0) c.downward pair (ap S at_v ∙ sv);
+      holds_must = λ u m.
+          let i : In u (map (update_at h q) (range_with_len 0 n)) = subst (In u) (sym (must_positions d h q legal n count)) (Contains-In (must h q) u m) in
+          let at = mapped_in (update_at h q) (range_with_len 0 n) u i in
+          ap S (sym at.2) ∙ each_at (λ k. S (update_at h q k) ≡ true) (range_with_len 0 n) at.0 (recursion_from_All (λ k. S (update_at h q k) ≡ true) (range_with_len 0 n) c.holds_must) at.1;
+    }
 
     closed_from : (S : ℕ → Bool) → IsClosed h q S → IsClosedIn h q found S
     closed_from S c = record {
-        downward = λ k e l sv.
-            let p = upward k e l in
-            c.downward (update_at h q (get_or before k e).0) (update_at h q (get_or before k e).1) (here (get_or before k e).0 (omega (arith, p.0, p.1))) (here (get_or before k e).1 p.1) p.2 sv;
-        holds_must = All-from_recursion (λ i. S (update_at h q i) ≡ true) (range_with_len 0 n)
-            (each_in (λ i. S (update_at h q i) ≡ true) (range_with_len 0 n) (λ i j. c.holds_must (update_at h q i)
-                (In-Contains (must h q) (update_at h q i) (subst (In (update_at h q i)) (must_positions d h q legal n count) (in_mapped (update_at h q) (range_with_len 0 n) i j)))));
-      }
+      downward = λ k e l sv.
+          let p = upward k e l in
+          c.downward (update_at h q (get_or before k e).0) (update_at h q (get_or before k e).1) (here (get_or before k e).0 (omega (arith, p.0, p.1))) (here (get_or before k e).1 p.1) p.2 sv;
+      holds_must = All-from_recursion (λ i. S (update_at h q i) ≡ true) (range_with_len 0 n)
+          (each_in (λ i. S (update_at h q i) ≡ true) (range_with_len 0 n) (λ i j. c.holds_must (update_at h q i)
+          (In-Contains (must h q) (update_at h q i) (subst (In (update_at h q i)) (must_positions d h q legal n count) (in_mapped (update_at h q) (range_with_len 0 n) i j)))));
+    }
       where
         here : (i : ℕ) → i < length us → Contains us (update_at h q i)
         here i l = Contains-get_or us i 0 l
@@ -146,23 +146,24 @@ module _ (d : Distance) (h : Schedule) (q : ℕ) (legal : IsLegal d h) (places :
     none_past x past u =
         values_trace h x u
         ∙ ap (map (λ o. o.value)) (filter_none_in (wrote_by x u) (operations h) (λ o i. Rattle.std.proofs.lemmas.Bool.false_from_ne_true (wrote_by x u o) (λ is.
-            let below : o.item < length h.opening = legal_items d h legal o i in
-            let here : o.item ≡ x = (wrote_parts x u o is).1 in
-            let bad : ⊥ = omega arith in bad)))
+        let below : o.item < length h.opening = legal_items d h legal o i in
+        let here : o.item ≡ x = (wrote_parts x u o is).1 in
+        let bad : ⊥ = omega arith in bad)))
 
     chains_found : (x : ℕ) → chain_at found x ≡ chain_of h q x
     chains_found x =
         elim (Rattle.std.proofs.lemmas.Bool.cases_lt x (length h.opening)) [
-          inl inside ↦
-            ap written_chain (get_range Chain (λ x. chain_from (last_step steps x) (length us)) 0 (length h.opening) x inside)
-            ∙ ap some_chain (ap (λ k. chain_from (last_step steps k) (length us)) zero_more ∙ chain_agree (last_step steps x) (last_written h q x) (length us) (λ i l. last_same x i l))
-        | inr past ↦
-            ap written_chain (get_past Chain (λ x. chain_from (last_step steps x) (length us)) 0 (length h.opening) x past)
-            ∙ sym (ap some_chain (chain_agree (last_written h q x) (λ i. None) (length us) (λ i l. ap last_of (none_past x past (update_at h q i)))) ∙ ap (λ ws. if_written ws (chain_from (λ i. None) (length us))) (none_write 0 (length us)))
+          | inl inside ↦
+              ap written_chain (get_range Chain (λ x. chain_from (last_step steps x) (length us)) 0 (length h.opening) x inside)
+              ∙ ap some_chain (ap (λ k. chain_from (last_step steps k) (length us)) zero_more ∙ chain_agree (last_step steps x) (last_written h q x) (length us) (λ i l. last_same x i l))
+          | inr past ↦
+              ap written_chain (get_past Chain (λ x. chain_from (last_step steps x) (length us)) 0 (length h.opening) x past)
+              ∙ sym (ap some_chain (chain_agree (last_written h q x) (λ i. None) (length us) (λ i l. ap last_of (none_past x past (update_at h q i)))) ∙ ap (λ ws. if_written ws (chain_from (λ i. None) (length us))) (none_write 0 (length us)))
         ]
       where
         zero_more : 0 + x ≡ x
         zero_more = omega arith
+
         none_write : (a m : ℕ) → (chain_from (λ i. None) m).writers ≡ []
         none_write a m = filter_none_in (λ i. false) (range_with_len 0 m) (λ i j. refl)
 
@@ -183,14 +184,15 @@ module _ (d : Distance) (h : Schedule) (q : ℕ) (legal : IsLegal d h) (places :
         let same : c.writers ≡ ws = ap (λ k. k.writers) (chain_is x c is) in
         let l : i + 1 < length ws = subst (λ l. i + 1 < length l) same inside in
         let wrote : All (λ w. (w < length us) × (is_some (last_written h q x w) ≡ true)) ws = All-from_recursion (λ w. (w < length us) × (is_some (last_written h q x w) ≡ true)) ws (each_in (λ w. (w < length us) × (is_some (last_written h q x w) ≡ true)) ws (λ w j.
-            let p = In-of_filter (λ i. is_some (last_written h q x i)) (range_with_len 0 (length us)) w j in
-            (each_at (λ w. w < length us) (range_with_len 0 (length us)) w (range_below 0 (length us) (length us) (omega arith)) p.0, p.1))) in
+        let p = In-of_filter (λ i. is_some (last_written h q x i)) (range_with_len 0 (length us)) w j in
+        (each_at (λ w. w < length us) (range_with_len 0 (length us)) w (range_below 0 (length us) (length us) (omega arith)) p.0, p.1))) in
         let rising : AllPairs (λ i j. i < j) ws = All-from_pairs (λ i j. i < j) ws (Pairs-filter (λ i j. i < j) (λ i. is_some (last_written h q x i)) (range_with_len 0 (length us)) (range_rising 0 (length us))) in
         subst (λ l. Contains before (slice_index_or l i 0, slice_index_or l (i + 1) 0)) (sym same)
-            (ordered x (slice_index_or ws i 0) (slice_index_or ws (i + 1) 0) (rising i (i + 1) 0 (omega arith) l) (wrote i 0 (omega arith)) (wrote (i + 1) 0 l))
+        (ordered x (slice_index_or ws i 0) (slice_index_or ws (i + 1) 0) (rising i (i + 1) 0 (omega arith) l) (wrote i 0 (omega arith)) (wrote (i + 1) 0 l))
       where
         some_values : (x w : ℕ) → is_some (last_written h q x w) ≡ true → values_by h x (update_at h q w) ≡ [] → ⊥
         some_values x w some none = true≢false (sym some ∙ ap (λ vs. is_some (last_of vs)) none)
+
         ordered : (x v w : ℕ) → v < w → (v < length us) × (is_some (last_written h q x v) ≡ true) → (w < length us) × (is_some (last_written h q x w) ≡ true) → Contains before (v, w)
         ordered x v w lt pv pw =
             ⊎_elim

@@ -27,8 +27,8 @@ none_before : {X : Type 0} (p : X → Bool) (xs : List X) → list_any p (before
 none_before p [] = refl
 none_before p (x ∷ xs) =
     elim (cases_Bool (p x)) [
-      inl here ↦ ap (list_any p) (before_first-here p x xs here)
-    | inr away ↦ ap (list_any p) (before_first-later p x xs away) ∙ (ap (λ b. b || list_any p (before_first p xs)) away ∙ none_before p xs)
+      | inl here ↦ ap (list_any p) (before_first-here p x xs here)
+      | inr away ↦ ap (list_any p) (before_first-later p x xs away) ∙ (ap (λ b. b || list_any p (before_first p xs)) away ∙ none_before p xs)
     ]
 
 before_first-past : {X : Type 0} (p : X → Bool) (xs ys : List X) → list_any p xs ≡ false → before_first p (xs ++ ys) ≡ xs ++ before_first p ys
@@ -47,9 +47,9 @@ part_at past (e ∷ es) rest =
     let more : length (past ++ e ∷ []) ≡ length past + 1 = length-append past (e ∷ []) in
     ap (λ u. u ∷ map (λ i. slice_index_or (past ++ (e ∷ (es ++ rest))) i 0) (range_with_len (length past + 1) (length es))) (at past e (es ++ rest))
     ∙ ap (λ l. e ∷ l)
-        (ap (λ n. map (λ i. slice_index_or (past ++ (e ∷ (es ++ rest))) i 0) (range_with_len n (length es))) (sym more)
-        ∙ (ap (λ l. map (λ i. slice_index_or l i 0) (range_with_len (length (past ++ e ∷ [])) (length es))) (sym (append_assoc past (e ∷ []) (es ++ rest)))
-        ∙ part_at (past ++ e ∷ []) es rest))
+    (ap (λ n. map (λ i. slice_index_or (past ++ (e ∷ (es ++ rest))) i 0) (range_with_len n (length es))) (sym more)
+    ∙ (ap (λ l. map (λ i. slice_index_or l i 0) (range_with_len (length (past ++ e ∷ [])) (length es))) (sym (append_assoc past (e ∷ []) (es ++ rest)))
+    ∙ part_at (past ++ e ∷ []) es rest))
   where
     at : (xs : List ℕ) (x : ℕ) (ys : List ℕ) → slice_index_or (xs ++ (x ∷ ys)) (length xs) 0 ≡ x
     at [] x ys = refl
@@ -79,8 +79,8 @@ module _ (d : Distance) (h : Schedule) (q : ℕ) (legal : IsLegal d h) where
   not_early : list_any (λ t. eqb t q) early ≡ false
   not_early =
       false_from_ne_true (list_any (λ t. eqb t q) early) (λ is.
-          let begun : is_begun (done front) q ≡ true = (known (legal_reached d front front_legal)).of_ends q (or_left (list_any (λ t. eqb t q) early) (list_any (λ t. eqb t q) (trace front).aborts) is) in
-          true≢false (sym (has_begins d front front_legal q begun) ∙ none_before (λ (e : Entry). begins q e.reply) h.entries))
+      let begun : is_begun (done front) q ≡ true = (known (legal_reached d front front_legal)).of_ends q (or_left (list_any (λ t. eqb t q) early) (list_any (λ t. eqb t q) (trace front).aborts) is) in
+      true≢false (sym (has_begins d front front_legal q begun) ∙ none_before (λ (e : Entry). begins q e.reply) h.entries))
 
   abbrev first : List ℕ
   first = filter (is_update (done h)) early
@@ -106,21 +106,23 @@ module _ (d : Distance) (h : Schedule) (q : ℕ) (legal : IsLegal d h) where
       all_pass [] pass = refl
       all_pass (u ∷ us) pass =
           ap (λ b. cond b (u ∷ filter (is_committed (accepted (before_begin h q))) us) (filter (is_committed (accepted (before_begin h q))) us)) (pass u (inl refl)) ∙ ap (λ l. u ∷ l) (all_pass us (λ v i. pass v (inr i)))
+
       once : Pairs (λ u v. u ≡ v → ⊥) (early ++ commit_order (accepted later))
       once = subst (Pairs (λ u v. u ≡ v → ⊥)) all_commits (commits_once (legal_reached d h legal))
+
       apart : (u : ℕ) → In u rest → is_committed (accepted (before_begin h q)) u ≡ false
       apart u i =
           let behind : In u (commit_order (accepted later)) = In-before_first (λ t. eqb t q) (commit_order (accepted later)) u (In-of_filter (is_update (done h)) (before_first (λ t. eqb t q) (commit_order (accepted later))) u i).0 in
           false_from_ne_true (is_committed (accepted (before_begin h q)) u) (λ is.
-              Pairs-across (λ u v. u ≡ v → ⊥) early (commit_order (accepted later)) u u once (In-from_any early u (sym (committed_among (accepted (before_begin h q)) u) ∙ is)) behind refl)
+          Pairs-across (λ u v. u ≡ v → ⊥) early (commit_order (accepted later)) u u once (In-from_any early u (sym (committed_among (accepted (before_begin h q)) u) ∙ is)) behind refl)
 
   -- what the scan counts
   early_found : found_early h.entries (update_table h.entries) q ≡ first
   early_found =
       ap (λ (p : ℕ → Bool). filter p (filter_map commit_at (before_first (λ (e : Entry). begins q e.reply) (scanned h.entries)))) (fun_ext (is_update_found h.entries))
       ∙ ap (filter (is_update (done h)))
-          (ap (λ (es : List Entry). filter_map commit_at (before_first (λ (e : Entry). begins q e.reply) es)) (all_entries h.entries)
-          ∙ (given_accepted (λ e. committer e.event) (before_begin h q) ∙ given_events committer (filter accepts (before_begin h q))))
+      (ap (λ (es : List Entry). filter_map commit_at (before_first (λ (e : Entry). begins q e.reply) es)) (all_entries h.entries)
+      ∙ (given_accepted (λ e. committer e.event) (before_begin h q) ∙ given_events committer (filter accepts (before_begin h q))))
 
   -- the positions that a strict query must have seen, and those of another
   pub must_positions : (n : ℕ) → n ≡ (if is_strict (done h) q then length (found_early h.entries (update_table h.entries) q) else 0) → map (update_at h q) (range_with_len 0 n) ≡ must h q

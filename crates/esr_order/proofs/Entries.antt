@@ -21,9 +21,9 @@ later past (e ∷ es) =
     let more : length (past ++ e ∷ []) ≡ length past + 1 = length-append past (e ∷ []) in
     ap (λ o. cons_option o (filter_map (slice_get (past ++ e ∷ es)) (range_with_len (length past + 1) (length es)))) (get_seam past e es)
     ∙ ap (λ l. e ∷ l)
-        (ap (λ n. filter_map (slice_get (past ++ e ∷ es)) (range_with_len n (length es))) (sym more)
-        ∙ (ap (λ l. filter_map (slice_get l) (range_with_len (length (past ++ e ∷ [])) (length es))) (sym (append_assoc past (e ∷ []) es))
-        ∙ later (past ++ e ∷ []) es))
+    (ap (λ n. filter_map (slice_get (past ++ e ∷ es)) (range_with_len n (length es))) (sym more)
+    ∙ (ap (λ l. filter_map (slice_get l) (range_with_len (length (past ++ e ∷ [])) (length es))) (sym (append_assoc past (e ∷ []) es))
+    ∙ later (past ++ e ∷ []) es))
 
 -- the entries at the places of a log, in order
 pub all_entries : (es : List Entry) → filter_map (slice_get es) (range_with_len 0 (length es)) ≡ es

@@ -60,6 +60,7 @@ length_found es = lengths (filter_map kind_at (scanned es)) ∙ (ap length (kind
     lengths : (ks : List Kind) → length (map (λ k. not k.query) ks) ≡ length ks
     lengths [] = refl
     lengths (k ∷ ks) = ap suc (lengths ks)
+
     mapped : (bs : List Beginning) → length (map kind_of bs) ≡ length bs
     mapped [] = refl
     mapped (b ∷ bs) = ap suc (mapped bs)

@@ -62,8 +62,8 @@ module _ (d : Distance) (h : Schedule) (q : ℕ) (legal : IsLegal d h) where
   few_updates =
       let begins : length (beginnings (done h)) ≤ 65535 = legal_begins d h legal in
       let below : length (updates_of h q) ≤ 1 + length (beginnings (done h)) =
-          length-le_from_distinct_below (updates_of h q) (1 + length (beginnings (done h))) (distinct (updates_of h q) (in_order d h q legal).once)
-              (λ u some. let w = In-any (eqb u) (updates_of h q) some in subst (λ v. v < 1 + length (beginnings (done h))) (sym (eqb-true u w.0 w.2)) (listed_begun d h q legal w.0 w.1).1) in
+      length-le_from_distinct_below (updates_of h q) (1 + length (beginnings (done h))) (distinct (updates_of h q) (in_order d h q legal).once)
+      (λ u some. let w = In-any (eqb u) (updates_of h q) some in subst (λ v. v < 1 + length (beginnings (done h))) (sym (eqb-true u w.0 w.2)) (listed_begun d h q legal w.0 w.1).1) in
       omega arith
 
   pub early_few : (n : ℕ) → n ≡ (if is_strict (done h) q then length (found_early h.entries (update_table h.entries) q) else 0) → n ≤ 65536
@@ -83,6 +83,7 @@ module _ (d : Distance) (h : Schedule) (q : ℕ) (legal : IsLegal d h) where
         all_of : (t : ℕ) (ts : List TxnId) → AllByRecursion (λ u. t ≡ u → ⊥) (map (λ u. u.0) ts) → AllByRecursion (λ u. t ≡ u.0 → ⊥) ts
         all_of t [] all = tt
         all_of t (u ∷ ts) all = (all.0, all_of t ts all.1)
+
         each : (ts : List TxnId) → Pairs (λ u v. u ≡ v → ⊥) (map (λ t. t.0) ts) → Pairs (λ t u. t.0 ≢ u.0) ts
         each [] once = tt
         each (t ∷ ts) once = (all_of t.0 ts once.0, each ts once.1)
@@ -99,7 +100,7 @@ module _ (d : Distance) (h : Schedule) (q : ℕ) (legal : IsLegal d h) where
     pub places_below : (places : List (Option ℕ)) → IsTableOf (map (λ t. t.0) commits) places → (steps : List Step) → steps ≡ filter_map (step_of places) (operations h) → (n : ℕ) → n ≡ length commits → All (λ s. s.place < n) steps
     places_below places table steps is n len =
         subst (λ ss. All (λ s. s.place < n) ss) (sym is)
-            (subst (λ m. All (λ s. s.place < m) (filter_map (step_of places) (operations h))) (length_numbers commits ∙ sym len) (steps_placed (map (λ t. t.0) commits) places table (operations h)))
+        (subst (λ m. All (λ s. s.place < m) (filter_map (step_of places) (operations h))) (length_numbers commits ∙ sym len) (steps_placed (map (λ t. t.0) commits) places table (operations h)))
 
     pub gathered : (places : List (Option ℕ)) → IsTableOf (map (λ t. t.0) commits) places → (steps : List Step) → steps ≡ filter_map (step_of places) (operations h)
         → (n : ℕ) → n ≡ length commits → (before : List (ℕ × ℕ)) → ListsPairs (is_pair steps) n before
@@ -110,11 +111,11 @@ module _ (d : Distance) (h : Schedule) (q : ℕ) (legal : IsLegal d h) where
         let us : List ℕ = updates_of h q in
         let all : n ≡ length us = len ∙ commits_length in
         let listed : ListsPairs (is_pair (filter_map (step_of places) (operations h))) (length us) before =
-            subst (λ k. ListsPairs (is_pair (filter_map (step_of places) (operations h))) k before) all (subst (λ ss. ListsPairs (is_pair ss) n before) is pairs) in
+        subst (λ k. ListsPairs (is_pair (filter_map (step_of places) (operations h))) k before) all (subst (λ ss. ListsPairs (is_pair ss) n before) is pairs) in
         let chained : chains ≡ map (λ x. chain_from (last_step (filter_map (step_of places) (operations h)) x) (length us)) (range_with_len 0 (length h.opening)) =
-            links ∙ (ap (λ ss. map (λ x. chain_from (last_step ss x) n) (range_with_len 0 items)) is
-            ∙ (ap (λ k. map (λ x. chain_from (last_step (filter_map (step_of places) (operations h)) x) k) (range_with_len 0 items)) all
-            ∙ ap (λ k. map (λ x. chain_from (last_step (filter_map (step_of places) (operations h)) x) (length us)) (range_with_len 0 k)) count)) in
+        links ∙ (ap (λ ss. map (λ x. chain_from (last_step ss x) n) (range_with_len 0 items)) is
+        ∙ (ap (λ k. map (λ x. chain_from (last_step (filter_map (step_of places) (operations h)) x) k) (range_with_len 0 items)) all
+        ∙ ap (λ k. map (λ x. chain_from (last_step (filter_map (step_of places) (operations h)) x) (length us)) (range_with_len 0 k)) count)) in
         subst (λ ms. IsOrderOf h q (record { commits = commits; before = before; must = ms; chains = chains })) (sym first)
-            (subst (λ cs. IsOrderOf h q (record { commits = commits; before = before; must = range_with_len 0 m; chains = cs })) (sym chained)
-                (order_found d h q legal places (subst (λ l. IsTableOf l places) same table) before listed m early commits same))
+        (subst (λ cs. IsOrderOf h q (record { commits = commits; before = before; must = range_with_len 0 m; chains = cs })) (sym chained)
+        (order_found d h q legal places (subst (λ l. IsTableOf l places) same table) before listed m early commits same))

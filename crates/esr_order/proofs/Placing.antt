@@ -27,6 +27,7 @@ pair_given f r s same (x ∷ xs) = at (f x) refl (pair_given f r s same xs)
     none : (ys : List _) → ((b : _) → r x b ≡ false) → list_any (r x) ys ≡ false
     none [] fails = refl
     none (y ∷ ys) fails = ap (λ b. b || list_any (r x) ys) (fails y) ∙ none ys fails
+
     at : (o : Option _) → f x ≡ o → any_pair r xs ≡ any_pair s (filter_map f xs) → (list_any (r x) xs || any_pair r xs) ≡ any_pair s (cons_option o (filter_map f xs))
     at None is rest = ap (λ b. b || any_pair r xs) (none xs (λ b. same x b ∙ ap (λ o. both_of s o (f b)) is)) ∙ rest
     at (Some y) is rest =
@@ -58,8 +59,8 @@ filter_twice p q (x ∷ xs) = at (p x) (filter_twice p q xs)
 eqb_same : (a b c d : ℕ) → (a ≡ b → c ≡ d) → (c ≡ d → a ≡ b) → (a == b) ≡ (c == d)
 eqb_same a b c d to from =
     elim (cases_eq a b) [
-      inl e ↦ eq-eqb a b e ∙ sym (eq-eqb c d (to e))
-    | inr ne ↦ ne_eqb a b ne ∙ sym (ne_eqb c d (λ e. ne (from e)))
+      | inl e ↦ eq-eqb a b e ∙ sym (eq-eqb c d (to e))
+      | inr ne ↦ ne_eqb a b ne ∙ sym (ne_eqb c d (λ e. ne (from e)))
     ]
 
 pub get_at : (us : List ℕ) (i : ℕ) → i < length us → slice_get us i ≡ Some (slice_index_or us i 0)
@@ -72,8 +73,8 @@ module _ (us : List ℕ) (places : List (Option ℕ)) (table : IsTableOf us plac
   at_place : (t p i u : ℕ) → place_of places t ≡ Some p → slice_get us i ≡ Some u → (t == u) ≡ (p == i)
   at_place t p i u is here =
       eqb_same t u p i
-          (λ e. same_Some p i (sym is ∙ (ap (place_of places) e ∙ (table u i).1 here)))
-          (λ e. same_Some t u (sym ((table t p).0 is) ∙ (ap (slice_get us) e ∙ here)))
+      (λ e. same_Some p i (sym is ∙ (ap (place_of places) e ∙ (table u i).1 here)))
+      (λ e. same_Some t u (sym ((table t p).0 is) ∙ (ap (slice_get us) e ∙ here)))
 
   no_place : (t i u : ℕ) → place_of places t ≡ None → slice_get us i ≡ Some u → (t == u) ≡ false
   no_place t i u none here = ne_eqb t u (λ e. let bad : None ≡ Some i = sym none ∙ (ap (place_of places) e ∙ (table u i).1 here) in absurd (cc))
@@ -88,6 +89,7 @@ module _ (us : List ℕ) (places : List (Option ℕ)) (table : IsTableOf us plac
     where
       placed : Operation → Option ℕ → Option Step
       placed o p = option_map (λ k. let s : Step = record { place = k; item = o.item; writes = o.writes; value = o.value } in s) p
+
       test : (a b : Operation) (p : Option ℕ) → place_of places a.txn ≡ p → (r : Option ℕ) → place_of places b.txn ≡ r
           → ((a.txn == u) && ((b.txn == v) && conflict a b)) ≡ both_of (λ a b. (a.place == i) && ((b.place == j) && clash a b)) (placed a p) (placed b r)
       test a b None is r its = ap (λ c. c && ((b.txn == v) && conflict a b)) (no_place a.txn i u is at_i)
@@ -104,9 +106,11 @@ module _ (us : List ℕ) (places : List (Option ℕ)) (table : IsTableOf us plac
     where
       placed : Operation → Option ℕ → Option Step
       placed o p = option_map (λ k. let s : Step = record { place = k; item = o.item; writes = o.writes; value = o.value } in s) p
+
       test : (o : Operation) (p : Option ℕ) → place_of places o.txn ≡ p → wrote_by x u o ≡ any_of (λ (s : Step). (s.writes && (s.item == x)) && (s.place == i)) (placed o p)
       test o None is = ap (λ c. (o.writes && (o.item == x)) && c) (no_place o.txn i u is here) ∙ and_right (o.writes && (o.item == x)) false refl
       test o (Some p) is = ap (λ c. (o.writes && (o.item == x)) && c) (at_place o.txn p i u is here)
+
       valued : (o : Operation) (s : Step) (p : Option ℕ) → placed o p ≡ Some s → o.value ≡ s.value
       valued o s None is = absurd (cc)
       valued o s (Some p) is = ap (λ (t : Step). t.value) (same_Some (record { place = p; item = o.item; writes = o.writes; value = o.value }) s is)
@@ -120,6 +124,7 @@ chain_agree last other n same = λ k. record { writers = writers 0 n (λ i low h
     writers a (suc m) agree =
         ap (λ o. cond (is_some o) (a ∷ filter (λ i. is_some (last i)) (range_with_len (a + 1) m)) (filter (λ i. is_some (last i)) (range_with_len (a + 1) m))) (agree a (omega arith) (omega arith))
         ∙ ap (λ l. cond (is_some (other a)) (a ∷ l) l) (writers (a + 1) m (λ i low high. agree i (omega arith) (omega arith)))
+
     values : (a m : ℕ) → ((i : ℕ) → a ≤ i → i < a + m → last i ≡ other i) → filter_map last (range_with_len a m) ≡ filter_map other (range_with_len a m)
     values a zero agree = refl
     values a (suc m) agree =

@@ -6,15 +6,15 @@ ghost use Rattle.esr_history.specs.Queries.{is_committed_query, is_strict};
 ghost use Rattle.esr_order.specs.Chains.{seen_links};
 ghost use Rattle.esr_order.specs.Orders.{IsOrderOf, chain_at};
 
-use std::alloc::{AllocError, Global};
-use std::marker::Model;
-
-use esr_history::{History, Log, TxnId};
-use esr_items::{ItemId, Metric};
-
 use crate::chains::{Links, chains_of};
 use crate::pairs::{pairs_of, places_of};
-use crate::scan::{Kind, are_updates, count_must, has_committed, nth_kind, steps_in, updates_before};
+use crate::scan::{
+    Kind, are_updates, count_must, has_committed, nth_kind, steps_in, updates_before,
+};
+use esr_history::{History, Log, TxnId};
+use esr_items::{ItemId, Metric};
+use std::alloc::{AllocError, Global};
+use std::marker::Model;
 
 /// Why there is no order of a query.
 #[derive(Clone, Copy, PartialEq, Eq, Debug)]
@@ -84,11 +84,7 @@ fn first_positions(alloc: Global, n: usize) -> Result<Vec<u32>, AllocError>
 
 impl Order {
     /// The order of a committed query of a legal history.
-    pub fn of<M: Metric>(
-        alloc: Global,
-        history: &History<M>,
-        q: TxnId,
-    ) -> Result<Order, OrderError>
+    pub fn of<M: Metric>(alloc: Global, history: &History<M>, q: TxnId) -> Result<Order, OrderError>
         ensures ok { IfOk result (λ o. IsOrderOf history.now.schedule q.0 o) }
         ensures refused { IsErrOf result OrderError.NotACommittedQuery ↔ (is_committed_query history.now.schedule q.0 ≡ false) }
     {
@@ -103,7 +99,12 @@ impl Order {
         let before = pairs_of(alloc, &steps, commits.len())?;
         let chains = chains_of(alloc, &steps, history.items(), commits.len())?;
         let must = first_positions(alloc, count_must(log, &updates, q.0, kind.strict))?;
-        Ok(Order { commits, before, must, chains })
+        Ok(Order {
+            commits,
+            before,
+            must,
+            chains,
+        })
     }
 
     /// The updates that committed before the query did, in commit order.
