@@ -40,15 +40,15 @@ after_writes-range v (w ∷ ws) first all = after_writes-range w.value ws (all w
 record InRanges (h : Schedule) : Type 0 where
   begins : length (beginnings (done h)) ≤ 65535
   reads : (t : ℕ) → is_update (done h) t ≡ false → all_reads_of (done h) t ≤ 1000
-  values : (o : Operation) → In o (operations h) → IsValue o.value
+  values : AllByRecursion IsValue h.opening → (o : Operation) → In o (operations h) → IsValue o.value
   items : (o : Operation) → In o (operations h) → o.item < length h.opening
 
-module _ (d : Distance) (h : Schedule) (opened : AllByRecursion IsValue h.opening) (was : InRanges h) where
-  current-range : (x : ℕ) → IsValue (current_value h.opening (done h) x)
-  current-range x =
+module _ (d : Distance) (h : Schedule) (was : InRanges h) where
+  current-range : AllByRecursion IsValue h.opening → (x : ℕ) → IsValue (current_value h.opening (done h) x)
+  current-range opened x =
       rw (current_trace h x)
       (after_writes-range (value_at h.opening x) (filter (λ w. writes_item x w && not (is_among (trace h).aborts w.txn)) (operations h)) (value_at-range h.opening x opened)
-      (λ o i. was.values o (In-of_filter (λ w. writes_item x w && not (is_among (trace h).aborts w.txn)) (operations h) o i).0))
+      (λ o i. was.values opened o (In-of_filter (λ w. writes_item x w && not (is_among (trace h).aborts w.txn)) (operations h) o i).0))
 
   reads-push : (e : Event) (t : ℕ) → all_reads_of (done h ++ e ∷ []) t ≡ all_reads_of (done h) t + cond (reads_any t e) 1 0
   reads-push e t =
@@ -74,13 +74,13 @@ module _ (d : Distance) (h : Schedule) (opened : AllByRecursion IsValue h.openin
   -- after an accepted event
   about : (e : Event) (r : Reply) → is_refusal r ≡ false → length (beginnings (done h ++ e ∷ [])) ≤ 65535
       → ((t : ℕ) → is_update (done h ++ e ∷ []) t ≡ false → all_reads_of (done h ++ e ∷ []) t ≤ 1000)
-      → ((o : Operation) → In o (cons_option (operation_by e r) []) → IsValue o.value × (o.item < length h.opening)) → InRanges (extended h e r)
+      → ((o : Operation) → In o (cons_option (operation_by e r) []) → (AllByRecursion IsValue h.opening → IsValue o.value) × (o.item < length h.opening)) → InRanges (extended h e r)
   about e r is begins reads new =
       let events : done (extended h e r) ≡ done h ++ e ∷ [] = done-accepted h e r is in
       record {
         begins = rw events begins;
         reads = λ t fails. rw events (reads t (subst (λ (es : List Event). is_update es t ≡ false) events fails));
-        values = λ o i. elim (one o i) [ inl j ↦ was.values o j | inr j ↦ (new o j).0 ];
+        values = λ opened o i. elim (one o i) [ inl j ↦ was.values opened o j | inr j ↦ (new o j).0 opened ];
         items = λ o i. elim (one o i) [ inl j ↦ was.items o j | inr j ↦ (new o j).1 ];
       }
     where
@@ -110,7 +110,7 @@ module _ (d : Distance) (h : Schedule) (opened : AllByRecursion IsValue h.openin
       begin_in_ranges (BeginQuery l s) (acceptance h (BeginQuery l s)) (record { query = true; strict = s; limit = l }) refl refl refl (λ t. refl) (when_none (nat_le 65535 (length (beginnings (done h)))) TooManyTransactions none.1.0)
   accepted_in_ranges (Read t x) none =
       about (Read t x) (acceptance h (Read t x)) refl (same_begins (Read t x) refl) reads
-      (single (λ o. IsValue o.value × (o.item < length h.opening)) (record { txn = t.0; item = x.0; writes = false; value = current_value h.opening (done h) x.0 }) (current-range x.0, item_below x.0 none.1.1.0))
+      (single (λ o. (AllByRecursion IsValue h.opening → IsValue o.value) × (o.item < length h.opening)) (record { txn = t.0; item = x.0; writes = false; value = current_value h.opening (done h) x.0 }) (λ opened. current-range opened x.0, item_below x.0 none.1.1.0))
     where
       act : is_active (done h) t.0 ≡ true
       act = not_ended h t.0 none.1.0
@@ -136,8 +136,8 @@ module _ (d : Distance) (h : Schedule) (opened : AllByRecursion IsValue h.openin
           query_from (Some b) some q = not-false b.query q
   accepted_in_ranges (Write t x v) none =
       about (Write t x v) (acceptance h (Write t x v)) refl (same_begins (Write t x v) refl) (fewer_reads (Write t x v) (λ u. refl))
-      (single (λ o. IsValue o.value × (o.item < length h.opening)) (record { txn = t.0; item = x.0; writes = true; value = v })
-      (leb-true (unsigned_abs v) (10 ^ 12) (not-false (is_value v) (when_none (not (is_value v)) ValueOutOfRange none.1.1.1.1.0)), item_below x.0 none.1.1.0))
+      (single (λ o. (AllByRecursion IsValue h.opening → IsValue o.value) × (o.item < length h.opening)) (record { txn = t.0; item = x.0; writes = true; value = v })
+      (λ _. leb-true (unsigned_abs v) (10 ^ 12) (not-false (is_value v) (when_none (not (is_value v)) ValueOutOfRange none.1.1.1.1.0)), item_below x.0 none.1.1.0))
   accepted_in_ranges (Commit t) none = about (Commit t) (acceptance h (Commit t)) refl (same_begins (Commit t) refl) (fewer_reads (Commit t) (λ u. refl)) (λ o i. absurd i)
   accepted_in_ranges (Abort t) none = about (Abort t) (acceptance h (Abort t)) refl (same_begins (Abort t) refl) (fewer_reads (Abort t) (λ u. refl)) (λ o i. absurd i)
 
@@ -155,23 +155,29 @@ module _ (d : Distance) (h : Schedule) (opened : AllByRecursion IsValue h.openin
           subst (λ w. InRanges (extended h e w)) (sym answer) (record {
             begins = rw events was.begins;
             reads = λ t fails. rw events (was.reads t (subst (λ (es : List Event). is_update es t ≡ false) events fails));
-            values = λ o i. was.values o (subst (In o) ops i);
+            values = λ opened o i. was.values opened o (subst (In o) ops i);
             items = λ o i. was.items o (subst (In o) ops i);
           })
 
-legal_in_ranges : (d : Distance) (h : Schedule) → AllByRecursion IsValue h.opening → IsLegal d h → InRanges h
-legal_in_ranges d h opened legal =
-    legal_induction d (λ g. AllByRecursion IsValue g.opening → InRanges g) (λ g e r is was all. InRanges-extended d g all (was all) e r is) h
-    (λ all. record { begins = omega arith; reads = λ t is. omega arith; values = λ o i. absurd i; items = λ o i. absurd i }) legal opened
+legal_in_ranges : (d : Distance) (h : Schedule) → IsLegal d h → InRanges h
+legal_in_ranges d h legal =
+    legal_induction d InRanges (λ g e r is was. InRanges-extended d g was e r is) h
+        (record { begins = omega arith; reads = λ t is. omega arith; values = λ opened o i. absurd i; items = λ o i. absurd i }) legal
+
+pub legal_begins : (d : Distance) (h : Schedule) → IsLegal d h → length (beginnings (done h)) ≤ 65535
+legal_begins d h legal = (legal_in_ranges d h legal).begins
+
+pub legal_items : (d : Distance) (h : Schedule) → IsLegal d h → (o : Operation) → In o (operations h) → o.item < length h.opening
+legal_items d h legal = (legal_in_ranges d h legal).items
 
 -- the counts and ranges of a legal history
 pub legal_within_ranges : (d : Distance) (h : Schedule) → All IsValue h.opening → IsLegal d h → IsWithinRanges h
 legal_within_ranges d h opened legal =
-    let r : InRanges h = legal_in_ranges d h (recursion_from_All IsValue h.opening opened) legal in
+    let r : InRanges h = legal_in_ranges d h legal in
     record {
       begins = r.begins;
       reads = λ q query. r.reads q (query_not_update (beginning (done h) q) query);
-      values = All-from_recursion (λ (o : Operation). IsValue o.value) (operations h) (each_in (λ (o : Operation). IsValue o.value) (operations h) r.values);
+      values = All-from_recursion (λ (o : Operation). IsValue o.value) (operations h) (each_in (λ (o : Operation). IsValue o.value) (operations h) (r.values (recursion_from_All IsValue h.opening opened)));
       items = All-from_recursion (λ (o : Operation). o.item < length h.opening) (operations h) (each_in (λ (o : Operation). o.item < length h.opening) (operations h) r.items);
     }
   where

@@ -29,7 +29,7 @@ trace h = record { operations = operations h; commits = commit_order (done h); a
 abbrev accepts : Entry → Bool
 accepts e = not (is_refusal e.reply)
 
-abbrev any_of : {Y : Type 0} → (Y → Bool) → Option Y → Bool
+abbrev pub any_of : {Y : Type 0} → (Y → Bool) → Option Y → Bool
 any_of q None = false
 any_of q (Some y) = q y
 
@@ -38,7 +38,7 @@ any-cons_option q None ys = refl
 any-cons_option q (Some y) ys = refl
 
 -- a test of some element, and one of what the elements give
-any_given : {X Y : Type 0} (f : X → Option Y) (p : X → Bool) (q : Y → Bool) → ((x : X) → p x ≡ any_of q (f x)) → (xs : List X) → list_any p xs ≡ list_any q (filter_map f xs)
+pub any_given : {X Y : Type 0} (f : X → Option Y) (p : X → Bool) (q : Y → Bool) → ((x : X) → p x ≡ any_of q (f x)) → (xs : List X) → list_any p xs ≡ list_any q (filter_map f xs)
 any_given f p q same [] = refl
 any_given f p q same (x ∷ xs) = ap (λ b. b || list_any p xs) (same x) ∙ (ap (λ b. any_of q (f x) || b) (any_given f p q same xs) ∙ sym (any-cons_option q (f x) (filter_map f xs)))
 

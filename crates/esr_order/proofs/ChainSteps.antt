@@ -13,9 +13,9 @@ module _ (last : ℕ → Option ℤ) (i : ℕ) where
   grown : (o : Option ℤ) → last i ≡ o → chain_from last (i + 1) ≡ record { writers = filter (λ i. is_some (last i)) (range_with_len 0 i) ++ cond (is_some o) (i ∷ []) []; values = filter_map last (range_with_len 0 i) ++ cons_option o [] }
   grown o is =
       let ws : filter (λ i. is_some (last i)) (range_with_len 0 (i + 1)) ≡ filter (λ i. is_some (last i)) (range_with_len 0 i) ++ cond (is_some o) (i ∷ []) [] =
-          ap (filter (λ i. is_some (last i))) (next i) ∙ (filter-append (λ i. is_some (last i)) (range_with_len 0 i) (i ∷ []) ∙ ap (λ p. filter (λ i. is_some (last i)) (range_with_len 0 i) ++ cond (is_some p) (i ∷ []) []) is) in
+      ap (filter (λ i. is_some (last i))) (next i) ∙ (filter-append (λ i. is_some (last i)) (range_with_len 0 i) (i ∷ []) ∙ ap (λ p. filter (λ i. is_some (last i)) (range_with_len 0 i) ++ cond (is_some p) (i ∷ []) []) is) in
       let vs : filter_map last (range_with_len 0 (i + 1)) ≡ filter_map last (range_with_len 0 i) ++ cons_option o [] =
-          ap (filter_map last) (next i) ∙ (filter_map-append last (range_with_len 0 i) (i ∷ []) ∙ ap (λ p. filter_map last (range_with_len 0 i) ++ cons_option p []) is) in
+      ap (filter_map last) (next i) ∙ (filter_map-append last (range_with_len 0 i) (i ∷ []) ∙ ap (λ p. filter_map last (range_with_len 0 i) ++ cons_option p []) is) in
       λ k. record { writers = ws k; values = vs k }
 
   pub chain_push : (ws : List ℕ) (vs : List ℤ) (v : ℤ) → last i ≡ Some v → record { writers = ws; values = vs } ≡ chain_from last i → record { writers = ws ++ i ∷ []; values = vs ++ v ∷ [] } ≡ chain_from last (i + 1)

@@ -21,15 +21,15 @@ later past (e ∷ es) =
     let more : length (past ++ e ∷ []) ≡ length past + 1 = length-append past (e ∷ []) in
     ap (λ o. cons_option o (filter_map (slice_get (past ++ e ∷ es)) (range_with_len (length past + 1) (length es)))) (get_seam past e es)
     ∙ ap (λ l. e ∷ l)
-        (ap (λ n. filter_map (slice_get (past ++ e ∷ es)) (range_with_len n (length es))) (sym more)
-        ∙ (ap (λ l. filter_map (slice_get l) (range_with_len (length (past ++ e ∷ [])) (length es))) (sym (append_assoc past (e ∷ []) es))
-        ∙ later (past ++ e ∷ []) es))
+    (ap (λ n. filter_map (slice_get (past ++ e ∷ es)) (range_with_len n (length es))) (sym more)
+    ∙ (ap (λ l. filter_map (slice_get l) (range_with_len (length (past ++ e ∷ [])) (length es))) (sym (append_assoc past (e ∷ []) es))
+    ∙ later (past ++ e ∷ []) es))
 
 -- the entries at the places of a log, in order
 pub all_entries : (es : List Entry) → filter_map (slice_get es) (range_with_len 0 (length es)) ≡ es
 all_entries es = later [] es
 
-abbrev accepts : Entry → Bool
+abbrev pub accepts : Entry → Bool
 accepts e = not (is_refusal e.reply)
 
 pub given_accepted : {Y : Type 0} (f : Entry → Option Y) (es : List Entry) → filter_map (if_accepted f) es ≡ filter_map f (filter accepts es)
@@ -42,11 +42,11 @@ given_accepted f (e ∷ es) = at (is_refusal e.reply) (given_accepted f es)
     at false rest = ap (cons_option (f e)) rest
 
 -- what the events of entries give
-given_events : {Y : Type 0} (f : Event → Option Y) (es : List Entry) → filter_map (λ e. f e.event) es ≡ filter_map f (map (λ e. e.event) es)
+pub given_events : {Y : Type 0} (f : Event → Option Y) (es : List Entry) → filter_map (λ e. f e.event) es ≡ filter_map f (map (λ e. e.event) es)
 given_events f [] = refl
 given_events f (e ∷ es) = ap (cons_option (f e.event)) (given_events f es)
 
-mapped_given : {X Y Z : Type 0} (f : X → Option Y) (g : Y → Z) (xs : List X) → filter_map (λ x. option_map g (f x)) xs ≡ map g (filter_map f xs)
+pub mapped_given : {X Y Z : Type 0} (f : X → Option Y) (g : Y → Z) (xs : List X) → filter_map (λ x. option_map g (f x)) xs ≡ map g (filter_map f xs)
 mapped_given f g [] = refl
 mapped_given f g (x ∷ xs) = at (f x) (mapped_given f g xs)
   where

@@ -28,4 +28,4 @@ module _ (ss : List Step) (i k : ℕ) (d : Step) (inside : k < length ss) where
   pub last_miss : ((get_or ss k d).place ≡ i → ⊥) → last_among i (take k ss) ≡ last_among i (take (k + 1) ss)
   last_miss other =
       sym (ap (λ l. last_of (map (λ s. s.value) l))
-          (one_more ∙ (ap (λ l. filter (λ s. s.place == i) (take k ss) ++ l) (cond-false ((get_or ss k d).place == i) (get_or ss k d ∷ []) [] (ne_eqb (get_or ss k d).place i other)) ∙ append-nil (filter (λ s. s.place == i) (take k ss)))))
+      (one_more ∙ (ap (λ l. filter (λ s. s.place == i) (take k ss) ++ l) (cond-false ((get_or ss k d).place == i) (get_or ss k d ∷ []) [] (ne_eqb (get_or ss k d).place i other)) ∙ append-nil (filter (λ s. s.place == i) (take k ss)))))

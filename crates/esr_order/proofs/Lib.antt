@@ -7,3 +7,8 @@ pub mod Rows
 pub mod Tables
 pub mod LastSteps
 pub mod ChainSteps
+pub mod Found
+pub mod Placing
+pub mod Early
+pub mod Complete
+pub mod Gathered

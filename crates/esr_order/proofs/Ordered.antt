@@ -20,9 +20,9 @@ front_pairs R p f xs h =
 
 pub in_order : (d : Distance) (h : Schedule) (q : ℕ) → IsLegal d h → InOrder h q
 in_order d h q legal = record {
-    once = front_pairs (λ u v. u ≡ v → ⊥) (is_update (done h)) (λ u. eqb u q) (commit_order (done h)) (updates_once d h legal);
-    keeps = front_pairs (λ u v. is_before h v u ≡ false) (is_update (done h)) (λ u. eqb u q) (commit_order (done h)) (updates_in_order d h legal);
-  }
+  once = front_pairs (λ u v. u ≡ v → ⊥) (is_update (done h)) (λ u. eqb u q) (commit_order (done h)) (updates_once d h legal);
+  keeps = front_pairs (λ u v. is_before h v u ≡ false) (is_update (done h)) (λ u. eqb u q) (commit_order (done h)) (updates_in_order d h legal);
+}
 
 pub law_of_placements : (d : Distance) (h : Schedule) (q : ℕ) → IsLegal d h → ClosedSetsAreParts d h q
 law_of_placements d h q legal = closed_sets_are_parts h q (in_order d h q legal) d

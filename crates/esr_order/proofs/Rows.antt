@@ -42,20 +42,24 @@ module _ (steps : List Step) (i n k : ℕ) (row : List Bool) (was : IsRowFrom st
       → IsRowFrom steps i n (k + 1) row'
   row_marked own later slice before row' same len marks =
       let marked : IsMarked (get_or steps k d) row row' later = subst (λ r. IsMarked (get_or steps k d) r row' later) same (len, marks) in
-      let rest : later ≡ drop (k + 1) steps = slice ∙ take_all (length steps - (k + 1)) (drop (k + 1) steps) (omega (arith, length-drop (k + 1) steps)) in
-      (marked.0 ∙ was.0, λ j l.
-          let here : slice_index_or row' j false ≡ (slice_index_or row j false || list_any (λ b. (b.place == j) && clash (get_or steps k d) b) (drop (k + 1) steps)) =
-              marked.1 j (subst (λ m. j < m) (sym was.0) l) ∙ ap (λ l. slice_index_or row j false || list_any (λ b. (b.place == j) && clash (get_or steps k d) b) l) rest in
-          was.1 j l
-          ∙ (ap (λ b. slice_index_or row j false || b) (split j ∙ ap (λ t. list_any (λ b. t && ((b.place == j) && clash (get_or steps k d) b)) (drop (k + 1) steps) || is_pair (drop (k + 1) steps) i j) (eq-eqb (get_or steps k d).place i own))
-          ∙ (or_assoc (slice_index_or row j false) (list_any (λ b. (b.place == j) && clash (get_or steps k d) b) (drop (k + 1) steps)) (is_pair (drop (k + 1) steps) i j)
-          ∙ ap (λ b. b || is_pair (drop (k + 1) steps) i j) (sym here))))
+      let rest : later ≡ drop (k + 1) steps = slice ∙ take_all (length steps - (k + 1)) (drop (k + 1) steps) (omega (arith, length-drop (k + 1) steps)) in (
+        marked.0 ∙ was.0,
+        λ j l.
+            let here : slice_index_or row' j false ≡ (slice_index_or row j false || list_any (λ b. (b.place == j) && clash (get_or steps k d) b) (drop (k + 1) steps)) =
+            marked.1 j (subst (λ m. j < m) (sym was.0) l) ∙ ap (λ l. slice_index_or row j false || list_any (λ b. (b.place == j) && clash (get_or steps k d) b) l) rest in
+            was.1 j l
+            ∙ (ap (λ b. slice_index_or row j false || b) (split j ∙ ap (λ t. list_any (λ b. t && ((b.place == j) && clash (get_or steps k d) b)) (drop (k + 1) steps) || is_pair (drop (k + 1) steps) i j) (eq-eqb (get_or steps k d).place i own))
+            ∙ (or_assoc (slice_index_or row j false) (list_any (λ b. (b.place == j) && clash (get_or steps k d) b) (drop (k + 1) steps)) (is_pair (drop (k + 1) steps) i j)
+            ∙ ap (λ b. b || is_pair (drop (k + 1) steps) i j) (sym here))),
+      )
 
   pub row_passed : ((get_or steps k d).place ≡ i → ⊥) → IsRowFrom steps i n (k + 1) row
-  row_passed other =
-      (was.0, λ j l.
-          was.1 j l
-          ∙ ap (λ b. slice_index_or row j false || b)
-              (split j
-              ∙ (ap (λ t. list_any (λ b. t && ((b.place == j) && clash (get_or steps k d) b)) (drop (k + 1) steps) || is_pair (drop (k + 1) steps) i j) (ne_eqb (get_or steps k d).place i other)
-              ∙ ap (λ b. b || is_pair (drop (k + 1) steps) i j) (none_tied (λ b. (b.place == j) && clash (get_or steps k d) b) (drop (k + 1) steps)))))
+  row_passed other = (
+    was.0,
+    λ j l.
+        was.1 j l
+        ∙ ap (λ b. slice_index_or row j false || b)
+        (split j
+        ∙ (ap (λ t. list_any (λ b. t && ((b.place == j) && clash (get_or steps k d) b)) (drop (k + 1) steps) || is_pair (drop (k + 1) steps) i j) (ne_eqb (get_or steps k d).place i other)
+        ∙ ap (λ b. b || is_pair (drop (k + 1) steps) i j) (none_tied (λ b. (b.place == j) && clash (get_or steps k d) b) (drop (k + 1) steps)))),
+  )

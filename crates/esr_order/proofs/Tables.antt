@@ -41,33 +41,37 @@ module _ (us : List ℕ) (places : List (Option ℕ)) (k t : ℕ) (was : IsTable
     where
       within : {j : ℕ} → j < k + 1 → (j ≡ k → ⊥) → j < k
       within l ne = omega arith
+
       same : t ≡ u → (place_of (slice_set places t (Some k)) u ≡ Some i) ↔ (slice_get (take (k + 1) us) i ≡ Some u)
       same e =
-          let set : place_of (slice_set places t (Some k)) u ≡ Some k = ap (place_of (slice_set places t (Some k))) (sym e) ∙ ap (λ o. unwrap_or o None) (get_set places t (Some k) room) in
-          ((λ is.
-              let at : k ≡ i = same_Some k i (sym set ∙ is) in
-              subst (λ j. slice_get (take (k + 1) us) j ≡ Some u) at (get_take us (k + 1) k (omega arith) ∙ (here ∙ ap Some e))),
-           (λ is.
-              let below : i < k + 1 = taken_below us (k + 1) i u is in
-              let got : slice_get us i ≡ Some t = sym (get_take us (k + 1) i below) ∙ (is ∙ ap Some (sym e)) in
-              elim (cases_eq i k) [
-                inl at ↦ set ∙ ap Some (sym at)
-              | inr ne ↦ absurd (first i (within below ne) got)
-              ]))
+          let set : place_of (slice_set places t (Some k)) u ≡ Some k = ap (place_of (slice_set places t (Some k))) (sym e) ∙ ap (λ o. unwrap_or o None) (get_set places t (Some k) room) in (
+            (λ is.
+                let at : k ≡ i = same_Some k i (sym set ∙ is) in
+                subst (λ j. slice_get (take (k + 1) us) j ≡ Some u) at (get_take us (k + 1) k (omega arith) ∙ (here ∙ ap Some e))),
+            (λ is.
+                let below : i < k + 1 = taken_below us (k + 1) i u is in
+                let got : slice_get us i ≡ Some t = sym (get_take us (k + 1) i below) ∙ (is ∙ ap Some (sym e)) in
+                elim (cases_eq i k) [
+                  | inl at ↦ set ∙ ap Some (sym at)
+                  | inr ne ↦ absurd (first i (within below ne) got)
+                ]),
+          )
+
       other : (t ≡ u → ⊥) → (place_of (slice_set places t (Some k)) u ≡ Some i) ↔ (slice_get (take (k + 1) us) i ≡ Some u)
       other ne =
-          let kept : place_of (slice_set places t (Some k)) u ≡ place_of places u = ap (λ o. unwrap_or o None) (get_set_other places t u (Some k) ne) in
-          ((λ is.
-              let got : slice_get (take k us) i ≡ Some u = (was u i).0 (sym kept ∙ is) in
-              let below : i < k = taken_below us k i u got in
-              get_take us (k + 1) i (omega arith) ∙ (sym (get_take us k i below) ∙ got)),
-           (λ is.
-              let below : i < k + 1 = taken_below us (k + 1) i u is in
-              let got : slice_get us i ≡ Some u = sym (get_take us (k + 1) i below) ∙ is in
-              elim (cases_eq i k) [
-                inl at ↦ absurd (ne (same_Some t u (sym here ∙ (ap (slice_get us) (sym at) ∙ got))))
-              | inr apart ↦ kept ∙ (was u i).1 (get_take us k i (within below apart) ∙ got)
-              ]))
+          let kept : place_of (slice_set places t (Some k)) u ≡ place_of places u = ap (λ o. unwrap_or o None) (get_set_other places t u (Some k) ne) in (
+            (λ is.
+                let got : slice_get (take k us) i ≡ Some u = (was u i).0 (sym kept ∙ is) in
+                let below : i < k = taken_below us k i u got in
+                get_take us (k + 1) i (omega arith) ∙ (sym (get_take us k i below) ∙ got)),
+            (λ is.
+                let below : i < k + 1 = taken_below us (k + 1) i u is in
+                let got : slice_get us i ≡ Some u = sym (get_take us (k + 1) i below) ∙ is in
+                elim (cases_eq i k) [
+                  | inl at ↦ absurd (ne (same_Some t u (sym here ∙ (ap (slice_get us) (sym at) ∙ got))))
+                  | inr apart ↦ kept ∙ (was u i).1 (get_take us k i (within below apart) ∙ got)
+                ]),
+          )
 
 get_mapped : {X Y : Type 0} (f : X → Y) (xs : List X) (i : ℕ) (d : X) → i < length xs → slice_get (map f xs) i ≡ Some (f (get_or xs i d))
 get_mapped f [] i d l = absurd (omega arith)
@@ -80,8 +84,9 @@ pub table_next : (ts : List TxnId) (places : List (Option ℕ)) (n i : ℕ) (d :
     → (length (slice_set places (get_or ts i d).0 (Some i)) ≡ n + 1) × IsTableOf (take (i + 1) (map (λ t. t.0) ts)) (slice_set places (get_or ts i d).0 (Some i))
 table_next ts places n i d inside known once was =
     let same : length (slice_set places (get_or ts i d).0 (Some i)) ≡ length places = length-set places (get_or ts i d).0 (Some i) in
-    let len = was.0 in
-    (same ∙ len,
-     table_grows (map (λ t. t.0) ts) places i (get_or ts i d).0 was.1 (get_mapped (λ t. t.0) ts i d inside)
-        (λ k l is. once k i d l inside (same_Some (get_or ts k d).0 (get_or ts i d).0 (sym (get_mapped (λ t. t.0) ts k d (omega arith)) ∙ is)))
-        (omega arith))
+    let len = was.0 in (
+      same ∙ len,
+      table_grows (map (λ t. t.0) ts) places i (get_or ts i d).0 was.1 (get_mapped (λ t. t.0) ts i d inside)
+          (λ k l is. once k i d l inside (same_Some (get_or ts k d).0 (get_or ts i d).0 (sym (get_mapped (λ t. t.0) ts k d (omega arith)) ∙ is)))
+          (omega arith),
+    )

@@ -17,16 +17,16 @@ pair_total r s [] a b ia ib ne rab sba = absurd ia
 pair_total r s (z ∷ zs) a b ia ib ne rab sba =
     ⊎_elim
     (λ za. ⊎_elim
-        (λ zb. absurd (ne (sym za ∙ zb)))
-        (λ jb. inl (or_left (list_any (r z) zs) (any_pair r zs) (any-from_In (r z) zs b jb (ap (λ w. r w b) za ∙ rab))))
-        ib)
+    (λ zb. absurd (ne (sym za ∙ zb)))
+    (λ jb. inl (or_left (list_any (r z) zs) (any_pair r zs) (any-from_In (r z) zs b jb (ap (λ w. r w b) za ∙ rab))))
+    ib)
     (λ ja. ⊎_elim
-        (λ zb. inr (or_left (list_any (s z) zs) (any_pair s zs) (any-from_In (s z) zs a ja (ap (λ w. s w a) zb ∙ sba))))
-        (λ jb. ⊎_elim
-            (λ t. inl (or_right (list_any (r z) zs) (any_pair r zs) t))
-            (λ t. inr (or_right (list_any (s z) zs) (any_pair s zs) t))
-            (pair_total r s zs a b ja jb ne rab sba))
-        ib)
+    (λ zb. inr (or_left (list_any (s z) zs) (any_pair s zs) (any-from_In (s z) zs a ja (ap (λ w. s w a) zb ∙ sba))))
+    (λ jb. ⊎_elim
+    (λ t. inl (or_right (list_any (r z) zs) (any_pair r zs) t))
+    (λ t. inr (or_right (list_any (s z) zs) (any_pair s zs) t))
+    (pair_total r s zs a b ja jb ne rab sba))
+    ib)
     ia
 
 pub writers_in_order : (h : Schedule) (x : ℕ) → Orders (is_before h) (values_by h x)
@@ -37,7 +37,7 @@ writers_in_order h x u t nu nt ne =
     let pb = wrote_parts x t b.0 b.2 in
     let apart : a.0.txn ≡ b.0.txn → ⊥ = λ e. ne (sym pa.2 ∙ (e ∙ pb.2)) in
     pair_total (λ y z. eqb y.txn u && (eqb z.txn t && conflict y z)) (λ y z. eqb y.txn t && (eqb z.txn u && conflict y z)) (operations h) a.0 b.0 a.1 b.1 (λ e. apart (ap (λ o. o.txn) e))
-        (and_from (eqb a.0.txn u) (eqb b.0.txn t && conflict a.0 b.0) (eq-eqb a.0.txn u pa.2)
-            (and_from (eqb b.0.txn t) (conflict a.0 b.0) (eq-eqb b.0.txn t pb.2) (conflict_of a.0 b.0 apart (pa.1 ∙ sym pb.1) (or_left a.0.writes b.0.writes pa.0))))
-        (and_from (eqb b.0.txn t) (eqb a.0.txn u && conflict b.0 a.0) (eq-eqb b.0.txn t pb.2)
-            (and_from (eqb a.0.txn u) (conflict b.0 a.0) (eq-eqb a.0.txn u pa.2) (conflict_of b.0 a.0 (λ e. apart (sym e)) (pb.1 ∙ sym pa.1) (or_left b.0.writes a.0.writes pb.0))))
+    (and_from (eqb a.0.txn u) (eqb b.0.txn t && conflict a.0 b.0) (eq-eqb a.0.txn u pa.2)
+    (and_from (eqb b.0.txn t) (conflict a.0 b.0) (eq-eqb b.0.txn t pb.2) (conflict_of a.0 b.0 apart (pa.1 ∙ sym pb.1) (or_left a.0.writes b.0.writes pa.0))))
+    (and_from (eqb b.0.txn t) (eqb a.0.txn u && conflict b.0 a.0) (eq-eqb b.0.txn t pb.2)
+    (and_from (eqb a.0.txn u) (conflict b.0 a.0) (eq-eqb a.0.txn u pa.2) (conflict_of b.0 a.0 (λ e. apart (sym e)) (pb.1 ∙ sym pa.1) (or_left b.0.writes a.0.writes pb.0))))

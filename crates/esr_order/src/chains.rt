@@ -2,9 +2,8 @@ ghost use Rattle.std.specs.Prelude.{◌≡◌, ◌<◌, ◌^◌, ◌&&◌, ◌==
 ghost use Rattle.std.specs.List.{range_with_len};
 ghost use Rattle.esr_order.specs.Chains.{last_of, last_step, chain_from, seen_links};
 
-use std::alloc::{AllocError, Global};
-
 use crate::scan::Step;
+use std::alloc::{AllocError, Global};
 
 /// The updates that wrote an item, by their positions in commit order, and the
 /// values that they wrote last.
@@ -17,7 +16,11 @@ pub struct Links {
 fn writes_to(alloc: Global, steps: &[Step], item: u32) -> Result<Vec<Step>, AllocError>
     ensures { IfOk result (λ v. v.items ≡ filter (λ s. s.writes && (s.item == item)) steps.now) }
 {
-    steps.iter().copied().filter(|s| s.writes && s.item == item).collect(alloc)
+    steps
+        .iter()
+        .copied()
+        .filter(|s| s.writes && s.item == item)
+        .collect(alloc)
 }
 
 /// The last value that the update at the position wrote, if it wrote.

@@ -4,11 +4,9 @@ ghost use Rattle.esr_order.specs.Statements.{LawOfPlacements, LawOfLongerHistori
 /// the least distance of a placement is the least cost of a closed set.
 pub fn parts_are_closed_sets()
     ensures { LawOfPlacements }
-{
-}
+{}
 
 /// What the audit of a committed query rests on stays in every longer legal history.
 pub fn longer_histories_agree()
     ensures { LawOfLongerHistories }
-{
-}
+{}

@@ -2,11 +2,9 @@ ghost use Rattle.std.specs.Prelude.{◌≡◌, ◌<◌, ◌≤◌, ◌^◌, ◌|
 ghost use Rattle.std.specs.List.{list_any};
 ghost use Rattle.esr_order.specs.Listing.{IsTableOf, clash, is_pair, ListsPairs, ListsAhead};
 
-use std::alloc::{AllocError, Global};
-
-use esr_history::TxnId;
-
 use crate::scan::Step;
+use esr_history::TxnId;
+use std::alloc::{AllocError, Global};
 
 /// The position of each transaction in the list, by its number.
 pub fn places_of(

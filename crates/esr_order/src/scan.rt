@@ -1,4 +1,4 @@
-ghost use Rattle.std.specs.Prelude.{◌≡◌, ℕ, suc, List, Bool, not, ◌==◌, IfOk, Some, slice_get, length, map};
+ghost use Rattle.std.specs.Prelude.{◌≡◌, ℕ, suc, List, Bool, not, ◌==◌, IfOk, Some, slice_get, length, map, if◌then◌else◌};
 ghost use Rattle.std.specs.List.{filter_map, list_any};
 ghost use Rattle.esr_history.specs.declared.event.TxnId.{TxnId};
 ghost use Rattle.esr_history.specs.declared.event.Entry.{Entry};
@@ -7,9 +7,8 @@ ghost use Rattle.esr_history.specs.Operations.{answer};
 ghost use Rattle.esr_history.specs.Queries.{begins};
 ghost use Rattle.esr_order.specs.Scans.{scanned, kind_at, commit_at, is_update_of, found_before, found_early, place_of, step_at};
 
-use std::alloc::{AllocError, Global};
-
 use esr_history::{Entry, Event, Log, Reply, TxnId};
+use std::alloc::{AllocError, Global};
 
 /// How a transaction began.
 #[derive(Clone, Copy)]
@@ -50,8 +49,14 @@ fn kind_in(entry: Entry) -> Option<Kind>
         return None;
     }
     match entry.event {
-        Event::BeginUpdate { limit: _ } => Some(Kind { query: false, strict: false }),
-        Event::BeginQuery { limit: _, strict } => Some(Kind { query: true, strict }),
+        Event::BeginUpdate { limit: _ } => Some(Kind {
+            query: false,
+            strict: false,
+        }),
+        Event::BeginQuery { limit: _, strict } => Some(Kind {
+            query: true,
+            strict,
+        }),
         _ => None,
     }
 }
@@ -106,14 +111,21 @@ pub fn nth_kind(log: &Log, k: usize) -> Option<Kind>
 pub fn has_committed(log: &Log, t: u32) -> bool
     ensures { result ≡ list_any (λ u. u == t) (filter_map commit_at (scanned log.now.entries)) }
 {
-    (0..log.len()).filter_map(|i| log.get(i)).filter_map(|entry| commit_in(entry)).any(|u| u == t)
+    (0..log.len())
+        .filter_map(|i| log.get(i))
+        .filter_map(|entry| commit_in(entry))
+        .any(|u| u == t)
 }
 
 /// Whether each transaction is an update, from transaction 1 on.
 pub fn are_updates(alloc: Global, log: &Log) -> Result<Vec<bool>, AllocError>
     ensures { IfOk result (λ v. v.items ≡ map (λ k. not k.query) (filter_map kind_at (scanned log.now.entries))) }
 {
-    (0..log.len()).filter_map(|i| log.get(i)).filter_map(|entry| kind_in(entry)).map(|kind| !kind.query).collect(alloc)
+    (0..log.len())
+        .filter_map(|i| log.get(i))
+        .filter_map(|entry| kind_in(entry))
+        .map(|kind| !kind.query)
+        .collect(alloc)
 }
 
 fn is_update(updates: &[bool], t: u32) -> bool
@@ -134,14 +146,36 @@ pub fn updates_before(
 ) -> Result<Vec<TxnId>, AllocError>
     ensures { IfOk result (λ v. v.items ≡ map (λ t. record { 0 = t }) (found_before log.now.entries updates.now q)) }
 {
-    (0..log.len()).filter_map(|i| log.get(i)).filter_map(|entry| commit_in(entry)).take_while(|t| *t != q).filter(|t| is_update(updates, *t)).map(|t| TxnId(t)).collect(alloc)
+    (0..log.len())
+        .filter_map(|i| log.get(i))
+        .filter_map(|entry| commit_in(entry))
+        .take_while(|t| *t != q)
+        .filter(|t| is_update(updates, *t))
+        .map(|t| TxnId(t))
+        .collect(alloc)
 }
 
 /// How many updates committed before the query began.
-pub fn count_early(log: &Log, updates: &[bool], q: u32) -> usize
+fn count_early(log: &Log, updates: &[bool], q: u32) -> usize
     ensures { result ≡ length (found_early log.now.entries updates.now q) }
 {
-    (0..log.len()).filter_map(|i| log.get(i)).take_while(|entry| !is_begin_of(entry.reply, q)).filter_map(|entry| commit_in(entry)).filter(|t| is_update(updates, *t)).count()
+    (0..log.len())
+        .filter_map(|i| log.get(i))
+        .take_while(|entry| !is_begin_of(entry.reply, q))
+        .filter_map(|entry| commit_in(entry))
+        .filter(|t| is_update(updates, *t))
+        .count()
+}
+
+/// How many updates a query must have seen.
+pub fn count_must(log: &Log, updates: &[bool], q: u32, strict: bool) -> usize
+    ensures { result ≡ (if strict then length (found_early log.now.entries updates.now q) else 0) }
+{
+    if strict {
+        count_early(log, updates, q)
+    } else {
+        0
+    }
 }
 
 fn place_in(places: &[Option<u32>], t: u32) -> Option<u32>
@@ -159,10 +193,20 @@ fn step_in(places: &[Option<u32>], entry: Entry) -> Option<Step>
     match entry.event {
         Event::Read { txn, item } => {
             let value = answered(entry.reply);
-            place_in(places, txn.0).map(|place| Step { place, item: item.0, writes: false, value })
+            place_in(places, txn.0).map(|place| Step {
+                place,
+                item: item.0,
+                writes: false,
+                value,
+            })
         }
         Event::Write { txn, item, value } => {
-            place_in(places, txn.0).map(|place| Step { place, item: item.0, writes: true, value })
+            place_in(places, txn.0).map(|place| Step {
+                place,
+                item: item.0,
+                writes: true,
+                value,
+            })
         }
         _ => None,
     }
@@ -172,5 +216,8 @@ fn step_in(places: &[Option<u32>], entry: Entry) -> Option<Step>
 pub fn steps_in(alloc: Global, log: &Log, places: &[Option<u32>]) -> Result<Vec<Step>, AllocError>
     ensures { IfOk result (λ v. v.items ≡ filter_map (step_at places.now) (scanned log.now.entries)) }
 {
-    (0..log.len()).filter_map(|i| log.get(i)).filter_map(|entry| step_in(places, entry)).collect(alloc)
+    (0..log.len())
+        .filter_map(|i| log.get(i))
+        .filter_map(|entry| step_in(places, entry))
+        .collect(alloc)
 }
