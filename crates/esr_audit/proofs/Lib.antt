@@ -8,3 +8,4 @@ pub mod Stays
 pub mod Gathered
 pub mod Versions
 pub mod Standing
+pub mod Shape

@@ -109,7 +109,7 @@ module _ (h : Schedule) (q x : ℕ) where
       ∙ sym (after_each (values_by h x) (value_at h.opening x) (writers_of h q x) 0 (writers_leave h x (updates_of h q)))
 
 -- a chain with no writer has no value
-written_writers : (c : Chain) → writers_in (some_chain c) ≡ c.writers
+pub written_writers : (c : Chain) → writers_in (some_chain c) ≡ c.writers
 written_writers c = at c.writers refl
   where
     at : (ws : List ℕ) → c.writers ≡ ws → writers_in (if_written ws c) ≡ ws
