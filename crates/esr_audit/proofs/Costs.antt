@@ -65,7 +65,7 @@ sum_mapped f g [] = refl
 sum_mapped f g (x ∷ xs) = omega (arith, sum_by-cons f (g x) (map g xs), sum_by-cons (λ x. f (g x)) x xs, sum_mapped f g xs)
 
 -- the reads, item by item
-by_item : (g : ℕ → Operation → ℕ) (P : ℕ → Bool) (n : ℕ) (os : List Operation) → AllByRecursion (λ (o : Operation). (P o.item ≡ true) × (o.item < n)) os
+pub by_item : (g : ℕ → Operation → ℕ) (P : ℕ → Bool) (n : ℕ) (os : List Operation) → AllByRecursion (λ (o : Operation). (P o.item ≡ true) × (o.item < n)) os
     → sum_by (λ x. sum_by (λ (o : Operation). cond (eqb o.item x) (g x o) 0) os) (filter P (range_with_len 0 n)) ≡ sum_by (λ (o : Operation). g o.item o) os
 by_item g P n [] a = sum_zero (filter P (range_with_len 0 n))
 by_item g P n (o ∷ os) a =

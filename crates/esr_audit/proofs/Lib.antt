@@ -9,3 +9,4 @@ pub mod Gathered
 pub mod Versions
 pub mod Standing
 pub mod Shape
+pub mod Within
