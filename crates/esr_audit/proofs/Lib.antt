@@ -10,3 +10,5 @@ pub mod Versions
 pub mod Standing
 pub mod Shape
 pub mod Within
+pub mod Readings
+pub mod Posed

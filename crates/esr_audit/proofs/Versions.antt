@@ -161,15 +161,26 @@ versions_from f n = ap (λ ys. f 0 ∷ ys) (moved 0 n)
     moved a zero = refl
     moved a (suc n) = let e : suc a ≡ a + 1 = omega arith in ap (λ v. f v ∷ map (λ j. f (suc j)) (range_with_len (a + 1) n)) e ∙ ap (λ ys. f (a + 1) ∷ ys) (moved (a + 1) n)
 
+-- the values in an order are what the first writers leave
+pub versions_are : (h : Schedule) (q : ℕ) (o : Ordered) (x : ℕ) → chain_at o x ≡ chain_of h q x
+    → values_in (chain_at o x) ≡ map (λ j. state h (take (suc j) (writers_of h q x)) x) (range_with_len 0 (length (writers_of h q x)))
+versions_are h q o x is =
+    let c : Chain = chain_from (last_written h q x) (length (updates_of h q)) in
+    let equal : length c.values ≡ length c.writers =
+      ap length (chain_values h q x) ∙ length_mapped (λ j. state h (take (suc j) (writers_of h q x)) x) 0 (length (writers_of h q x)) ∙ sym (ap length (chain_writers h q x) ∙ length-places (updates_of h q) (has_written h x)) in
+    ap values_in is ∙ written_values c equal ∙ chain_values h q x
+  where
+    length_mapped : {Y : Type 0} (f : ℕ → Y) (a n : ℕ) → length (map f (range_with_len a n)) ≡ n
+    length_mapped f a zero = refl
+    length_mapped f a (suc n) = let r = length_mapped f (a + 1) n in omega (arith, r)
+
 -- the chain that is gathered of an item is that of the problem that stands for the query
 pub gathered_stands : (d : Distance) (h : Schedule) (q : ℕ) (o : Ordered) (x : ℕ) → chain_at o x ≡ chain_of h q x
     → gathered (distance_in d h) h.opening o (map reading_of (reads_by h q)) x ≡ chain_for d h q (updates_of h q) x
 gathered_stands d h q o x is =
     let c : Chain = chain_from (last_written h q x) (length (updates_of h q)) in
     let writers : writers_in (chain_at o x) ≡ places (updates_of h q) (has_written h x) = ap writers_in is ∙ written_writers c ∙ chain_writers h q x in
-    let equal : length c.values ≡ length c.writers =
-      ap length (chain_values h q x) ∙ length_mapped (λ j. state h (take (suc j) (writers_of h q x)) x) 0 (length (writers_of h q x)) ∙ sym (ap length (chain_writers h q x) ∙ length-places (updates_of h q) (has_written h x)) in
-    let values : values_in (chain_at o x) ≡ map (λ j. state h (take (suc j) (writers_of h q x)) x) (range_with_len 0 (length (writers_of h q x))) = ap values_in is ∙ written_values c equal ∙ chain_values h q x in
+    let values : values_in (chain_at o x) ≡ map (λ j. state h (take (suc j) (writers_of h q x)) x) (range_with_len 0 (length (writers_of h q x))) = versions_are h q o x is in
     let D : ℤ → ℕ = distance_sum (distance_in d h) x (values_of (map reading_of (reads_by h q)) x) in
     let costs : map D (value_at h.opening x ∷ values_in (chain_at o x)) ≡ map (version_cost d h q x) (range_with_len 0 (suc (length (writers_of h q x)))) =
       ap (λ vs. map D (value_at h.opening x ∷ vs)) values
@@ -179,7 +190,3 @@ gathered_stands d h q o x is =
     let with_writers : List ℕ → problems.Chain = λ ws. record { item = x; writers = ws; costs = map D (value_at h.opening x ∷ values_in (chain_at o x)) } in
     let with_costs : List ℕ → problems.Chain = λ cs. record { item = x; writers = places (updates_of h q) (has_written h x); costs = cs } in
     ap with_writers writers ∙ ap with_costs costs
-  where
-    length_mapped : {Y : Type 0} (f : ℕ → Y) (a n : ℕ) → length (map f (range_with_len a n)) ≡ n
-    length_mapped f a zero = refl
-    length_mapped f a (suc n) = let r = length_mapped f (a + 1) n in omega (arith, r)

@@ -67,7 +67,7 @@ greatest_within : (m : ℕ) (ns : List ℕ) → AllByRecursion (λ n. n ≤ m) n
 greatest_within m [] all = omega arith
 greatest_within m (n ∷ ns) all = let rest = greatest_within m ns all.1 in let first : n ≤ m = all.0 in omega arith
 
-each_mapped : {X Y : Type 0} (P : Y → Type 0) (f : X → Y) (xs : List X) → ((x : X) → P (f x)) → AllByRecursion P (map f xs)
+pub each_mapped : {X Y : Type 0} (P : Y → Type 0) (f : X → Y) (xs : List X) → ((x : X) → P (f x)) → AllByRecursion P (map f xs)
 each_mapped P f [] all = tt
 each_mapped P f (x ∷ xs) all = (all x, each_mapped P f xs all)
 

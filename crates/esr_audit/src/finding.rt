@@ -1,5 +1,7 @@
 //! What audits find.
 
+use std::alloc::AllocError;
+
 use esr_cert::{Certificate, Problem};
 use esr_history::TxnId;
 
@@ -31,4 +33,15 @@ pub enum AuditError {
     NotACommittedQuery = 1,
     /// Memory was refused.
     NoMemory = 2,
+}
+
+impl From<AllocError> for AuditError {
+    ghost use Rattle.std.specs.Prelude.{◌≡◌};
+    ghost use Rattle.esr_audit.specs.declared.finding.AuditError.TheVariants.{NoMemory};
+
+    ghost from_gives = { λ _ e. e ≡ NoMemory };
+
+    fn from(_: AllocError) -> AuditError {
+        AuditError::NoMemory
+    }
 }

@@ -4,6 +4,7 @@
 
 mod chains;
 mod finding;
+mod problem;
 mod reads;
 
 pub use finding::{AuditError, Finding};
