@@ -62,7 +62,10 @@ impl Store {
         if !values.iter().all(|v| is_value(*v)) {
             return Err(ItemsError::ValueOutOfRange);
         }
-        let versions = values.iter().map(|v| Versions { committed: *v, current: *v });
+        let versions = values.iter().map(|v| Versions {
+            committed: *v,
+            current: *v,
+        });
         match versions.collect(alloc) {
             Ok(items) => Ok(Store { items }),
             Err(_) => Err(ItemsError::NoMemory),

@@ -1,6 +1,5 @@
-use std::test::Fail;
-
 use crate::{ItemId, ItemsError, Metric, Plain, Store};
+use std::test::Fail;
 
 #[test]
 fn a_store_keeps_two_values_of_each_item(rt: HostRuntime) -> Result<(), Fail> {
@@ -37,6 +36,9 @@ fn a_store_names_what_it_refuses(rt: HostRuntime) -> Result<(), Fail> {
 #[test]
 fn plain_distances_are_differences(rt: HostRuntime) {
     let x = ItemId(0);
-    assert_eq!(rt; Plain.distance(x, -1_000_000_000_000, 1_000_000_000_000), 2_000_000_000_000);
+    assert_eq!(rt;
+        Plain.distance(x, -1_000_000_000_000, 1_000_000_000_000),
+        2_000_000_000_000
+    );
     assert_eq!(rt; Plain.distance(x, 3, 3), 0);
 }
