@@ -1,0 +1,7 @@
+//! The lock table: which transactions hold which locks on each item.
+#![tactic(auto)]
+
+mod lists;
+mod row;
+
+pub use lists::QueryReads;
