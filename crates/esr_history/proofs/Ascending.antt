@@ -10,6 +10,12 @@ use Rattle.std.proofs.lemmas.Bool.Decides.{nat_tests}
 use Rattle.std.proofs.lemmas.List.Elements.{All-from_recursion}
 use Rattle.esr_history.specs.Ascending.{IsAscendingBy, placed, IsPlaceOf, IsGapFor}
 
+or_comm : (a b : Bool) → (a || b) ≡ (b || a)
+or_comm true true = refl
+or_comm true false = refl
+or_comm false true = refl
+or_comm false false = refl
+
 pub lt_ltb : (a b : ℕ) → a < b → nat_lt a b ≡ true
 lt_ltb a b l = grind (arith, nat_tests)
 
@@ -175,6 +181,27 @@ module _ {X : Type 0} (key : X → ℕ) where
       let h : key (get_or xs i x) ≡ t = place.has_number x in
       let r : key x < key (get_or xs i x) = All-from_recursion (λ y. key x < key y) xs asc.0 i x (omega (arith, place.in_range)) in
       rw (ne_eqb (key x) t (λ (e : key x ≡ t). omega arith), le_ltb t (key x) (omega arith)) (ap (λ ys. x ∷ ys) (placed_same t i new xs asc.1 (place_tail x xs t i place)))
+
+  -- who stands there after one more is placed stood there before, or is the one placed
+  pub any_placed : (t : ℕ) (new : X) (change : X → X) → key new ≡ t → ((y : X) → key (change y) ≡ key y) → (u : ℕ) (xs : List X)
+      → list_any (λ y. key y == u) (placed key t new change xs) ≡ (list_any (λ y. key y == u) xs || (t == u))
+  any_placed t new change is same u [] = rw is (or_comm (t == u) false)
+  any_placed t new change is same u (x ∷ xs) =
+      elim (cases_eq (key x) t) [
+        inl e ↦ rw (eq-eqb (key x) t e, same x) (rw e (absorbed (t == u) (list_any (λ y. key y == u) xs)))
+      | inr ne ↦ rw (ne_eqb (key x) t ne) (elim (cases_lt t (key x)) [
+          inl below ↦ rw (lt_ltb t (key x) below, is) (or_comm (t == u) (key x == u || list_any (λ y. key y == u) xs))
+        | inr above ↦ rw (le_ltb t (key x) above) (ap (λ b. key x == u || b) (any_placed t new change is same u xs) ∙ or_assoc (key x == u) (list_any (λ y. key y == u) xs) (t == u))
+        ])
+      ]
+    where
+      absorbed : (a b : Bool) → (a || b) ≡ ((a || b) || a)
+      absorbed true b = refl
+      absorbed false true = refl
+      absorbed false false = refl
+      or_assoc : (a b e : Bool) → (a || (b || e)) ≡ ((a || b) || e)
+      or_assoc true b e = refl
+      or_assoc false b e = refl
 
 -- a view of the elements that keeps their numbers
 module _ {X Y : Type 0} (key : X → ℕ) (key_of : Y → ℕ) (f : X → Y) (same : (x : X) → key_of (f x) ≡ key x) where

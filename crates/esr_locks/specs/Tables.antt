@@ -1,15 +1,20 @@
 -- The locks on items: who holds them, and what one more lock and a release change.
-use Rattle.std.specs.Prelude.{◌≡◌, ℕ, ◌+◌, ◌<◌, List, [], ◌∷◌, Bool, true, false, not, ◌&&◌, ◌||◌, ◌==◌, Option, None, Some, MatchOption, unwrap_or, filter, slice_index_or, if◌then◌else◌}
+use Rattle.std.specs.Prelude.{◌≡◌, ℕ, ◌+◌, ◌<◌, List, [], ◌∷◌, Bool, true, false, not, ◌&&◌, ◌||◌, ◌==◌, Option, None, Some, MatchOption, unwrap_or, filter, slice_index_or, slice_index, min, if◌then◌else◌}
 use Rattle.std.specs.List.{list_any}
 use Rattle.std.specs.Option.{option_map}
 use Rattle.esr_items.specs.declared.metric.ItemId.{ItemId}
 use Rattle.esr_history.specs.ItemLocks.{ItemLocks}
 use Rattle.esr_history.specs.Ascending.{placed}
 
--- what a lock table is to contracts: the locks on each item, and for how many more locks of a transaction on an item there is room
+-- what a lock table is to contracts: the locks on each item, for how many more locks there is room on each item, and for how many more items in the list of each transaction
 pub record Table : Type 0 where
   pub locks : List ItemLocks
-  pub room : ℕ → ℕ → ℕ
+  pub item_rooms : List ℕ
+  pub list_rooms : List ℕ
+
+-- for how many more locks of transaction t on item x there is room
+abbrev pub room_for : Table → ℕ → ℕ → ℕ
+room_for table t x = min (slice_index table.item_rooms x) (slice_index table.list_rooms t)
 
 -- an item that nobody has locked
 abbrev pub no_locks : ItemLocks
