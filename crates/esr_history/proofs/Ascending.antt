@@ -1,6 +1,6 @@
 -- What a search finds in a list that ascends, and what an edit there does.
-use Rattle.std.proofs.Common.{◌≡◌, ℕ, zero, suc, ◌+◌, ◌<◌, ◌≤◌, List, [], ◌∷◌, ◌++◌, length, Bool, true, false, not, ◌==◌, refl, sym, ◌∙◌, ap, subst, arith, inl, inr, if◌then◌else◌, get_or, set, map, Result, Ok, Err, IfOk, IfErr, ◌||◌}
-use Rattle.std.specs.Prelude.{filter, nat_lt}
+use Rattle.std.proofs.Common.{◌≡◌, ℕ, zero, suc, ◌+◌, ◌<◌, ◌≤◌, List, [], ◌∷◌, ◌++◌, length, Bool, true, false, not, ◌==◌, refl, sym, ◌∙◌, ap, subst, arith, inl, inr, if◌then◌else◌, get_or, set, map, Result, Ok, Err, IfOk, IfErr, ◌||◌, Some}
+use Rattle.std.specs.Prelude.{filter, find, nat_lt}
 use Rattle.std.specs.List.{AllByRecursion, insert, remove, list_any}
 use Rattle.std.specs.List.Sorted.{IsSearchInRange, IsBinarySearchResult, IsNonDecreasingBy}
 use Rattle.std.specs.Ordering.{nat_cmp, ordering_index}
@@ -60,7 +60,7 @@ module _ {X : Type 0} (key : X → ℕ) where
     greater_after = λ j d l m. gap.greater_after (suc j) d (omega arith) (omega arith);
   }
 
-  place_tail : (x : X) (xs : List X) (t i : ℕ) → IsPlaceOf key (x ∷ xs) t (suc i) → IsPlaceOf key xs t i
+  pub place_tail : (x : X) (xs : List X) (t i : ℕ) → IsPlaceOf key (x ∷ xs) t (suc i) → IsPlaceOf key xs t i
   place_tail x xs t i place = record { in_range = omega (arith, place.in_range); has_number = place.has_number }
 
   module _ (t : ℕ) (new : X) (change : X → X) where
@@ -181,6 +181,27 @@ module _ {X : Type 0} (key : X → ℕ) where
       let h : key (get_or xs i x) ≡ t = place.has_number x in
       let r : key x < key (get_or xs i x) = All-from_recursion (λ y. key x < key y) xs asc.0 i x (omega (arith, place.in_range)) in
       rw (ne_eqb (key x) t (λ (e : key x ≡ t). omega arith), le_ltb t (key x) (omega arith)) (ap (λ ys. x ∷ ys) (placed_same t i new xs asc.1 (place_tail x xs t i place)))
+
+  -- where the number is, a search by number finds the element
+  pub found_at : (t i : ℕ) (xs : List X) (d : X) → IsAscendingBy key xs → IsPlaceOf key xs t i → find (λ y. key y == t) xs ≡ Some (get_or xs i d)
+  found_at t i [] d asc place = absurd (omega (arith, place.in_range))
+  found_at t zero (x ∷ xs) d asc place = rw (eq-eqb (key x) t (place.has_number d)) refl
+  found_at t (suc i) (x ∷ xs) d asc place =
+      let h : key (get_or xs i d) ≡ t = place.has_number d in
+      let r : key x < key (get_or xs i d) = All-from_recursion (λ y. key x < key y) xs asc.0 i d (omega (arith, place.in_range)) in
+      rw (ne_eqb (key x) t (λ (e : key x ≡ t). omega arith)) (found_at t i xs d asc.1 (place_tail x xs t i place))
+
+  -- what holds of each element, the new one and the changed ones holds where one is placed
+  pub all_placed : (P : X → Type 0) (t : ℕ) (new : X) (change : X → X) → P new → ((y : X) → P y → P (change y)) → (xs : List X) → AllByRecursion P xs → AllByRecursion P (placed key t new change xs)
+  all_placed P t new change p keeps [] all = (p, tt)
+  all_placed P t new change p keeps (x ∷ xs) all =
+      elim (cases_eq (key x) t) [
+        inl e ↦ rw (eq-eqb (key x) t e) (keeps x all.0, all.1)
+      | inr ne ↦ rw (ne_eqb (key x) t ne) (elim (cases_lt t (key x)) [
+          inl below ↦ rw (lt_ltb t (key x) below) (p, (all.0, all.1))
+        | inr above ↦ rw (le_ltb t (key x) above) (all.0, all_placed P t new change p keeps xs all.1)
+        ])
+      ]
 
   -- who stands there after one more is placed stood there before, or is the one placed
   pub any_placed : (t : ℕ) (new : X) (change : X → X) → key new ≡ t → ((y : X) → key (change y) ≡ key y) → (u : ℕ) (xs : List X)
