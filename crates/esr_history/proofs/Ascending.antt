@@ -111,7 +111,7 @@ module _ {X : Type 0} (key : X → ℕ) where
         all_above [] all below = tt
         all_above (y ∷ ys) all below = (omega (arith, is, all.0), all_above ys all.1 below)
 
-  all_filter : (p : X → Bool) (P : X → Type 0) (xs : List X) → AllByRecursion P xs → AllByRecursion P (filter p xs)
+  pub all_filter : (p : X → Bool) (P : X → Type 0) (xs : List X) → AllByRecursion P xs → AllByRecursion P (filter p xs)
   all_filter p P [] all = tt
   all_filter p P (x ∷ xs) all =
       elim (cases_Bool (p x)) [

@@ -1,5 +1,5 @@
-ghost use Rattle.std.specs.Prelude.{◌≡◌, ℕ, ◌+◌, ◌<◌, ◌==◌, filter, find, not, All, IfOk, IfErr, vec_len, vec_capacity};
-ghost use Rattle.std.specs.List.{list_any};
+ghost use Rattle.std.specs.Prelude.{◌≡◌, ℕ, ◌+◌, ◌<◌, ◌≤◌, ◌==◌, filter, find, not, All, IfOk, IfErr, vec_len, vec_capacity};
+ghost use Rattle.std.specs.List.{list_any, AllByRecursion};
 ghost use Rattle.esr_history.specs.Ascending.{IsAscendingBy, IsPlaceOf, IsGapFor, placed};
 ghost use Rattle.esr_locks.specs.Rows.{first_reads, more_reads};
 
@@ -58,7 +58,9 @@ pub fn count_read(queries: &mut Vec<QueryReads>, q: TxnId) -> bool
     requires ascending { IsAscendingBy (λ r. r.query.0) queries.old.items }
     requires room { vec_len queries.old < vec_capacity queries.old }
     requires few { All (λ r. r.query.0 ≡ q.0 → r.count < 1000) queries.old.items }
+    requires most { AllByRecursion (λ r. r.count ≤ 1000) queries.old.items }
     ensures items { queries.new.items ≡ placed (λ r. r.query.0) q.0 (first_reads q) more_reads queries.old.items }
+    ensures most { AllByRecursion (λ r. r.count ≤ 1000) queries.new.items }
     ensures fresh { result ≡ not (list_any (λ r. r.query.0 == q.0) queries.old.items) }
 {
     match query_place(queries, q) {

@@ -1,4 +1,4 @@
-ghost use Rattle.std.specs.Prelude.{◌≡◌, ℕ, ◌<◌, ◌==◌, Bool, false, ◌||◌, map, not, All, OnOk, unwrap_or, None, if◌then◌else◌};
+ghost use Rattle.std.specs.Prelude.{◌≡◌, ℕ, ◌<◌, ◌≤◌, ◌==◌, Bool, false, ◌||◌, map, not, All, OnOk, unwrap_or, None, if◌then◌else◌};
 ghost use Rattle.std.specs.Option.{option_map};
 ghost use Rattle.esr_locks.specs.Rows.{RowOf, reads_of};
 ghost use Rattle.esr_locks.specs.Tables.{no_locks, is_reader, is_writer, is_query, keeps_from_reading, keeps_from_writing, IsLeast, with_reader, with_writer, with_query_read, released};
@@ -20,7 +20,8 @@ pub struct Row {
 }
 
 impl Model for Row {
-    ghost use Rattle.std.specs.Prelude.{map, min, ◌-◌, length, vec_capacity};
+    ghost use Rattle.std.specs.Prelude.{map, min, ◌-◌, ◌≤◌, length, vec_capacity};
+    ghost use Rattle.std.specs.List.{AllByRecursion};
     ghost use Rattle.std.specs.Option.{option_map};
     ghost use Rattle.esr_history.specs.Ascending.{IsAscendingBy};
     ghost use Rattle.esr_locks.specs.Rows.{RowOf, reads_of};
@@ -32,7 +33,7 @@ impl Model for Row {
         room = min (vec_capacity r.readers - length r.readers.items) (vec_capacity r.queries - length r.queries.items);
     } };
 
-    ghost invariant = { λ r. IsAscendingBy (λ u. u.0) r.readers.items × IsAscendingBy (λ q. q.query.0) r.queries.items };
+    ghost invariant = { λ r. IsAscendingBy (λ u. u.0) r.readers.items × IsAscendingBy (λ q. q.query.0) r.queries.items × AllByRecursion (λ q. q.count ≤ 1000) r.queries.items };
 }
 
 /// Whether a transaction is the one that there is.
@@ -84,7 +85,8 @@ impl Row {
 
     /// The queries that have read the item, with their counts.
     pub fn queries(&self) -> &[QueryReads]
-        ensures { map reads_of result.now ≡ self.now.locks.queries }
+        ensures reads { map reads_of result.now ≡ self.now.locks.queries }
+        ensures most { All (λ r. r.count ≤ 1000) result.now }
     {
         &self.queries
     }

@@ -130,7 +130,8 @@ impl LockTable {
     /// The queries that have read the item, ascending, each with its count of reads.
     pub fn query_reads(&self, x: ItemId) -> &[QueryReads]
         requires { x.0 < length self.now.locks }
-        ensures { map reads_of result.now ≡ (locks_at self.now.locks x.0).queries }
+        ensures reads { map reads_of result.now ≡ (locks_at self.now.locks x.0).queries }
+        ensures most { All (λ r. r.count ≤ 1000) result.now }
     {
         self.rows[x.0 as usize].queries()
     }

@@ -17,7 +17,7 @@ count_read-requires-clause-few c =
 
 pub invariant_of-self : goal.invariant_of-self
 invariant_of-self c =
-    (c.self.invariant.0, rw c.count_read.ensures.items (placed_ascends (λ r. r.query.0) c.args.q.0 (first_reads c.args.q) more_reads refl (λ r. refl) c.self.inside.queries.items c.self.invariant.1))
+    (c.self.invariant.0, rw c.count_read.ensures.items (placed_ascends (λ r. r.query.0) c.args.q.0 (first_reads c.args.q) more_reads refl (λ r. refl) c.self.inside.queries.items c.self.invariant.1), c.count_read.ensures.most)
 
 pub returns-clause-locks : goal.returns-clause-locks
 returns-clause-locks c =

@@ -10,7 +10,7 @@ use Rattle.esr_locks.proofs.row.Row.add_reader.Goals as goal
 
 pub invariant_of-self : goal.invariant_of-self
 invariant_of-self c =
-    (rw c.add_reader.ensures.items (placed_ascends (λ u. u.0) c.args.t.0 c.args.t (λ u. u) refl (λ u. refl) c.self.inside.readers.items c.self.invariant.0), c.self.invariant.1)
+    (rw c.add_reader.ensures.items (placed_ascends (λ u. u.0) c.args.t.0 c.args.t (λ u. u) refl (λ u. refl) c.self.inside.readers.items c.self.invariant.0), c.self.invariant.1, c.self.invariant.2)
 
 pub returns-clause-locks : goal.returns-clause-locks
 returns-clause-locks c =

@@ -1,8 +1,8 @@
-use Rattle.std.proofs.Common.{◌≡◌, ◌∙◌, sym, ap, subst, refl, not, List, ℕ, map, ◌==◌, Bool, true, false, Option, None, Some, if◌then◌else◌}
+use Rattle.std.proofs.Common.{◌≡◌, ◌∙◌, sym, ap, subst, refl, not, List, ℕ, map, ◌==◌, ◌≤◌, Bool, true, false, Option, None, Some, if◌then◌else◌}
 use Rattle.std.specs.Prelude.{filter, unwrap_or}
 use Rattle.std.specs.Option.{option_map}
 use Rattle.esr_history.specs.declared.event.TxnId.{TxnId}
-use Rattle.esr_history.proofs.Ascending.{filter_ascends, map-others}
+use Rattle.esr_history.proofs.Ascending.{filter_ascends, all_filter, map-others}
 use Rattle.esr_locks.specs.Rows.{RowOf, reads_of}
 use Rattle.esr_locks.specs.Tables.{released}
 use Rattle.esr_locks.proofs.row.Row.release.Goals as goal
@@ -10,7 +10,8 @@ use Rattle.esr_locks.proofs.row.Row.release.Goals as goal
 pub invariant_of-self : goal.invariant_of-self
 invariant_of-self c =
     (rw c.drop_reader.ensures (filter_ascends (λ u. u.0) (λ u. not (u.0 == c.args.t.0)) c.self.inside.readers.items c.self.invariant.0),
-     rw c.drop_query.ensures (filter_ascends (λ r. r.query.0) (λ r. not (r.query.0 == c.args.t.0)) c.self.inside.queries.items c.self.invariant.1))
+     rw c.drop_query.ensures (filter_ascends (λ r. r.query.0) (λ r. not (r.query.0 == c.args.t.0)) c.self.inside.queries.items c.self.invariant.1),
+     rw c.drop_query.ensures (all_filter (λ r. r.query.0) (λ r. not (r.query.0 == c.args.t.0)) (λ r. r.count ≤ 1000) c.self.inside.queries.items c.self.invariant.2))
 
 other_writer : (w : Option TxnId) (t : ℕ) → option_map (λ u. u.0) (if unwrap_or (option_map (λ u. u.0 == t) w) false then None else w) ≡ (if unwrap_or (option_map (λ u. u == t) (option_map (λ u. u.0) w)) false then None else option_map (λ u. u.0) w)
 other_writer None t = refl
