@@ -4,7 +4,7 @@ use Rattle.std.specs.Prelude.{filter, find, unwrap_or, nat_lt}
 use Rattle.std.specs.List.{filter_map, range_with_len, cons_option, list_any, AllByRecursion}
 use Rattle.std.specs.Option.{option_map}
 use Rattle.std.proofs.lemmas.Bool.{cases_Bool, cases_eq, eq-eqb, eqb-true, ne_eqb, false≢true, or_left, or_right, or_cases}
-use Rattle.esr_history.specs.Ascending.{placed}
+use Rattle.esr_history.specs.Ascending.{placed, IsAscendingBy}
 use Rattle.esr_history.proofs.Ascending.{lt_ltb, le_ltb}
 
 module _ {X : Type 0} where
@@ -40,7 +40,7 @@ module _ {X : Type 0} where
       at (Some x) xs ys = refl
 
   module _ (key : X → ℕ) (f : ℕ → Option X) (own : (u : ℕ) (y : X) → f u ≡ Some y → key y ≡ u) where
-    keys_above : (t a n : ℕ) → t < a → AllByRecursion (λ (y : X). t < key y) (filter_map f (range_with_len a n))
+    pub keys_above : (t a n : ℕ) → t < a → AllByRecursion (λ (y : X). t < key y) (filter_map f (range_with_len a n))
     keys_above t a zero l = tt
     keys_above t a (suc n) l = at (f a) refl (keys_above t (a + 1) n (omega arith))
       where
@@ -165,3 +165,12 @@ module _ {X : Type 0} (key : X → ℕ) (f : ℕ → X) (own : (u : ℕ) → key
   placed_end new change a (suc n) is =
       let k : key (f a) ≡ a = own a in
       rw (ne_eqb (key (f a)) (key new) (λ (h : key (f a) ≡ key new). omega arith), le_ltb (key new) (key (f a)) (omega arith)) (ap (λ ys. f a ∷ ys) (placed_end new change (a + 1) n (omega arith)))
+
+-- what numbers in a row give ascends
+pub filter_map_ascends : {X : Type 0} (key : X → ℕ) (f : ℕ → Option X) → ((u : ℕ) (y : X) → f u ≡ Some y → key y ≡ u) → (a n : ℕ) → IsAscendingBy key (filter_map f (range_with_len a n))
+filter_map_ascends key f own a zero = tt
+filter_map_ascends {X} key f own a (suc n) = at (f a) refl (filter_map_ascends key f own (a + 1) n)
+  where
+    at : (o : Option X) → f a ≡ o → IsAscendingBy key (filter_map f (range_with_len (a + 1) n)) → IsAscendingBy key (cons_option o (filter_map f (range_with_len (a + 1) n)))
+    at None is later = later
+    at (Some y) is later = (subst (λ k. AllByRecursion (λ (z : X). k < key z) (filter_map f (range_with_len (a + 1) n))) (sym (own a y is)) (keys_above key f own a (a + 1) n (omega arith)), later)
