@@ -225,3 +225,16 @@ module _ (d : Distance) (h : Schedule) where
       at (Some g) over = refl
       at None true = refl
       at None false = refl
+
+-- charges of nothing change nothing
+pub charged_none : (accounts : List Account) (u : TxnId) → charged accounts u [] ≡ accounts
+charged_none [] u = refl
+charged_none (a ∷ accounts) u = rw (charged_none accounts u) (at (number a == u.0))
+  where
+    at : (b : Bool) → (if b then more 0 a else a) ∷ accounts ≡ a ∷ accounts
+    at true = ap (λ (x : Account). x ∷ accounts) (more_none a)
+    at false = refl
+
+pub empty_list : (cs : List (TxnId × ℕ)) → (length cs == 0) ≡ true → cs ≡ []
+empty_list [] is = refl
+empty_list (c ∷ cs) is = absurd (let n : length (c ∷ cs) ≡ 0 = eqb-true (length (c ∷ cs)) 0 is in omega arith)
