@@ -45,6 +45,7 @@ reads_le es t x = sum_by-le-sum_by (λ e. if reads t x e then 1 else 0) (λ e. i
     le true false is = absurd (false≢true (is refl))
     le false true is = omega arith
     le false false is = omega arith
+
     any : (e : Event) → reads t x e ≡ true → reads_any t e ≡ true
     any (Read u y) is = (and_parts (u.0 == t) (y.0 == x) is).0
     any (Write u y v) is = absurd (false≢true is)
@@ -52,6 +53,7 @@ reads_le es t x = sum_by-le-sum_by (λ e. if reads t x e then 1 else 0) (λ e. i
     any (BeginQuery l s) is = absurd (false≢true is)
     any (Commit u) is = absurd (false≢true is)
     any (Abort u) is = absurd (false≢true is)
+
     one : (e : Event) → (if reads t x e then 1 else 0) ≤ (if reads_any t e then 1 else 0)
     one e = le (reads t x e) (reads_any t e) (any e)
 
@@ -72,17 +74,17 @@ module _ (d : Distance) (h : Schedule) (items : List Versions) (table : List Tra
   read_fits t u x amount none query update owed =
       let why = none_applies (reasons d h (Read t x)) none in
       let no_reason : first_reason (import_full d h (due_in d h (Read t x)) ∷ export_full d h (due_in d h (Read t x)) ∷ []) ≡ None =
-          ap (λ (r : Option Refusal). first_reason (r ∷ export_full d h (due_in d h (Read t x)) ∷ [])) why.1.1.1.1.1.0 ∙ ap (λ (r : Option Refusal). first_reason (None ∷ r ∷ [])) why.1.1.1.1.1.1.0 in
+      ap (λ (r : Option Refusal). first_reason (r ∷ export_full d h (due_in d h (Read t x)) ∷ [])) why.1.1.1.1.1.0 ∙ ap (λ (r : Option Refusal). first_reason (None ∷ r ∷ [])) why.1.1.1.1.1.1.0 in
       fits_from (quote_of accounts u ((t, amount) ∷ []))
-          (ap (λ (as' : List Account). reason_of (quote_of as' u ((t, amount) ∷ []))) tie.books
-          ∙ (sym (quote_reason d h u (t, amount) [] update (query, tt))
-          ∙ (ap (λ (cs : List Charge). first_reason (import_full d h cs ∷ export_full d h cs ∷ [])) (sym owed) ∙ no_reason)))
+      (ap (λ (as' : List Account). reason_of (quote_of as' u ((t, amount) ∷ []))) tie.books
+      ∙ (sym (quote_reason d h u (t, amount) [] update (query, tt))
+      ∙ (ap (λ (cs : List Charge). first_reason (import_full d h cs ∷ export_full d h cs ∷ [])) (sym owed) ∙ no_reason)))
 
   -- how often each query has read the item
   pub few_here : (t x : ℕ) → x < length items → all_reads_of (done h) t < 1000 → All (λ (r : ℕ × ℕ). r.0 ≡ t → r.1 < 1000) (locks_at locks x).queries
   few_here t x l few =
       subst (λ (g : ItemLocks). All (λ (r : ℕ × ℕ). r.0 ≡ t → r.1 < 1000) g.queries) (sym (ap (λ (ls : List ItemLocks). locks_at ls x) tie.locked ∙ locks_here (done h) (length h.opening) x (rw (← tie.count) l)))
-          (All-from_recursion (λ (r : ℕ × ℕ). r.0 ≡ t → r.1 < 1000) (filter_map (query_reads (done h) x) (numbers (done h))) (each (numbers (done h))))
+      (All-from_recursion (λ (r : ℕ × ℕ). r.0 ≡ t → r.1 < 1000) (filter_map (query_reads (done h) x) (numbers (done h))) (each (numbers (done h))))
     where
       each : (us : List ℕ) → AllByRecursion (λ (r : ℕ × ℕ). r.0 ≡ t → r.1 < 1000) (filter_map (query_reads (done h) x) us)
       each [] = tt

@@ -85,9 +85,9 @@ module _ (d : ℕ → ℤ → ℤ → ℕ) (opening : List ℤ) (events : List E
       same : (t : ℕ) → entry_of d opening events t ≡ entry_of d opening (events ++ e ∷ []) t
       same t =
           entry_same t (is_query events t) (is_query (events ++ e ∷ []) t) (limit_of events t) (limit_of (events ++ e ∷ []) t) (import_in (charges d opening events) t) (import_in (charges d opening (events ++ e ∷ [])) t) (export_in (charges d opening events) t) (export_in (charges d opening (events ++ e ∷ [])) t)
-              (sym (query-kept events e none t)) (sym (limit-kept events e none t))
-              (sym (import-push d opening events e t ∙ (ap (λ (cs : List Charge). import_in (charges d opening events) t + import_in cs t) nothing ∙ add-zero (import_in (charges d opening events) t))))
-              (sym (export-push d opening events e t ∙ (ap (λ (cs : List Charge). export_in (charges d opening events) t + export_in cs t) nothing ∙ add-zero (export_in (charges d opening events) t))))
+          (sym (query-kept events e none t)) (sym (limit-kept events e none t))
+          (sym (import-push d opening events e t ∙ (ap (λ (cs : List Charge). import_in (charges d opening events) t + import_in cs t) nothing ∙ add-zero (import_in (charges d opening events) t))))
+          (sym (export-push d opening events e t ∙ (ap (λ (cs : List Charge). export_in (charges d opening events) t + export_in cs t) nothing ∙ add-zero (export_in (charges d opening events) t))))
 
   -- a begin opens the next account
   pub books-begin : (e : Event) (b : Beginning) → IsBegin e b → due d opening events e ≡ [] → opened (books_of d opening events) (new_account b.query (record { 0 = suc (length (beginnings events)) }) b.limit) ≡ books_of d opening (events ++ e ∷ [])
@@ -101,14 +101,17 @@ module _ (d : ℕ → ℤ → ℤ → ℕ) (opening : List ℤ) (events : List E
     where
       imports : (t : ℕ) → import_in (charges d opening events) t ≡ import_in (charges d opening (events ++ e ∷ [])) t
       imports t = sym (import-push d opening events e t ∙ (ap (λ (cs : List Charge). import_in (charges d opening events) t + import_in cs t) nothing ∙ add-zero (import_in (charges d opening events) t)))
+
       exports : (t : ℕ) → export_in (charges d opening events) t ≡ export_in (charges d opening (events ++ e ∷ [])) t
       exports t = sym (export-push d opening events e t ∙ (ap (λ (cs : List Charge). export_in (charges d opening events) t + export_in cs t) nothing ∙ add-zero (export_in (charges d opening events) t)))
+
       same : (t : ℕ) → 1 ≤ t → t < 1 + length (beginnings events) → entry_of d opening events t ≡ entry_of d opening (events ++ e ∷ []) t
       same zero low high = absurd (omega arith)
       same (suc k) low high =
           let stays : beginning (events ++ e ∷ []) (suc k) ≡ beginning events (suc k) = beginning-begin events e (suc k) (begun_at events k (omega arith)) in
           entry_same (suc k) (is_query events (suc k)) (is_query (events ++ e ∷ []) (suc k)) (limit_of events (suc k)) (limit_of (events ++ e ∷ []) (suc k)) (import_in (charges d opening events) (suc k)) (import_in (charges d opening (events ++ e ∷ [])) (suc k)) (export_in (charges d opening events) (suc k)) (export_in (charges d opening (events ++ e ∷ [])) (suc k))
-              (ap (λ (o : Option Beginning). unwrap_or (option_map (λ (c : Beginning). c.query) o) false) (sym stays)) (ap (λ (o : Option Beginning). unwrap_or (option_map (λ (c : Beginning). c.limit) o) 0) (sym stays)) (imports (suc k)) (exports (suc k))
+          (ap (λ (o : Option Beginning). unwrap_or (option_map (λ (c : Beginning). c.query) o) false) (sym stays)) (ap (λ (o : Option Beginning). unwrap_or (option_map (λ (c : Beginning). c.limit) o) 0) (sym stays)) (imports (suc k)) (exports (suc k))
+
       new : new_account b.query (record { 0 = suc (length (beginnings events)) }) b.limit ≡ entry_of d opening (events ++ e ∷ []) (suc (length (beginnings events)))
       new =
           let n = suc (length (beginnings events)) in
@@ -118,9 +121,9 @@ module _ (d : ℕ → ℤ → ℤ → ℕ) (opening : List ℤ) (events : List E
           let no_update : is_update events n ≡ false = ap (λ (o : Option Beginning). unwrap_or (option_map (λ (c : Beginning). not c.query) o) false) not_yet in
           zero_amount b.query
           ∙ entry_same n b.query (is_query (events ++ e ∷ []) n) b.limit (limit_of (events ++ e ∷ []) n) 0 (import_in (charges d opening (events ++ e ∷ [])) n) 0 (export_in (charges d opening (events ++ e ∷ [])) n)
-              (ap (λ (o : Option Beginning). unwrap_or (option_map (λ (c : Beginning). c.query) o) false) (sym there)) (ap (λ (o : Option Beginning). unwrap_or (option_map (λ (c : Beginning). c.limit) o) 0) (sym there))
-              (sym (no_import events (charges d opening events) (charges_kinds d opening events) n no_query) ∙ imports n)
-              (sym (no_export events (charges d opening events) (charges_kinds d opening events) n no_update) ∙ exports n)
+          (ap (λ (o : Option Beginning). unwrap_or (option_map (λ (c : Beginning). c.query) o) false) (sym there)) (ap (λ (o : Option Beginning). unwrap_or (option_map (λ (c : Beginning). c.limit) o) 0) (sym there))
+          (sym (no_import events (charges d opening events) (charges_kinds d opening events) n no_query) ∙ imports n)
+          (sym (no_export events (charges d opening events) (charges_kinds d opening events) n no_update) ∙ exports n)
         where
           zero_amount : (q : Bool) → new_account q (record { 0 = suc (length (beginnings events)) }) b.limit ≡ entry (suc (length (beginnings events))) q b.limit 0 0
           zero_amount true = refl

@@ -17,6 +17,7 @@ refused_state d h e why s is tie =
 
 -- an event that nothing refuses adds itself
 pub accepted_state : (d : Distance) (h : Schedule) (e : Event) (r : Reply) (s : State) → refusal d h e ≡ None → r ≡ acceptance h e → IsStateAfter d h (done h ++ e ∷ []) s → (r ≡ reply_to d h e) × IsStateOf d (extended h e r) s
-accepted_state d h e r s none is tie =
-    (is ∙ sym (ap (λ w. answered w (acceptance h e)) none),
-     subst (λ (es : List Event). IsStateAfter d h es s) (sym (done-accepted h e r (ap is_refusal is ∙ acceptance_accepts h e))) tie)
+accepted_state d h e r s none is tie = (
+  is ∙ sym (ap (λ w. answered w (acceptance h e)) none),
+  subst (λ (es : List Event). IsStateAfter d h es s) (sym (done-accepted h e r (ap is_refusal is ∙ acceptance_accepts h e))) tie,
+)

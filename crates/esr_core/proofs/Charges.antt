@@ -87,18 +87,19 @@ imported_row u (c ∷ cs) f own us =
     stays : (v : ℕ) (b : Bool) → number (if b then more c.1 (f v) else f v) ≡ v
     stays v true = own v
     stays v false = own v
+
     join : (v : ℕ) → more (import_in (charges_by u cs) v) (if v == c.0.0 then more c.1 (f v) else f v) ≡ more (import_in (charges_by u (c ∷ cs)) v) (f v)
     join v =
         let share : import_in (charges_by u (c ∷ cs)) v ≡ (if c.0.0 == v then c.1 else 0) + import_in (charges_by u cs) v = sum_by-cons (λ (g : Charge). if g.query == v then g.amount else 0) (charge_to u c) (charges_by u cs) in
         elim (cases_eq v c.0.0) [
-          inl e ↦
-            let sum : (f v).amount + c.1 + import_in (charges_by u cs) v ≡ (f v).amount + (c.1 + import_in (charges_by u cs) v) = omega arith in
-            ap (λ b. more (import_in (charges_by u cs) v) (if b then more c.1 (f v) else f v)) (eq-eqb v c.0.0 e)
-            ∙ (ap (λ n. record (f v) { amount = n }) sum
-            ∙ ap (λ n. more n (f v)) (sym (share ∙ ap (λ b. (if b then c.1 else 0) + import_in (charges_by u cs) v) (eq-eqb c.0.0 v (sym e)))))
-        | inr ne ↦
-            ap (λ b. more (import_in (charges_by u cs) v) (if b then more c.1 (f v) else f v)) (ne_eqb v c.0.0 ne)
-            ∙ ap (λ n. more n (f v)) (sym (share ∙ (ap (λ b. (if b then c.1 else 0) + import_in (charges_by u cs) v) (ne_eqb c.0.0 v (λ (g : c.0.0 ≡ v). ne (sym g))) ∙ zero-add (import_in (charges_by u cs) v))))
+          | inl e ↦
+              let sum : (f v).amount + c.1 + import_in (charges_by u cs) v ≡ (f v).amount + (c.1 + import_in (charges_by u cs) v) = omega arith in
+              ap (λ b. more (import_in (charges_by u cs) v) (if b then more c.1 (f v) else f v)) (eq-eqb v c.0.0 e)
+              ∙ (ap (λ n. record (f v) { amount = n }) sum
+              ∙ ap (λ n. more n (f v)) (sym (share ∙ ap (λ b. (if b then c.1 else 0) + import_in (charges_by u cs) v) (eq-eqb c.0.0 v (sym e)))))
+          | inr ne ↦
+              ap (λ b. more (import_in (charges_by u cs) v) (if b then more c.1 (f v) else f v)) (ne_eqb v c.0.0 ne)
+              ∙ ap (λ n. more n (f v)) (sym (share ∙ (ap (λ b. (if b then c.1 else 0) + import_in (charges_by u cs) v) (ne_eqb c.0.0 v (λ (g : c.0.0 ≡ v). ne (sym g))) ∙ zero-add (import_in (charges_by u cs) v))))
         ]
 
 module _ (d : ℕ → ℤ → ℤ → ℕ) (opening : List ℤ) (events : List Event) where
@@ -113,14 +114,17 @@ module _ (d : ℕ → ℤ → ℤ → ℕ) (opening : List ℤ) (events : List E
     where
       imports : (t : ℕ) → import_in (charges d opening (events ++ e ∷ [])) t ≡ import_in (charges d opening events) t + import_in (charges_by u.0 cs) t
       imports t = import-push d opening events e t ∙ ap (λ (gs : List Charge). import_in (charges d opening events) t + import_in gs t) owed
+
       exports : (t : ℕ) → export_in (charges d opening (events ++ e ∷ [])) t ≡ export_in (charges d opening events) t + (if u.0 == t then total_of cs else 0)
       exports t = export-push d opening events e t ∙ (ap (λ (gs : List Charge). export_in (charges d opening events) t + export_in gs t) owed ∙ ap (λ n. export_in (charges d opening events) t + n) (export_by u.0 t cs))
+
       kept : (t : ℕ) (q : Bool) (i x : ℕ) → is_query events t ≡ q → (if q then import_in (charges d opening (events ++ e ∷ [])) t else export_in (charges d opening (events ++ e ∷ [])) t) ≡ (if q then i else x)
           → ◌≡◌ {A = Account} (record { number = record { 0 = t }; query = q; limit = limit_of events t; amount = if q then i else x }) (entry_of d opening (events ++ e ∷ []) t)
       kept t q i x is amounts =
           ap (λ n. record { number = record { 0 = t }; query = q; limit = limit_of events t; amount = n }) (sym amounts)
           ∙ (ap (λ (p : Bool). record { number = record { 0 = t }; query = p; limit = limit_of events t; amount = if p then import_in (charges d opening (events ++ e ∷ [])) t else export_in (charges d opening (events ++ e ∷ [])) t }) (sym is ∙ sym (query-kept events e none t))
           ∙ ap (λ n. record { number = record { 0 = t }; query = is_query (events ++ e ∷ []) t; limit = n; amount = if is_query (events ++ e ∷ []) t then import_in (charges d opening (events ++ e ∷ [])) t else export_in (charges d opening (events ++ e ∷ [])) t }) (sym (limit-kept events e none t)))
+
       at : (t : ℕ) (q : Bool) → is_query events t ≡ q → is_begun events t ≡ true
           → (if t == u.0 then more (total_of cs) (more (import_in (charges_by u.0 cs) t) (record { number = record { 0 = t }; query = q; limit = limit_of events t; amount = if q then import_in (charges d opening events) t else export_in (charges d opening events) t })) else more (import_in (charges_by u.0 cs) t) (record { number = record { 0 = t }; query = q; limit = limit_of events t; amount = if q then import_in (charges d opening events) t else export_in (charges d opening events) t })) ≡ entry_of d opening (events ++ e ∷ []) t
       at t true is begun =
@@ -129,12 +133,13 @@ module _ (d : ℕ → ℤ → ℤ → ℕ) (opening : List ℤ) (events : List E
       at t false is begun =
           let nothing : import_in (charges_by u.0 cs) t ≡ 0 = ap (λ (gs : List Charge). import_in gs t) (sym owed) ∙ no_import events (due d opening events e) (due_kinds d opening events e) t is in
           elim (cases_eq t u.0) [
-            inl e' ↦
-              let sum : export_in (charges d opening events) t + 0 + total_of cs ≡ export_in (charges d opening events) t + total_of cs = omega arith in
-              rw (eq-eqb t u.0 e', nothing) (kept t false 0 (export_in (charges d opening events) t + 0 + total_of cs) is (exports t ∙ (ap (λ b. export_in (charges d opening events) t + (if b then total_of cs else 0)) (eq-eqb u.0 t (sym e')) ∙ sym sum)))
-          | inr ne ↦
-              rw (ne_eqb t u.0 ne, nothing) (kept t false 0 (export_in (charges d opening events) t + 0) is (exports t ∙ ap (λ b. export_in (charges d opening events) t + (if b then total_of cs else 0)) (ne_eqb u.0 t (λ (g : u.0 ≡ t). ne (sym g)))))
+            | inl e' ↦
+                let sum : export_in (charges d opening events) t + 0 + total_of cs ≡ export_in (charges d opening events) t + total_of cs = omega arith in
+                rw (eq-eqb t u.0 e', nothing) (kept t false 0 (export_in (charges d opening events) t + 0 + total_of cs) is (exports t ∙ (ap (λ b. export_in (charges d opening events) t + (if b then total_of cs else 0)) (eq-eqb u.0 t (sym e')) ∙ sym sum)))
+            | inr ne ↦
+                rw (ne_eqb t u.0 ne, nothing) (kept t false 0 (export_in (charges d opening events) t + 0) is (exports t ∙ ap (λ b. export_in (charges d opening events) t + (if b then total_of cs else 0)) (ne_eqb u.0 t (λ (g : u.0 ≡ t). ne (sym g)))))
           ]
+
       same : (t : ℕ) → 1 ≤ t → t < 1 + length (beginnings events) → (if t == u.0 then more (total_of cs) (more (import_in (charges_by u.0 cs) t) (entry_of d opening events t)) else more (import_in (charges_by u.0 cs) t) (entry_of d opening events t)) ≡ entry_of d opening (events ++ e ∷ []) t
       same zero low high = absurd (omega arith)
       same (suc k) low high = at (suc k) (is_query events (suc k)) refl (begun_at events k (omega arith))
@@ -157,10 +162,10 @@ module _ (d : ℕ → ℤ → ℤ → ℕ) (opening : List ℤ) (events : List E
   -- they are of queries that have begun, ascending
   pub are_charges-write : (u : TxnId) (x amount : ℕ) → is_update events u.0 ≡ true → AreCharges (books_of d opening events) u (charges_to amount (filter_map (query_reads events x) (numbers events)))
   are_charges-write u x amount update = record {
-      update = open_update_is d opening events u.0 update;
-      queries = All-from_recursion (λ (c : TxnId × ℕ). is_open_query (books_of d opening events) c.0.0 ≡ true) (charges_to amount (filter_map (query_reads events x) (numbers events))) (each (numbers events));
-      ascending = rise (filter_map (query_reads events x) (numbers events)) (filter_map_ascends (λ (r : ℕ × ℕ). r.0) (query_reads events x) own 1 (length (beginnings events)));
-    }
+    update = open_update_is d opening events u.0 update;
+    queries = All-from_recursion (λ (c : TxnId × ℕ). is_open_query (books_of d opening events) c.0.0 ≡ true) (charges_to amount (filter_map (query_reads events x) (numbers events))) (each (numbers events));
+    ascending = rise (filter_map (query_reads events x) (numbers events)) (filter_map_ascends (λ (r : ℕ × ℕ). r.0) (query_reads events x) own 1 (length (beginnings events)));
+  }
     where
       each : (us : List ℕ) → AllByRecursion (λ (c : TxnId × ℕ). is_open_query (books_of d opening events) c.0.0 ≡ true) (charges_to amount (filter_map (query_reads events x) us))
       each [] = tt
@@ -170,15 +175,18 @@ module _ (d : ℕ → ℤ → ℤ → ℕ) (opening : List ℤ) (events : List E
               → AllByRecursion (λ (c : TxnId × ℕ). is_open_query (books_of d opening events) c.0.0 ≡ true) (charges_to amount (cons_option (if b then Some (q, reads_of events q x) else None) (filter_map (query_reads events x) us)))
           at true is later = (open_query_is d opening events q (and_parts (is_query events q) (holds_read events q x) is).0, later)
           at false is later = later
+
       own : (q : ℕ) (y : ℕ × ℕ) → query_reads events x q ≡ Some y → y.0 ≡ q
       own q y is = at (is_query events q && holds_read events q x) is
         where
           at : (b : Bool) → (if b then Some (q, reads_of events q x) else None) ≡ Some y → y.0 ≡ q
           at true is' = ap (λ (z : ℕ × ℕ). z.0) (sym (same_Some (q, reads_of events q x) y is'))
           at false is' = absurd (cc)
+
       above : (a : ℕ) (rs : List (ℕ × ℕ)) → AllByRecursion (λ (r : ℕ × ℕ). a < r.0) rs → AllByRecursion (λ (c : TxnId × ℕ). a < c.0.0) (charges_to amount rs)
       above a [] all = tt
       above a (r ∷ rs) all = (all.0, above a rs all.1)
+
       rise : (rs : List (ℕ × ℕ)) → IsAscendingBy (λ (r : ℕ × ℕ). r.0) rs → IsAscendingBy (λ (c : TxnId × ℕ). c.0.0) (charges_to amount rs)
       rise [] asc = tt
       rise (r ∷ rs) asc = (above r.0 rs asc.0, rise rs asc.1)
@@ -193,8 +201,8 @@ module _ (d : Distance) (h : Schedule) where
       let amount : amount_at (books_of (d h.weights) h.opening (done h)) c.0.0 ≡ import_in (charges_in d h) c.0.0 = import_is (d h.weights) h.opening (done h) c.0.0 all.0 in
       let same : would_pass (books_of (d h.weights) h.opening (done h)) c.0.0 c.1 ≡ nat_lt (limit_of (done h) c.0.0) (import_in (charges_in d h) c.0.0 + c.1) = ap (λ n. nat_lt n (amount_at (books_of (d h.weights) h.opening (done h)) c.0.0 + c.1)) limit ∙ ap (λ n. nat_lt (limit_of (done h) c.0.0) (n + c.1)) amount in
       elim (cases_Bool (nat_lt (limit_of (done h) c.0.0) (import_in (charges_in d h) c.0.0 + c.1))) [
-        inl over ↦ rw (over, same ∙ over) refl
-      | inr fits ↦ rw (fits, same ∙ fits) (first_import u cs all.1)
+        | inl over ↦ rw (over, same ∙ over) refl
+        | inr fits ↦ rw (fits, same ∙ fits) (first_import u cs all.1)
       ]
 
   export_over : (u : ℕ) (cs : List (TxnId × ℕ)) (n : ℕ) (b : Bool) → nat_lt (limit_of (done h) u) (export_in (charges_in d h) u + n) ≡ b
@@ -213,10 +221,10 @@ module _ (d : Distance) (h : Schedule) where
   quote_reason u c cs update all =
       let books = books_of (d h.weights) h.opening (done h) in
       let same : would_pass books u.0 (total_of (c ∷ cs)) ≡ nat_lt (limit_of (done h) u.0) (export_in (charges_in d h) u.0 + total_of (c ∷ cs)) =
-          ap (λ n. nat_lt n (amount_at books u.0 + total_of (c ∷ cs))) (limit_is (d h.weights) h.opening (done h) u.0 (update_is_begun (d h.weights) h.opening (done h) u.0 update)) ∙ ap (λ n. nat_lt (limit_of (done h) u.0) (n + total_of (c ∷ cs))) (export_is (d h.weights) h.opening (done h) u.0 update) in
+      ap (λ n. nat_lt n (amount_at books u.0 + total_of (c ∷ cs))) (limit_is (d h.weights) h.opening (done h) u.0 (update_is_begun (d h.weights) h.opening (done h) u.0 update)) ∙ ap (λ n. nat_lt (limit_of (done h) u.0) (n + total_of (c ∷ cs))) (export_is (d h.weights) h.opening (done h) u.0 update) in
       let exports : export_full d h (charges_by u.0 (c ∷ cs)) ≡ (if would_pass books u.0 (total_of (c ∷ cs)) then Some (BlockedByExport u) else None) =
-          ap (λ n. option_map (λ (g : Charge). BlockedByExport (record { 0 = g.update })) (find (λ (g : Charge). nat_lt (limit_of (done h) g.update) (export_in (charges_in d h) g.update + n)) (charges_by u.0 (c ∷ cs)))) (total_by u.0 (c ∷ cs))
-          ∙ export_over u.0 (c ∷ cs) (total_of (c ∷ cs)) (would_pass books u.0 (total_of (c ∷ cs))) (sym same) in
+      ap (λ n. option_map (λ (g : Charge). BlockedByExport (record { 0 = g.update })) (find (λ (g : Charge). nat_lt (limit_of (done h) g.update) (export_in (charges_in d h) g.update + n)) (charges_by u.0 (c ∷ cs)))) (total_by u.0 (c ∷ cs))
+      ∙ export_over u.0 (c ∷ cs) (total_of (c ∷ cs)) (would_pass books u.0 (total_of (c ∷ cs))) (sym same) in
       ap (λ (r : Option Refusal). first_reason (r ∷ export_full d h (charges_by u.0 (c ∷ cs)) ∷ [])) (first_import u.0 (c ∷ cs) all)
       ∙ (ap (λ (r : Option Refusal). first_reason (option_map (λ (g : TxnId × ℕ). BlockedByImport g.0) (find (λ (g : TxnId × ℕ). would_pass books g.0.0 g.1) (c ∷ cs)) ∷ r ∷ [])) exports
       ∙ at (find (λ (g : TxnId × ℕ). would_pass books g.0.0 g.1) (c ∷ cs)) (would_pass books u.0 (total_of (c ∷ cs))))

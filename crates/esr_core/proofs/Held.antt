@@ -107,7 +107,6 @@ held-begin done o e p u c a fails names_it =
       | inr not_done ↦ and_right (is_active (done ++ e ∷ []) u) (list_any p done) not_done ∙ sym (and_right (is_active done u) (list_any p done) not_done)
     ]
 
-
 -- an event that begins a transaction
 pub record IsBegin (e : Event) (b : Beginning) : Type 0 where
   pub begins : beginning_of e ≡ Some b
@@ -175,5 +174,5 @@ beginning-new done e b is = ap (λ (bs : List Beginning). slice_get bs (length (
 pub not_named : (done : List Event) → IsOrderly done → (p : Event → Bool) → ((e : Event) → p e ≡ true → names (suc (length (beginnings done))) e ≡ true) → list_any p done ≡ false
 not_named done o p names_it =
     false_from_ne_true (list_any p done) (λ did.
-        let n : (1 ≤ suc (length (beginnings done))) × (suc (length (beginnings done)) < 1 + length (beginnings done)) = begun_number done (suc (length (beginnings done))) (o.begun (suc (length (beginnings done))) (any_implies p (names (suc (length (beginnings done)))) names_it done did)) in
-        omega arith)
+    let n : (1 ≤ suc (length (beginnings done))) × (suc (length (beginnings done)) < 1 + length (beginnings done)) = begun_number done (suc (length (beginnings done))) (o.begun (suc (length (beginnings done))) (any_implies p (names (suc (length (beginnings done)))) names_it done did)) in
+    omega arith)

@@ -60,8 +60,8 @@ module _ (done : List Event) (o : IsOrderly done) where
   pub writer_found : (x u : ℕ) → wrote done x u ≡ true → writer done x ≡ Some u
   writer_found x u is =
       find_least (wrote done x) (length (beginnings done)) (Some u)
-          (is, λ v l. false_from_ne_true (wrote done x v) (λ is_v. let e : v ≡ u = one_writer x v u is_v is in omega arith))
-          (wrote_number x)
+      (is, λ v l. false_from_ne_true (wrote done x v) (λ is_v. let e : v ≡ u = one_writer x v u is_v is in omega arith))
+      (wrote_number x)
 
   pub writer_none : (x : ℕ) → ((u : ℕ) → wrote done x u ≡ false) → writer done x ≡ None
   writer_none x none = find_least (wrote done x) (length (beginnings done)) None none (wrote_number x)
@@ -70,8 +70,8 @@ module _ (done : List Event) (o : IsOrderly done) where
   pub writer_is : (x u : ℕ) → is_writer (item_locks done x) u ≡ wrote done x u
   writer_is x u =
       elim (cases_Bool (wrote done x u)) [
-        inl is ↦ rw (writer_found x u is) (eq-eqb u u refl ∙ sym is)
-      | inr isnt ↦ false_from_ne_true (is_writer (item_locks done x) u) (λ it. false≢true (sym isnt ∙ found (writer done x) refl it)) ∙ sym isnt
+        | inl is ↦ rw (writer_found x u is) (eq-eqb u u refl ∙ sym is)
+        | inr isnt ↦ false_from_ne_true (is_writer (item_locks done x) u) (λ it. false≢true (sym isnt ∙ found (writer done x) refl it)) ∙ sym isnt
       ]
     where
       found : (w : Option ℕ) → writer done x ≡ w → unwrap_or (option_map (λ v. v == u) w) false ≡ true → wrote done x u ≡ true
@@ -82,25 +82,25 @@ module _ (done : List Event) (o : IsOrderly done) where
           passes p [] w f = absurd (cc)
           passes p (z ∷ us) w f =
               elim (cases_Bool (p z)) [
-                inl pz ↦ let same : Some z ≡ Some w = rw pz at f in rw (← same_Some z w same) pz
-              | inr fz ↦ passes p us w (rw fz at f)
+                | inl pz ↦ let same : Some z ≡ Some w = rw pz at f in rw (← same_Some z w same) pz
+                | inr fz ↦ passes p us w (rw fz at f)
               ]
 
   pub reader_is : (x u : ℕ) → is_reader (item_locks done x) u ≡ read_it done x u
   reader_is x u =
       elim (cases_Bool (read_it done x u)) [
-        inl is ↦
-          let n : (1 ≤ u) × (u < 1 + length (beginnings done)) = holder_number done u (list_any (reads u x) done) (and_parts (is_update done u) (holds_read done u x) is).1 in
-          filter_in_any (read_it done x) u 1 (length (beginnings done)) is n.0 n.1 ∙ sym is
-      | inr isnt ↦ false_from_ne_true (is_reader (item_locks done x) u) (λ it. false≢true (sym isnt ∙ any_in_filter (read_it done x) u (numbers done) it)) ∙ sym isnt
+        | inl is ↦
+            let n : (1 ≤ u) × (u < 1 + length (beginnings done)) = holder_number done u (list_any (reads u x) done) (and_parts (is_update done u) (holds_read done u x) is).1 in
+            filter_in_any (read_it done x) u 1 (length (beginnings done)) is n.0 n.1 ∙ sym is
+        | inr isnt ↦ false_from_ne_true (is_reader (item_locks done x) u) (λ it. false≢true (sym isnt ∙ any_in_filter (read_it done x) u (numbers done) it)) ∙ sym isnt
       ]
 
   -- the update that keeps another from reading, and the smallest that keeps it from writing
   pub least_writer : (t x : ℕ) (r : Option ℕ) → IsLeast (keeps_from_reading (item_locks done x) t) r → find (λ u. not (u == t) && wrote done x u) (numbers done) ≡ r
   least_writer t x r least =
       find_least (λ u. not (u == t) && wrote done x u) (length (beginnings done)) r
-          (IsLeast-same (keeps_from_reading (item_locks done x) t) (λ u. not (u == t) && wrote done x u) r (λ u. ap (λ b. not (u == t) && b) (writer_is x u)) least)
-          (λ u is. wrote_number x u (and_parts (not (u == t)) (wrote done x u) is).1)
+      (IsLeast-same (keeps_from_reading (item_locks done x) t) (λ u. not (u == t) && wrote done x u) r (λ u. ap (λ b. not (u == t) && b) (writer_is x u)) least)
+      (λ u is. wrote_number x u (and_parts (not (u == t)) (wrote done x u) is).1)
 
   either_update : (u x : ℕ) → (read_it done x u || wrote done x u) ≡ (is_update done u && (holds_read done u x || holds_write done u x))
   either_update u x = at (is_update done u) (holds_read done u x) (holds_write done u x)
@@ -112,9 +112,9 @@ module _ (done : List Event) (o : IsOrderly done) where
   pub least_holder : (t x : ℕ) (r : Option ℕ) → IsLeast (keeps_from_writing (item_locks done x) t) r → find (λ u. not (u == t) && (is_update done u && (holds_read done u x || holds_write done u x))) (numbers done) ≡ r
   least_holder t x r least =
       find_least (λ u. not (u == t) && (is_update done u && (holds_read done u x || holds_write done u x))) (length (beginnings done)) r
-          (IsLeast-same (keeps_from_writing (item_locks done x) t) (λ u. not (u == t) && (is_update done u && (holds_read done u x || holds_write done u x))) r
-              (λ u. ap (λ b. not (u == t) && b) (ap (λ b. b || is_writer (item_locks done x) u) (reader_is x u) ∙ (ap (λ b. read_it done x u || b) (writer_is x u) ∙ either_update u x))) least)
-          number
+      (IsLeast-same (keeps_from_writing (item_locks done x) t) (λ u. not (u == t) && (is_update done u && (holds_read done u x || holds_write done u x))) r
+      (λ u. ap (λ b. not (u == t) && b) (ap (λ b. b || is_writer (item_locks done x) u) (reader_is x u) ∙ (ap (λ b. read_it done x u || b) (writer_is x u) ∙ either_update u x))) least)
+      number
     where
       number : (u : ℕ) → (not (u == t) && (is_update done u && (holds_read done u x || holds_write done u x))) ≡ true → (1 ≤ u) × (u < 1 + length (beginnings done))
       number u is = begun_number done u (update_begun done u (and_parts (is_update done u) (holds_read done u x || holds_write done u x) (and_parts (not (u == t)) (is_update done u && (holds_read done u x || holds_write done u x)) is).1).0)
@@ -195,38 +195,41 @@ module _ (done : List Event) (t : TxnId) (x : ItemId) where
   locks-read update act =
       let w : writer (done ++ Read t x ∷ []) x.0 ≡ writer done x.0 = ap (find (wrote (done ++ Read t x ∷ []) x.0)) (numbers-kept done (Read t x) refl) ∙ find_same (wrote (done ++ Read t x ∷ []) x.0) (wrote done x.0) (λ u. wrote-same done (Read t x) refl (λ v. refl) (λ v. refl) x.0 u refl) (numbers done) in
       let r : filter (read_it (done ++ Read t x ∷ []) x.0) (numbers (done ++ Read t x ∷ [])) ≡ placed (λ u. u) t.0 t.0 (λ u. u) (filter (read_it done x.0) (numbers done)) =
-          ap (filter (read_it (done ++ Read t x ∷ []) x.0)) (numbers-kept done (Read t x) refl)
-          ∙ (filter-filter_map (read_it (done ++ Read t x ∷ []) x.0) (numbers done)
-          ∙ (filter_map_placed (λ u. u) (kept_if (read_it done x.0)) (kept_if_own (read_it done x.0)) (kept_if (read_it (done ++ Read t x ∷ []) x.0)) t.0 t.0 (λ u. u)
-              (λ u ne. ap (λ b. if b then Some u else None) (read-same done (Read t x) refl (λ v. refl) (λ v. refl) x.0 u (no_other_reads u ne)))
-              (ap (λ b. if b then Some t.0 else None) reads_now ∙ was (read_it done x.0 t.0))
-              1 (length (beginnings done)) number.0 number.1
-          ∙ ap (placed (λ u. u) t.0 t.0 (λ u. u)) (sym (filter-filter_map (read_it done x.0) (numbers done))))) in
+      ap (filter (read_it (done ++ Read t x ∷ []) x.0)) (numbers-kept done (Read t x) refl)
+      ∙ (filter-filter_map (read_it (done ++ Read t x ∷ []) x.0) (numbers done)
+      ∙ (filter_map_placed (λ u. u) (kept_if (read_it done x.0)) (kept_if_own (read_it done x.0)) (kept_if (read_it (done ++ Read t x ∷ []) x.0)) t.0 t.0 (λ u. u)
+      (λ u ne. ap (λ b. if b then Some u else None) (read-same done (Read t x) refl (λ v. refl) (λ v. refl) x.0 u (no_other_reads u ne)))
+      (ap (λ b. if b then Some t.0 else None) reads_now ∙ was (read_it done x.0 t.0))
+      1 (length (beginnings done)) number.0 number.1
+      ∙ ap (placed (λ u. u) t.0 t.0 (λ u. u)) (sym (filter-filter_map (read_it done x.0) (numbers done))))) in
       let q : filter_map (query_reads (done ++ Read t x ∷ []) x.0) (numbers (done ++ Read t x ∷ [])) ≡ filter_map (query_reads done x.0) (numbers done) =
-          ap (filter_map (query_reads (done ++ Read t x ∷ []) x.0)) (numbers-kept done (Read t x) refl) ∙ filter_map_agree (query_reads (done ++ Read t x ∷ []) x.0) (query_reads done x.0) queries (numbers done) in
+      ap (filter_map (query_reads (done ++ Read t x ∷ []) x.0)) (numbers-kept done (Read t x) refl) ∙ filter_map_agree (query_reads (done ++ Read t x ∷ []) x.0) (query_reads done x.0) queries (numbers done) in
       locks_same (writer (done ++ Read t x ∷ []) x.0) (writer done x.0) (filter (read_it (done ++ Read t x ∷ []) x.0) (numbers (done ++ Read t x ∷ []))) (placed (λ u. u) t.0 t.0 (λ u. u) (filter (read_it done x.0) (numbers done)))
-          (filter_map (query_reads (done ++ Read t x ∷ []) x.0) (numbers (done ++ Read t x ∷ []))) (filter_map (query_reads done x.0) (numbers done)) w r q
+      (filter_map (query_reads (done ++ Read t x ∷ []) x.0) (numbers (done ++ Read t x ∷ []))) (filter_map (query_reads done x.0) (numbers done)) w r q
     where
       number : (1 ≤ t.0) × (t.0 < 1 + length (beginnings done))
       number = begun_number done t.0 (update_begun done t.0 update)
+
       reads_now : read_it (done ++ Read t x ∷ []) x.0 t.0 ≡ true
       reads_now =
           read-step done (Read t x) refl (λ v. refl) (λ v. refl) x.0 t.0
           ∙ (ap (λ b. b && (is_active done t.0 && (list_any (reads t.0 x.0) done || reads t.0 x.0 (Read t x)))) update
           ∙ (ap (λ b. b && (list_any (reads t.0 x.0) done || reads t.0 x.0 (Read t x))) act
           ∙ or_right (list_any (reads t.0 x.0) done) (reads t.0 x.0 (Read t x)) reads_it))
+
       was : (b : Bool) → ◌≡◌ {A = Option ℕ} (Some t.0) (Some (unwrap_or (option_map (λ u. u) (if b then Some t.0 else None)) t.0))
       was true = refl
       was false = refl
+
       queries : (u : ℕ) → query_reads (done ++ Read t x ∷ []) x.0 u ≡ query_reads done x.0 u
       queries u =
           elim (cases_eq u t.0) [
-            inl e ↦
-              let no_query : is_query done u ≡ false = ap (is_query done) e ∙ update_or_query done t.0 update in
-              query-step done (Read t x) refl (λ v. refl) (λ v. refl) x.0 u
-              ∙ (ap (λ b. if b && (is_active done u && (list_any (reads u x.0) done || reads u x.0 (Read t x))) then Some (u, reads_of done u x.0 + (if reads u x.0 (Read t x) then 1 else 0)) else None) no_query
-              ∙ sym (ap (λ b. if b && holds_read done u x.0 then Some (u, reads_of done u x.0) else None) no_query))
-          | inr ne ↦ query-same done (Read t x) refl (λ v. refl) (λ v. refl) x.0 u (no_other_reads u ne)
+            | inl e ↦
+                let no_query : is_query done u ≡ false = ap (is_query done) e ∙ update_or_query done t.0 update in
+                query-step done (Read t x) refl (λ v. refl) (λ v. refl) x.0 u
+                ∙ (ap (λ b. if b && (is_active done u && (list_any (reads u x.0) done || reads u x.0 (Read t x))) then Some (u, reads_of done u x.0 + (if reads u x.0 (Read t x) then 1 else 0)) else None) no_query
+                ∙ sym (ap (λ b. if b && holds_read done u x.0 then Some (u, reads_of done u x.0) else None) no_query))
+            | inr ne ↦ query-same done (Read t x) refl (λ v. refl) (λ v. refl) x.0 u (no_other_reads u ne)
           ]
 
   -- a read by a query
@@ -234,28 +237,30 @@ module _ (done : List Event) (t : TxnId) (x : ItemId) where
   locks-query query act =
       let w : writer (done ++ Read t x ∷ []) x.0 ≡ writer done x.0 = ap (find (wrote (done ++ Read t x ∷ []) x.0)) (numbers-kept done (Read t x) refl) ∙ find_same (wrote (done ++ Read t x ∷ []) x.0) (wrote done x.0) (λ u. wrote-same done (Read t x) refl (λ v. refl) (λ v. refl) x.0 u refl) (numbers done) in
       let r : filter (read_it (done ++ Read t x ∷ []) x.0) (numbers (done ++ Read t x ∷ [])) ≡ filter (read_it done x.0) (numbers done) =
-          ap (filter (read_it (done ++ Read t x ∷ []) x.0)) (numbers-kept done (Read t x) refl) ∙ filter_agree (read_it (done ++ Read t x ∷ []) x.0) (read_it done x.0) readers (numbers done) in
+      ap (filter (read_it (done ++ Read t x ∷ []) x.0)) (numbers-kept done (Read t x) refl) ∙ filter_agree (read_it (done ++ Read t x ∷ []) x.0) (read_it done x.0) readers (numbers done) in
       let q : filter_map (query_reads (done ++ Read t x ∷ []) x.0) (numbers (done ++ Read t x ∷ [])) ≡ placed (λ (p : ℕ × ℕ). p.0) t.0 (t.0, 1) (λ (p : ℕ × ℕ). (p.0, p.1 + 1)) (filter_map (query_reads done x.0) (numbers done)) =
-          ap (filter_map (query_reads (done ++ Read t x ∷ []) x.0)) (numbers-kept done (Read t x) refl)
-          ∙ filter_map_placed (λ (p : ℕ × ℕ). p.0) (query_reads done x.0) (query_reads_own done x.0) (query_reads (done ++ Read t x ∷ []) x.0) t.0 (t.0, 1) (λ (p : ℕ × ℕ). (p.0, p.1 + 1))
-              (λ u ne. query-same done (Read t x) refl (λ v. refl) (λ v. refl) x.0 u (no_other_reads u ne))
-              (reads_now ∙ was (list_any (reads t.0 x.0) done) refl)
-              1 (length (beginnings done)) number.0 number.1 in
+      ap (filter_map (query_reads (done ++ Read t x ∷ []) x.0)) (numbers-kept done (Read t x) refl)
+      ∙ filter_map_placed (λ (p : ℕ × ℕ). p.0) (query_reads done x.0) (query_reads_own done x.0) (query_reads (done ++ Read t x ∷ []) x.0) t.0 (t.0, 1) (λ (p : ℕ × ℕ). (p.0, p.1 + 1))
+      (λ u ne. query-same done (Read t x) refl (λ v. refl) (λ v. refl) x.0 u (no_other_reads u ne))
+      (reads_now ∙ was (list_any (reads t.0 x.0) done) refl)
+      1 (length (beginnings done)) number.0 number.1 in
       locks_same (writer (done ++ Read t x ∷ []) x.0) (writer done x.0) (filter (read_it (done ++ Read t x ∷ []) x.0) (numbers (done ++ Read t x ∷ []))) (filter (read_it done x.0) (numbers done))
-          (filter_map (query_reads (done ++ Read t x ∷ []) x.0) (numbers (done ++ Read t x ∷ []))) (placed (λ (p : ℕ × ℕ). p.0) t.0 (t.0, 1) (λ (p : ℕ × ℕ). (p.0, p.1 + 1)) (filter_map (query_reads done x.0) (numbers done))) w r q
+      (filter_map (query_reads (done ++ Read t x ∷ []) x.0) (numbers (done ++ Read t x ∷ []))) (placed (λ (p : ℕ × ℕ). p.0) t.0 (t.0, 1) (λ (p : ℕ × ℕ). (p.0, p.1 + 1)) (filter_map (query_reads done x.0) (numbers done))) w r q
     where
       number : (1 ≤ t.0) × (t.0 < 1 + length (beginnings done))
       number = begun_number done t.0 (active_parts done t.0 act).0
+
       readers : (u : ℕ) → read_it (done ++ Read t x ∷ []) x.0 u ≡ read_it done x.0 u
       readers u =
           elim (cases_eq u t.0) [
-            inl e ↦
-              let no_update : is_update done u ≡ false = ap (is_update done) e ∙ query_or_update done t.0 query in
-              read-step done (Read t x) refl (λ v. refl) (λ v. refl) x.0 u
-              ∙ (ap (λ b. b && (is_active done u && (list_any (reads u x.0) done || reads u x.0 (Read t x)))) no_update
-              ∙ sym (ap (λ b. b && holds_read done u x.0) no_update))
-          | inr ne ↦ read-same done (Read t x) refl (λ v. refl) (λ v. refl) x.0 u (no_other_reads u ne)
+            | inl e ↦
+                let no_update : is_update done u ≡ false = ap (is_update done) e ∙ query_or_update done t.0 query in
+                read-step done (Read t x) refl (λ v. refl) (λ v. refl) x.0 u
+                ∙ (ap (λ b. b && (is_active done u && (list_any (reads u x.0) done || reads u x.0 (Read t x)))) no_update
+                ∙ sym (ap (λ b. b && holds_read done u x.0) no_update))
+            | inr ne ↦ read-same done (Read t x) refl (λ v. refl) (λ v. refl) x.0 u (no_other_reads u ne)
           ]
+
       reads_now : query_reads (done ++ Read t x ∷ []) x.0 t.0 ≡ Some (t.0, reads_of done t.0 x.0 + 1)
       reads_now =
           query-step done (Read t x) refl (λ v. refl) (λ v. refl) x.0 t.0
@@ -263,6 +268,7 @@ module _ (done : List Event) (t : TxnId) (x : ItemId) where
           ∙ (ap (λ b. if b && (list_any (reads t.0 x.0) done || reads t.0 x.0 (Read t x)) then Some (t.0, reads_of done t.0 x.0 + (if reads t.0 x.0 (Read t x) then 1 else 0)) else None) act
           ∙ (ap (λ b. if list_any (reads t.0 x.0) done || b then Some (t.0, reads_of done t.0 x.0 + (if b then 1 else 0)) else None) reads_it
           ∙ ap (λ b. if b then Some (t.0, reads_of done t.0 x.0 + 1) else None) (or_right (list_any (reads t.0 x.0) done) true refl))))
+
       was : (b : Bool) → list_any (reads t.0 x.0) done ≡ b → ◌≡◌ {A = Option (ℕ × ℕ)} (Some (t.0, reads_of done t.0 x.0 + 1)) (Some (unwrap_or (option_map (λ (p : ℕ × ℕ). (p.0, p.1 + 1)) (query_reads done x.0 t.0)) (t.0, 1)))
       was true did = ap (λ b. Some (unwrap_or (option_map (λ (p : ℕ × ℕ). (p.0, p.1 + 1)) (if b then Some (t.0, reads_of done t.0 x.0) else None)) (t.0, 1))) (sym (and_from (is_query done t.0) (holds_read done t.0 x.0) query (and_from (is_active done t.0) (list_any (reads t.0 x.0) done) act did)))
       was false did =
@@ -275,11 +281,11 @@ module _ (done : List Event) (t : TxnId) (x : ItemId) (v : ℤ) where
   locks-write o update act =
       let w : writer (done ++ Write t x v ∷ []) x.0 ≡ Some t.0 = writer_found (done ++ Write t x v ∷ []) o x.0 t.0 writes_now in
       let r : filter (read_it (done ++ Write t x v ∷ []) x.0) (numbers (done ++ Write t x v ∷ [])) ≡ filter (read_it done x.0) (numbers done) =
-          ap (filter (read_it (done ++ Write t x v ∷ []) x.0)) (numbers-kept done (Write t x v) refl) ∙ filter_agree (read_it (done ++ Write t x v ∷ []) x.0) (read_it done x.0) (λ u. read-same done (Write t x v) refl (λ w. refl) (λ w. refl) x.0 u refl) (numbers done) in
+      ap (filter (read_it (done ++ Write t x v ∷ []) x.0)) (numbers-kept done (Write t x v) refl) ∙ filter_agree (read_it (done ++ Write t x v ∷ []) x.0) (read_it done x.0) (λ u. read-same done (Write t x v) refl (λ w. refl) (λ w. refl) x.0 u refl) (numbers done) in
       let q : filter_map (query_reads (done ++ Write t x v ∷ []) x.0) (numbers (done ++ Write t x v ∷ [])) ≡ filter_map (query_reads done x.0) (numbers done) =
-          ap (filter_map (query_reads (done ++ Write t x v ∷ []) x.0)) (numbers-kept done (Write t x v) refl) ∙ filter_map_agree (query_reads (done ++ Write t x v ∷ []) x.0) (query_reads done x.0) (λ u. query-same done (Write t x v) refl (λ w. refl) (λ w. refl) x.0 u refl) (numbers done) in
+      ap (filter_map (query_reads (done ++ Write t x v ∷ []) x.0)) (numbers-kept done (Write t x v) refl) ∙ filter_map_agree (query_reads (done ++ Write t x v ∷ []) x.0) (query_reads done x.0) (λ u. query-same done (Write t x v) refl (λ w. refl) (λ w. refl) x.0 u refl) (numbers done) in
       locks_same (writer (done ++ Write t x v ∷ []) x.0) (Some t.0) (filter (read_it (done ++ Write t x v ∷ []) x.0) (numbers (done ++ Write t x v ∷ []))) (filter (read_it done x.0) (numbers done))
-          (filter_map (query_reads (done ++ Write t x v ∷ []) x.0) (numbers (done ++ Write t x v ∷ []))) (filter_map (query_reads done x.0) (numbers done)) w r q
+      (filter_map (query_reads (done ++ Write t x v ∷ []) x.0) (numbers (done ++ Write t x v ∷ []))) (filter_map (query_reads done x.0) (numbers done)) w r q
     where
       writes_now : wrote (done ++ Write t x v ∷ []) x.0 t.0 ≡ true
       writes_now =
@@ -325,20 +331,20 @@ module _ (done : List Event) (o : IsOrderly done) (e : Event) (none : beginning_
   pub locks-end : item_locks (done ++ e ∷ []) x ≡ released t (item_locks done x)
   locks-end =
       let r : filter (read_it (done ++ e ∷ []) x) (numbers (done ++ e ∷ [])) ≡ filter (λ u. not (u == t)) (filter (read_it done x) (numbers done)) =
-          ap (filter (read_it (done ++ e ∷ []) x)) (numbers-kept done e none)
-          ∙ (filter-filter_map (read_it (done ++ e ∷ []) x) (numbers done)
-          ∙ (filter_map_dropped (λ u. u) (kept_if (read_it done x)) (kept_if_own (read_it done x)) (kept_if (read_it (done ++ e ∷ []) x)) t
-              (λ u ne. ap (λ b. if b then Some u else None) (read-end u ∙ stays_true (read_it done x u) u ne))
-              (ap (λ b. if b then Some t else None) (read-end t ∙ gone (read_it done x t))) (numbers done)
-          ∙ ap (filter (λ u. not (u == t))) (sym (filter-filter_map (read_it done x) (numbers done))))) in
+      ap (filter (read_it (done ++ e ∷ []) x)) (numbers-kept done e none)
+      ∙ (filter-filter_map (read_it (done ++ e ∷ []) x) (numbers done)
+      ∙ (filter_map_dropped (λ u. u) (kept_if (read_it done x)) (kept_if_own (read_it done x)) (kept_if (read_it (done ++ e ∷ []) x)) t
+      (λ u ne. ap (λ b. if b then Some u else None) (read-end u ∙ stays_true (read_it done x u) u ne))
+      (ap (λ b. if b then Some t else None) (read-end t ∙ gone (read_it done x t))) (numbers done)
+      ∙ ap (filter (λ u. not (u == t))) (sym (filter-filter_map (read_it done x) (numbers done))))) in
       let q : filter_map (query_reads (done ++ e ∷ []) x) (numbers (done ++ e ∷ [])) ≡ filter (λ (p : ℕ × ℕ). not (p.0 == t)) (filter_map (query_reads done x) (numbers done)) =
-          ap (filter_map (query_reads (done ++ e ∷ []) x)) (numbers-kept done e none)
-          ∙ filter_map_dropped (λ (p : ℕ × ℕ). p.0) (query_reads done x) (query_reads_own done x) (query_reads (done ++ e ∷ []) x) t
-              (λ u ne. query-end u ∙ ap (λ b. if b then Some (u, reads_of done u x) else None) (stays_true (is_query done u && holds_read done u x) u ne))
-              (query-end t ∙ ap (λ b. if b then Some (t, reads_of done t x) else None) (gone (is_query done t && holds_read done t x))) (numbers done) in
+      ap (filter_map (query_reads (done ++ e ∷ []) x)) (numbers-kept done e none)
+      ∙ filter_map_dropped (λ (p : ℕ × ℕ). p.0) (query_reads done x) (query_reads_own done x) (query_reads (done ++ e ∷ []) x) t
+      (λ u ne. query-end u ∙ ap (λ b. if b then Some (u, reads_of done u x) else None) (stays_true (is_query done u && holds_read done u x) u ne))
+      (query-end t ∙ ap (λ b. if b then Some (t, reads_of done t x) else None) (gone (is_query done t && holds_read done t x))) (numbers done) in
       locks_same (writer (done ++ e ∷ []) x) (if is_writer (item_locks done x) t then None else writer done x) (filter (read_it (done ++ e ∷ []) x) (numbers (done ++ e ∷ []))) (filter (λ u. not (u == t)) (filter (read_it done x) (numbers done)))
-          (filter_map (query_reads (done ++ e ∷ []) x) (numbers (done ++ e ∷ []))) (filter (λ (p : ℕ × ℕ). not (p.0 == t)) (filter_map (query_reads done x) (numbers done)))
-          (ap (find (wrote (done ++ e ∷ []) x)) (numbers-kept done e none) ∙ writers (wrote done x t) refl) r q
+      (filter_map (query_reads (done ++ e ∷ []) x) (numbers (done ++ e ∷ []))) (filter (λ (p : ℕ × ℕ). not (p.0 == t)) (filter_map (query_reads done x) (numbers done)))
+      (ap (find (wrote (done ++ e ∷ []) x)) (numbers-kept done e none) ∙ writers (wrote done x t) refl) r q
     where
       writers : (b : Bool) → wrote done x t ≡ b → find (wrote (done ++ e ∷ []) x) (numbers done) ≡ (if is_writer (item_locks done x) t then None else writer done x)
       writers true is =
@@ -347,9 +353,10 @@ module _ (done : List Event) (o : IsOrderly done) (e : Event) (none : beginning_
           fails : (u : ℕ) → wrote (done ++ e ∷ []) x u ≡ false
           fails u =
               elim (cases_eq u t) [
-                inl same ↦ ap (wrote (done ++ e ∷ []) x) same ∙ (wrote-end t ∙ gone (wrote done x t))
-              | inr ne ↦ wrote-end u ∙ (stays_true (wrote done x u) u ne ∙ false_from_ne_true (wrote done x u) (λ it. ne (one_writer done o x u t it is)))
+                | inl same ↦ ap (wrote (done ++ e ∷ []) x) same ∙ (wrote-end t ∙ gone (wrote done x t))
+                | inr ne ↦ wrote-end u ∙ (stays_true (wrote done x u) u ne ∙ false_from_ne_true (wrote done x u) (λ it. ne (one_writer done o x u t it is)))
               ]
+
           nobody : (us : List ℕ) → find (wrote (done ++ e ∷ []) x) us ≡ None
           nobody [] = refl
           nobody (u ∷ us) = rw (fails u) (nobody us)
@@ -360,8 +367,8 @@ module _ (done : List Event) (o : IsOrderly done) (e : Event) (none : beginning_
           same : (u : ℕ) → wrote (done ++ e ∷ []) x u ≡ wrote done x u
           same u =
               elim (cases_eq u t) [
-                inl is ↦ ap (wrote (done ++ e ∷ []) x) is ∙ (wrote-end t ∙ (gone (wrote done x t) ∙ (sym isnt ∙ ap (wrote done x) (sym is))))
-              | inr ne ↦ wrote-end u ∙ stays_true (wrote done x u) u ne
+                | inl is ↦ ap (wrote (done ++ e ∷ []) x) is ∙ (wrote-end t ∙ (gone (wrote done x t) ∙ (sym isnt ∙ ap (wrote done x) (sym is))))
+                | inr ne ↦ wrote-end u ∙ stays_true (wrote done x u) u ne
               ]
 
 -- a begin
@@ -372,8 +379,8 @@ find_longer p a n fails = ap (find p) (range-push a n) ∙ at (range_with_len a 
     at [] = rw fails refl
     at (u ∷ us) =
         elim (cases_Bool (p u)) [
-          inl passes ↦ rw passes refl
-        | inr isnt ↦ rw isnt (at us)
+          | inl passes ↦ rw passes refl
+          | inr isnt ↦ rw isnt (at us)
         ]
 
 module _ (done : List Event) (o : IsOrderly done) (e : Event) (b : Beginning) (is : IsBegin e b) (x : ℕ) where
@@ -416,21 +423,21 @@ module _ (done : List Event) (o : IsOrderly done) (e : Event) (b : Beginning) (i
       let no_write : holds_write done (1 + n) x ≡ false = ap (λ k. holds_write done k x) number ∙ and_right (is_active done (suc n)) (list_any (writes (suc n) x) done) (not_named done o (writes (suc n) x) (writes_name (suc n) x)) in
       let no_read : holds_read done (1 + n) x ≡ false = ap (λ k. holds_read done k x) number ∙ and_right (is_active done (suc n)) (list_any (reads (suc n) x) done) (not_named done o (reads (suc n) x) (reads_name (suc n) x)) in
       let w : writer (done ++ e ∷ []) x ≡ writer done x =
-          ap (find (wrote (done ++ e ∷ []) x)) longer
-          ∙ (find_same (wrote (done ++ e ∷ []) x) (wrote done x) wrote-begin (range_with_len 1 (n + 1))
-          ∙ find_longer (wrote done x) 1 n (and_right (is_update done (1 + n)) (holds_write done (1 + n) x) no_write)) in
+      ap (find (wrote (done ++ e ∷ []) x)) longer
+      ∙ (find_same (wrote (done ++ e ∷ []) x) (wrote done x) wrote-begin (range_with_len 1 (n + 1))
+      ∙ find_longer (wrote done x) 1 n (and_right (is_update done (1 + n)) (holds_write done (1 + n) x) no_write)) in
       let r : filter (read_it (done ++ e ∷ []) x) (numbers (done ++ e ∷ [])) ≡ filter (read_it done x) (numbers done) =
-          ap (filter (read_it (done ++ e ∷ []) x)) longer
-          ∙ (filter_agree (read_it (done ++ e ∷ []) x) (read_it done x) read-begin (range_with_len 1 (n + 1))
-          ∙ (ap (filter (read_it done x)) (range-push 1 n)
-          ∙ (filter-append (read_it done x) (numbers done) ((1 + n) ∷ [])
-          ∙ (ap (λ c. filter (read_it done x) (numbers done) ++ (if c then (1 + n) ∷ [] else [])) (and_right (is_update done (1 + n)) (holds_read done (1 + n) x) no_read)
-          ∙ append-nil (filter (read_it done x) (numbers done)))))) in
+      ap (filter (read_it (done ++ e ∷ []) x)) longer
+      ∙ (filter_agree (read_it (done ++ e ∷ []) x) (read_it done x) read-begin (range_with_len 1 (n + 1))
+      ∙ (ap (filter (read_it done x)) (range-push 1 n)
+      ∙ (filter-append (read_it done x) (numbers done) ((1 + n) ∷ [])
+      ∙ (ap (λ c. filter (read_it done x) (numbers done) ++ (if c then (1 + n) ∷ [] else [])) (and_right (is_update done (1 + n)) (holds_read done (1 + n) x) no_read)
+      ∙ append-nil (filter (read_it done x) (numbers done)))))) in
       let q : filter_map (query_reads (done ++ e ∷ []) x) (numbers (done ++ e ∷ [])) ≡ filter_map (query_reads done x) (numbers done) =
-          ap (filter_map (query_reads (done ++ e ∷ []) x)) longer
-          ∙ (filter_map_agree (query_reads (done ++ e ∷ []) x) (query_reads done x) query-begin (range_with_len 1 (n + 1))
-          ∙ (ap (filter_map (query_reads done x)) (range-push 1 n)
-          ∙ filter_map_push_none (query_reads done x) (numbers done) (1 + n) (ap (λ c. if c then Some (1 + n, reads_of done (1 + n) x) else None) (and_right (is_query done (1 + n)) (holds_read done (1 + n) x) no_read)))) in
+      ap (filter_map (query_reads (done ++ e ∷ []) x)) longer
+      ∙ (filter_map_agree (query_reads (done ++ e ∷ []) x) (query_reads done x) query-begin (range_with_len 1 (n + 1))
+      ∙ (ap (filter_map (query_reads done x)) (range-push 1 n)
+      ∙ filter_map_push_none (query_reads done x) (numbers done) (1 + n) (ap (λ c. if c then Some (1 + n, reads_of done (1 + n) x) else None) (and_right (is_query done (1 + n)) (holds_read done (1 + n) x) no_read)))) in
       locks_same (writer (done ++ e ∷ []) x) (writer done x) (filter (read_it (done ++ e ∷ []) x) (numbers (done ++ e ∷ []))) (filter (read_it done x) (numbers done)) (filter_map (query_reads (done ++ e ∷ []) x) (numbers (done ++ e ∷ []))) (filter_map (query_reads done x) (numbers done)) w r q
 
 -- The locks on all items, after each event.
@@ -442,23 +449,23 @@ one_item : (done : List Event) (e : Event) (n x : ℕ) (f : ItemLocks → ItemLo
     → set (locks_of done n) x (f (locks_at (locks_of done n) x)) ≡ locks_of (done ++ e ∷ []) n
 one_item done e n x f l here other =
     set_range (item_locks done) (item_locks (done ++ e ∷ [])) 0 n x (f (locks_at (locks_of done n) x)) l
-        ((let z : 0 + x ≡ x = omega arith in ap (item_locks (done ++ e ∷ [])) z) ∙ (here ∙ ap f (sym (locks_here done n x l))))
-        (λ y ne. other y (λ (g : y ≡ x). ne (omega arith)))
+    ((let z : 0 + x ≡ x = omega arith in ap (item_locks (done ++ e ∷ [])) z) ∙ (here ∙ ap f (sym (locks_here done n x l))))
+    (λ y ne. other y (λ (g : y ≡ x). ne (omega arith)))
 
 pub all-read : (done : List Event) (t : TxnId) (x : ItemId) (n : ℕ) → x.0 < n → is_update done t.0 ≡ true → is_active done t.0 ≡ true → set (locks_of done n) x.0 (with_reader t.0 (locks_at (locks_of done n) x.0)) ≡ locks_of (done ++ Read t x ∷ []) n
 all-read done t x n l update act =
     one_item done (Read t x) n x.0 (with_reader t.0) l (locks-read done t x update act)
-        (λ y ne. locks-other done (Read t x) refl (λ w. refl) (λ w. refl) y (λ u. refl) (λ u. and_right (t.0 == u) (x.0 == y) (ne_eqb x.0 y (λ (f : x.0 ≡ y). ne (sym f)))))
+    (λ y ne. locks-other done (Read t x) refl (λ w. refl) (λ w. refl) y (λ u. refl) (λ u. and_right (t.0 == u) (x.0 == y) (ne_eqb x.0 y (λ (f : x.0 ≡ y). ne (sym f)))))
 
 pub all-query : (done : List Event) (t : TxnId) (x : ItemId) (n : ℕ) → x.0 < n → is_query done t.0 ≡ true → is_active done t.0 ≡ true → set (locks_of done n) x.0 (with_query_read t.0 (locks_at (locks_of done n) x.0)) ≡ locks_of (done ++ Read t x ∷ []) n
 all-query done t x n l query act =
     one_item done (Read t x) n x.0 (with_query_read t.0) l (locks-query done t x query act)
-        (λ y ne. locks-other done (Read t x) refl (λ w. refl) (λ w. refl) y (λ u. refl) (λ u. and_right (t.0 == u) (x.0 == y) (ne_eqb x.0 y (λ (f : x.0 ≡ y). ne (sym f)))))
+    (λ y ne. locks-other done (Read t x) refl (λ w. refl) (λ w. refl) y (λ u. refl) (λ u. and_right (t.0 == u) (x.0 == y) (ne_eqb x.0 y (λ (f : x.0 ≡ y). ne (sym f)))))
 
 pub all-write : (done : List Event) (t : TxnId) (x : ItemId) (v : ℤ) (n : ℕ) → x.0 < n → IsOrderly (done ++ Write t x v ∷ []) → is_update done t.0 ≡ true → is_active done t.0 ≡ true → set (locks_of done n) x.0 (with_writer t.0 (locks_at (locks_of done n) x.0)) ≡ locks_of (done ++ Write t x v ∷ []) n
 all-write done t x v n l o update act =
     one_item done (Write t x v) n x.0 (with_writer t.0) l (locks-write done t x v o update act)
-        (λ y ne. locks-other done (Write t x v) refl (λ w. refl) (λ w. refl) y (λ u. and_right (t.0 == u) (x.0 == y) (ne_eqb x.0 y (λ (f : x.0 ≡ y). ne (sym f)))) (λ u. refl))
+    (λ y ne. locks-other done (Write t x v) refl (λ w. refl) (λ w. refl) y (λ u. and_right (t.0 == u) (x.0 == y) (ne_eqb x.0 y (λ (f : x.0 ≡ y). ne (sym f)))) (λ u. refl))
 
 map_map : {A B C : Type 0} (g : B → C) (f : A → B) (xs : List A) → map g (map f xs) ≡ map (λ x. g (f x)) xs
 map_map g f [] = refl

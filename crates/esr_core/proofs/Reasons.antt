@@ -52,8 +52,8 @@ writer_update events x u found = (and_parts (is_update events u) (holds_write ev
     passes p [] w f = absurd (cc)
     passes p (z ∷ us) w f =
         elim (cases_Bool (p z)) [
-          inl pz ↦ let same : Some z ≡ Some w = rw pz at f in rw (← same_Some z w same) pz
-        | inr fz ↦ passes p us w (rw fz at f)
+          | inl pz ↦ let same : Some z ≡ Some w = rw pz at f in rw (← same_Some z w same) pz
+          | inr fz ↦ passes p us w (rw fz at f)
         ]
 
 module _ (d : Distance) (h : Schedule) (items : List Versions) (table : List Transaction) (locks : List ItemLocks) (accounts : List Account) (tie : IsTied (d h.weights) h.opening (done h) items table locks accounts) where
@@ -82,13 +82,14 @@ module _ (d : Distance) (h : Schedule) (items : List Versions) (table : List Tra
       at : (w : Option ℕ) → writer (done h) x.0 ≡ w → read_charge (d h.weights x.0) (versions_at items x.0) w ≡ Some c → (due_in d h (Read t x) ≡ charges_by c.0.0 ((t, c.1) ∷ [])) × (is_update (done h) c.0.0 ≡ true)
       at None found some = absurd (cc)
       at (Some u) found some =
-          let this : ◌≡◌ {A = TxnId × ℕ} (record { 0 = u }, d h.weights x.0 (current_at items x.0) (committed_at items x.0)) c = same_Some (record { 0 = u }, d h.weights x.0 (current_at items x.0) (committed_at items x.0)) c some in
-          (ap (λ (b : Bool). if b then charge_of_read (d h.weights) h.opening (done h) t.0 x.0 (writer (done h) x.0) else []) query
-          ∙ (ap (λ (w : Option ℕ). charge_of_read (d h.weights) h.opening (done h) t.0 x.0 w) found
-          ∙ (ap (λ (v : ℤ). charge_to u (t, d h.weights x.0 v (committed_value h.opening (done h) x.0)) ∷ []) (sym (tie.current x.0 (inside x.0 l)))
-          ∙ (ap (λ (v : ℤ). charge_to u (t, d h.weights x.0 (current_at items x.0) v) ∷ []) (sym (tie.committed x.0 (inside x.0 l)))
-          ∙ ap (λ (g : TxnId × ℕ). charges_by g.0.0 ((t, g.1) ∷ [])) this))),
-           ap (λ (g : TxnId × ℕ). is_update (done h) g.0.0) (sym this) ∙ writer_update (done h) x.0 u found)
+          let this : ◌≡◌ {A = TxnId × ℕ} (record { 0 = u }, d h.weights x.0 (current_at items x.0) (committed_at items x.0)) c = same_Some (record { 0 = u }, d h.weights x.0 (current_at items x.0) (committed_at items x.0)) c some in (
+            ap (λ (b : Bool). if b then charge_of_read (d h.weights) h.opening (done h) t.0 x.0 (writer (done h) x.0) else []) query
+                ∙ (ap (λ (w : Option ℕ). charge_of_read (d h.weights) h.opening (done h) t.0 x.0 w) found
+                ∙ (ap (λ (v : ℤ). charge_to u (t, d h.weights x.0 v (committed_value h.opening (done h) x.0)) ∷ []) (sym (tie.current x.0 (inside x.0 l)))
+                ∙ (ap (λ (v : ℤ). charge_to u (t, d h.weights x.0 (current_at items x.0) v) ∷ []) (sym (tie.committed x.0 (inside x.0 l)))
+                ∙ ap (λ (g : TxnId × ℕ). charges_by g.0.0 ((t, g.1) ∷ [])) this))),
+            ap (λ (g : TxnId × ℕ). is_update (done h) g.0.0) (sym this) ∙ writer_update (done h) x.0 u found,
+          )
 
   pub due_none : (t : TxnId) (x : ItemId) → x.0 < length items → read_charge (d h.weights x.0) (versions_at items x.0) (locks_at locks x.0).writer ≡ None → due_in d h (Read t x) ≡ []
   due_none t x l is = at (locks_at locks x.0).writer (writer_at x.0 l) is
@@ -96,6 +97,7 @@ module _ (d : Distance) (h : Schedule) (items : List Versions) (table : List Tra
       none : (b : Bool) → ◌≡◌ {A = List Charge} (if b then [] else []) []
       none true = refl
       none false = refl
+
       at : (w : Option ℕ) → writer (done h) x.0 ≡ w → read_charge (d h.weights x.0) (versions_at items x.0) w ≡ None → due_in d h (Read t x) ≡ []
       at None found isnt = ap (λ (w : Option ℕ). if is_query (done h) t.0 then charge_of_read (d h.weights) h.opening (done h) t.0 x.0 w else []) found ∙ none (is_query (done h) t.0)
       at (Some u) found isnt = absurd (cc)
@@ -114,6 +116,7 @@ module _ (d : Distance) (h : Schedule) (items : List Versions) (table : List Tra
     where
       few : nat_le 1000 (all_reads_of (done h) t) ≡ false
       few = grind (arith, nat_tests)
+
       at : (b : Bool) → when (b && false) TooManyReads ≡ None
       at true = refl
       at false = refl

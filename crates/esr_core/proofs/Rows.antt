@@ -89,13 +89,16 @@ rows-begin done o e b is table was =
         len : (xs : List Beginning) → length (xs ++ b ∷ []) ≡ length xs + 1
         len [] = refl
         len (x ∷ xs) = let l : length (xs ++ b ∷ []) ≡ length xs + 1 = len xs in omega arith
+
     no_more : (t : ℕ) → all_reads_of (done ++ e ∷ []) t ≡ all_reads_of done t
     no_more t = sum_by_push (λ f. if reads_any t f then 1 else 0) done e ∙ rw (is.reads_any_none t) (omega arith)
+
     same : (t : ℕ) → 1 ≤ t → t < 1 + length (beginnings done) → row_of done t ≡ row_of (done ++ e ∷ []) t
     same zero low high = absurd (omega arith)
     same (suc k) low high =
         let begun : is_begun done (suc k) ≡ true = begun_at done k (omega arith) in
         rw (active-same done e (suc k) is.commits_none is.aborts_none begun, no_more (suc k), beginning-begin done e (suc k) begun) refl
+
     new : record { query = b.query; active = true; reads = 0 } ≡ row_of (done ++ e ∷ []) (suc (length (beginnings done)))
     new =
         let n = suc (length (beginnings done)) in
@@ -134,8 +137,8 @@ module _ (done : List Event) (e : Event) (none : beginning_of e ≡ None) where
       → (table : List Transaction) → table ≡ rows_of done → k < length table → r ≡ get_or table k r → set table k (record r { reads = r.reads + 1 }) ≡ rows_of (done ++ e ∷ [])
   rows-read k r c a query by table was l at =
       along (set table k (record r { reads = r.reads + 1 }))
-          (ap (λ (rs : List Transaction). set rs k (record r { reads = r.reads + 1 })) was
-          ∙ set_range (row_of done) (row_of (done ++ e ∷ [])) 1 (length (beginnings done)) k (record r { reads = r.reads + 1 }) (rw (← rows_len done table was) l) here other)
+      (ap (λ (rs : List Transaction). set rs k (record r { reads = r.reads + 1 })) was
+      ∙ set_range (row_of done) (row_of (done ++ e ∷ [])) 1 (length (beginnings done)) k (record r { reads = r.reads + 1 }) (rw (← rows_len done table was) l) here other)
     where
       here : row_of (done ++ e ∷ []) (1 + k) ≡ record r { reads = r.reads + 1 }
       here =
@@ -148,6 +151,7 @@ module _ (done : List Event) (e : Event) (none : beginning_of e ≡ None) where
           counts : (q : Bool) → q ≡ true → row q (is_active done (suc k)) (all_reads_of done (suc k) + 1) ≡ record (row q (is_active done (suc k)) (all_reads_of done (suc k))) { reads = (row q (is_active done (suc k)) (all_reads_of done (suc k))).reads + 1 }
           counts true is = refl
           counts false is = absurd (false≢true is)
+
       other : (t : ℕ) → (t ≡ 1 + k → ⊥) → row_of (done ++ e ∷ []) t ≡ row_of done t
       other t ne =
           after t (is_active done t) (active-kept done e none c a t)
@@ -158,17 +162,19 @@ module _ (done : List Event) (e : Event) (none : beginning_of e ≡ None) where
       → (table : List Transaction) → table ≡ rows_of done → k < length table → r ≡ get_or table k r → set table k (record r { active = false }) ≡ rows_of (done ++ e ∷ [])
   rows-end k r ends by table was l at =
       along (set table k (record r { active = false }))
-          (ap (λ (rs : List Transaction). set rs k (record r { active = false })) was
-          ∙ set_range (row_of done) (row_of (done ++ e ∷ [])) 1 (length (beginnings done)) k (record r { active = false }) (rw (← rows_len done table was) l) here other)
+      (ap (λ (rs : List Transaction). set rs k (record r { active = false })) was
+      ∙ set_range (row_of done) (row_of (done ++ e ∷ [])) 1 (length (beginnings done)) k (record r { active = false }) (rw (← rows_len done table was) l) here other)
     where
       count : (t : ℕ) → all_reads_of done t + (if reads_any t e then 1 else 0) ≡ all_reads_of done t
       count t = ap (λ (b : Bool). all_reads_of done t + (if b then 1 else 0)) (by t) ∙ add-zero (all_reads_of done t)
+
       here : row_of (done ++ e ∷ []) (1 + k) ≡ record r { active = false }
       here =
           (let num : 1 + k ≡ suc k = omega arith in ap (row_of (done ++ e ∷ [])) num)
           ∙ (after (suc k) false (ends (suc k) ∙ (ap (λ (b : Bool). is_active done (suc k) && not b) (eq-eqb (suc k) (suc k) refl) ∙ and_right (is_active done (suc k)) false refl))
           ∙ (ap (λ (m : ℕ). row (is_query done (suc k)) false m) (count (suc k))
           ∙ ap (λ (q : Transaction). record q { active = false }) (sym (row_is done table was k r l at))))
+
       other : (t : ℕ) → (t ≡ 1 + k → ⊥) → row_of (done ++ e ∷ []) t ≡ row_of done t
       other t ne =
           after t (is_active done t) (ends t ∙ (ap (λ (b : Bool). is_active done t && not b) (ne_eqb (suc k) t (λ (f : suc k ≡ t). ne (omega arith))) ∙ and_true (is_active done t)))

@@ -39,12 +39,14 @@ module _ {X : Type 0} (key : X → ℕ) where
   -- a binary search by number ends at the number, or at the gap for it
   pub searched : (xs : List X) → IsAscendingBy key xs → (t : ℕ) (r : Result ℕ ℕ) → IsSearchInRange r (length xs) → IsBinarySearchResult (λ y. nat_cmp (key y) t) xs r → IfOk r (IsPlaceOf key xs t) × IfErr r (IsGapFor key xs t)
   searched xs asc t (Ok at) in_range equal = (record { in_range = in_range; has_number = λ d. ranked _ t _ (sym (equal d)) }, tt)
-  searched xs asc t (Err at) in_range parted =
-      (tt, record {
-        in_range = in_range;
-        smaller_before = λ j d lt. ranked _ t _ (sym ((parted (comparisons_rise xs asc t)).0 j d (omega arith) lt));
-        greater_after = λ j d le lt. ranked _ t _ (sym ((parted (comparisons_rise xs asc t)).1 j d le lt));
-      })
+  searched xs asc t (Err at) in_range parted = (
+    tt,
+    record {
+      in_range = in_range;
+      smaller_before = λ j d lt. ranked _ t _ (sym ((parted (comparisons_rise xs asc t)).0 j d (omega arith) lt));
+      greater_after = λ j d le lt. ranked _ t _ (sym ((parted (comparisons_rise xs asc t)).1 j d le lt));
+    },
+  )
 
   gap_tail : (x : X) (xs : List X) (t i : ℕ) → IsGapFor key (x ∷ xs) t (suc i) → IsGapFor key xs t i
   gap_tail x xs t i gap = record {
@@ -88,10 +90,10 @@ module _ {X : Type 0} (key : X → ℕ) where
     placed_above is same a l [] all = (omega (arith, is), tt)
     placed_above is same a l (x ∷ xs) all =
         elim (cases_eq (key x) t) [
-          inl e ↦ rw (eq-eqb (key x) t e) ((let s : key (change x) ≡ key x = same x in omega arith), all.1)
-        | inr ne ↦ rw (ne_eqb (key x) t ne) (elim (cases_lt t (key x)) [
-            inl below ↦ rw (lt_ltb t (key x) below) (omega (arith, is), (all.0, all.1))
-          | inr above ↦ rw (le_ltb t (key x) above) (all.0, placed_above is same a l xs all.1)
+          | inl e ↦ rw (eq-eqb (key x) t e) ((let s : key (change x) ≡ key x = same x in omega arith), all.1)
+          | inr ne ↦ rw (ne_eqb (key x) t ne) (elim (cases_lt t (key x)) [
+            | inl below ↦ rw (lt_ltb t (key x) below) (omega (arith, is), (all.0, all.1))
+            | inr above ↦ rw (le_ltb t (key x) above) (all.0, placed_above is same a l xs all.1)
           ])
         ]
 
@@ -100,10 +102,10 @@ module _ {X : Type 0} (key : X → ℕ) where
     placed_ascends is same [] asc = (tt, tt)
     placed_ascends is same (x ∷ xs) asc =
         elim (cases_eq (key x) t) [
-          inl e ↦ rw (eq-eqb (key x) t e) (subst (λ k. AllByRecursion (λ y. k < key y) xs) (sym (same x)) asc.0, asc.1)
-        | inr ne ↦ rw (ne_eqb (key x) t ne) (elim (cases_lt t (key x)) [
-            inl below ↦ rw (lt_ltb t (key x) below) ((omega (arith, is), all_above xs asc.0 below), (asc.0, asc.1))
-          | inr above ↦ rw (le_ltb t (key x) above) (placed_above is same (key x) (omega arith) xs asc.0, placed_ascends is same xs asc.1)
+          | inl e ↦ rw (eq-eqb (key x) t e) (subst (λ k. AllByRecursion (λ y. k < key y) xs) (sym (same x)) asc.0, asc.1)
+          | inr ne ↦ rw (ne_eqb (key x) t ne) (elim (cases_lt t (key x)) [
+            | inl below ↦ rw (lt_ltb t (key x) below) ((omega (arith, is), all_above xs asc.0 below), (asc.0, asc.1))
+            | inr above ↦ rw (le_ltb t (key x) above) (placed_above is same (key x) (omega arith) xs asc.0, placed_ascends is same xs asc.1)
           ])
         ]
       where
@@ -115,16 +117,16 @@ module _ {X : Type 0} (key : X → ℕ) where
   all_filter p P [] all = tt
   all_filter p P (x ∷ xs) all =
       elim (cases_Bool (p x)) [
-        inl passes ↦ rw passes (all.0, all_filter p P xs all.1)
-      | inr fails ↦ rw fails (all_filter p P xs all.1)
+        | inl passes ↦ rw passes (all.0, all_filter p P xs all.1)
+        | inr fails ↦ rw fails (all_filter p P xs all.1)
       ]
 
   pub filter_ascends : (p : X → Bool) (xs : List X) → IsAscendingBy key xs → IsAscendingBy key (filter p xs)
   filter_ascends p [] asc = tt
   filter_ascends p (x ∷ xs) asc =
       elim (cases_Bool (p x)) [
-        inl passes ↦ rw passes (all_filter p (λ y. key x < key y) xs asc.0, filter_ascends p xs asc.1)
-      | inr fails ↦ rw fails (filter_ascends p xs asc.1)
+        | inl passes ↦ rw passes (all_filter p (λ y. key x < key y) xs asc.0, filter_ascends p xs asc.1)
+        | inr fails ↦ rw fails (filter_ascends p xs asc.1)
       ]
 
   -- who have another number than t
@@ -196,10 +198,10 @@ module _ {X : Type 0} (key : X → ℕ) where
   all_placed P t new change p keeps [] all = (p, tt)
   all_placed P t new change p keeps (x ∷ xs) all =
       elim (cases_eq (key x) t) [
-        inl e ↦ rw (eq-eqb (key x) t e) (keeps x all.0, all.1)
-      | inr ne ↦ rw (ne_eqb (key x) t ne) (elim (cases_lt t (key x)) [
-          inl below ↦ rw (lt_ltb t (key x) below) (p, (all.0, all.1))
-        | inr above ↦ rw (le_ltb t (key x) above) (all.0, all_placed P t new change p keeps xs all.1)
+        | inl e ↦ rw (eq-eqb (key x) t e) (keeps x all.0, all.1)
+        | inr ne ↦ rw (ne_eqb (key x) t ne) (elim (cases_lt t (key x)) [
+          | inl below ↦ rw (lt_ltb t (key x) below) (p, (all.0, all.1))
+          | inr above ↦ rw (le_ltb t (key x) above) (all.0, all_placed P t new change p keeps xs all.1)
         ])
       ]
 
@@ -209,10 +211,10 @@ module _ {X : Type 0} (key : X → ℕ) where
   any_placed t new change is same u [] = rw is (or_comm (t == u) false)
   any_placed t new change is same u (x ∷ xs) =
       elim (cases_eq (key x) t) [
-        inl e ↦ rw (eq-eqb (key x) t e, same x) (rw e (absorbed (t == u) (list_any (λ y. key y == u) xs)))
-      | inr ne ↦ rw (ne_eqb (key x) t ne) (elim (cases_lt t (key x)) [
-          inl below ↦ rw (lt_ltb t (key x) below, is) (or_comm (t == u) (key x == u || list_any (λ y. key y == u) xs))
-        | inr above ↦ rw (le_ltb t (key x) above) (ap (λ b. key x == u || b) (any_placed t new change is same u xs) ∙ or_assoc (key x == u) (list_any (λ y. key y == u) xs) (t == u))
+        | inl e ↦ rw (eq-eqb (key x) t e, same x) (rw e (absorbed (t == u) (list_any (λ y. key y == u) xs)))
+        | inr ne ↦ rw (ne_eqb (key x) t ne) (elim (cases_lt t (key x)) [
+          | inl below ↦ rw (lt_ltb t (key x) below, is) (or_comm (t == u) (key x == u || list_any (λ y. key y == u) xs))
+          | inr above ↦ rw (le_ltb t (key x) above) (ap (λ b. key x == u || b) (any_placed t new change is same u xs) ∙ or_assoc (key x == u) (list_any (λ y. key y == u) xs) (t == u))
         ])
       ]
     where
@@ -220,6 +222,7 @@ module _ {X : Type 0} (key : X → ℕ) where
       absorbed true b = refl
       absorbed false true = refl
       absorbed false false = refl
+
       or_assoc : (a b e : Bool) → (a || (b || e)) ≡ ((a || b) || e)
       or_assoc true b e = refl
       or_assoc false b e = refl

@@ -60,18 +60,19 @@ module _ {X : Type 0} where
     filter_map_placed g t new change same is a zero low high = absurd (omega arith)
     filter_map_placed g t new change same is a (suc n) low high =
         elim (cases_eq a t) [
-          inl e ↦
-            let rest : filter_map g (range_with_len (a + 1) n) ≡ filter_map f (range_with_len (a + 1) n) = filter_map_same g f (a + 1) n (λ u l m. same u (λ (h : u ≡ t). omega arith)) in
-            ap (λ (o : Option X). cons_option o (filter_map g (range_with_len (a + 1) n))) (ap g e ∙ (is ∙ ap (λ u. Some (unwrap_or (option_map change (f u)) new)) (sym e)))
-            ∙ (ap (λ (ys : List X). unwrap_or (option_map change (f a)) new ∷ ys) rest ∙ here e (f a) refl)
-        | inr ne ↦
-            ap (λ (o : Option X). cons_option o (filter_map g (range_with_len (a + 1) n))) (same a ne)
-            ∙ past ne (f a) refl (filter_map_placed g t new change same is (a + 1) n (omega arith) (omega arith))
+          | inl e ↦
+              let rest : filter_map g (range_with_len (a + 1) n) ≡ filter_map f (range_with_len (a + 1) n) = filter_map_same g f (a + 1) n (λ u l m. same u (λ (h : u ≡ t). omega arith)) in
+              ap (λ (o : Option X). cons_option o (filter_map g (range_with_len (a + 1) n))) (ap g e ∙ (is ∙ ap (λ u. Some (unwrap_or (option_map change (f u)) new)) (sym e)))
+              ∙ (ap (λ (ys : List X). unwrap_or (option_map change (f a)) new ∷ ys) rest ∙ here e (f a) refl)
+          | inr ne ↦
+              ap (λ (o : Option X). cons_option o (filter_map g (range_with_len (a + 1) n))) (same a ne)
+              ∙ past ne (f a) refl (filter_map_placed g t new change same is (a + 1) n (omega arith) (omega arith))
         ]
       where
         here : a ≡ t → (o : Option X) → f a ≡ o → unwrap_or (option_map change o) new ∷ filter_map f (range_with_len (a + 1) n) ≡ placed key t new change (cons_option o (filter_map f (range_with_len (a + 1) n)))
         here e None is' = sym (placed_front t new change (filter_map f (range_with_len (a + 1) n)) (keys_above t (a + 1) n (omega arith)))
         here e (Some y) is' = rw (eq-eqb (key y) t (own a y is' ∙ e)) refl
+
         past : (a ≡ t → ⊥) → (o : Option X) → f a ≡ o → filter_map g (range_with_len (a + 1) n) ≡ placed key t new change (filter_map f (range_with_len (a + 1) n))
             → cons_option o (filter_map g (range_with_len (a + 1) n)) ≡ placed key t new change (cons_option o (filter_map f (range_with_len (a + 1) n)))
         past ne None is' later = later
@@ -84,13 +85,14 @@ module _ {X : Type 0} where
     filter_map_dropped g t same is [] = refl
     filter_map_dropped g t same is (u ∷ us) =
         elim (cases_eq u t) [
-          inl e ↦ ap (λ (o : Option X). cons_option o (filter_map g us)) (ap g e ∙ is) ∙ gone e (f u) refl (filter_map_dropped g t same is us)
-        | inr ne ↦ ap (λ (o : Option X). cons_option o (filter_map g us)) (same u ne) ∙ kept ne (f u) refl (filter_map_dropped g t same is us)
+          | inl e ↦ ap (λ (o : Option X). cons_option o (filter_map g us)) (ap g e ∙ is) ∙ gone e (f u) refl (filter_map_dropped g t same is us)
+          | inr ne ↦ ap (λ (o : Option X). cons_option o (filter_map g us)) (same u ne) ∙ kept ne (f u) refl (filter_map_dropped g t same is us)
         ]
       where
         gone : u ≡ t → (o : Option X) → f u ≡ o → filter_map g us ≡ filter (λ (y : X). not (key y == t)) (filter_map f us) → filter_map g us ≡ filter (λ (y : X). not (key y == t)) (cons_option o (filter_map f us))
         gone e None is' later = later
         gone e (Some y) is' later = rw (eq-eqb (key y) t (own u y is' ∙ e)) later
+
         kept : (u ≡ t → ⊥) → (o : Option X) → f u ≡ o → filter_map g us ≡ filter (λ (y : X). not (key y == t)) (filter_map f us) → cons_option o (filter_map g us) ≡ filter (λ (y : X). not (key y == t)) (cons_option o (filter_map f us))
         kept ne None is' later = later
         kept ne (Some y) is' later = rw (ne_eqb (key y) t (λ (h : key y ≡ t). ne (sym (own u y is') ∙ h))) (ap (λ ys. y ∷ ys) later)
@@ -103,8 +105,8 @@ pub filter-filter_map : (p : ℕ → Bool) (us : List ℕ) → filter p us ≡ f
 filter-filter_map p [] = refl
 filter-filter_map p (u ∷ us) =
     elim (cases_Bool (p u)) [
-      inl passes ↦ rw passes (ap (λ ys. u ∷ ys) (filter-filter_map p us))
-    | inr fails ↦ rw fails (filter-filter_map p us)
+      | inl passes ↦ rw passes (ap (λ ys. u ∷ ys) (filter-filter_map p us))
+      | inr fails ↦ rw fails (filter-filter_map p us)
     ]
 
 pub kept_if_own : (p : ℕ → Bool) (u y : ℕ) → kept_if p u ≡ Some y → y ≡ u
@@ -118,8 +120,8 @@ pub find_same : (p q : ℕ → Bool) → ((t : ℕ) → p t ≡ q t) → (us : L
 find_same p q same [] = refl
 find_same p q same (u ∷ us) =
     elim (cases_Bool (p u)) [
-      inl passes ↦ rw (passes, sym (same u) ∙ passes) refl
-    | inr fails ↦ rw (fails, sym (same u) ∙ fails) (find_same p q same us)
+      | inl passes ↦ rw (passes, sym (same u) ∙ passes) refl
+      | inr fails ↦ rw (fails, sym (same u) ∙ fails) (find_same p q same us)
     ]
 
 -- who is among those that pass, in a row
@@ -127,21 +129,21 @@ pub any_in_filter : (p : ℕ → Bool) (u : ℕ) (us : List ℕ) → list_any (�
 any_in_filter p u [] is = absurd (false≢true is)
 any_in_filter p u (v ∷ us) is =
     elim (cases_Bool (p v)) [
-      inl passes ↦ elim (or_cases (v == u) (list_any (λ w. w == u) (filter p us)) (rw passes at is)) [
-        inl here ↦ ap p (sym (eqb-true v u here)) ∙ passes
-      | inr later ↦ any_in_filter p u us later
+      | inl passes ↦ elim (or_cases (v == u) (list_any (λ w. w == u) (filter p us)) (rw passes at is)) [
+        | inl here ↦ ap p (sym (eqb-true v u here)) ∙ passes
+        | inr later ↦ any_in_filter p u us later
       ]
-    | inr fails ↦ any_in_filter p u us (rw fails at is)
+      | inr fails ↦ any_in_filter p u us (rw fails at is)
     ]
 
 pub filter_in_any : (p : ℕ → Bool) (u a n : ℕ) → p u ≡ true → a ≤ u → u < a + n → list_any (λ v. v == u) (filter p (range_with_len a n)) ≡ true
 filter_in_any p u a zero is low high = absurd (omega arith)
 filter_in_any p u a (suc n) is low high =
     elim (cases_eq a u) [
-      inl e ↦ rw (ap p e ∙ is) (or_left (a == u) (list_any (λ v. v == u) (filter p (range_with_len (a + 1) n))) (eq-eqb a u e))
-    | inr ne ↦ elim (cases_Bool (p a)) [
-        inl passes ↦ rw passes (or_right (a == u) (list_any (λ v. v == u) (filter p (range_with_len (a + 1) n))) (filter_in_any p u (a + 1) n is (omega arith) (omega arith)))
-      | inr fails ↦ rw fails (filter_in_any p u (a + 1) n is (omega arith) (omega arith))
+      | inl e ↦ rw (ap p e ∙ is) (or_left (a == u) (list_any (λ v. v == u) (filter p (range_with_len (a + 1) n))) (eq-eqb a u e))
+      | inr ne ↦ elim (cases_Bool (p a)) [
+        | inl passes ↦ rw passes (or_right (a == u) (list_any (λ v. v == u) (filter p (range_with_len (a + 1) n))) (filter_in_any p u (a + 1) n is (omega arith) (omega arith)))
+        | inr fails ↦ rw fails (filter_in_any p u (a + 1) n is (omega arith) (omega arith))
       ]
     ]
 
@@ -151,8 +153,8 @@ module _ {X : Type 0} (key : X → ℕ) (f : ℕ → X) (own : (u : ℕ) → key
   find_in_range t a zero low high = absurd (omega arith)
   find_in_range t a (suc n) low high =
       elim (cases_eq a t) [
-        inl e ↦ rw (eq-eqb (key (f a)) t (own a ∙ e)) (ap (λ u. Some (f u)) e)
-      | inr ne ↦ rw (ne_eqb (key (f a)) t (λ (h : key (f a) ≡ t). ne (sym (own a) ∙ h))) (find_in_range t (a + 1) n (omega arith) (omega arith))
+        | inl e ↦ rw (eq-eqb (key (f a)) t (own a ∙ e)) (ap (λ u. Some (f u)) e)
+        | inr ne ↦ rw (ne_eqb (key (f a)) t (λ (h : key (f a) ≡ t). ne (sym (own a) ∙ h))) (find_in_range t (a + 1) n (omega arith) (omega arith))
       ]
 
   pub none_in_range : (t a n : ℕ) → a + n ≤ t → list_any (λ (y : X). key y == t) (map f (range_with_len a n)) ≡ false

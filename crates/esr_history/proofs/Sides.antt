@@ -27,8 +27,8 @@ find_passes : (p : ℕ → Bool) (us : List ℕ) (u : ℕ) → find p us ≡ Som
 find_passes p [] u found = absurd (cc)
 find_passes p (v ∷ us) u found =
     elim (cases_Bool (p v)) [
-      inl passes ↦ let same : Some v ≡ Some u = rw passes at found in rw (← same_Some v u same) passes
-    | inr fails ↦ find_passes p us u (rw fails at found)
+      | inl passes ↦ let same : Some v ≡ Some u = rw passes at found in rw (← same_Some v u same) passes
+      | inr fails ↦ find_passes p us u (rw fails at found)
     ]
 
 all_append : (P : Charge → Type 0) (xs ys : List Charge) → AllByRecursion P xs → AllByRecursion P ys → AllByRecursion P (xs ++ ys)
@@ -68,8 +68,9 @@ due_kinds d opening events (Write u x v) = write (is_update events u.0) refl
         at : (b : Bool) → (is_query events q && holds_read events q x.0) ≡ b → (if b then Some (record { query = q; update = u.0; amount = reads_of events q x.0 * d x.0 v (current_value opening events x.0) }) else None) ≡ Some c → IsOfKinds events c
         at true both got' =
             subst (IsOfKinds events) (same_Some (record { query = q; update = u.0; amount = reads_of events q x.0 * d x.0 v (current_value opening events x.0) }) c got')
-                ((and_parts (is_query events q) (holds_read events q x.0) both).0, is)
+            ((and_parts (is_query events q) (holds_read events q x.0) both).0, is)
         at false both got' = absurd (cc)
+
     write : (b : Bool) → is_update events u.0 ≡ b → AllByRecursion (IsOfKinds events) (if b then filter_map (charge_of_write d opening events u.0 x.0 v) (numbers events) else [])
     write false is = tt
     write true is = all_given (IsOfKinds events) (charge_of_write d opening events u.0 x.0 v) (gives is) (numbers events)
@@ -82,8 +83,8 @@ charges_kinds_after : (d : ℕ → ℤ → ℤ → ℕ) (opening : List ℤ) (be
 charges_kinds_after d opening before [] = tt
 charges_kinds_after d opening before (e ∷ later) =
     all_append (IsOfKinds (before ++ e ∷ later)) (due d opening before e) (charges_after d opening (before ++ e ∷ []) later)
-        (all_along before (e ∷ later) (due d opening before e) (due_kinds d opening before e))
-        (subst (λ (es : List Event). AllByRecursion (IsOfKinds es) (charges_after d opening (before ++ e ∷ []) later)) (append_assoc before (e ∷ []) later) (charges_kinds_after d opening (before ++ e ∷ []) later))
+    (all_along before (e ∷ later) (due d opening before e) (due_kinds d opening before e))
+    (subst (λ (es : List Event). AllByRecursion (IsOfKinds es) (charges_after d opening (before ++ e ∷ []) later)) (append_assoc before (e ∷ []) later) (charges_kinds_after d opening (before ++ e ∷ []) later))
 
 pub charges_kinds : (d : ℕ → ℤ → ℤ → ℕ) (opening : List ℤ) (events : List Event) → AllByRecursion (IsOfKinds events) (charges d opening events)
 charges_kinds d opening events = charges_kinds_after d opening [] events

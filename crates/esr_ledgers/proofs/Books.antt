@@ -30,16 +30,16 @@ pub query_open : (t : ℕ) (xs : List Account) → is_open_query xs t ≡ true �
 query_open t [] is = absurd (false≢true is)
 query_open t (x ∷ xs) is =
     elim (cases_Bool (number x == t)) [
-      inl e ↦ or_left (number x == t) (is_open xs t) e
-    | inr ne ↦ or_right (number x == t) (is_open xs t) (query_open t xs (rw ne at is))
+      | inl e ↦ or_left (number x == t) (is_open xs t) e
+      | inr ne ↦ or_right (number x == t) (is_open xs t) (query_open t xs (rw ne at is))
     ]
 
 pub update_open : (t : ℕ) (xs : List Account) → is_open_update xs t ≡ true → is_open xs t ≡ true
 update_open t [] is = absurd (false≢true is)
 update_open t (x ∷ xs) is =
     elim (cases_Bool (number x == t)) [
-      inl e ↦ or_left (number x == t) (is_open xs t) e
-    | inr ne ↦ or_right (number x == t) (is_open xs t) (update_open t xs (rw ne at is))
+      | inl e ↦ or_left (number x == t) (is_open xs t) e
+      | inr ne ↦ or_right (number x == t) (is_open xs t) (update_open t xs (rw ne at is))
     ]
 
 module _ (t n : ℕ) where
@@ -84,10 +84,10 @@ module _ (t n : ℕ) where
   account_raised_other s other [] = refl
   account_raised_other s other (x ∷ xs) =
       elim (cases_eq (number x) t) [
-        inl e ↦ rw (eq-eqb (number x) t e, ne_eqb (number x) s (λ (f : number x ≡ s). other (sym f ∙ e))) (account_raised_other s other xs)
-      | inr ne ↦ rw (ne_eqb (number x) t ne) (elim (cases_Bool (number x == s)) [
-          inl here ↦ rw here refl
-        | inr away ↦ rw away (account_raised_other s other xs)
+        | inl e ↦ rw (eq-eqb (number x) t e, ne_eqb (number x) s (λ (f : number x ≡ s). other (sym f ∙ e))) (account_raised_other s other xs)
+        | inr ne ↦ rw (ne_eqb (number x) t ne) (elim (cases_Bool (number x == s)) [
+          | inl here ↦ rw here refl
+          | inr away ↦ rw away (account_raised_other s other xs)
         ])
       ]
 
@@ -95,10 +95,10 @@ module _ (t n : ℕ) where
   within_raised [] asc all fits = tt
   within_raised (x ∷ xs) asc all fits =
       elim (cases_eq (number x) t) [
-        inl e ↦
-          let room : x.amount + n ≤ x.limit = rw (eq-eqb (number x) t e) at fits in
-          rw (eq-eqb (number x) t e, later x xs e asc.0) ((room, all.0.1), all.1)
-      | inr ne ↦ rw (ne_eqb (number x) t ne) (all.0, within_raised xs asc.1 all.1 (rw (ne_eqb (number x) t ne) at fits))
+        | inl e ↦
+            let room : x.amount + n ≤ x.limit = rw (eq-eqb (number x) t e) at fits in
+            rw (eq-eqb (number x) t e, later x xs e asc.0) ((room, all.0.1), all.1)
+        | inr ne ↦ rw (ne_eqb (number x) t ne) (all.0, within_raised xs asc.1 all.1 (rw (ne_eqb (number x) t ne) at fits))
       ]
 
   -- what is added to one account is added to the sum
@@ -106,32 +106,32 @@ module _ (t n : ℕ) where
   imports_raised_query [] asc is = absurd (false≢true is)
   imports_raised_query (x ∷ xs) asc is =
       elim (cases_eq (number x) t) [
-        inl e ↦
-          let q : x.query ≡ true = rw (eq-eqb (number x) t e) at is in
-          let one : import_of (more n x) ≡ import_of x + n = rw q refl in
-          let none : export_of (more n x) ≡ export_of x = rw q refl in
-          rw (eq-eqb (number x) t e, later x xs e asc.0)
-              (omega (arith, one, sum_by-cons import_of (more n x) xs, sum_by-cons import_of x xs), omega (arith, none, sum_by-cons export_of (more n x) xs, sum_by-cons export_of x xs))
-      | inr ne ↦
-          let rest : (imports (raised t n xs) ≡ imports xs + n) × (exports (raised t n xs) ≡ exports xs) = imports_raised_query xs asc.1 (rw (ne_eqb (number x) t ne) at is) in
-          rw (ne_eqb (number x) t ne)
-              (omega (arith, rest.0, sum_by-cons import_of x (raised t n xs), sum_by-cons import_of x xs), omega (arith, rest.1, sum_by-cons export_of x (raised t n xs), sum_by-cons export_of x xs))
+        | inl e ↦
+            let q : x.query ≡ true = rw (eq-eqb (number x) t e) at is in
+            let one : import_of (more n x) ≡ import_of x + n = rw q refl in
+            let none : export_of (more n x) ≡ export_of x = rw q refl in
+            rw (eq-eqb (number x) t e, later x xs e asc.0)
+            (omega (arith, one, sum_by-cons import_of (more n x) xs, sum_by-cons import_of x xs), omega (arith, none, sum_by-cons export_of (more n x) xs, sum_by-cons export_of x xs))
+        | inr ne ↦
+            let rest : (imports (raised t n xs) ≡ imports xs + n) × (exports (raised t n xs) ≡ exports xs) = imports_raised_query xs asc.1 (rw (ne_eqb (number x) t ne) at is) in
+            rw (ne_eqb (number x) t ne)
+            (omega (arith, rest.0, sum_by-cons import_of x (raised t n xs), sum_by-cons import_of x xs), omega (arith, rest.1, sum_by-cons export_of x (raised t n xs), sum_by-cons export_of x xs))
       ]
 
   pub exports_raised_update : (xs : List Account) → IsAscendingBy number xs → is_open_update xs t ≡ true → (imports (raised t n xs) ≡ imports xs) × (exports (raised t n xs) ≡ exports xs + n)
   exports_raised_update [] asc is = absurd (false≢true is)
   exports_raised_update (x ∷ xs) asc is =
       elim (cases_eq (number x) t) [
-        inl e ↦
-          let q : x.query ≡ false = not-true x.query (rw (eq-eqb (number x) t e) at is) in
-          let none : import_of (more n x) ≡ import_of x = rw q refl in
-          let one : export_of (more n x) ≡ export_of x + n = rw q refl in
-          rw (eq-eqb (number x) t e, later x xs e asc.0)
-              (omega (arith, none, sum_by-cons import_of (more n x) xs, sum_by-cons import_of x xs), omega (arith, one, sum_by-cons export_of (more n x) xs, sum_by-cons export_of x xs))
-      | inr ne ↦
-          let rest : (imports (raised t n xs) ≡ imports xs) × (exports (raised t n xs) ≡ exports xs + n) = exports_raised_update xs asc.1 (rw (ne_eqb (number x) t ne) at is) in
-          rw (ne_eqb (number x) t ne)
-              (omega (arith, rest.0, sum_by-cons import_of x (raised t n xs), sum_by-cons import_of x xs), omega (arith, rest.1, sum_by-cons export_of x (raised t n xs), sum_by-cons export_of x xs))
+        | inl e ↦
+            let q : x.query ≡ false = not-true x.query (rw (eq-eqb (number x) t e) at is) in
+            let none : import_of (more n x) ≡ import_of x = rw q refl in
+            let one : export_of (more n x) ≡ export_of x + n = rw q refl in
+            rw (eq-eqb (number x) t e, later x xs e asc.0)
+            (omega (arith, none, sum_by-cons import_of (more n x) xs, sum_by-cons import_of x xs), omega (arith, one, sum_by-cons export_of (more n x) xs, sum_by-cons export_of x xs))
+        | inr ne ↦
+            let rest : (imports (raised t n xs) ≡ imports xs) × (exports (raised t n xs) ≡ exports xs + n) = exports_raised_update xs asc.1 (rw (ne_eqb (number x) t ne) at is) in
+            rw (ne_eqb (number x) t ne)
+            (omega (arith, rest.0, sum_by-cons import_of x (raised t n xs), sum_by-cons import_of x xs), omega (arith, rest.1, sum_by-cons export_of x (raised t n xs), sum_by-cons export_of x xs))
       ]
 
 -- one more charge
@@ -168,16 +168,18 @@ pub record AreImports (xs : List Account) (cs : List (TxnId × ℕ)) : Type 0 wh
 
 imports_tail : (xs : List Account) (c : TxnId × ℕ) (cs : List (TxnId × ℕ)) → AreImports xs (c ∷ cs) → AreImports (raised c.0.0 c.1 xs) cs
 imports_tail xs c cs are = record {
-    ascending = are.ascending.1;
-    queries = carry (λ a. unwrap_or (option_map (λ b. b.query) a) false ≡ true) cs are.ascending.0 are.queries.1;
-    fit = fits cs are.ascending.0 are.fit.1;
-  }
+  ascending = are.ascending.1;
+  queries = carry (λ a. unwrap_or (option_map (λ b. b.query) a) false ≡ true) cs are.ascending.0 are.queries.1;
+  fit = fits cs are.ascending.0 are.fit.1;
+}
   where
     other : (b : TxnId × ℕ) → c.0.0 < b.0.0 → account_of (raised c.0.0 c.1 xs) b.0.0 ≡ account_of xs b.0.0
     other b l = account_raised_other c.0.0 c.1 b.0.0 (λ (e : b.0.0 ≡ c.0.0). omega arith) xs
+
     carry : (P : Option Account → Type 0) (bs : List (TxnId × ℕ)) → AllByRecursion (λ (b : TxnId × ℕ). c.0.0 < b.0.0) bs → AllByRecursion (λ (b : TxnId × ℕ). P (account_of xs b.0.0)) bs → AllByRecursion (λ (b : TxnId × ℕ). P (account_of (raised c.0.0 c.1 xs) b.0.0)) bs
     carry P [] low all = tt
     carry P (b ∷ bs) low all = (subst P (sym (other b low.0)) all.0, carry P bs low.1 all.1)
+
     fits : (bs : List (TxnId × ℕ)) → AllByRecursion (λ (b : TxnId × ℕ). c.0.0 < b.0.0) bs → AllByRecursion (λ (b : TxnId × ℕ). amount_at xs b.0.0 + b.1 ≤ limit_at xs b.0.0) bs → AllByRecursion (λ (b : TxnId × ℕ). amount_at (raised c.0.0 c.1 xs) b.0.0 + b.1 ≤ limit_at (raised c.0.0 c.1 xs) b.0.0) bs
     fits [] low all = tt
     fits (b ∷ bs) low all =
@@ -219,7 +221,7 @@ AreBooks-charged xs total u cs books update queries asc none room =
     let same : account_of (imported xs cs) u.0 ≡ account_of xs u.0 = account_imported_other u.0 cs xs (not_charged xs u.0 cs update queries) in
     let is_u : is_open_update (imported xs cs) u.0 ≡ true = ap (λ (a : Option Account). unwrap_or (option_map (λ (b : Account). not b.query) a) false) same ∙ update in
     let fits : amount_at (imported xs cs) u.0 + total_of cs ≤ limit_at (imported xs cs) u.0 =
-        subst (λ (a : Option Account). unwrap_or (option_map (λ (e : Account). e.amount) a) 0 + total_of cs ≤ unwrap_or (option_map (λ (e : Account). e.limit) a) 0) (sym same) (ltb-false (limit_at xs u.0) (amount_at xs u.0 + total_of cs) room) in
+    subst (λ (a : Option Account). unwrap_or (option_map (λ (e : Account). e.amount) a) 0 + total_of cs ≤ unwrap_or (option_map (λ (e : Account). e.limit) a) 0) (sym same) (ltb-false (limit_at xs u.0) (amount_at xs u.0 + total_of cs) room) in
     let last = exports_raised_update u.0 (total_of cs) (imported xs cs) asc_then is_u in
     record {
       ascending = raised_ascends u.0 (total_of cs) (imported xs cs) asc_then;
@@ -236,8 +238,8 @@ pub limit_small : (t : ℕ) (xs : List Account) → AllByRecursion IsWithinLimit
 limit_small t [] all = omega arith
 limit_small t (x ∷ xs) all =
     elim (cases_Bool (number x == t)) [
-      inl here ↦ rw here all.0.1
-    | inr away ↦ rw away (limit_small t xs all.1)
+      | inl here ↦ rw here all.0.1
+      | inr away ↦ rw away (limit_small t xs all.1)
     ]
 
 -- a quote that fits passes no limit
@@ -257,8 +259,8 @@ module _ (xs : List Account) (total : ℕ) (books : AreBooks xs total) (u : TxnI
     pub imports_fit : All (λ (c : TxnId × ℕ). amount_at xs c.0.0 + c.1 < 2 ^ 64) cs
     imports_fit =
         All-weaker (λ (c : TxnId × ℕ). would_pass xs c.0.0 c.1 ≡ false) (λ (c : TxnId × ℕ). amount_at xs c.0.0 + c.1 < 2 ^ 64)
-            (λ c is. let le : amount_at xs c.0.0 + c.1 ≤ limit_at xs c.0.0 = ltb-false (limit_at xs c.0.0) (amount_at xs c.0.0 + c.1) is in let lim : limit_at xs c.0.0 < 2 ^ 64 = limit_small c.0.0 xs books.within in omega arith)
-            cs (All-from_recursion (λ (c : TxnId × ℕ). would_pass xs c.0.0 c.1 ≡ false) cs (find_none_all (λ (c : TxnId × ℕ). would_pass xs c.0.0 c.1) cs parts.0))
+        (λ c is. let le : amount_at xs c.0.0 + c.1 ≤ limit_at xs c.0.0 = ltb-false (limit_at xs c.0.0) (amount_at xs c.0.0 + c.1) is in let lim : limit_at xs c.0.0 < 2 ^ 64 = limit_small c.0.0 xs books.within in omega arith)
+        cs (All-from_recursion (λ (c : TxnId × ℕ). would_pass xs c.0.0 c.1 ≡ false) cs (find_none_all (λ (c : TxnId × ℕ). would_pass xs c.0.0 c.1) cs parts.0))
 
     pub export_fits : amount_at xs u.0 + total_of cs < 2 ^ 64
     export_fits =
@@ -294,11 +296,11 @@ total_bounded xs total books =
 -- a new account
 pub AreBooks-opened : (xs : List Account) (total : ℕ) (a : Account) → AreBooks xs total → a.amount ≡ 0 → a.limit < 2 ^ 64 → (i : ℕ) → insert xs i a ≡ opened xs a → AreBooks (opened xs a) total
 AreBooks-opened xs total a books zero_is small i is = record {
-    ascending = placed_ascends number (number a) a (λ b. b) refl (λ b. refl) xs books.ascending;
-    within = all_placed number IsWithinLimit (number a) a (λ b. b) (omega arith, small) (λ b w. w) xs books.within;
-    import_sum = ap imports (sym is) ∙ (sum_by-insert import_of xs i a ∙ (none import_of refl_import ∙ books.import_sum));
-    export_sum = ap exports (sym is) ∙ (sum_by-insert export_of xs i a ∙ (none export_of refl_export ∙ books.export_sum));
-  }
+  ascending = placed_ascends number (number a) a (λ b. b) refl (λ b. refl) xs books.ascending;
+  within = all_placed number IsWithinLimit (number a) a (λ b. b) (omega arith, small) (λ b w. w) xs books.within;
+  import_sum = ap imports (sym is) ∙ (sum_by-insert import_of xs i a ∙ (none import_of refl_import ∙ books.import_sum));
+  export_sum = ap exports (sym is) ∙ (sum_by-insert export_of xs i a ∙ (none export_of refl_export ∙ books.export_sum));
+}
   where
     refl_import : import_of a ≡ 0
     refl_import = at a.query
@@ -306,12 +308,14 @@ AreBooks-opened xs total a books zero_is small i is = record {
         at : (b : Bool) → (if b then a.amount else 0) ≡ 0
         at true = zero_is
         at false = refl
+
     refl_export : export_of a ≡ 0
     refl_export = at a.query
       where
         at : (b : Bool) → (if b then 0 else a.amount) ≡ 0
         at true = refl
         at false = zero_is
+
     none : (f : Account → ℕ) → f a ≡ 0 → sum_by f xs + f a ≡ sum_by f xs
     none f z = omega (arith, z)
 
@@ -320,8 +324,8 @@ open_found : (t : ℕ) (xs : List Account) → is_open xs t ≡ is_some (account
 open_found t [] = refl
 open_found t (x ∷ xs) =
     elim (cases_Bool (number x == t)) [
-      inl here ↦ rw here refl
-    | inr away ↦ rw away (open_found t xs)
+      | inl here ↦ rw here refl
+      | inr away ↦ rw away (open_found t xs)
     ]
 
 pub open_by_account : (xs ys : List Account) (t : ℕ) → account_of ys t ≡ account_of xs t → is_open xs t ≡ true → is_open ys t ≡ true

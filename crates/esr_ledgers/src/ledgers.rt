@@ -2,12 +2,10 @@ ghost use Rattle.std.specs.Prelude.{◌≡◌, ℕ, ◌+◌, ◌*◌, ◌<◌, �
 ghost use Rattle.esr_history.specs.Ascending.{IsAscendingBy};
 ghost use Rattle.esr_ledgers.specs.Books.{number, is_open, is_open_query, is_open_update, amount_at, limit_at, new_account, opened, total_of, would_pass, quote_of, imported, charged, AreCharges, imports, exports};
 
+use crate::account::{Account, find_account, place_of, raise};
+use esr_history::{NoMemory, TxnId};
 use std::alloc::Global;
 use std::marker::Model;
-
-use esr_history::{NoMemory, TxnId};
-
-use crate::account::{Account, find_account, place_of, raise};
 
 /// Whether an update may be charged.
 #[derive(Clone, Copy, PartialEq, Eq, Debug)]

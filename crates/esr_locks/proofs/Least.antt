@@ -24,20 +24,22 @@ module _ {X : Type 0} (key : X → ℕ) where
   least_other t [] asc = λ u. and_right (not (u == t)) false refl
   least_other t (x ∷ xs) asc =
       elim (cases_eq (key x) t) [
-        inl e ↦
-          rw (eq-eqb (key x) t e)
-              (IsLeast-same (λ u. not (u == t) && list_any (λ y. key y == u) xs) (λ u. not (u == t) && (key x == u || list_any (λ y. key y == u) xs)) (option_map key (find (λ y. not (key y == t)) xs)) (same e) (least_other t xs asc.1))
-      | inr ne ↦ rw (ne_eqb (key x) t ne) (here ne, lower)
+        | inl e ↦
+            rw (eq-eqb (key x) t e)
+            (IsLeast-same (λ u. not (u == t) && list_any (λ y. key y == u) xs) (λ u. not (u == t) && (key x == u || list_any (λ y. key y == u) xs)) (option_map key (find (λ y. not (key y == t)) xs)) (same e) (least_other t xs asc.1))
+        | inr ne ↦ rw (ne_eqb (key x) t ne) (here ne, lower)
       ]
     where
       same : key x ≡ t → (u : ℕ) → (not (u == t) && list_any (λ y. key y == u) xs) ≡ (not (u == t) && (key x == u || list_any (λ y. key y == u) xs))
       same e u =
           elim (cases_eq u t) [
-            inl is ↦ and_left (not (u == t)) (list_any (λ y. key y == u) xs) (ap not (eq-eqb u t is)) ∙ sym (and_left (not (u == t)) (key x == u || list_any (λ y. key y == u) xs) (ap not (eq-eqb u t is)))
-          | inr other ↦ ap (λ b. not (u == t) && (b || list_any (λ y. key y == u) xs)) (sym (ne_eqb (key x) u (λ (f : key x ≡ u). other (sym f ∙ e))))
+            | inl is ↦ and_left (not (u == t)) (list_any (λ y. key y == u) xs) (ap not (eq-eqb u t is)) ∙ sym (and_left (not (u == t)) (key x == u || list_any (λ y. key y == u) xs) (ap not (eq-eqb u t is)))
+            | inr other ↦ ap (λ b. not (u == t) && (b || list_any (λ y. key y == u) xs)) (sym (ne_eqb (key x) u (λ (f : key x ≡ u). other (sym f ∙ e))))
           ]
+
       here : (key x ≡ t → ⊥) → (not (key x == t) && (key x == key x || list_any (λ y. key y == key x) xs)) ≡ true
       here ne = rw (ne_eqb (key x) t ne, eq-eqb (key x) (key x) refl) refl
+
       lower : (v : ℕ) → v < key x → (not (v == t) && (key x == v || list_any (λ y. key y == v) xs)) ≡ false
       lower v l = and_right (not (v == t)) (key x == v || list_any (λ y. key y == v) xs) (rw (ne_eqb (key x) v (λ (f : key x ≡ v). omega arith)) (none_lower (key x) v (omega arith) xs asc.0))
 

@@ -69,54 +69,55 @@ module _ (rows : List RowOf) (held : List HeldOf) (tab : IsTable rows held) (t x
   lock_there : (more : (u : ℕ) → has_lock new.locks u ≡ true → (has_lock row.locks u ≡ true) ⊎ (t ≡ u)) → (u y : ℕ) → y < length (set rows x new) → has_lock (row_at (set rows x new) y).locks u ≡ true → (lists_item (held_at held u).items y ≡ true) ⊎ ((t ≡ u) × (x ≡ y))
   lock_there more u y l has =
       elim (cases_eq y x) [
-        inl e ↦
-          let there : has_lock new.locks u ≡ true = ap (λ (r : RowOf). has_lock r.locks u) (sym (get_or-set_same rows x new empty_row inside) ∙ ap (row_at (set rows x new)) (sym e)) ∙ has in
-          elim (more u there) [
-            inl before ↦ inl (ap (lists_item (held_at held u).items) e ∙ tab.listed u x inside (ap (λ (r : RowOf). has_lock r.locks u) (sym (read_row rows x row inside is)) ∙ before))
-          | inr same ↦ inr (same, sym e)
-          ]
-      | inr ne ↦ inl (tab.listed u y (rw length-set at l) (ap (λ (r : RowOf). has_lock r.locks u) (sym (get_or-set_other rows x y new empty_row ne)) ∙ has))
+        | inl e ↦
+            let there : has_lock new.locks u ≡ true = ap (λ (r : RowOf). has_lock r.locks u) (sym (get_or-set_same rows x new empty_row inside) ∙ ap (row_at (set rows x new)) (sym e)) ∙ has in
+            elim (more u there) [
+              | inl before ↦ inl (ap (lists_item (held_at held u).items) e ∙ tab.listed u x inside (ap (λ (r : RowOf). has_lock r.locks u) (sym (read_row rows x row inside is)) ∙ before))
+              | inr same ↦ inr (same, sym e)
+            ]
+        | inr ne ↦ inl (tab.listed u y (rw length-set at l) (ap (λ (r : RowOf). has_lock r.locks u) (sym (get_or-set_other rows x y new empty_row ne)) ∙ has))
       ]
 
   -- the item is added to the list of who took the lock
   pub IsTable-push : (list : HeldOf) → ((u : ℕ) → has_lock new.locks u ≡ true → (has_lock row.locks u ≡ true) ⊎ (t ≡ u)) → t < length held → (id : ItemId) → id.0 ≡ x → list.items ≡ (held_at held t).items ++ id ∷ []
       → IsTable (set rows x new) (set held t list)
   IsTable-push list more in_held id id_is list_is = record {
-      within = λ u. elim (cases_eq u t) [
-          inl e ↦
-            let inside_new : All (λ (i : ItemId). i.0 < length (set rows x new)) ((held_at held t).items ++ id ∷ []) =
-                All-push (λ (i : ItemId). i.0 < length (set rows x new)) (held_at held t).items id (rw length-set (tab.within t)) (rw length-set (rw id_is inside)) in
-            let at_t : (held_at (set held t list) u).items ≡ (held_at held t).items ++ id ∷ [] = ap (λ v. (held_at (set held t list) v).items) e ∙ (ap (λ (h : HeldOf). h.items) (get_or-set_same held t list nothing_held in_held) ∙ list_is) in
-            subst (λ (is' : List ItemId). All (λ (i : ItemId). i.0 < length (set rows x new)) is') (sym at_t) inside_new
-        | inr ne ↦
-            subst (λ (is' : List ItemId). All (λ (i : ItemId). i.0 < length (set rows x new)) is') (sym (ap (λ (h : HeldOf). h.items) (get_or-set_other held t u list nothing_held ne))) (rw length-set (tab.within u))
-        ];
-      listed = λ u y l has.
-          elim (lock_there more u y l has) [
-            inl before ↦ keeps u y before
+    within = λ u. elim (cases_eq u t) [
+      | inl e ↦
+          let inside_new : All (λ (i : ItemId). i.0 < length (set rows x new)) ((held_at held t).items ++ id ∷ []) =
+          All-push (λ (i : ItemId). i.0 < length (set rows x new)) (held_at held t).items id (rw length-set (tab.within t)) (rw length-set (rw id_is inside)) in
+          let at_t : (held_at (set held t list) u).items ≡ (held_at held t).items ++ id ∷ [] = ap (λ v. (held_at (set held t list) v).items) e ∙ (ap (λ (h : HeldOf). h.items) (get_or-set_same held t list nothing_held in_held) ∙ list_is) in
+          subst (λ (is' : List ItemId). All (λ (i : ItemId). i.0 < length (set rows x new)) is') (sym at_t) inside_new
+      | inr ne ↦
+          subst (λ (is' : List ItemId). All (λ (i : ItemId). i.0 < length (set rows x new)) is') (sym (ap (λ (h : HeldOf). h.items) (get_or-set_other held t u list nothing_held ne))) (rw length-set (tab.within u))
+    ];
+    listed = λ u y l has.
+        elim (lock_there more u y l has) [
+          | inl before ↦ keeps u y before
           | inr now ↦ ap (λ v. lists_item (held_at (set held t list) v).items y) (sym now.0) ∙ (ap (λ (is' : List ItemId). lists_item is' y) (at_t) ∙ (any_push (λ (i : ItemId). i.0 == y) (held_at held t).items id ∙ or_right (lists_item (held_at held t).items y) (id.0 == y) (eq-eqb id.0 y (id_is ∙ now.1))))
-          ];
-    }
+        ];
+  }
     where
       at_t : (held_at (set held t list) t).items ≡ (held_at held t).items ++ id ∷ []
       at_t = ap (λ (h : HeldOf). h.items) (get_or-set_same held t list nothing_held in_held) ∙ list_is
+
       keeps : (u y : ℕ) → lists_item (held_at held u).items y ≡ true → lists_item (held_at (set held t list) u).items y ≡ true
       keeps u y before =
           elim (cases_eq u t) [
-            inl e ↦ ap (λ v. lists_item (held_at (set held t list) v).items y) e ∙ (ap (λ (is' : List ItemId). lists_item is' y) at_t ∙ (any_push (λ (i : ItemId). i.0 == y) (held_at held t).items id ∙ or_left (lists_item (held_at held t).items y) (id.0 == y) (ap (λ v. lists_item (held_at held v).items y) (sym e) ∙ before)))
-          | inr ne ↦ ap (λ (h : HeldOf). lists_item h.items y) (get_or-set_other held t u list nothing_held ne) ∙ before
+            | inl e ↦ ap (λ v. lists_item (held_at (set held t list) v).items y) e ∙ (ap (λ (is' : List ItemId). lists_item is' y) at_t ∙ (any_push (λ (i : ItemId). i.0 == y) (held_at held t).items id ∙ or_left (lists_item (held_at held t).items y) (id.0 == y) (ap (λ v. lists_item (held_at held v).items y) (sym e) ∙ before)))
+            | inr ne ↦ ap (λ (h : HeldOf). lists_item h.items y) (get_or-set_other held t u list nothing_held ne) ∙ before
           ]
 
   -- who took the lock had one there
   pub IsTable-again : ((u : ℕ) → has_lock new.locks u ≡ true → (has_lock row.locks u ≡ true) ⊎ (t ≡ u)) → has_lock row.locks t ≡ true → IsTable (set rows x new) held
   IsTable-again more had = record {
-      within = λ u. rw length-set (tab.within u);
-      listed = λ u y l has.
-          elim (lock_there more u y l has) [
-            inl before ↦ before
+    within = λ u. rw length-set (tab.within u);
+    listed = λ u y l has.
+        elim (lock_there more u y l has) [
+          | inl before ↦ before
           | inr now ↦ subst (λ v. lists_item (held_at held v).items y ≡ true) now.0 (subst (λ z. lists_item (held_at held t).items z ≡ true) now.1 (tab.listed t x inside (ap (λ (r : RowOf). has_lock r.locks t) (sym (read_row rows x row inside is)) ∙ had)))
-          ];
-    }
+        ];
+  }
 
 -- a release changes nothing where the transaction has no lock
 list_any_none : {X : Type 0} (p : X → Bool) (xs : List X) → list_any p xs ≡ false → filter (λ x. not (p x)) xs ≡ xs
@@ -135,19 +136,19 @@ any_filter : {X : Type 0} (p q : X → Bool) (xs : List X) → list_any p (filte
 any_filter p q [] is = absurd (false≢true is)
 any_filter p q (x ∷ xs) is =
     elim (cases_Bool (q x)) [
-      inl passes ↦ elim (or_cases (p x) (list_any p (filter q xs)) (rw passes at is)) [
-        inl here ↦ or_left (p x) (list_any p xs) here
-      | inr later ↦ or_right (p x) (list_any p xs) (any_filter p q xs later)
+      | inl passes ↦ elim (or_cases (p x) (list_any p (filter q xs)) (rw passes at is)) [
+        | inl here ↦ or_left (p x) (list_any p xs) here
+        | inr later ↦ or_right (p x) (list_any p xs) (any_filter p q xs later)
       ]
-    | inr fails ↦ or_right (p x) (list_any p xs) (any_filter p q xs (rw fails at is))
+      | inr fails ↦ or_right (p x) (list_any p xs) (any_filter p q xs (rw fails at is))
     ]
 
 none_left : {X : Type 0} (p : X → Bool) (xs : List X) → list_any p (filter (λ x. not (p x)) xs) ≡ false
 none_left p [] = refl
 none_left p (x ∷ xs) =
     elim (cases_Bool (p x)) [
-      inl passes ↦ rw passes (none_left p xs)
-    | inr fails ↦ rw (fails, fails) (none_left p xs)
+      | inl passes ↦ rw passes (none_left p xs)
+      | inr fails ↦ rw (fails, fails) (none_left p xs)
     ]
 
 -- after its release a transaction has no lock, and no other has more than before
@@ -158,17 +159,17 @@ released_gone t l = rw (writer_gone l.writer, none_left (λ u. u == t) l.readers
     writer_gone None = refl
     writer_gone (Some u) =
         elim (cases_Bool (u == t)) [
-          inl is ↦ rw is refl
-        | inr isnt ↦ rw (isnt, isnt) refl
+          | inl is ↦ rw is refl
+          | inr isnt ↦ rw (isnt, isnt) refl
         ]
 
 pub released_less : (t u : ℕ) (l : ItemLocks) → has_lock (released t l) u ≡ true → has_lock l u ≡ true
 released_less t u l is =
     elim (or_cases (is_writer (released t l) u) (is_reader (released t l) u || is_query (released t l) u) is) [
-      inl w ↦ or_left (is_writer l u) (is_reader l u || is_query l u) (writer_less l.writer w)
-    | inr rest ↦ or_right (is_writer l u) (is_reader l u || is_query l u) (elim (or_cases (is_reader (released t l) u) (is_query (released t l) u) rest) [
-        inl r ↦ or_left (is_reader l u) (is_query l u) (any_filter (λ v. v == u) (λ v. not (v == t)) l.readers r)
-      | inr q ↦ or_right (is_reader l u) (is_query l u) (any_filter (λ (v : ℕ × ℕ). v.0 == u) (λ (v : ℕ × ℕ). not (v.0 == t)) l.queries q)
+      | inl w ↦ or_left (is_writer l u) (is_reader l u || is_query l u) (writer_less l.writer w)
+      | inr rest ↦ or_right (is_writer l u) (is_reader l u || is_query l u) (elim (or_cases (is_reader (released t l) u) (is_query (released t l) u) rest) [
+        | inl r ↦ or_left (is_reader l u) (is_query l u) (any_filter (λ v. v == u) (λ v. not (v == t)) l.readers r)
+        | inr q ↦ or_right (is_reader l u) (is_query l u) (any_filter (λ (v : ℕ × ℕ). v.0 == u) (λ (v : ℕ × ℕ). not (v.0 == t)) l.queries q)
       ])
     ]
   where
@@ -176,8 +177,8 @@ released_less t u l is =
     writer_less None h = absurd (false≢true h)
     writer_less (Some v) h =
         elim (cases_Bool (v == t)) [
-          inl it ↦ absurd (false≢true (rw it at h))
-        | inr other ↦ rw other at h
+          | inl it ↦ absurd (false≢true (rw it at h))
+          | inr other ↦ rw other at h
         ]
 
 module _ (rows : List RowOf) (held : List HeldOf) (tab : IsTable rows held) (t : ℕ) (rows_new : List RowOf) (held_new : List HeldOf)
@@ -186,36 +187,36 @@ module _ (rows : List RowOf) (held : List HeldOf) (tab : IsTable rows held) (t :
     (left : (u : ℕ) → (held_at held_new u).items ≡ (if t == u then [] else (held_at held u).items)) where
   every : (x : ℕ) → x < length rows → (row_at rows_new x).locks ≡ released t (row_at rows x).locks
   every x l = locks x l ∙ elim (cases_Bool (lists_item (held_at held t).items x)) [
-      inl listed ↦ rw listed refl
+    | inl listed ↦ rw listed refl
     | inr not_listed ↦ rw not_listed (sym (released_none t (row_at rows x).locks (elim (cases_Bool (has_lock (row_at rows x).locks t)) [
-        inl has ↦ absurd (false≢true (sym not_listed ∙ tab.listed t x l has))
+      | inl has ↦ absurd (false≢true (sym not_listed ∙ tab.listed t x l has))
       | inr none ↦ none
-      ])))
-    ]
+    ])))
+  ]
 
   pub released_all : map (λ r. r.locks) rows_new ≡ map (released t) (map (λ r. r.locks) rows)
   released_all =
       ext_get_or no_locks (map (λ r. r.locks) rows_new) (map (released t) (map (λ r. r.locks) rows))
-          (length-map rows_new (λ (r : RowOf). r.locks) ∙ (len ∙ sym (length-map (map (λ (r : RowOf). r.locks) rows) (released t) ∙ length-map rows (λ (r : RowOf). r.locks))))
-          (λ x l.
-              let l_new : x < length rows_new = simp length-map at l in
-              let l_old : x < length rows = rw (← len) l_new in
-              locks_at-rows rows_new x l_new ∙ (every x l_old ∙ (ap (released t) (sym (locks_at-rows rows x l_old)) ∙ sym (get_or-map (released t) (map (λ r. r.locks) rows) x no_locks no_locks (simp length-map l_old)))))
+      (length-map rows_new (λ (r : RowOf). r.locks) ∙ (len ∙ sym (length-map (map (λ (r : RowOf). r.locks) rows) (released t) ∙ length-map rows (λ (r : RowOf). r.locks))))
+      (λ x l.
+      let l_new : x < length rows_new = simp length-map at l in
+      let l_old : x < length rows = rw (← len) l_new in
+      locks_at-rows rows_new x l_new ∙ (every x l_old ∙ (ap (released t) (sym (locks_at-rows rows x l_old)) ∙ sym (get_or-map (released t) (map (λ r. r.locks) rows) x no_locks no_locks (simp length-map l_old)))))
 
   pub IsTable-released : IsTable rows_new held_new
   IsTable-released = record {
-      within = λ u. elim (cases_Bool (t == u)) [
-          inl same ↦ subst (λ (is : List ItemId). All (λ (i : ItemId). i.0 < length rows_new) is) {x = []} (sym (left u ∙ rw same refl)) (All-nil (λ (i : ItemId). i.0 < length rows_new))
-        | inr other ↦ subst (λ (is : List ItemId). All (λ (i : ItemId). i.0 < length rows_new) is) {x = (held_at held u).items} (sym (left u ∙ rw other refl)) (rw len (tab.within u))
-        ];
-      listed = λ u x l has.
-          let l_old : x < length rows = rw (← len) l in
-          let there : has_lock (released t (row_at rows x).locks) u ≡ true = ap (λ (g : ItemLocks). has_lock g u) (sym (every x l_old)) ∙ has in
-          elim (cases_Bool (t == u)) [
-            inl same ↦ absurd (false≢true (sym (released_gone t (row_at rows x).locks) ∙ (ap (has_lock (released t (row_at rows x).locks)) (eqb-true t u same) ∙ there)))
+    within = λ u. elim (cases_Bool (t == u)) [
+      | inl same ↦ subst (λ (is : List ItemId). All (λ (i : ItemId). i.0 < length rows_new) is) {x = []} (sym (left u ∙ rw same refl)) (All-nil (λ (i : ItemId). i.0 < length rows_new))
+      | inr other ↦ subst (λ (is : List ItemId). All (λ (i : ItemId). i.0 < length rows_new) is) {x = (held_at held u).items} (sym (left u ∙ rw other refl)) (rw len (tab.within u))
+    ];
+    listed = λ u x l has.
+        let l_old : x < length rows = rw (← len) l in
+        let there : has_lock (released t (row_at rows x).locks) u ≡ true = ap (λ (g : ItemLocks). has_lock g u) (sym (every x l_old)) ∙ has in
+        elim (cases_Bool (t == u)) [
+          | inl same ↦ absurd (false≢true (sym (released_gone t (row_at rows x).locks) ∙ (ap (has_lock (released t (row_at rows x).locks)) (eqb-true t u same) ∙ there)))
           | inr other ↦ ap (λ (is : List ItemId). lists_item is x) (left u ∙ rw other refl) ∙ tab.listed u x l_old (released_less t u (row_at rows x).locks there)
-          ];
-    }
+        ];
+  }
 
 -- a row whose locks are the same
 pub set_same_row : (rows : List RowOf) (x : ℕ) (row new : RowOf) → row ≡ get_or rows x row → new.locks ≡ row.locks → map (λ r. r.locks) (set rows x new) ≡ map (λ r. r.locks) rows
@@ -259,11 +260,11 @@ past_lists (h ∷ held) (suc t) l = past_lists held t (omega arith)
 -- rows with no locks
 pub IsTable-empty : (rows : List RowOf) (n : ℕ) → map (λ r. r.locks) rows ≡ map (λ x. no_locks) (range_with_len 0 n) → IsTable rows []
 IsTable-empty rows n is = record {
-    within = λ t. subst (λ (ids : List ItemId). All (λ (i : ItemId). i.0 < length rows) ids) {x = []} (sym (past_lists [] t (omega arith))) (All-nil (λ (i : ItemId). i.0 < length rows));
-    listed = λ t x l has.
-        let m : x < n = omega (arith, length-map rows (λ (r : RowOf). r.locks), ap length is, length-map (range_with_len 0 n) (λ (y : ℕ). no_locks), length-range_with_len 0 n) in
-        absurd (false≢true (ap (λ (g : ItemLocks). has_lock g t) (sym (sym (locks_at-rows rows x l) ∙ (ap (λ (ls : List ItemLocks). locks_at ls x) is ∙ get_or-map-range_with_len (λ y. no_locks) 0 n x x no_locks m (omega arith)))) ∙ has));
-  }
+  within = λ t. subst (λ (ids : List ItemId). All (λ (i : ItemId). i.0 < length rows) ids) {x = []} (sym (past_lists [] t (omega arith))) (All-nil (λ (i : ItemId). i.0 < length rows));
+  listed = λ t x l has.
+      let m : x < n = omega (arith, length-map rows (λ (r : RowOf). r.locks), ap length is, length-map (range_with_len 0 n) (λ (y : ℕ). no_locks), length-range_with_len 0 n) in
+      absurd (false≢true (ap (λ (g : ItemLocks). has_lock g t) (sym (sym (locks_at-rows rows x l) ∙ (ap (λ (ls : List ItemLocks). locks_at ls x) is ∙ get_or-map-range_with_len (λ y. no_locks) 0 n x x no_locks m (omega arith)))) ∙ has));
+}
 
 pub empty_more : (rows : List RowOf) (new : RowOf) (n : ℕ) → map (λ r. r.locks) rows ≡ map (λ x. no_locks) (range_with_len 0 n) → new.locks ≡ no_locks
     → map (λ r. r.locks) (rows ++ new ∷ []) ≡ map (λ x. no_locks) (range_with_len 0 (n + 1))
@@ -281,26 +282,28 @@ pub release_more : (rows before : List RowOf) (items : List ItemId) (k t : ℕ) 
     → (y : ℕ) → y < length before → (row_at (set rows id.0 new) y).locks ≡ (if lists_item (take (k + 1) items) y then released t (row_at before y).locks else (row_at before y).locks)
 release_more rows before items k t id row new in_items id_is in_rows row_is new_is len so_far y l =
     elim (cases_eq y id.0) [
-      inl e ↦
-        let here : (row_at rows id.0).locks ≡ (if lists_item (take k items) id.0 then released t (row_at before id.0).locks else (row_at before id.0).locks) = so_far id.0 (rw (← e) l) in
-        ap (λ z. (row_at (set rows id.0 new) z).locks) e
-        ∙ (ap (λ (r : RowOf). r.locks) (get_or-set_same rows id.0 new empty_row in_rows)
-        ∙ (new_is
-        ∙ (ap (λ (r : RowOf). released t r.locks) (read_row rows id.0 row in_rows row_is)
-        ∙ (ap (released t) here
-        ∙ (once (lists_item (take k items) id.0) (row_at before id.0).locks
-        ∙ (ap (λ z. released t (row_at before z).locks) (sym e)
-        ∙ ap (λ b. if b then released t (row_at before y).locks else (row_at before y).locks) (sym (longer y ∙ or_right (lists_item (take k items) y) (id.0 == y) (eq-eqb id.0 y (sym e))))))))))
-    | inr ne ↦
-        ap (λ (r : RowOf). r.locks) (get_or-set_other rows id.0 y new empty_row ne)
-        ∙ (so_far y l ∙ ap (λ b. if b then released t (row_at before y).locks else (row_at before y).locks) (sym (longer y ∙ (ap (λ b. lists_item (take k items) y || b) (ne_eqb id.0 y (λ (f : id.0 ≡ y). ne (sym f))) ∙ or_none (lists_item (take k items) y)))))
+      | inl e ↦
+          let here : (row_at rows id.0).locks ≡ (if lists_item (take k items) id.0 then released t (row_at before id.0).locks else (row_at before id.0).locks) = so_far id.0 (rw (← e) l) in
+          ap (λ z. (row_at (set rows id.0 new) z).locks) e
+          ∙ (ap (λ (r : RowOf). r.locks) (get_or-set_same rows id.0 new empty_row in_rows)
+          ∙ (new_is
+          ∙ (ap (λ (r : RowOf). released t r.locks) (read_row rows id.0 row in_rows row_is)
+          ∙ (ap (released t) here
+          ∙ (once (lists_item (take k items) id.0) (row_at before id.0).locks
+          ∙ (ap (λ z. released t (row_at before z).locks) (sym e)
+          ∙ ap (λ b. if b then released t (row_at before y).locks else (row_at before y).locks) (sym (longer y ∙ or_right (lists_item (take k items) y) (id.0 == y) (eq-eqb id.0 y (sym e))))))))))
+      | inr ne ↦
+          ap (λ (r : RowOf). r.locks) (get_or-set_other rows id.0 y new empty_row ne)
+          ∙ (so_far y l ∙ ap (λ b. if b then released t (row_at before y).locks else (row_at before y).locks) (sym (longer y ∙ (ap (λ b. lists_item (take k items) y || b) (ne_eqb id.0 y (λ (f : id.0 ≡ y). ne (sym f))) ∙ or_none (lists_item (take k items) y)))))
     ]
   where
     or_none : (b : Bool) → (b || false) ≡ b
     or_none true = refl
     or_none false = refl
+
     longer : (z : ℕ) → lists_item (take (k + 1) items) z ≡ (lists_item (take k items) z || (id.0 == z))
     longer z = ap (λ is. lists_item is z) (take_more items k id in_items ∙ ap (λ i. take k items ++ i ∷ []) (sym id_is)) ∙ any_push (λ (i : ItemId). i.0 == z) (take k items) id
+
     once : (b : Bool) (l : ItemLocks) → released t (if b then released t l else l) ≡ released t l
     once true l = released_none t (released t l) (released_gone t l)
     once false l = refl

@@ -1,10 +1,9 @@
 ghost use Rattle.std.specs.Prelude.{◌≡◌, ◌<◌, [], ◌∷◌, ◌++◌, OnOk};
 ghost use Rattle.esr_locks.specs.Rows.{HeldOf};
 
+use esr_items::ItemId;
 use std::alloc::{AllocError, Global};
 use std::marker::Model;
-
-use esr_items::ItemId;
 
 /// The items that a transaction has locked. One that it has both read and written stands twice.
 #[derive(Drop)]

@@ -3,12 +3,10 @@ ghost use Rattle.std.specs.Option.{option_map};
 ghost use Rattle.esr_locks.specs.Rows.{RowOf, reads_of};
 ghost use Rattle.esr_locks.specs.Tables.{no_locks, is_reader, is_writer, is_query, keeps_from_reading, keeps_from_writing, IsLeast, with_reader, with_writer, with_query_read, released};
 
+use crate::lists::{QueryReads, add_reader, count_read, drop_query, drop_reader, other_reader};
+use esr_history::TxnId;
 use std::alloc::{AllocError, Global};
 use std::marker::Model;
-
-use esr_history::TxnId;
-
-use crate::lists::{QueryReads, add_reader, count_read, drop_query, drop_reader, other_reader};
 
 /// The locks on one item. Updates that have read it and queries that have read it stand in the
 /// order of their numbers.
@@ -29,8 +27,8 @@ impl Model for Row {
     ghost Value = { RowOf };
 
     ghost view = { λ r. record {
-        locks = record { writer = option_map (λ u. u.0) r.writer; readers = map (λ u. u.0) r.readers.items; queries = map reads_of r.queries.items };
-        room = min (vec_capacity r.readers - length r.readers.items) (vec_capacity r.queries - length r.queries.items);
+      locks = record { writer = option_map (λ u. u.0) r.writer; readers = map (λ u. u.0) r.readers.items; queries = map reads_of r.queries.items };
+      room = min (vec_capacity r.readers - length r.readers.items) (vec_capacity r.queries - length r.queries.items);
     } };
 
     ghost invariant = { λ r. IsAscendingBy (λ u. u.0) r.readers.items × IsAscendingBy (λ q. q.query.0) r.queries.items × AllByRecursion (λ q. q.count ≤ 1000) r.queries.items };

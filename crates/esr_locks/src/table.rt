@@ -4,16 +4,14 @@ ghost use Rattle.std.specs.Option.{option_map};
 ghost use Rattle.esr_locks.specs.Rows.{reads_of, row_at, held_at};
 ghost use Rattle.esr_locks.specs.Tables.{no_locks, locks_at, room_for, has_lock, lists_item, keeps_from_reading, keeps_from_writing, IsLeast, with_reader, with_writer, with_query_read, released};
 
-use std::alloc::{AllocError, Global};
-use std::marker::Model;
-use std::mem;
-
-use esr_history::{NoMemory, TxnId};
-use esr_items::ItemId;
-
 use crate::held::Held;
 use crate::lists::QueryReads;
 use crate::row::Row;
+use esr_history::{NoMemory, TxnId};
+use esr_items::ItemId;
+use std::alloc::{AllocError, Global};
+use std::marker::Model;
+use std::mem;
 
 /// The locks on each item, by two-phase locking: a transaction holds its locks until they are
 /// released together. Updates read and write, queries read.

@@ -5,7 +5,7 @@ use Rattle.esr_core.proofs.state.undo_all.Given as goal
 
 abbrev pub invariant-loop-x : goal.invariant-loop-x
 invariant-loop-x l = record {
-    len : length l.items ≡ length l.initial.items;
-    same : (x : ℕ) → x < length l.initial.items → committed_at l.items x ≡ committed_at l.initial.items x;
-    changed : (x : ℕ) → x < length l.initial.items → current_at l.items x ≡ (if lists_item (take l.x-index l.x-items) x && is_writer (locks_at l.locks.locks x) l.t.0 then committed_at l.initial.items x else current_at l.initial.items x);
-  }
+  len : length l.items ≡ length l.initial.items;
+  same : (x : ℕ) → x < length l.initial.items → committed_at l.items x ≡ committed_at l.initial.items x;
+  changed : (x : ℕ) → x < length l.initial.items → current_at l.items x ≡ (if lists_item (take l.x-index l.x-items) x && is_writer (locks_at l.locks.locks x) l.t.0 then committed_at l.initial.items x else current_at l.initial.items x);
+}

@@ -16,7 +16,7 @@ pub overflow_add-account : goal.overflow_add-account
 overflow_add-account c =
     let w : After-index_mut-account = (goal.at.overflow_add-account c).After-index_mut-account in
     let found : account_of c.args.accounts.now.items c.args.t.0 ≡ Some c.index_mut-account.result.now =
-        found_at number c.args.t.0 c.index_of-at.result c.args.accounts.now.items c.index_mut-account.result.now c.requires.ascending (place w) ∙ ap Some (sym c.index_mut-account.ensures.value) in
+    found_at number c.args.t.0 c.index_of-at.result c.args.accounts.now.items c.index_mut-account.result.now c.requires.ascending (place w) ∙ ap Some (sym c.index_mut-account.ensures.value) in
     let is : amount_at c.args.accounts.now.items c.args.t.0 ≡ c.index_mut-account.result.now.amount = ap (λ (a : Option Account). unwrap_or (option_map (λ (b : Account). b.amount) a) 0) found in
     let fits : amount_at c.args.accounts.now.items c.args.t.0 + c.args.amount < 2 ^ 64 = c.requires.fits in
     omega (arith, is, fits)

@@ -12,14 +12,14 @@ pub raise-requires-clause-open : goal.raise-requires-clause-open
 raise-requires-clause-open c =
     let charge : TxnId × ℕ = get_or c.args.charges.now c.loop-charge.charge-index (record { 0 = 0 }, 0) in
     let same : account_of c.loop-charge.accounts.items charge.0.0 ≡ account_of c.args.accounts.now.items charge.0.0 =
-        rw c.loop-charge.invariant.items (account_at_turn c.args.accounts.now.items c.args.charges.now c.requires.listed c.loop-charge.charge-index (record { 0 = 0 }, 0) c.loop-charge-test.true) in
+    rw c.loop-charge.invariant.items (account_at_turn c.args.accounts.now.items c.args.charges.now c.requires.listed c.loop-charge.charge-index (record { 0 = 0 }, 0) c.loop-charge-test.true) in
     open_by_account c.args.accounts.now.items c.loop-charge.accounts.items charge.0.0 same (c.requires.queries c.loop-charge.charge-index (record { 0 = 0 }, 0) c.loop-charge-test.true)
 
 pub raise-requires-clause-fits : goal.raise-requires-clause-fits
 raise-requires-clause-fits c =
     let charge : TxnId × ℕ = get_or c.args.charges.now c.loop-charge.charge-index (record { 0 = 0 }, 0) in
     let same : account_of c.loop-charge.accounts.items charge.0.0 ≡ account_of c.args.accounts.now.items charge.0.0 =
-        rw c.loop-charge.invariant.items (account_at_turn c.args.accounts.now.items c.args.charges.now c.requires.listed c.loop-charge.charge-index (record { 0 = 0 }, 0) c.loop-charge-test.true) in
+    rw c.loop-charge.invariant.items (account_at_turn c.args.accounts.now.items c.args.charges.now c.requires.listed c.loop-charge.charge-index (record { 0 = 0 }, 0) c.loop-charge-test.true) in
     subst (λ (a : Option Account). unwrap_or (option_map (λ (e : Account). e.amount) a) 0 + charge.1 < 2 ^ 64) (sym same) (c.requires.fits c.loop-charge.charge-index (record { 0 = 0 }, 0) c.loop-charge-test.true)
 
 pub loop-charge-preserved : goal.loop-charge-preserved

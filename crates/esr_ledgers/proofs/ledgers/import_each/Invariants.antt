@@ -5,6 +5,6 @@ use Rattle.esr_ledgers.proofs.ledgers.import_each.Given as goal
 
 abbrev pub invariant-loop-charge : goal.invariant-loop-charge
 invariant-loop-charge l = record {
-    items : l.accounts.items ≡ imported l.initial.accounts.items (take l.charge-index l.charges);
-    ascending : IsAscendingBy number l.accounts.items;
-  }
+  items : l.accounts.items ≡ imported l.initial.accounts.items (take l.charge-index l.charges);
+  ascending : IsAscendingBy number l.accounts.items;
+}

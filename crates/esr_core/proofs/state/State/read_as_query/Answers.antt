@@ -29,8 +29,8 @@ charge_read-requires-clause-charges g c =
     let s = c.args.self.now in
     let is : c.charge_of_read-charge.result ≡ read_charge (d h.weights c.args.x.0) (versions_at s.items c.args.x.0) (locks_at s.locks.locks c.args.x.0).writer = rw c.requires.accepted.1 c.charge_of_read-charge.ensures in
     each c.charge_of_read-charge.result (λ b some.
-        let owed = due_some d h s.items s.transactions.items s.locks.locks s.ledgers c.requires.accepted.2 c.args.q c.args.x b c.requires.accepted.4 c.requires.item (sym is ∙ some) in
-        are_charges-read d h s.items s.transactions.items s.locks.locks s.ledgers c.requires.accepted.2 c.args.q b.0 b.1 c.requires.accepted.4 owed.1)
+    let owed = due_some d h s.items s.transactions.items s.locks.locks s.ledgers c.requires.accepted.2 c.args.q c.args.x b c.requires.accepted.4 c.requires.item (sym is ∙ some) in
+    are_charges-read d h s.items s.transactions.items s.locks.locks s.ledgers c.requires.accepted.2 c.args.q b.0 b.1 c.requires.accepted.4 owed.1)
   where
     each : (o : Option (TxnId × ℕ)) → ((b : TxnId × ℕ) → o ≡ Some b → AreCharges c.args.self.now.ledgers b.0 ((c.args.q, b.1) ∷ [])) → IfSome o (λ b. AreCharges c.args.self.now.ledgers b.0 ((c.args.q, b.1) ∷ []))
     each None f = tt
@@ -43,8 +43,8 @@ charge_read-requires-clause-fits g c =
     let s = c.args.self.now in
     let is : c.charge_of_read-charge.result ≡ read_charge (d h.weights c.args.x.0) (versions_at s.items c.args.x.0) (locks_at s.locks.locks c.args.x.0).writer = rw c.requires.accepted.1 c.charge_of_read-charge.ensures in
     each c.charge_of_read-charge.result (λ b some.
-        let owed = due_some d h s.items s.transactions.items s.locks.locks s.ledgers c.requires.accepted.2 c.args.q c.args.x b c.requires.accepted.4 c.requires.item (sym is ∙ some) in
-        read_fits d h s.items s.transactions.items s.locks.locks s.ledgers c.requires.accepted.2 c.args.q b.0 c.args.x b.1 c.requires.accepted.3 c.requires.accepted.4 owed.1 owed.0)
+    let owed = due_some d h s.items s.transactions.items s.locks.locks s.ledgers c.requires.accepted.2 c.args.q c.args.x b c.requires.accepted.4 c.requires.item (sym is ∙ some) in
+    read_fits d h s.items s.transactions.items s.locks.locks s.ledgers c.requires.accepted.2 c.args.q b.0 c.args.x b.1 c.requires.accepted.3 c.requires.accepted.4 owed.1 owed.0)
   where
     each : (o : Option (TxnId × ℕ)) → ((b : TxnId × ℕ) → o ≡ Some b → quote_of c.args.self.now.ledgers b.0 ((c.args.q, b.1) ∷ []) ≡ Fits) → IfSome o (λ b. quote_of c.args.self.now.ledgers b.0 ((c.args.q, b.1) ∷ []) ≡ Fits)
     each None f = tt
@@ -59,7 +59,7 @@ pub add_read_query-requires-clause-few : goal.add_read_query-requires-clause-few
 add_read_query-requires-clause-few g c =
     let s = c.args.self.now in
     few_here g.M.Metric.distance_by c.requires.accepted.0 s.items s.transactions.items s.locks.locks s.ledgers c.requires.accepted.2 c.args.q.0 c.args.x.0 c.requires.item
-        (read_few g.M.Metric.distance_by c.requires.accepted.0 c.args.q c.args.x c.requires.accepted.3 c.requires.accepted.4)
+    (read_few g.M.Metric.distance_by c.requires.accepted.0 c.args.q c.args.x c.requires.accepted.3 c.requires.accepted.4)
 
 pub count_read-requires-clause-few : goal.count_read-requires-clause-few
 count_read-requires-clause-few g c = λ k row at.

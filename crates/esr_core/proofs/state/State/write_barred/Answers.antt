@@ -32,4 +32,4 @@ returns-clause-tied c = λ d h tie.
     let in_table : c.args.t.0 - 1 < length s.transactions.items = omega arith in
     let no_query : is_query (done h) c.args.t.0 ≡ false = sym (row_query d h s.items s.transactions.items s.locks.locks s.ledgers tie c.args.t.0 (c.args.t.0 - 1) c.transaction.result number in_table (c.transaction.ensures (c.args.t.0 - 1) (omega arith))) ∙ c.if-transaction.false in
     c.blocked.ensures ∙ write_barred d h s.items s.transactions.items s.locks.locks s.ledgers tie c.args.t c.args.x c.args.v (option_map (λ u. u.0) c.may_write.result) c.in_default-no_such_item.ensures.ready c.may_write.ensures no_query (c.in_default.ensures.tied d h tie) (c.in_default-no_such_item.ensures.tied d h tie)
-        (c.in_default-value_refusal.ensures.tied ∙ ap out_of_range (to_z-of_z w64 c.args.v c.ranges.v))
+    (c.in_default-value_refusal.ensures.tied ∙ ap out_of_range (to_z-of_z w64 c.args.v c.ranges.v))

@@ -15,11 +15,11 @@ invariant_of-self c =
 pub returns-clause-locks : goal.returns-clause-locks
 returns-clause-locks c =
     subst (λ (v : RowOf). record { writer = option_map (λ u. u.0) c.self.inside.writer; readers = map (λ u. u.0) c.add_reader.new.readers.items; queries = map reads_of c.self.inside.queries.items } ≡ with_reader c.args.t.0 v.locks) c.self.view_is
-        (let mapped : map (λ u. u.0) c.add_reader.new.readers.items ≡ placed (λ u. u) c.args.t.0 c.args.t.0 (λ u. u) (map (λ u. u.0) c.self.inside.readers.items) =
-            rw c.add_reader.ensures.items (map-placed (λ u. u.0) (λ u. u) (λ u. u.0) (λ u. refl) c.args.t.0 c.args.t (λ u. u) (λ u. u) (λ u. refl) c.self.inside.readers.items) in
-         rw mapped refl)
+    (let mapped : map (λ u. u.0) c.add_reader.new.readers.items ≡ placed (λ u. u) c.args.t.0 c.args.t.0 (λ u. u) (map (λ u. u.0) c.self.inside.readers.items) =
+    rw c.add_reader.ensures.items (map-placed (λ u. u.0) (λ u. u) (λ u. u.0) (λ u. refl) c.args.t.0 c.args.t (λ u. u) (λ u. u) (λ u. refl) c.self.inside.readers.items) in
+    rw mapped refl)
 
 pub returns-clause-fresh : goal.returns-clause-fresh
 returns-clause-fresh c =
     subst (λ (v : RowOf). c.add_reader.result ≡ not (is_reader v.locks c.args.t.0)) c.self.view_is
-        (c.add_reader.ensures.fresh ∙ ap not (sym (any-map (λ u. u.0) (λ u. u) (λ u. u.0) (λ u. refl) c.args.t.0 c.self.inside.readers.items)))
+    (c.add_reader.ensures.fresh ∙ ap not (sym (any-map (λ u. u.0) (λ u. u) (λ u. u.0) (λ u. refl) c.args.t.0 c.self.inside.readers.items)))

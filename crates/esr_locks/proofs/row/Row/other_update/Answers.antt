@@ -17,10 +17,10 @@ pub returns : goal.returns
 returns c =
     let t = c.args.t.0 in
     let near : IsLeast (λ u. not (u == t) && list_any (λ v. v.0 == u) c.self.inside.readers.items) (option_map (λ v. v.0) c.other_reader.result) =
-        rw (c.other_reader.ensures, c.deref.ensures.value) (least_other (λ v. v.0) t c.self.inside.readers.items c.self.invariant.0) in
+    rw (c.other_reader.ensures, c.deref.ensures.value) (least_other (λ v. v.0) t c.self.inside.readers.items c.self.invariant.0) in
     let reader : IsLeast (λ u. not (u == t) && is_reader c.args.self.now.locks u) (option_map (λ v. v.0) c.other_reader.result) =
-        IsLeast-same (λ u. not (u == t) && list_any (λ v. v.0 == u) c.self.inside.readers.items) (λ u. not (u == t) && is_reader c.args.self.now.locks u) (option_map (λ v. v.0) c.other_reader.result)
-            (λ u. ap (λ b. not (u == t) && b) (sym (any-map (λ v. v.0) (λ v. v) (λ v. v.0) (λ v. refl) u c.self.inside.readers.items) ∙ ap (λ (v : RowOf). is_reader v.locks u) c.self.view_is)) near in
+    IsLeast-same (λ u. not (u == t) && list_any (λ v. v.0 == u) c.self.inside.readers.items) (λ u. not (u == t) && is_reader c.args.self.now.locks u) (option_map (λ v. v.0) c.other_reader.result)
+    (λ u. ap (λ b. not (u == t) && b) (sym (any-map (λ v. v.0) (λ v. v) (λ v. v.0) (λ v. refl) u c.self.inside.readers.items) ∙ ap (λ (v : RowOf). is_reader v.locks u) c.self.view_is)) near in
     IsLeast-same (λ u. (not (u == t) && is_reader c.args.self.now.locks u) || keeps_from_reading c.args.self.now.locks t u) (keeps_from_writing c.args.self.now.locks t) (option_map (λ v. v.0) c.smaller_of.result)
-        (λ u. and_both (not (u == t)) (is_reader c.args.self.now.locks u) (is_writer c.args.self.now.locks u))
-        (c.smaller_of.ensures (λ u. not (u == t) && is_reader c.args.self.now.locks u) (keeps_from_reading c.args.self.now.locks t) reader c.other_writer.ensures)
+    (λ u. and_both (not (u == t)) (is_reader c.args.self.now.locks u) (is_writer c.args.self.now.locks u))
+    (c.smaller_of.ensures (λ u. not (u == t) && is_reader c.args.self.now.locks u) (keeps_from_reading c.args.self.now.locks t) reader c.other_writer.ensures)

@@ -14,7 +14,7 @@ inside c = rw (← length-map c.self.inside.rows.items (λ (r : RowOf). r.locks)
 locks : (c : After-add_writer) → map (λ (r : RowOf). r.locks) (set c.self.inside.rows.items c.args.x.0 c.add_writer.new.self) ≡ set c.args.self.now.locks c.args.x.0 (with_writer c.args.t.0 (locks_at c.args.self.now.locks c.args.x.0))
 locks c =
     subst (λ (v : Table). map (λ (r : RowOf). r.locks) (set c.self.inside.rows.items c.args.x.0 c.add_writer.new.self) ≡ set v.locks c.args.x.0 (with_writer c.args.t.0 (locks_at v.locks c.args.x.0))) c.self.view_is
-        (set_row c.self.inside.rows.items c.args.x.0 c.index_mut.result.now c.add_writer.new.self (λ (l : ItemLocks). with_writer c.args.t.0 l) (inside c) c.index_mut.ensures.value c.add_writer.ensures.locks)
+    (set_row c.self.inside.rows.items c.args.x.0 c.index_mut.result.now c.add_writer.new.self (λ (l : ItemLocks). with_writer c.args.t.0 l) (inside c) c.index_mut.ensures.value c.add_writer.ensures.locks)
 
 pub returns-then-add_writer : goal.returns-then-add_writer
 returns-then-add_writer c = locks (goal.at.returns-then-add_writer c).After-add_writer

@@ -17,19 +17,19 @@ list c =
 pub returns-then-at-len-clause-within : goal.returns-then-at-len-clause-within
 returns-then-at-len-clause-within c =
     subst (λ (v : Table). All (λ (i : ItemId). i.0 < length v.locks) c.items.result.now) c.self.view_is
-        (subst (λ (is : List ItemId). All (λ (i : ItemId). i.0 < length (map (λ (r : RowOf). r.locks) c.self.inside.rows.items)) is) (sym (list (goal.at.returns-then-at-len-clause-within c).After-items))
-            (table_within c.self.inside.rows.items c.self.inside.held.items c.self.invariant c.args.t.0))
+    (subst (λ (is : List ItemId). All (λ (i : ItemId). i.0 < length (map (λ (r : RowOf). r.locks) c.self.inside.rows.items)) is) (sym (list (goal.at.returns-then-at-len-clause-within c).After-items))
+    (table_within c.self.inside.rows.items c.self.inside.held.items c.self.invariant c.args.t.0))
 
 pub returns-then-at-len-clause-listed : goal.returns-then-at-len-clause-listed
 returns-then-at-len-clause-listed c =
     subst (λ (v : Table). (x : ℕ) → x < length v.locks → has_lock (locks_at v.locks x) c.args.t.0 ≡ true → lists_item c.items.result.now x ≡ true) c.self.view_is
-        (subst (λ (is : List ItemId). (x : ℕ) → x < length (map (λ (r : RowOf). r.locks) c.self.inside.rows.items) → has_lock (locks_at (map (λ (r : RowOf). r.locks) c.self.inside.rows.items) x) c.args.t.0 ≡ true → lists_item is x ≡ true) (sym (list (goal.at.returns-then-at-len-clause-listed c).After-items))
-            (table_listed c.self.inside.rows.items c.self.inside.held.items c.self.invariant c.args.t.0))
+    (subst (λ (is : List ItemId). (x : ℕ) → x < length (map (λ (r : RowOf). r.locks) c.self.inside.rows.items) → has_lock (locks_at (map (λ (r : RowOf). r.locks) c.self.inside.rows.items) x) c.args.t.0 ≡ true → lists_item is x ≡ true) (sym (list (goal.at.returns-then-at-len-clause-listed c).After-items))
+    (table_listed c.self.inside.rows.items c.self.inside.held.items c.self.invariant c.args.t.0))
 
 pub returns-else-at-len-clause-listed : goal.returns-else-at-len-clause-listed
 returns-else-at-len-clause-listed c =
     let n = c.self.inside.held.ok.0 in
     let past : length c.self.inside.held.items ≤ c.args.t.0 = omega (arith, n) in
     subst (λ (v : Table). (x : ℕ) → x < length v.locks → has_lock (locks_at v.locks x) c.args.t.0 ≡ true → lists_item [] x ≡ true) c.self.view_is
-        (subst (λ (is : List ItemId). (x : ℕ) → x < length (map (λ (r : RowOf). r.locks) c.self.inside.rows.items) → has_lock (locks_at (map (λ (r : RowOf). r.locks) c.self.inside.rows.items) x) c.args.t.0 ≡ true → lists_item is x ≡ true) (past_lists c.self.inside.held.items c.args.t.0 past)
-            (table_listed c.self.inside.rows.items c.self.inside.held.items c.self.invariant c.args.t.0))
+    (subst (λ (is : List ItemId). (x : ℕ) → x < length (map (λ (r : RowOf). r.locks) c.self.inside.rows.items) → has_lock (locks_at (map (λ (r : RowOf). r.locks) c.self.inside.rows.items) x) c.args.t.0 ≡ true → lists_item is x ≡ true) (past_lists c.self.inside.held.items c.args.t.0 past)
+    (table_listed c.self.inside.rows.items c.self.inside.held.items c.self.invariant c.args.t.0))
