@@ -21,7 +21,7 @@ use Rattle.esr_order.specs.Listing.{IsTableOf, IsBelow, is_pair, ListsPairs}
 use Rattle.esr_order.specs.Chains.{Chain, chain_from, if_written, some_chain, last_of, last_step, last_written, update_at, chain_of}
 use Rattle.esr_order.specs.Orders.{Ordered, chain_at, written_chain, IsClosedIn, IsOrderOf}
 use Rattle.esr_order.proofs.Writers.{writers_in_order}
-use Rattle.esr_order.proofs.Ordered.{in_order}
+use Rattle.esr_order.proofs.Ordered.{in_order, few_updates}
 use Rattle.esr_order.proofs.Found.{update_table}
 use Rattle.esr_order.proofs.Placing.{get_at, pairs_placed, last_placed, chain_agree}
 use Rattle.esr_order.proofs.Early.{must_positions, must_below}
@@ -203,10 +203,11 @@ module _ (d : Distance) (h : Schedule) (q : ℕ) (legal : IsLegal d h) (places :
     pub order_found : map (λ t. t.0) commits ≡ us → IsOrderOf h q found
     order_found same =
         let len : length commits ≡ length us = sym (length_numbers commits) ∙ ap length same in
-        let few : n ≤ length us = must_below d h q legal n count in
+        let part : n ≤ length us = must_below d h q legal n count in
         let below : 0 + n ≤ length commits = omega arith in
         record {
           commits = same;
+          few = subst (λ m. m ≤ 65535) (sym len) (few_updates d h q legal);
           serial = record { lists = λ u. ((λ i. i), (λ i. i)); once = once; keeps = keeps };
           ascending = listed.ascending;
           pairs = subst (λ m. All (λ p. (p.0 < p.1) × (p.1 < m) × IsTrue (is_before h (update_at h q p.0) (update_at h q p.1))) before) (sym len) upward;

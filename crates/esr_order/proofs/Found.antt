@@ -111,16 +111,6 @@ steps_placed us places table ops = All-from_recursion (λ s. s.place < length us
         at None is rest = rest
         at (Some i) is rest = (get_inside us i o.txn ((table o.txn i).0 is), rest)
 
-module _ (d : Distance) (h : Schedule) (q : ℕ) (legal : IsLegal d h) where
-  -- an update of q has begun
-  pub listed_begun : (u : ℕ) → In u (updates_of h q) → (1 ≤ u) × (u < 1 + length (beginnings (done h)))
-  listed_begun u i =
-      let c : In u (commit_order (done h)) = In-before_first (λ t. eqb t q) (commit_order (done h)) u (In-of_filter (is_update (done h)) (before_first (λ t. eqb t q) (commit_order (done h))) u i).0 in
-      begun_number (done h) u ((known (legal_reached d h legal)).of_ends u (or_left (list_any (λ w. eqb w u) (commit_order (done h))) (list_any (λ w. eqb w u) (trace h).aborts) (any-from_number (commit_order (done h)) u c)))
-
-  pub listed_once : AllPairs (λ u v. u ≢ v) (updates_of h q)
-  listed_once = All-from_pairs (λ u v. u ≢ v) (updates_of h q) (in_order d h q legal).once
-
 -- how a transaction began, by its number
 pub begin_found : (es : List Entry) (q : ℕ) → (q ≡ 0 → ⊥) → (o : Option Kind) → o ≡ slice_get (filter_map kind_at es) (q - 1) → o ≡ option_map kind_of (beginning (accepted es) q)
 begin_found es zero some o is = absurd (some refl)
