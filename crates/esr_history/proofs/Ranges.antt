@@ -1,7 +1,7 @@
 -- The counts and ranges of legal histories.
-use Rattle.std.proofs.Common.{◌≡◌, ℕ, zero, suc, ℤ, pos, ◌+◌, ◌<◌, ◌≤◌, ◌^◌, Bool, true, false, not, ◌&&◌, ◌||◌, ◌==◌, List, [], ◌∷◌, ◌++◌, length, refl, sym, ◌∙◌, ap, subst, arith, inl, inr, filter, map, Option, Some, None, All, cond, count_by, ◌⊎◌}
-use Rattle.std.specs.Prelude.{IsTrue, unwrap_or, nat_le, slice_index_or, is_some, unsigned_abs}
-use Rattle.std.specs.List.{AllByRecursion, filter_map, list_any, cons_option, slice_get}
+use Rattle.std.proofs.Common.{◌≡◌, ℕ, zero, suc, ℤ, ◌+◌, ◌<◌, ◌≤◌, ◌^◌, true, false, not, ◌&&◌, ◌==◌, List, [], ◌∷◌, ◌++◌, length, refl, sym, ◌∙◌, ap, subst, arith, inl, inr, filter, Option, Some, None, All, cond, count_by, ◌⊎◌}
+use Rattle.std.specs.Prelude.{unwrap_or, nat_le, is_some, unsigned_abs}
+use Rattle.std.specs.List.{AllByRecursion, cons_option}
 use Rattle.std.specs.Option.{option_map}
 use Rattle.std.proofs.lemmas.Bool.{cases_Bool, true≢false, leb-false, leb-true, not-false, false_from_ne_true, eqb-true}
 use Rattle.std.proofs.lemmas.List.Elements.{All-from_recursion, recursion_from_All}
@@ -15,16 +15,16 @@ use Rattle.esr_history.specs.declared.event.Reply.TheVariants.{Refused}
 use Rattle.esr_history.specs.declared.event.Refusal.{Refusal}
 use Rattle.esr_history.specs.declared.event.Refusal.TheVariants.{NoSuchItem, ValueOutOfRange, TooManyTransactions, TooManyReads}
 use Rattle.esr_history.specs.Events.{Beginning, beginning, beginnings, beginning_of, is_query, is_update, is_active, is_refusal, reads_any, all_reads_of, current_value}
-use Rattle.esr_history.specs.Machine.{Distance, Schedule, done, extended, blank, reply_to, reasons, refusal, acceptance, answered, IsLegal, no_item}
+use Rattle.esr_history.specs.Machine.{Distance, Schedule, done, extended, reply_to, reasons, refusal, acceptance, answered, IsLegal, no_item}
 use Rattle.esr_history.specs.Legal.{legal_induction}
 use Rattle.esr_history.specs.Operations.{Operation, operation_by, operations}
 use Rattle.esr_history.specs.Ranges.{IsWithinRanges}
 use Rattle.esr_history.proofs.Lists.{filter_map_push}
 use Rattle.esr_history.proofs.Lawful.{done-refused, done-accepted, none_applies, NoneApplies, not_ended, when_none}
 use Rattle.esr_history.proofs.Orderly.{is_update-push, active_parts}
-use Rattle.esr_history.proofs.Membership.{In, each_in, In-push, In-of_filter, In-append_cases}
+use Rattle.esr_history.proofs.Membership.{In, each_in, In-of_filter, In-append_cases}
 use Rattle.esr_history.proofs.Traces.{writes_item, is_among, after_writes}
-use Rattle.esr_history.proofs.Words.{trace, current_trace}
+use Rattle.esr_history.proofs.Words.{query_not_update, trace, current_trace}
 use Rattle.esr_history.proofs.Reaches.{operations-refused, operations-accepted}
 
 value_at-range : (vs : List ℤ) (x : ℕ) → AllByRecursion IsValue vs → IsValue (value_at vs x)
@@ -162,7 +162,7 @@ module _ (d : Distance) (h : Schedule) (was : InRanges h) where
 legal_in_ranges : (d : Distance) (h : Schedule) → IsLegal d h → InRanges h
 legal_in_ranges d h legal =
     legal_induction d InRanges (λ g e r is was. InRanges-extended d g was e r is) h
-        (record { begins = omega arith; reads = λ t is. omega arith; values = λ opened o i. absurd i; items = λ o i. absurd i }) legal
+    (record { begins = omega arith; reads = λ t is. omega arith; values = λ opened o i. absurd i; items = λ o i. absurd i }) legal
 
 pub legal_begins : (d : Distance) (h : Schedule) → IsLegal d h → length (beginnings (done h)) ≤ 65535
 legal_begins d h legal = (legal_in_ranges d h legal).begins
@@ -176,11 +176,7 @@ legal_within_ranges d h opened legal =
     let r : InRanges h = legal_in_ranges d h legal in
     record {
       begins = r.begins;
-      reads = λ q query. r.reads q (query_not_update (beginning (done h) q) query);
+      reads = λ q query. r.reads q (query_not_update (done h) q query);
       values = All-from_recursion (λ (o : Operation). IsValue o.value) (operations h) (each_in (λ (o : Operation). IsValue o.value) (operations h) (r.values (recursion_from_All IsValue h.opening opened)));
       items = All-from_recursion (λ (o : Operation). o.item < length h.opening) (operations h) (each_in (λ (o : Operation). o.item < length h.opening) (operations h) r.items);
     }
-  where
-    query_not_update : (o : Option Beginning) → unwrap_or (option_map (λ b. b.query) o) false ≡ true → unwrap_or (option_map (λ b. not b.query) o) false ≡ false
-    query_not_update None is = refl
-    query_not_update (Some b) is = ap not is

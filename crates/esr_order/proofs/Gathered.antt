@@ -1,24 +1,20 @@
 -- The parts that are gathered make an order of the query.
-use Rattle.std.proofs.Common.{◌≡◌, ◌≢◌, ℕ, suc, ◌+◌, ◌<◌, ◌≤◌, Bool, true, false, not, ◌==◌, List, [], ◌∷◌, length, Option, None, Some, All, AllPairs, refl, sym, ◌∙◌, ap, subst, arith, inl, inr, map, eqb, if◌then◌else◌}
-use Rattle.std.specs.List.{filter_map, list_any, range_with_len, AllByRecursion, IsDistinct}
+use Rattle.std.proofs.Common.{◌≡◌, ◌≢◌, ℕ, suc, ◌+◌, ◌<◌, ◌≤◌, Bool, not, List, [], ◌∷◌, length, Option, All, AllPairs, refl, sym, ◌∙◌, ap, subst, arith, inl, inr, map, if◌then◌else◌}
+use Rattle.std.specs.List.{filter_map, range_with_len, AllByRecursion}
 use Rattle.std.proofs.Math.Nat.{le_trans}
-use Rattle.std.proofs.lemmas.Bool.{ne_eqb, eqb-true}
 use Rattle.std.proofs.lemmas.List.Elements.{All-from_recursion}
-use Rattle.std.proofs.lemmas.Map.Steps.{length-le_from_distinct_below}
 use Rattle.esr_history.specs.declared.event.TxnId.{TxnId}
 use Rattle.esr_history.specs.declared.event.Entry.{Entry}
 use Rattle.esr_history.specs.Events.{accepted, beginnings}
 use Rattle.esr_history.specs.Machine.{Distance, Schedule, done, IsLegal}
 use Rattle.esr_history.specs.Operations.{operations}
 use Rattle.esr_history.specs.Queries.{updates_of, is_strict}
-use Rattle.esr_history.proofs.Membership.{In, Pairs, Pairs-map, each_in, In-any, All-from_pairs, any-from_number}
-use Rattle.esr_history.proofs.Ranges.{legal_begins}
-use Rattle.esr_order.specs.declared.scan.Kind.{Kind}
+use Rattle.esr_history.proofs.Membership.{In, Pairs, All-from_pairs}
 use Rattle.esr_order.specs.declared.scan.Step.{Step}
 use Rattle.esr_order.specs.Scans.{scanned, kind_at, found_before, found_early, step_of, step_at}
 use Rattle.esr_order.specs.Listing.{IsTableOf, is_pair, ListsPairs}
 use Rattle.esr_order.specs.Chains.{Chain, chain_from, last_step}
-use Rattle.esr_order.specs.Orders.{Ordered, IsOrderOf}
+use Rattle.esr_order.specs.Orders.{IsOrderOf}
 use Rattle.esr_order.proofs.Ordered.{in_order, listed_begun, few_updates}
 use Rattle.esr_order.proofs.Found.{update_table, updates_found, numbers_back, length_found, steps_found, steps_placed}
 use Rattle.esr_order.proofs.Early.{must_below}

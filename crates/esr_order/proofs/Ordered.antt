@@ -1,5 +1,5 @@
 -- The laws of placements over legal histories.
-use Rattle.std.proofs.Common.{◌≡◌, ℕ, suc, ◌+◌, ◌<◌, ◌≤◌, Bool, true, false, List, [], ◌∷◌, length, take, drop, sym, ◌∙◌, ap, subst, filter, eqb, arith, inl, inr}
+use Rattle.std.proofs.Common.{◌≡◌, ℕ, ◌+◌, ◌<◌, ◌≤◌, Bool, false, List, [], ◌∷◌, length, take, drop, sym, ◌∙◌, ap, subst, filter, eqb, arith, inl, inr}
 use Rattle.std.specs.List.{before_first, position_or_len, list_any, AllByRecursion, IsDistinct}
 use Rattle.std.proofs.lemmas.Bool.{or_left, ne_eqb, eqb-true}
 use Rattle.std.proofs.lemmas.Map.Steps.{length-le_from_distinct_below}
@@ -54,11 +54,12 @@ module _ (d : Distance) (h : Schedule) (q : ℕ) (legal : IsLegal d h) where
       let begins : length (beginnings (done h)) ≤ 65535 = legal_begins d h legal in
       let none : AllByRecursion (λ u. 0 ≡ u → ⊥) (updates_of h q) = each_in (λ u. 0 ≡ u → ⊥) (updates_of h q) (λ u i e. let low : 1 ≤ u = (listed_begun u i).0 in omega (arith, low, e)) in
       let all : length (0 ∷ updates_of h q) ≤ 1 + length (beginnings (done h)) =
-          length-le_from_distinct_below (0 ∷ updates_of h q) (1 + length (beginnings (done h))) (distinct (0 ∷ updates_of h q) (none, (in_order d h q legal).once))
-              (λ u some. let w = In-any (eqb u) (0 ∷ updates_of h q) some in subst (λ v. v < 1 + length (beginnings (done h))) (sym (eqb-true u w.0 w.2)) (elim w.1 [ inl zero_is ↦ below w.0 zero_is | inr i ↦ (listed_begun w.0 i).1 ])) in
+      length-le_from_distinct_below (0 ∷ updates_of h q) (1 + length (beginnings (done h))) (distinct (0 ∷ updates_of h q) (none, (in_order d h q legal).once))
+      (λ u some. let w = In-any (eqb u) (0 ∷ updates_of h q) some in subst (λ v. v < 1 + length (beginnings (done h))) (sym (eqb-true u w.0 w.2)) (elim w.1 [ inl zero_is ↦ below w.0 zero_is | inr i ↦ (listed_begun w.0 i).1 ])) in
       shorter (updates_of h q) (length (beginnings (done h))) all begins
     where
       below : (v : ℕ) → 0 ≡ v → v < 1 + length (beginnings (done h))
       below v e = omega (arith, e)
+
       shorter : (us : List ℕ) (n : ℕ) → length (0 ∷ us) ≤ 1 + n → n ≤ 65535 → length us ≤ 65535
       shorter us n l m = omega arith

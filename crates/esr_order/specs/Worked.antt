@@ -1,5 +1,5 @@
 -- Worked examples: distances of placements, and chains of versions.
-use Rattle.std.specs.Prelude.{◌≡◌, ℕ, pos, List, [], ◌∷◌, true, Some, None, refl, map}
+use Rattle.std.specs.Prelude.{◌≡◌, pos, [], ◌∷◌, true, Some, None, refl, map}
 use Rattle.esr_history.specs.Worked.{plain}
 use Rattle.esr_history.specs.WorkedOrder.{order_through_a_third_item, two_updates_over_a_report, strict_report}
 use Rattle.esr_order.specs.Placements.{placement_distance}

@@ -1,11 +1,10 @@
-use Rattle.std.proofs.Common.{◌≡◌, ◌<◌, ◌≤◌, ℕ, List, Bool, length, map, sym, ◌∙◌, ap, subst, arith, if◌then◌else◌, true, false}
-use Rattle.esr_history.specs.declared.event.TxnId.{TxnId}
+use Rattle.std.proofs.Common.{◌≡◌, ◌<◌, ◌≤◌, length, map, sym, ◌∙◌, ap, subst, arith}
 use Rattle.esr_history.specs.Events.{beginnings}
 use Rattle.esr_history.specs.Machine.{Schedule, done}
-use Rattle.esr_history.specs.Queries.{updates_of, is_strict}
+use Rattle.esr_history.specs.Queries.{updates_of}
 use Rattle.std.specs.List.{filter_map, range_with_len}
 use Rattle.esr_history.proofs.Ranges.{legal_begins}
-use Rattle.esr_order.specs.Scans.{scanned, step_at, found_early}
+use Rattle.esr_order.specs.Scans.{scanned, step_at}
 use Rattle.esr_order.specs.Listing.{IsTableOf, is_pair, ListsPairs}
 use Rattle.esr_order.specs.Chains.{seen_links, chain_from, last_step}
 use Rattle.esr_order.proofs.Gathered.{commits_gathered, begins_gathered, steps_gathered, commits_known, commits_once, commits_few, places_below, early_few, must_gathered, gathered}
