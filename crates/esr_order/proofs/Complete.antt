@@ -12,7 +12,7 @@ use Rattle.esr_history.specs.Queries.{updates_of, must, is_strict}
 use Rattle.esr_history.proofs.Membership.{In, In-any, Contains-In, In-Contains, Pairs, All-from_pairs, Pairs-filter, In-of_filter, each_in, each_at, filter_none_in}
 use Rattle.esr_history.proofs.Versions.{wrote_by, wrote_parts}
 use Rattle.esr_history.proofs.Words.{values_trace}
-use Rattle.esr_history.proofs.Ranges.{legal_items}
+use Rattle.esr_history.proofs.WithinRanges.{legal_items}
 use Rattle.esr_order.specs.declared.scan.Step.{Step}
 use Rattle.esr_order.specs.Scans.{step_of, found_early}
 use Rattle.esr_order.specs.Placements.{IsClosed}

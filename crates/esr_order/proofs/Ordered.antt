@@ -14,7 +14,7 @@ use Rattle.esr_history.proofs.Membership.{In, Pairs, Pairs-left, In-of_filter, I
 use Rattle.esr_history.proofs.Bounded.{In-before_first}
 use Rattle.esr_history.proofs.Lawful.{begun_number}
 use Rattle.esr_history.proofs.Locking.{known}
-use Rattle.esr_history.proofs.Ranges.{legal_begins}
+use Rattle.esr_history.proofs.WithinRanges.{legal_begins}
 use Rattle.esr_history.proofs.Words.{trace}
 use Rattle.esr_history.proofs.Reaches.{legal_reached}
 use Rattle.esr_history.proofs.Laws.{updates_once, updates_in_order}

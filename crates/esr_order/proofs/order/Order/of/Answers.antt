@@ -3,7 +3,7 @@ use Rattle.esr_history.specs.Events.{beginnings}
 use Rattle.esr_history.specs.Machine.{Schedule, done}
 use Rattle.esr_history.specs.Queries.{updates_of}
 use Rattle.std.specs.List.{filter_map, range_with_len}
-use Rattle.esr_history.proofs.Ranges.{legal_begins}
+use Rattle.esr_history.proofs.WithinRanges.{legal_begins}
 use Rattle.esr_order.specs.Scans.{scanned, step_at}
 use Rattle.esr_order.specs.Listing.{IsTableOf, is_pair, ListsPairs}
 use Rattle.esr_order.specs.Chains.{seen_links, chain_from, last_step}
