@@ -1,11 +1,11 @@
 -- The laws of legal histories on their committed updates and queries.
-use Rattle.std.proofs.Common.{◌≡◌, ℕ, ℤ, ◌≤◌, true, false, not, ◌&&◌, ◌==◌, List, [], ◌∷◌, ◌++◌, length, take, refl, sym, ◌∙◌, ap, subst, filter, eqb, Option, Some, None, slice_get, sum_by, if◌then◌else◌}
+use Rattle.std.proofs.Common.{◌≡◌, ℕ, ℤ, ◌≤◌, true, false, not, ◌&&◌, ◌==◌, List, [], ◌∷◌, ◌++◌, length, take, refl, sym, ◌∙◌, ap, subst, filter, eqb, Some, slice_get, sum_by, if◌then◌else◌}
 use Rattle.std.specs.Prelude.{IsTrue, unwrap_or}
 use Rattle.std.specs.List.{before_first, filter_map}
 use Rattle.std.specs.Option.{option_map}
 use Rattle.std.proofs.Math.Path.{fun_ext}
 use Rattle.std.proofs.Math.Seq.{take-append_seam}
-use Rattle.std.proofs.lemmas.Bool.{and_parts, true≢false, or_left}
+use Rattle.std.proofs.lemmas.Bool.{and_parts, or_left}
 use Rattle.std.proofs.lemmas.List.Elements.{filter-append, filter_map-append}
 use Rattle.esr_items.specs.Values.{value_at}
 use Rattle.esr_items.specs.declared.metric.ItemId.{ItemId}
@@ -13,19 +13,19 @@ use Rattle.esr_history.specs.declared.event.TxnId.{TxnId}
 use Rattle.esr_history.specs.declared.event.Event.TheVariants.{Read}
 use Rattle.esr_history.specs.declared.event.Reply.TheVariants.{Value}
 use Rattle.esr_history.specs.declared.event.Entry.{Entry}
-use Rattle.esr_history.specs.Events.{Beginning, is_refusal, accepted, beginning, is_query, is_update, is_committed, written, last_value}
+use Rattle.esr_history.specs.Events.{is_refusal, accepted, is_query, is_update, is_committed, written, last_value}
 use Rattle.esr_history.specs.Machine.{Distance, Schedule, done, distance_in, import_in, charges_in, IsLegal}
 use Rattle.esr_history.specs.Legal.{along}
 use Rattle.esr_history.specs.Operations.{Operation, operations, operations_in, operation_of, commit_order}
 use Rattle.esr_history.specs.Serial.{is_before, committed_updates, state, IsSerializable}
 use Rattle.esr_history.specs.Queries.{updates_of, is_strict, begins, before_begin, distance_from, members, ImportBoundsDistance, IsAlike}
-use Rattle.esr_history.proofs.Membership.{Pairs, Pairs-filter, All-from_pairs, Contains-In, In-of_filter, In-filter, In-from_any, any-from_number}
+use Rattle.esr_history.proofs.Membership.{get_seam, Pairs, Pairs-filter, All-from_pairs, Contains-In, In-of_filter, In-filter, In-from_any, any-from_number}
 use Rattle.esr_history.proofs.Traces.{IsMetric, is_among, after_writes}
 use Rattle.esr_history.proofs.Locking.{known, commits_in_order, commits_once}
 use Rattle.esr_history.proofs.Versions.{wrote_by, state_in, committed_version, flat_map_agree}
 use Rattle.esr_history.proofs.Bounded.{bounded, before_first-kept}
 use Rattle.esr_history.proofs.Replays.{reads_ahead}
-use Rattle.esr_history.proofs.Words.{trace, committed_among, written_trace, committed_trace, state_trace}
+use Rattle.esr_history.proofs.Words.{query_not_update, trace, committed_among, written_trace, committed_trace, state_trace}
 use Rattle.esr_history.proofs.Reaches.{legal_reached}
 use Rattle.esr_history.proofs.Onward.{IsAfter, legal_after, legal_front, has_begins}
 
@@ -34,10 +34,6 @@ operations-append : (xs ys : List Entry) → operations_in (xs ++ ys) ≡ operat
 operations-append xs ys =
     ap (filter_map operation_of) (filter-append (λ (e : Entry). not (is_refusal e.reply)) xs ys)
     ∙ filter_map-append operation_of (filter (λ (e : Entry). not (is_refusal e.reply)) xs) (filter (λ (e : Entry). not (is_refusal e.reply)) ys)
-
-get_seam : {X : Type 0} (xs : List X) (x : X) (ys : List X) → slice_get (xs ++ x ∷ ys) (length xs) ≡ Some x
-get_seam [] x ys = refl
-get_seam (y ∷ xs) x ys = get_seam xs x ys
 
 module _ (d : Distance) (h : Schedule) (legal : IsLegal d h) where
   -- in commit order, each committed update once and after those before it
@@ -79,17 +75,13 @@ all_members : (xs : List ℕ) → filter (λ _. true) xs ≡ xs
 all_members [] = refl
 all_members (x ∷ xs) = ap (λ zs. x ∷ zs) (all_members xs)
 
-query_not_update : (o : Option Beginning) → unwrap_or (option_map (λ b. b.query) o) false ≡ true → unwrap_or (option_map (λ b. not b.query) o) false ≡ false
-query_not_update None h = refl
-query_not_update (Some b) h = ap not h
-
 -- with all its updates before it, a committed query costs at most its import
 pub import_bounds_distance : (d : Distance) → ((w : List ℕ) → IsMetric (d w)) → (h : Schedule) → IsLegal d h → ImportBoundsDistance d h
 import_bounds_distance d metric h legal q is =
     let p = and_parts (is_query (done h) q) (is_committed (done h) q) is in
     let values : state h (members h q (λ _. true)) ≡ state_in (value_at h.opening) (trace h) (updates_of h q) = ap (state h) (all_members (updates_of h q)) ∙ fun_ext (state_trace h (updates_of h q)) in
     subst (λ (w : ℕ → ℤ). distance_from d h q w ≤ import_in (charges_in d h) q) (sym values)
-    (bounded (metric h.weights) (legal_reached d h legal) q (sym (committed_among (done h) q) ∙ p.1) (query_not_update (beginning (done h) q) p.0))
+    (bounded (metric h.weights) (legal_reached d h legal) q (sym (committed_among (done h) q) ∙ p.1) (query_not_update (done h) q p.0))
 
 -- the audit of a committed query finds the same in every longer legal history
 pub audit_stays : (d : Distance) (h : Schedule) (rest : List Entry) (q : ℕ) → IsLegal d (along h rest) → is_committed (done h) q ≡ true → IsAlike d h (along h rest) q

@@ -1,5 +1,5 @@
 -- What the audit of a committed query rests on stays as its history goes on.
-use Rattle.std.proofs.Common.{◌≡◌, ℕ, zero, suc, ℤ, ◌+◌, ◌*◌, ◌<◌, ◌≤◌, List, [], ◌∷◌, ◌++◌, length, Bool, true, false, cond, not, ◌&&◌, ◌||◌, ◌==◌, refl, sym, ◌∙◌, ap, subst, arith, inl, inr, ⊎_elim, Option, None, Some, if◌then◌else◌, eqb, add-zero, zero-add, add-one, ◌⊎◌, append-nil, append_assoc}
+use Rattle.std.proofs.Common.{◌≡◌, ℕ, zero, suc, ℤ, ◌+◌, ◌*◌, List, [], ◌∷◌, ◌++◌, length, Bool, true, false, cond, ◌&&◌, ◌==◌, refl, sym, ◌∙◌, ap, subst, arith, inl, inr, Option, None, Some, if◌then◌else◌, add-zero, zero-add, add-one, ◌⊎◌, append-nil, append_assoc}
 use Rattle.std.specs.Prelude.{is_some}
 use Rattle.std.specs.List.{filter_map, list_any, cons_option, slice_get}
 use Rattle.std.proofs.lemmas.Bool.{true≢false, eq-eqb, ne_eqb, and_parts, or_left, or_right}
@@ -20,7 +20,7 @@ use Rattle.esr_history.specs.Queries.{begins}
 use Rattle.esr_history.proofs.Lists.{filter_map_push}
 use Rattle.esr_history.proofs.Lawful.{done-refused, done-accepted, none_applies, NoneApplies, not_ended}
 use Rattle.esr_history.proofs.Orderly.{beginning-kept, active_parts}
-use Rattle.esr_history.proofs.Traces.{Trace, is_among, Active, read_of, write_of, with_abort, with_begins, with_commit, with_operation}
+use Rattle.esr_history.proofs.Traces.{Trace, read_of, write_of, with_abort, with_begins, with_commit, with_operation}
 use Rattle.esr_history.proofs.Locking.{known}
 use Rattle.esr_history.proofs.Stable.{SameFor, same_with_begins, same_with_operation, same_with_commit, same_with_abort}
 use Rattle.esr_history.proofs.Words.{trace, committed_among, active_trace, aborter}

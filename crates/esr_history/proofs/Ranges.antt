@@ -1,186 +1,178 @@
--- The counts and ranges of legal histories.
-use Rattle.std.proofs.Common.{◌≡◌, ℕ, zero, suc, ℤ, pos, ◌+◌, ◌<◌, ◌≤◌, ◌^◌, Bool, true, false, not, ◌&&◌, ◌||◌, ◌==◌, List, [], ◌∷◌, ◌++◌, length, refl, sym, ◌∙◌, ap, subst, arith, inl, inr, filter, map, Option, Some, None, All, cond, count_by, ◌⊎◌}
-use Rattle.std.specs.Prelude.{IsTrue, unwrap_or, nat_le, slice_index_or, is_some, unsigned_abs}
-use Rattle.std.specs.List.{AllByRecursion, filter_map, list_any, cons_option, slice_get}
+-- Lists made from numbers in a row.
+use Rattle.std.proofs.Common.{◌≡◌, ℕ, zero, suc, ◌+◌, ◌<◌, ◌≤◌, List, [], ◌∷◌, ◌++◌, length, Bool, true, false, not, ◌&&◌, ◌||◌, ◌==◌, refl, sym, ◌∙◌, ap, subst, arith, inl, inr, Option, None, Some, if◌then◌else◌, map, get_or, set}
+use Rattle.std.specs.Prelude.{filter, find, unwrap_or, nat_lt}
+use Rattle.std.specs.List.{filter_map, range_with_len, cons_option, list_any, AllByRecursion}
 use Rattle.std.specs.Option.{option_map}
-use Rattle.std.proofs.lemmas.Bool.{cases_Bool, true≢false, leb-false, leb-true, not-false, false_from_ne_true, eqb-true}
-use Rattle.std.proofs.lemmas.List.Elements.{All-from_recursion, recursion_from_All}
-use Rattle.std.proofs.lemmas.List.Sums.{sum_by-append, sum_by-cons}
-use Rattle.std.proofs.lemmas.List.{length-append}
-use Rattle.esr_items.specs.Values.{value_at, IsValue, is_value}
-use Rattle.esr_history.specs.declared.event.Event.{Event}
-use Rattle.esr_history.specs.declared.event.Event.TheVariants.{BeginUpdate, BeginQuery, Read, Write, Commit, Abort}
-use Rattle.esr_history.specs.declared.event.Reply.{Reply}
-use Rattle.esr_history.specs.declared.event.Reply.TheVariants.{Refused}
-use Rattle.esr_history.specs.declared.event.Refusal.{Refusal}
-use Rattle.esr_history.specs.declared.event.Refusal.TheVariants.{NoSuchItem, ValueOutOfRange, TooManyTransactions, TooManyReads}
-use Rattle.esr_history.specs.Events.{Beginning, beginning, beginnings, beginning_of, is_query, is_update, is_active, is_refusal, reads_any, all_reads_of, current_value}
-use Rattle.esr_history.specs.Machine.{Distance, Schedule, done, extended, blank, reply_to, reasons, refusal, acceptance, answered, IsLegal, no_item}
-use Rattle.esr_history.specs.Legal.{legal_induction}
-use Rattle.esr_history.specs.Operations.{Operation, operation_by, operations}
-use Rattle.esr_history.specs.Ranges.{IsWithinRanges}
-use Rattle.esr_history.proofs.Lists.{filter_map_push}
-use Rattle.esr_history.proofs.Lawful.{done-refused, done-accepted, none_applies, NoneApplies, not_ended, when_none}
-use Rattle.esr_history.proofs.Orderly.{is_update-push, active_parts}
-use Rattle.esr_history.proofs.Membership.{In, each_in, In-push, In-of_filter, In-append_cases}
-use Rattle.esr_history.proofs.Traces.{writes_item, is_among, after_writes}
-use Rattle.esr_history.proofs.Words.{trace, current_trace}
-use Rattle.esr_history.proofs.Reaches.{operations-refused, operations-accepted}
+use Rattle.std.proofs.lemmas.Bool.{cases_Bool, cases_eq, eq-eqb, eqb-true, ne_eqb, false≢true, or_left, or_right, or_cases}
+use Rattle.esr_history.specs.Ascending.{placed, IsAscendingBy}
+use Rattle.esr_history.proofs.Ascending.{lt_ltb, le_ltb}
 
-value_at-range : (vs : List ℤ) (x : ℕ) → AllByRecursion IsValue vs → IsValue (value_at vs x)
-value_at-range [] x all = omega arith
-value_at-range (v ∷ vs) zero all = all.0
-value_at-range (v ∷ vs) (suc x) all = value_at-range vs x all.1
+module _ {X : Type 0} where
+  pub map_same : (f g : ℕ → X) (a n : ℕ) → ((t : ℕ) → a ≤ t → t < a + n → f t ≡ g t) → map f (range_with_len a n) ≡ map g (range_with_len a n)
+  map_same f g a zero same = refl
+  map_same f g a (suc n) same =
+      ap (λ (y : X). y ∷ map f (range_with_len (a + 1) n)) (same a (omega arith) (omega arith))
+      ∙ ap (λ (ys : List X). g a ∷ ys) (map_same f g (a + 1) n (λ t l m. same t (omega arith) (omega arith)))
 
-after_writes-range : (v : ℤ) (ws : List Operation) → IsValue v → ((o : Operation) → In o ws → IsValue o.value) → IsValue (after_writes v ws)
-after_writes-range v [] first all = first
-after_writes-range v (w ∷ ws) first all = after_writes-range w.value ws (all w (inl refl)) (λ o i. all o (inr i))
+  -- one element of a list made so is set
+  pub set_range : (f g : ℕ → X) (a n k : ℕ) (y : X) → k < n → g (a + k) ≡ y → ((t : ℕ) → (t ≡ a + k → ⊥) → g t ≡ f t) → set (map f (range_with_len a n)) k y ≡ map g (range_with_len a n)
+  set_range f g a zero k y l is same = absurd (omega arith)
+  set_range f g a (suc n) zero y l is same =
+      ap (λ (z : X). z ∷ map f (range_with_len (a + 1) n)) (sym is ∙ ap g (omega arith))
+      ∙ ap (λ (ys : List X). g a ∷ ys) (map_same f g (a + 1) n (λ t low high. sym (same t (λ (e : t ≡ a + 0). omega arith))))
+  set_range f g a (suc n) (suc k) y l is same =
+      ap (λ (z : X). z ∷ set (map f (range_with_len (a + 1) n)) k y) (sym (same a (λ (e : a ≡ a + suc k). omega arith)))
+      ∙ ap (λ (ys : List X). g a ∷ ys) (set_range f g (a + 1) n k y (omega arith) (ap g (omega arith) ∙ is) (λ t other. same t (λ (e : t ≡ a + suc k). other (omega arith))))
 
--- the counts and ranges, in a form that goes on
-record InRanges (h : Schedule) : Type 0 where
-  begins : length (beginnings (done h)) ≤ 65535
-  reads : (t : ℕ) → is_update (done h) t ≡ false → all_reads_of (done h) t ≤ 1000
-  values : AllByRecursion IsValue h.opening → (o : Operation) → In o (operations h) → IsValue o.value
-  items : (o : Operation) → In o (operations h) → o.item < length h.opening
+  pub filter_map_same : (f g : ℕ → Option X) (a n : ℕ) → ((t : ℕ) → a ≤ t → t < a + n → f t ≡ g t) → filter_map f (range_with_len a n) ≡ filter_map g (range_with_len a n)
+  filter_map_same f g a zero same = refl
+  filter_map_same f g a (suc n) same =
+      ap (λ (o : Option X). cons_option o (filter_map f (range_with_len (a + 1) n))) (same a (omega arith) (omega arith))
+      ∙ ap (λ (ys : List X). cons_option (g a) ys) (filter_map_same f g (a + 1) n (λ t l m. same t (omega arith) (omega arith)))
 
-module _ (d : Distance) (h : Schedule) (was : InRanges h) where
-  current-range : AllByRecursion IsValue h.opening → (x : ℕ) → IsValue (current_value h.opening (done h) x)
-  current-range opened x =
-      rw (current_trace h x)
-      (after_writes-range (value_at h.opening x) (filter (λ w. writes_item x w && not (is_among (trace h).aborts w.txn)) (operations h)) (value_at-range h.opening x opened)
-      (λ o i. was.values opened o (In-of_filter (λ w. writes_item x w && not (is_among (trace h).aborts w.txn)) (operations h) o i).0))
-
-  reads-push : (e : Event) (t : ℕ) → all_reads_of (done h ++ e ∷ []) t ≡ all_reads_of (done h) t + cond (reads_any t e) 1 0
-  reads-push e t =
-      let one : count_by (reads_any t) (e ∷ []) ≡ cond (reads_any t e) 1 0 + 0 = sum_by-cons (λ f. cond (reads_any t f) 1 0) e [] in
-      sum_by-append (λ f. cond (reads_any t f) 1 0) (done h) (e ∷ []) ∙ (ap (λ n. all_reads_of (done h) t + n) one ∙ omega arith)
-
-  -- who is no update after an event was none before
-  no_update_before : (e : Event) (t : ℕ) → is_update (done h ++ e ∷ []) t ≡ false → is_update (done h) t ≡ false
-  no_update_before e t fails = false_from_ne_true (is_update (done h) t) (λ is. true≢false (sym (is_update-push (done h) e t is) ∙ fails))
-
-  -- an event that begins and reads nothing
-  fewer_reads : (e : Event) → ((t : ℕ) → reads_any t e ≡ false) → (t : ℕ) → is_update (done h ++ e ∷ []) t ≡ false → all_reads_of (done h ++ e ∷ []) t ≤ 1000
-  fewer_reads e none t fails =
-      let before : all_reads_of (done h) t ≤ 1000 = was.reads t (no_update_before e t fails) in
-      rw (reads-push e t, none t) (omega arith)
-
-  same_begins : (e : Event) → beginning_of e ≡ None → length (beginnings (done h ++ e ∷ [])) ≤ 65535
-  same_begins e none =
-      let same : length (beginnings (done h ++ e ∷ [])) ≡ length (beginnings (done h)) + 0 = ap length (filter_map_push beginning_of (done h) e ∙ ap (λ o. beginnings (done h) ++ cons_option o []) none) ∙ length-append (beginnings (done h)) [] in
-      let before = was.begins in
-      omega arith
-
-  -- after an accepted event
-  about : (e : Event) (r : Reply) → is_refusal r ≡ false → length (beginnings (done h ++ e ∷ [])) ≤ 65535
-      → ((t : ℕ) → is_update (done h ++ e ∷ []) t ≡ false → all_reads_of (done h ++ e ∷ []) t ≤ 1000)
-      → ((o : Operation) → In o (cons_option (operation_by e r) []) → (AllByRecursion IsValue h.opening → IsValue o.value) × (o.item < length h.opening)) → InRanges (extended h e r)
-  about e r is begins reads new =
-      let events : done (extended h e r) ≡ done h ++ e ∷ [] = done-accepted h e r is in
-      record {
-        begins = rw events begins;
-        reads = λ t fails. rw events (reads t (subst (λ (es : List Event). is_update es t ≡ false) events fails));
-        values = λ opened o i. elim (one o i) [ inl j ↦ was.values opened o j | inr j ↦ (new o j).0 opened ];
-        items = λ o i. elim (one o i) [ inl j ↦ was.items o j | inr j ↦ (new o j).1 ];
-      }
+  -- one more number in a row
+  pub filter_map_more : (f : ℕ → Option X) (a n : ℕ) → filter_map f (range_with_len a (suc n)) ≡ filter_map f (range_with_len a n) ++ cons_option (f (a + n)) []
+  filter_map_more f a zero = ap (λ (k : ℕ). cons_option (f k) []) (omega arith)
+  filter_map_more f a (suc n) = ap (λ (ys : List X). cons_option (f a) ys) (filter_map_more f (a + 1) n ∙ ap (λ (k : ℕ). filter_map f (range_with_len (a + 1) n) ++ cons_option (f k) []) (omega arith)) ∙ at (f a) (filter_map f (range_with_len (a + 1) n)) (cons_option (f (a + suc n)) [])
     where
-      one : (o : Operation) → In o (operations (extended h e r)) → In o (operations h) ⊎ In o (cons_option (operation_by e r) [])
-      one o i = In-append_cases (operations h) (cons_option (operation_by e r) []) o (subst (In o) (operations-accepted h e r is) i)
+      at : (o : Option X) (xs ys : List X) → cons_option o (xs ++ ys) ≡ cons_option o xs ++ ys
+      at None xs ys = refl
+      at (Some x) xs ys = refl
 
-  begin_in_ranges : (e : Event) (r : Reply) (b : Beginning) → is_refusal r ≡ false → beginning_of e ≡ Some b → operation_by e r ≡ None → ((t : ℕ) → reads_any t e ≡ false) → nat_le 65535 (length (beginnings (done h))) ≡ false → InRanges (extended h e r)
-  begin_in_ranges e r b is begins none no_read room =
-      about e r is more (fewer_reads e no_read) (λ o i. absurd (subst (λ p. In o (cons_option p [])) none i))
-    where
-      more : length (beginnings (done h ++ e ∷ [])) ≤ 65535
-      more =
-          let below : length (beginnings (done h)) < 65535 = leb-false 65535 (length (beginnings (done h))) room in
-          let same : length (beginnings (done h ++ e ∷ [])) ≡ length (beginnings (done h)) + 1 = ap length (filter_map_push beginning_of (done h) e ∙ ap (λ o. beginnings (done h) ++ cons_option o []) begins) ∙ length-append (beginnings (done h)) (b ∷ []) in
-          omega arith
+  module _ (key : X → ℕ) (f : ℕ → Option X) (own : (u : ℕ) (y : X) → f u ≡ Some y → key y ≡ u) where
+    pub keys_above : (t a n : ℕ) → t < a → AllByRecursion (λ (y : X). t < key y) (filter_map f (range_with_len a n))
+    keys_above t a zero l = tt
+    keys_above t a (suc n) l = at (f a) refl (keys_above t (a + 1) n (omega arith))
+      where
+        at : (o : Option X) → f a ≡ o → AllByRecursion (λ (y : X). t < key y) (filter_map f (range_with_len (a + 1) n)) → AllByRecursion (λ (y : X). t < key y) (cons_option o (filter_map f (range_with_len (a + 1) n)))
+        at None is later = later
+        at (Some y) is later = (let k : key y ≡ a = own a y is in omega arith, later)
 
-  single : (P : Operation → Type 0) (o : Operation) → P o → (w : Operation) → In w (o ∷ []) → P w
-  single P o p w i = elim i [ inl e ↦ subst P e p | inr none ↦ absurd none ]
+    placed_front : (t : ℕ) (new : X) (change : X → X) (xs : List X) → AllByRecursion (λ (y : X). t < key y) xs → placed key t new change xs ≡ new ∷ xs
+    placed_front t new change [] all = refl
+    placed_front t new change (x ∷ xs) all =
+        let l : t < key x = all.0 in
+        rw (ne_eqb (key x) t (λ (e : key x ≡ t). omega arith), lt_ltb t (key x) l) refl
 
-  item_below : (x : ℕ) → no_item h x ≡ None → x < length h.opening
-  item_below x none = leb-false (length h.opening) x (when_none (nat_le (length h.opening) x) NoSuchItem none)
+    -- one number's element is placed among those in a row
+    pub filter_map_placed : (g : ℕ → Option X) (t : ℕ) (new : X) (change : X → X) → ((u : ℕ) → (u ≡ t → ⊥) → g u ≡ f u) → g t ≡ Some (unwrap_or (option_map change (f t)) new)
+        → (a n : ℕ) → a ≤ t → t < a + n → filter_map g (range_with_len a n) ≡ placed key t new change (filter_map f (range_with_len a n))
+    filter_map_placed g t new change same is a zero low high = absurd (omega arith)
+    filter_map_placed g t new change same is a (suc n) low high =
+        elim (cases_eq a t) [
+          | inl e ↦
+              let rest : filter_map g (range_with_len (a + 1) n) ≡ filter_map f (range_with_len (a + 1) n) = filter_map_same g f (a + 1) n (λ u l m. same u (λ (h : u ≡ t). omega arith)) in
+              ap (λ (o : Option X). cons_option o (filter_map g (range_with_len (a + 1) n))) (ap g e ∙ (is ∙ ap (λ u. Some (unwrap_or (option_map change (f u)) new)) (sym e)))
+              ∙ (ap (λ (ys : List X). unwrap_or (option_map change (f a)) new ∷ ys) rest ∙ here e (f a) refl)
+          | inr ne ↦
+              ap (λ (o : Option X). cons_option o (filter_map g (range_with_len (a + 1) n))) (same a ne)
+              ∙ past ne (f a) refl (filter_map_placed g t new change same is (a + 1) n (omega arith) (omega arith))
+        ]
+      where
+        here : a ≡ t → (o : Option X) → f a ≡ o → unwrap_or (option_map change o) new ∷ filter_map f (range_with_len (a + 1) n) ≡ placed key t new change (cons_option o (filter_map f (range_with_len (a + 1) n)))
+        here e None is' = sym (placed_front t new change (filter_map f (range_with_len (a + 1) n)) (keys_above t (a + 1) n (omega arith)))
+        here e (Some y) is' = rw (eq-eqb (key y) t (own a y is' ∙ e)) refl
 
-  accepted_in_ranges : (e : Event) → NoneApplies (reasons d h e) → InRanges (extended h e (acceptance h e))
-  accepted_in_ranges (BeginUpdate l) none =
-      begin_in_ranges (BeginUpdate l) (acceptance h (BeginUpdate l)) (record { query = false; strict = false; limit = l }) refl refl refl (λ t. refl) (when_none (nat_le 65535 (length (beginnings (done h)))) TooManyTransactions none.1.0)
-  accepted_in_ranges (BeginQuery l s) none =
-      begin_in_ranges (BeginQuery l s) (acceptance h (BeginQuery l s)) (record { query = true; strict = s; limit = l }) refl refl refl (λ t. refl) (when_none (nat_le 65535 (length (beginnings (done h)))) TooManyTransactions none.1.0)
-  accepted_in_ranges (Read t x) none =
-      about (Read t x) (acceptance h (Read t x)) refl (same_begins (Read t x) refl) reads
-      (single (λ o. (AllByRecursion IsValue h.opening → IsValue o.value) × (o.item < length h.opening)) (record { txn = t.0; item = x.0; writes = false; value = current_value h.opening (done h) x.0 }) (λ opened. current-range opened x.0, item_below x.0 none.1.1.0))
-    where
-      act : is_active (done h) t.0 ≡ true
-      act = not_ended h t.0 none.1.0
+        past : (a ≡ t → ⊥) → (o : Option X) → f a ≡ o → filter_map g (range_with_len (a + 1) n) ≡ placed key t new change (filter_map f (range_with_len (a + 1) n))
+            → cons_option o (filter_map g (range_with_len (a + 1) n)) ≡ placed key t new change (cons_option o (filter_map f (range_with_len (a + 1) n)))
+        past ne None is' later = later
+        past ne (Some y) is' later =
+            let k : key y ≡ a = own a y is' in
+            rw (ne_eqb (key y) t (λ (h : key y ≡ t). ne (sym k ∙ h)), le_ltb t (key y) (let l : a ≤ t = low in omega arith)) (ap (λ ys. y ∷ ys) later)
 
-      room : is_query (done h) t.0 ≡ true → all_reads_of (done h) t.0 < 1000
-      room query = leb-false 1000 (all_reads_of (done h) t.0) (sym (ap (λ b. b && nat_le 1000 (all_reads_of (done h) t.0)) query) ∙ when_none (is_query (done h) t.0 && nat_le 1000 (all_reads_of (done h) t.0)) TooManyReads none.1.1.1.0)
+    -- one number's element is dropped
+    pub filter_map_dropped : (g : ℕ → Option X) (t : ℕ) → ((u : ℕ) → (u ≡ t → ⊥) → g u ≡ f u) → g t ≡ None → (us : List ℕ) → filter_map g us ≡ filter (λ (y : X). not (key y == t)) (filter_map f us)
+    filter_map_dropped g t same is [] = refl
+    filter_map_dropped g t same is (u ∷ us) =
+        elim (cases_eq u t) [
+          | inl e ↦ ap (λ (o : Option X). cons_option o (filter_map g us)) (ap g e ∙ is) ∙ gone e (f u) refl (filter_map_dropped g t same is us)
+          | inr ne ↦ ap (λ (o : Option X). cons_option o (filter_map g us)) (same u ne) ∙ kept ne (f u) refl (filter_map_dropped g t same is us)
+        ]
+      where
+        gone : u ≡ t → (o : Option X) → f u ≡ o → filter_map g us ≡ filter (λ (y : X). not (key y == t)) (filter_map f us) → filter_map g us ≡ filter (λ (y : X). not (key y == t)) (cons_option o (filter_map f us))
+        gone e None is' later = later
+        gone e (Some y) is' later = rw (eq-eqb (key y) t (own u y is' ∙ e)) later
 
-      reads : (u : ℕ) → is_update (done h ++ Read t x ∷ []) u ≡ false → all_reads_of (done h ++ Read t x ∷ []) u ≤ 1000
-      reads u fails =
-          let before : is_update (done h) u ≡ false = no_update_before (Read t x) u fails in
-          rw (reads-push (Read t x) u)
-          (elim (cases_Bool (t.0 == u)) [
-            | inl own ↦
-                let below : all_reads_of (done h) u < 1000 = subst (λ w. all_reads_of (done h) w < 1000) (eqb-true t.0 u own) (room (query_from (beginning (done h) t.0) (active_parts (done h) t.0 act).0 (subst (λ w. is_update (done h) w ≡ false) (sym (eqb-true t.0 u own)) before))) in
-                rw own (omega arith)
-            | inr other ↦
-                let low : all_reads_of (done h) u ≤ 1000 = was.reads u before in
-                rw other (omega arith)
-          ])
-        where
-          query_from : (b : Option Beginning) → is_some b ≡ true → unwrap_or (option_map (λ c. not c.query) b) false ≡ false → unwrap_or (option_map (λ c. c.query) b) false ≡ true
-          query_from None some q = absurd (true≢false (sym some))
-          query_from (Some b) some q = not-false b.query q
-  accepted_in_ranges (Write t x v) none =
-      about (Write t x v) (acceptance h (Write t x v)) refl (same_begins (Write t x v) refl) (fewer_reads (Write t x v) (λ u. refl))
-      (single (λ o. (AllByRecursion IsValue h.opening → IsValue o.value) × (o.item < length h.opening)) (record { txn = t.0; item = x.0; writes = true; value = v })
-      (λ _. leb-true (unsigned_abs v) (10 ^ 12) (not-false (is_value v) (when_none (not (is_value v)) ValueOutOfRange none.1.1.1.1.0)), item_below x.0 none.1.1.0))
-  accepted_in_ranges (Commit t) none = about (Commit t) (acceptance h (Commit t)) refl (same_begins (Commit t) refl) (fewer_reads (Commit t) (λ u. refl)) (λ o i. absurd i)
-  accepted_in_ranges (Abort t) none = about (Abort t) (acceptance h (Abort t)) refl (same_begins (Abort t) refl) (fewer_reads (Abort t) (λ u. refl)) (λ o i. absurd i)
+        kept : (u ≡ t → ⊥) → (o : Option X) → f u ≡ o → filter_map g us ≡ filter (λ (y : X). not (key y == t)) (filter_map f us) → cons_option o (filter_map g us) ≡ filter (λ (y : X). not (key y == t)) (cons_option o (filter_map f us))
+        kept ne None is' later = later
+        kept ne (Some y) is' later = rw (ne_eqb (key y) t (λ (h : key y ≡ t). ne (sym (own u y is') ∙ h))) (ap (λ ys. y ∷ ys) later)
 
-  InRanges-extended : (e : Event) (r : Reply) → r ≡ reply_to d h e → InRanges (extended h e r)
-  InRanges-extended e r is = at (refusal d h e) refl
-    where
-      at : (why : Option Refusal) → refusal d h e ≡ why → InRanges (extended h e r)
-      at None none =
-          let answer : r ≡ acceptance h e = is ∙ ap (λ w. answered w (acceptance h e)) none in
-          subst (λ w. InRanges (extended h e w)) (sym answer) (accepted_in_ranges e (none_applies (reasons d h e) none))
-      at (Some why) some =
-          let answer : r ≡ Refused why = is ∙ ap (λ w. answered w (acceptance h e)) some in
-          let events : done (extended h e (Refused why)) ≡ done h = done-refused h e why in
-          let ops : operations (extended h e (Refused why)) ≡ operations h = operations-refused h e why in
-          subst (λ w. InRanges (extended h e w)) (sym answer) (record {
-            begins = rw events was.begins;
-            reads = λ t fails. rw events (was.reads t (subst (λ (es : List Event). is_update es t ≡ false) events fails));
-            values = λ opened o i. was.values opened o (subst (In o) ops i);
-            items = λ o i. was.items o (subst (In o) ops i);
-          })
+-- a filter as a map that leaves out
+abbrev pub kept_if : (ℕ → Bool) → ℕ → Option ℕ
+kept_if p u = if p u then Some u else None
 
-legal_in_ranges : (d : Distance) (h : Schedule) → IsLegal d h → InRanges h
-legal_in_ranges d h legal =
-    legal_induction d InRanges (λ g e r is was. InRanges-extended d g was e r is) h
-        (record { begins = omega arith; reads = λ t is. omega arith; values = λ opened o i. absurd i; items = λ o i. absurd i }) legal
+pub filter-filter_map : (p : ℕ → Bool) (us : List ℕ) → filter p us ≡ filter_map (kept_if p) us
+filter-filter_map p [] = refl
+filter-filter_map p (u ∷ us) =
+    elim (cases_Bool (p u)) [
+      | inl passes ↦ rw passes (ap (λ ys. u ∷ ys) (filter-filter_map p us))
+      | inr fails ↦ rw fails (filter-filter_map p us)
+    ]
 
-pub legal_begins : (d : Distance) (h : Schedule) → IsLegal d h → length (beginnings (done h)) ≤ 65535
-legal_begins d h legal = (legal_in_ranges d h legal).begins
-
-pub legal_items : (d : Distance) (h : Schedule) → IsLegal d h → (o : Operation) → In o (operations h) → o.item < length h.opening
-legal_items d h legal = (legal_in_ranges d h legal).items
-
--- the counts and ranges of a legal history
-pub legal_within_ranges : (d : Distance) (h : Schedule) → All IsValue h.opening → IsLegal d h → IsWithinRanges h
-legal_within_ranges d h opened legal =
-    let r : InRanges h = legal_in_ranges d h legal in
-    record {
-      begins = r.begins;
-      reads = λ q query. r.reads q (query_not_update (beginning (done h) q) query);
-      values = All-from_recursion (λ (o : Operation). IsValue o.value) (operations h) (each_in (λ (o : Operation). IsValue o.value) (operations h) (r.values (recursion_from_All IsValue h.opening opened)));
-      items = All-from_recursion (λ (o : Operation). o.item < length h.opening) (operations h) (each_in (λ (o : Operation). o.item < length h.opening) (operations h) r.items);
-    }
+pub kept_if_own : (p : ℕ → Bool) (u y : ℕ) → kept_if p u ≡ Some y → y ≡ u
+kept_if_own p u y is = at (p u) is
   where
-    query_not_update : (o : Option Beginning) → unwrap_or (option_map (λ b. b.query) o) false ≡ true → unwrap_or (option_map (λ b. not b.query) o) false ≡ false
-    query_not_update None is = refl
-    query_not_update (Some b) is = ap not is
+    at : (b : Bool) → (if b then Some u else None) ≡ Some y → y ≡ u
+    at true is' = (cc)
+    at false is' = absurd (cc)
+
+pub find_same : (p q : ℕ → Bool) → ((t : ℕ) → p t ≡ q t) → (us : List ℕ) → find p us ≡ find q us
+find_same p q same [] = refl
+find_same p q same (u ∷ us) =
+    elim (cases_Bool (p u)) [
+      | inl passes ↦ rw (passes, sym (same u) ∙ passes) refl
+      | inr fails ↦ rw (fails, sym (same u) ∙ fails) (find_same p q same us)
+    ]
+
+-- who is among those that pass, in a row
+pub any_in_filter : (p : ℕ → Bool) (u : ℕ) (us : List ℕ) → list_any (λ v. v == u) (filter p us) ≡ true → p u ≡ true
+any_in_filter p u [] is = absurd (false≢true is)
+any_in_filter p u (v ∷ us) is =
+    elim (cases_Bool (p v)) [
+      | inl passes ↦ elim (or_cases (v == u) (list_any (λ w. w == u) (filter p us)) (rw passes at is)) [
+        | inl here ↦ ap p (sym (eqb-true v u here)) ∙ passes
+        | inr later ↦ any_in_filter p u us later
+      ]
+      | inr fails ↦ any_in_filter p u us (rw fails at is)
+    ]
+
+pub filter_in_any : (p : ℕ → Bool) (u a n : ℕ) → p u ≡ true → a ≤ u → u < a + n → list_any (λ v. v == u) (filter p (range_with_len a n)) ≡ true
+filter_in_any p u a zero is low high = absurd (omega arith)
+filter_in_any p u a (suc n) is low high =
+    elim (cases_eq a u) [
+      | inl e ↦ rw (ap p e ∙ is) (or_left (a == u) (list_any (λ v. v == u) (filter p (range_with_len (a + 1) n))) (eq-eqb a u e))
+      | inr ne ↦ elim (cases_Bool (p a)) [
+        | inl passes ↦ rw passes (or_right (a == u) (list_any (λ v. v == u) (filter p (range_with_len (a + 1) n))) (filter_in_any p u (a + 1) n is (omega arith) (omega arith)))
+        | inr fails ↦ rw fails (filter_in_any p u (a + 1) n is (omega arith) (omega arith))
+      ]
+    ]
+
+-- a search by number among elements in a row
+module _ {X : Type 0} (key : X → ℕ) (f : ℕ → X) (own : (u : ℕ) → key (f u) ≡ u) where
+  pub find_in_range : (t a n : ℕ) → a ≤ t → t < a + n → find (λ (y : X). key y == t) (map f (range_with_len a n)) ≡ Some (f t)
+  find_in_range t a zero low high = absurd (omega arith)
+  find_in_range t a (suc n) low high =
+      elim (cases_eq a t) [
+        | inl e ↦ rw (eq-eqb (key (f a)) t (own a ∙ e)) (ap (λ u. Some (f u)) e)
+        | inr ne ↦ rw (ne_eqb (key (f a)) t (λ (h : key (f a) ≡ t). ne (sym (own a) ∙ h))) (find_in_range t (a + 1) n (omega arith) (omega arith))
+      ]
+
+  pub none_in_range : (t a n : ℕ) → a + n ≤ t → list_any (λ (y : X). key y == t) (map f (range_with_len a n)) ≡ false
+  none_in_range t a zero high = refl
+  none_in_range t a (suc n) high = rw (ne_eqb (key (f a)) t (λ (h : key (f a) ≡ t). let k : key (f a) ≡ a = own a in omega arith)) (none_in_range t (a + 1) n (omega arith))
+
+  -- a number past those in a row is placed at the end
+  pub placed_end : (new : X) (change : X → X) (a n : ℕ) → key new ≡ a + n → placed key (key new) new change (map f (range_with_len a n)) ≡ map f (range_with_len a n) ++ new ∷ []
+  placed_end new change a zero is = refl
+  placed_end new change a (suc n) is =
+      let k : key (f a) ≡ a = own a in
+      rw (ne_eqb (key (f a)) (key new) (λ (h : key (f a) ≡ key new). omega arith), le_ltb (key new) (key (f a)) (omega arith)) (ap (λ ys. f a ∷ ys) (placed_end new change (a + 1) n (omega arith)))
+
+-- what numbers in a row give ascends
+pub filter_map_ascends : {X : Type 0} (key : X → ℕ) (f : ℕ → Option X) → ((u : ℕ) (y : X) → f u ≡ Some y → key y ≡ u) → (a n : ℕ) → IsAscendingBy key (filter_map f (range_with_len a n))
+filter_map_ascends key f own a zero = tt
+filter_map_ascends {X} key f own a (suc n) = at (f a) refl (filter_map_ascends key f own (a + 1) n)
+  where
+    at : (o : Option X) → f a ≡ o → IsAscendingBy key (filter_map f (range_with_len (a + 1) n)) → IsAscendingBy key (cons_option o (filter_map f (range_with_len (a + 1) n)))
+    at None is later = later
+    at (Some y) is later = (subst (λ k. AllByRecursion (λ (z : X). k < key z) (filter_map f (range_with_len (a + 1) n))) (sym (own a y is)) (keys_above key f own a (a + 1) n (omega arith)), later)

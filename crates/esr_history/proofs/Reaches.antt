@@ -1,6 +1,6 @@
 -- Each legal history reaches its trace.
 use Rattle.std.proofs.Common.{◌≡◌, ℕ, zero, suc, ℤ, ◌+◌, ◌*◌, ◌<◌, ◌≤◌, List, [], ◌∷◌, ◌++◌, length, Bool, true, false, cond, not, ◌&&◌, ◌||◌, ◌==◌, ◌⊎◌, refl, sym, ◌∙◌, ap, subst, arith, inl, inr, Option, None, Some, if◌then◌else◌, filter, eqb, count_by, append-nil, add-zero}
-use Rattle.std.specs.Prelude.{is_some, find, unwrap_or}
+use Rattle.std.specs.Prelude.{is_some, find}
 use Rattle.std.specs.List.{filter_map, list_any, cons_option, range_with_len}
 use Rattle.std.specs.Option.{option_map}
 use Rattle.std.proofs.Math.Path.{fun_ext}
@@ -29,7 +29,7 @@ use Rattle.esr_history.proofs.Charges.{import-push}
 use Rattle.esr_history.proofs.Membership.{In, any-from_In}
 use Rattle.esr_history.proofs.Traces.{Setting, Trace, Keeps, ended_in, query_in, read_of, write_of, current_in, committed_in, read_count_in, Active, NoOtherWriter, NoOtherUser, with_operation, with_commit, with_abort, with_begins, Reached, Reached.nothing, Reached.begin, Reached.read_update, Reached.read_query, Reached.write, Reached.commit, Reached.abort}
 use Rattle.esr_history.proofs.Versions.{wrote_by}
-use Rattle.esr_history.proofs.Words.{trace, aborter, read_by, wrote_trace, read_trace, reads_trace, committed_trace, current_trace, active_trace, trace_active}
+use Rattle.esr_history.proofs.Words.{query_not_update, trace, aborter, read_item_by, wrote_trace, read_trace, reads_trace, committed_trace, current_trace, active_trace, trace_active}
 
 abbrev pub setting : Distance → Schedule → Setting
 setting d h = record { opening = value_at h.opening; distance = distance_in d h }
@@ -140,7 +140,7 @@ module _ (d : Distance) (h : Schedule) where
   holds_taken : (o : Operation) → In o (operations h) → o.writes ≡ false → is_active (done h) o.txn ≡ true → holds_read (done h) o.txn o.item ≡ true
   holds_taken o i w act =
       and_from (is_active (done h) o.txn) (list_any (reads o.txn o.item) (done h)) act
-      (read_trace h o.txn o.item ∙ any-from_In (read_by o.item o.txn) (operations h) o i (rw (w, eq-eqb o.item o.item refl, eq-eqb o.txn o.txn refl) refl))
+      (read_trace h o.txn o.item ∙ any-from_In (read_item_by o.item o.txn) (operations h) o i (rw (w, eq-eqb o.item o.item refl, eq-eqb o.txn o.txn refl) refl))
 
   no_writer : (t x : ℕ) → ((u : ℕ) → (u ≡ t → ⊥) → is_update (done h) u ≡ true → holds_write (done h) u x ≡ false) → NoOtherWriter (trace h) t x
   no_writer t x free = record {
@@ -218,13 +218,6 @@ module _ (d : Distance) (h : Schedule) where
   abort_step t reached act =
       linked (Abort t) Aborted (with_abort (trace h) t.0) (imports d h) (abort_trace t) (no_imports (Abort t) Aborted refl (λ q. refl)) (abort reached t.0 (active_trace h t.0 act))
 
-  query_not_update : (t : ℕ) → is_query (done h) t ≡ true → is_update (done h) t ≡ false
-  query_not_update t is = at (beginning (done h) t) is
-    where
-      at : (b : Option Beginning) → unwrap_or (option_map (λ c. c.query) b) false ≡ true → unwrap_or (option_map (λ c. not c.query) b) false ≡ false
-      at None q = refl
-      at (Some b) q = ap not q
-
   -- a read by an update, which is charged nothing
   update_reads : (t : TxnId) (x : ItemId) → IsReached d h → is_active (done h) t.0 ≡ true → is_query (done h) t.0 ≡ false → blocked_by (other_writer (done h) t.0 x.0) ≡ None
       → IsReached d (extended h (Read t x) (Value (current_value h.opening (done h) x.0)))
@@ -244,7 +237,7 @@ module _ (d : Distance) (h : Schedule) where
       linked (Read t x) (Value (current_value h.opening (done h) x.0)) (with_operation (trace h) (read_of t.0 x.0 (current_in (value_at h.opening) (trace h) x.0))) (λ q. imports d h q + import_in (due_in d h (Read t x)) q)
       (operation_trace (Read t x) (Value (current_value h.opening (done h) x.0)) o refl refl refl refl refl ∙ ap (λ v. with_operation (trace h) (read_of t.0 x.0 v)) (current_trace h x.0))
       (fun_ext (with_imports (Read t x) (Value (current_value h.opening (done h) x.0)) refl))
-      (read_query reached t.0 x.0 (import_in (due_in d h (Read t x))) (active_trace h t.0 act) (query_not_update t.0 query) (paid (writer (done h) x.0) refl))
+      (read_query reached t.0 x.0 (import_in (due_in d h (Read t x))) (active_trace h t.0 act) (query_not_update (done h) t.0 query) (paid (writer (done h) x.0) refl))
     where
       paid : (w : Option ℕ) → writer (done h) x.0 ≡ w
           → NoOtherWriter (trace h) t.0 x.0 ⊎ (distance_in d h x.0 (current_in (value_at h.opening) (trace h) x.0) (committed_in (value_at h.opening) (trace h) x.0) ≤ import_in (due_in d h (Read t x)) t.0)

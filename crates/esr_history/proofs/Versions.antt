@@ -6,7 +6,7 @@ use Rattle.std.proofs.lemmas.List.Elements.{filter-append}
 use Rattle.std.proofs.lemmas.Bool.{true≢false, cond_both, cases_Bool, cases_eq, and_parts, and_from, and_left, and_right, or_cases, or_left, or_parts, eqb-true, eq-eqb, ne_eqb, not-true, not_from_false, not_from_true, false_from_ne_true, eqb-false, cond-true, cond-false}
 use Rattle.esr_history.specs.Operations.{Operation}
 use Rattle.esr_history.specs.Serial.{conflict}
-use Rattle.esr_history.proofs.Membership.{In, Pairs, each_at, In-append_cases, In-of_filter, In-filter, Pairs-filter, Pairs-append, Pairs-left, Pairs-map, Pairs-push, In-push, filter_agree_in, filter_none_in, In-from_any, In-any, any-from_number, filter-some}
+use Rattle.esr_history.proofs.Membership.{In, Pairs, each_at, In-of_filter, Pairs-map, In-push, filter_agree_in, filter_none_in, any-from_number, filter-some}
 use Rattle.esr_history.proofs.LastWriter.{empty_or_not}
 use Rattle.esr_history.proofs.Traces.{is_among, after_writes, writes_item, Setting, Trace, update_in, ended_in, Active, with_operation, with_commit, with_abort, with_begins, read_of, write_of, current_in, committed_in, Reached, Reached.nothing, Reached.begin, Reached.read_update, Reached.read_query, Reached.write, Reached.commit, Reached.abort}
 use Rattle.esr_history.proofs.Locking.{known, locks, Locked, update_stays, among_push, among_new, among_other, committed_updates_in}

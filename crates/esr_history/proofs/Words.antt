@@ -1,5 +1,7 @@
 -- The words of a history and those of its trace say the same.
 use Rattle.std.proofs.Common.{◌≡◌, ℕ, ◌+◌, ℤ, Bool, true, false, cond, not, ◌&&◌, ◌||◌, ◌==◌, List, [], ◌∷◌, ◌++◌, refl, sym, ◌∙◌, ap, arith, filter, eqb, Option, Some, None, count_by, map, flat_map, if◌then◌else◌}
+use Rattle.std.specs.Prelude.{unwrap_or}
+use Rattle.std.specs.Option.{option_map}
 use Rattle.std.specs.List.{list_any, filter_map, cons_option}
 use Rattle.std.proofs.Math.Path.{fun_ext}
 use Rattle.std.proofs.lemmas.Bool.{or_parts, or_from}
@@ -10,9 +12,9 @@ use Rattle.esr_history.specs.declared.event.Event.{Event}
 use Rattle.esr_history.specs.declared.event.Event.TheVariants.{BeginUpdate, BeginQuery, Read, Write, Commit, Abort}
 use Rattle.esr_history.specs.declared.event.Reply.{Reply}
 use Rattle.esr_history.specs.declared.event.Entry.{Entry}
-use Rattle.esr_history.specs.Events.{is_refusal, beginning, is_active, is_committed, is_aborted, commits, aborts, reads, writes, reads_of, written, last_value, committed_value, current_value}
+use Rattle.esr_history.specs.Events.{is_refusal, beginning, is_active, is_committed, is_aborted, commits, aborts, reads, writes, reads_of, written, last_value, committed_value, current_value, Beginning, is_query, is_update}
 use Rattle.esr_history.specs.Machine.{Schedule, done}
-use Rattle.esr_history.specs.Operations.{Operation, operation_by, operation_of, operations_in, operations, committer, commit_order, answer}
+use Rattle.esr_history.specs.Operations.{Operation, operation_by, operation_of, operations, committer, commit_order, answer}
 use Rattle.esr_history.specs.Serial.{values_by, state}
 use Rattle.esr_history.proofs.Orderly.{active_parts}
 use Rattle.esr_history.proofs.Traces.{Trace, is_among, writes_item, reads_item, after_writes, committed_in, current_in, Active, read_count_in}
@@ -97,8 +99,8 @@ any_kept p q same es = over es ∙ any_given operation_of (λ e. p e.event) q (�
     over [] = refl
     over (e ∷ es) = ap (λ b. p e.event || b) (over es)
 
-abbrev pub read_by : ℕ → ℕ → Operation → Bool
-read_by x t o = reads_item x o && eqb o.txn t
+abbrev pub read_item_by : ℕ → ℕ → Operation → Bool
+read_item_by x t o = reads_item x o && eqb o.txn t
 
 read_kept : (t x : ℕ) (es : List Entry) → count_by (reads t x) (map (λ e. e.event) es) ≡ count_by (λ o. reads_item x o && eqb o.txn t) (filter_map operation_of es)
 read_kept t x [] = refl
@@ -117,6 +119,14 @@ read_kept t x (e ∷ es) =
     at (Commit u) r os = omega arith
     at (Abort u) r os = omega arith
 
+-- a query is no update
+pub query_not_update : (events : List Event) (t : ℕ) → is_query events t ≡ true → is_update events t ≡ false
+query_not_update events t is = at (beginning events t) is
+  where
+    at : (b : Option Beginning) → unwrap_or (option_map (λ c. c.query) b) false ≡ true → unwrap_or (option_map (λ c. not c.query) b) false ≡ false
+    at None q = refl
+    at (Some b) q = ap not q
+
 module _ (h : Schedule) where
   pub written_trace : (k : ℕ → Bool) (x : ℕ) → filter_map (written k x) (done h) ≡ map (λ o. o.value) (filter (λ o. writes_item x o && k o.txn) (operations h))
   written_trace k x = written_kept k x (filter accepts h.entries)
@@ -132,10 +142,10 @@ module _ (h : Schedule) where
       at (Commit u) r = refl
       at (Abort u) r = refl
 
-  pub read_trace : (t x : ℕ) → list_any (reads t x) (done h) ≡ list_any (read_by x t) (operations h)
-  read_trace t x = any_kept (reads t x) (read_by x t) at (filter accepts h.entries)
+  pub read_trace : (t x : ℕ) → list_any (reads t x) (done h) ≡ list_any (read_item_by x t) (operations h)
+  read_trace t x = any_kept (reads t x) (read_item_by x t) at (filter accepts h.entries)
     where
-      at : (e : Event) (r : Reply) → reads t x e ≡ any_of (read_by x t) (operation_by e r)
+      at : (e : Event) (r : Reply) → reads t x e ≡ any_of (read_item_by x t) (operation_by e r)
       at (BeginUpdate l) r = refl
       at (BeginQuery l s) r = refl
       at (Read u y) r = and_swap (u.0 == t) (y.0 == x)

@@ -1,27 +1,26 @@
 -- What is found makes an order of the query.
-use Rattle.std.proofs.Common.{◌≡◌, ◌≢◌, ◌↔◌, ℕ, zero, suc, ◌+◌, ◌<◌, ◌≤◌, ℤ, Bool, true, false, not, ◌&&◌, ◌||◌, ◌==◌, ◌⊎◌, List, [], ◌∷◌, ◌++◌, length, Option, None, Some, All, AllPairs, Contains, refl, sym, ◌∙◌, ap, subst, arith, inl, inr, ⊎_elim, map, filter, eqb, cond, slice_index_or, get_or, if◌then◌else◌}
+use Rattle.std.proofs.Common.{◌≡◌, ◌≢◌, ℕ, zero, suc, ◌+◌, ◌<◌, ◌≤◌, Bool, true, false, not, ◌&&◌, ◌||◌, ◌==◌, List, [], ◌∷◌, length, Option, None, Some, All, AllPairs, Contains, refl, sym, ◌∙◌, ap, subst, arith, inl, inr, ⊎_elim, map, filter, eqb, slice_index_or, get_or, if◌then◌else◌}
 use Rattle.std.specs.Prelude.{IsTrue, is_some}
 use Rattle.std.specs.List.{filter_map, list_any, slice_get, range_with_len, AllByRecursion}
 use Rattle.std.proofs.lemmas.Bool.{true≢false, cases_order, and_parts, or_cases, not-true, eqb-false, eqb-true, cond_both}
 use Rattle.std.proofs.lemmas.List.Elements.{All-contains, All-from_recursion, recursion_from_All, Contains-get_or}
 use Rattle.esr_history.specs.declared.event.TxnId.{TxnId}
-use Rattle.esr_history.specs.Events.{beginning, is_update}
 use Rattle.esr_history.specs.Machine.{Distance, Schedule, done, IsLegal}
 use Rattle.esr_history.specs.Operations.{Operation, operations}
-use Rattle.esr_history.specs.Serial.{any_pair, conflict, is_before, values_by, IsSerialOrder}
+use Rattle.esr_history.specs.Serial.{any_pair, conflict, is_before, values_by}
 use Rattle.esr_history.specs.Queries.{updates_of, must, is_strict}
-use Rattle.esr_history.proofs.Membership.{In, In-any, Contains-In, In-Contains, Pairs, All-from_pairs, Pairs-from_all, Pairs-filter, In-of_filter, each_in, each_at, filter_none_in}
+use Rattle.esr_history.proofs.Membership.{In, In-any, Contains-In, In-Contains, Pairs, All-from_pairs, Pairs-filter, In-of_filter, each_in, each_at, filter_none_in}
 use Rattle.esr_history.proofs.Versions.{wrote_by, wrote_parts}
 use Rattle.esr_history.proofs.Words.{values_trace}
-use Rattle.esr_history.proofs.Ranges.{legal_items}
+use Rattle.esr_history.proofs.WithinRanges.{legal_items}
 use Rattle.esr_order.specs.declared.scan.Step.{Step}
 use Rattle.esr_order.specs.Scans.{step_of, found_early}
 use Rattle.esr_order.specs.Placements.{IsClosed}
-use Rattle.esr_order.specs.Listing.{IsTableOf, IsBelow, is_pair, ListsPairs}
+use Rattle.esr_order.specs.Listing.{IsTableOf, is_pair, ListsPairs}
 use Rattle.esr_order.specs.Chains.{Chain, chain_from, if_written, some_chain, last_of, last_step, last_written, update_at, chain_of}
 use Rattle.esr_order.specs.Orders.{Ordered, chain_at, written_chain, IsClosedIn, IsOrderOf}
 use Rattle.esr_order.proofs.Writers.{writers_in_order}
-use Rattle.esr_order.proofs.Ordered.{in_order}
+use Rattle.esr_order.proofs.Ordered.{in_order, few_updates}
 use Rattle.esr_order.proofs.Found.{update_table}
 use Rattle.esr_order.proofs.Placing.{get_at, pairs_placed, last_placed, chain_agree}
 use Rattle.esr_order.proofs.Early.{must_positions, must_below}
@@ -203,10 +202,11 @@ module _ (d : Distance) (h : Schedule) (q : ℕ) (legal : IsLegal d h) (places :
     pub order_found : map (λ t. t.0) commits ≡ us → IsOrderOf h q found
     order_found same =
         let len : length commits ≡ length us = sym (length_numbers commits) ∙ ap length same in
-        let few : n ≤ length us = must_below d h q legal n count in
+        let part : n ≤ length us = must_below d h q legal n count in
         let below : 0 + n ≤ length commits = omega arith in
         record {
           commits = same;
+          few = subst (λ m. m ≤ 65535) (sym len) (few_updates d h q legal);
           serial = record { lists = λ u. ((λ i. i), (λ i. i)); once = once; keeps = keeps };
           ascending = listed.ascending;
           pairs = subst (λ m. All (λ p. (p.0 < p.1) × (p.1 < m) × IsTrue (is_before h (update_at h q p.0) (update_at h q p.1))) before) (sym len) upward;

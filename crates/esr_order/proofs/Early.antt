@@ -1,24 +1,22 @@
 -- The updates that a strict query must have seen stand first in commit order.
-use Rattle.std.proofs.Common.{◌≡◌, ℕ, zero, suc, ◌+◌, ◌<◌, ◌≤◌, Bool, true, false, ◌||◌, ◌==◌, List, [], ◌∷◌, ◌++◌, length, take, drop, refl, sym, ◌∙◌, ap, subst, arith, inl, inr, map, filter, eqb, cond, slice_index_or, append_assoc, append-nil, if◌then◌else◌}
+use Rattle.std.proofs.Common.{◌≡◌, ℕ, ◌+◌, ◌≤◌, Bool, true, false, ◌||◌, List, [], ◌∷◌, ◌++◌, length, drop, refl, sym, ◌∙◌, ap, subst, arith, inl, inr, map, filter, eqb, cond, slice_index_or, append_assoc, append-nil, if◌then◌else◌}
 use Rattle.std.specs.List.{filter_map, list_any, before_first, position_or_len, range_with_len}
 use Rattle.std.proofs.Math.Path.{fun_ext}
-use Rattle.std.proofs.lemmas.Bool.{true≢false, cases_Bool, or_left, or_parts, false_from_ne_true, eqb-true}
+use Rattle.std.proofs.lemmas.Bool.{true≢false, cases_Bool, or_left, or_parts, false_from_ne_true}
 use Rattle.std.proofs.lemmas.List.{take-append-drop, length-append, map-append}
 use Rattle.std.proofs.lemmas.List.Elements.{filter-append, filter_map-append}
-use Rattle.esr_history.specs.declared.event.Event.{Event}
 use Rattle.esr_history.specs.declared.event.Entry.{Entry}
-use Rattle.esr_history.specs.Events.{is_refusal, accepted, is_update, is_committed, is_begun}
+use Rattle.esr_history.specs.Events.{accepted, is_update, is_committed, is_begun}
 use Rattle.esr_history.specs.Machine.{Distance, Schedule, done, IsLegal}
-use Rattle.esr_history.specs.Legal.{along}
 use Rattle.esr_history.specs.Operations.{committer, commit_order}
 use Rattle.esr_history.specs.Queries.{begins, before_begin, updates_of, must, is_strict}
-use Rattle.esr_history.proofs.Membership.{In, Pairs, Pairs-across, In-of_filter, filter_agree_in, filter_none_in, In-from_any, any-from_number}
+use Rattle.esr_history.proofs.Membership.{In, Pairs, Pairs-across, In-of_filter, filter_none_in, In-from_any, any-from_number}
 use Rattle.esr_history.proofs.Bounded.{before_first-here, before_first-later, In-before_first}
 use Rattle.esr_history.proofs.Locking.{known, commits_once}
 use Rattle.esr_history.proofs.Words.{committed_among, trace}
 use Rattle.esr_history.proofs.Reaches.{legal_reached}
 use Rattle.esr_history.proofs.Onward.{legal_front, has_begins}
-use Rattle.esr_order.specs.Scans.{scanned, commit_at, is_update_of, found_early}
+use Rattle.esr_order.specs.Scans.{scanned, commit_at, found_early}
 use Rattle.esr_order.specs.Chains.{update_at}
 use Rattle.esr_order.proofs.Entries.{all_entries, given_accepted, given_events, accepts}
 use Rattle.esr_order.proofs.Found.{update_table, is_update_found}

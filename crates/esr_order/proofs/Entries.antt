@@ -1,19 +1,15 @@
 -- What a scan of a log finds, in the words of its history.
-use Rattle.std.proofs.Common.{◌≡◌, ℕ, zero, suc, ◌+◌, ◌-◌, ◌<◌, ◌≤◌, drop, List, [], ◌∷◌, ◌++◌, length, Bool, true, false, not, ◌||◌, ◌==◌, Option, None, Some, refl, sym, ◌∙◌, ap, subst, inl, inr, arith, map, filter, cond, append_assoc, append-nil, add-one, if◌then◌else◌}
-use Rattle.std.specs.List.{filter_map, list_any, slice_get, range_with_len, cons_option}
+use Rattle.std.proofs.Common.{◌≡◌, ℕ, zero, suc, ◌+◌, ◌-◌, ◌<◌, ◌≤◌, drop, List, [], ◌∷◌, ◌++◌, length, Bool, true, false, not, Option, None, Some, refl, sym, ◌∙◌, ap, arith, map, filter, cond, append_assoc, if◌then◌else◌}
+use Rattle.std.specs.List.{filter_map, slice_get, range_with_len, cons_option}
 use Rattle.std.specs.Option.{option_map}
-use Rattle.std.proofs.lemmas.Bool.{cases_Bool}
 use Rattle.std.proofs.lemmas.List.{length-append}
 use Rattle.esr_history.specs.declared.event.Event.{Event}
 use Rattle.esr_history.specs.declared.event.Entry.{Entry}
-use Rattle.esr_history.specs.Events.{Beginning, is_refusal, accepted, beginning_of, beginnings}
-use Rattle.esr_history.specs.Operations.{Operation, operation_of, operations_in, committer, commit_order}
+use Rattle.esr_history.specs.Events.{is_refusal, accepted, beginning_of, beginnings}
+use Rattle.esr_history.specs.Operations.{committer, commit_order}
+use Rattle.esr_history.proofs.Membership.{get_seam}
 use Rattle.esr_order.specs.declared.scan.Kind.{Kind}
 use Rattle.esr_order.specs.Scans.{if_accepted, kind_of, kind_at, commit_at}
-
-get_seam : {X : Type 0} (xs : List X) (x : X) (ys : List X) → slice_get (xs ++ x ∷ ys) (length xs) ≡ Some x
-get_seam [] x ys = refl
-get_seam (y ∷ xs) x ys = get_seam xs x ys
 
 later : (past es : List Entry) → filter_map (slice_get (past ++ es)) (range_with_len (length past) (length es)) ≡ es
 later past [] = refl

@@ -1,31 +1,23 @@
 -- What the scans find, in the words of a legal history.
-use Rattle.std.proofs.Common.{◌≡◌, ◌≢◌, ℕ, zero, suc, ◌+◌, ◌-◌, ◌<◌, ◌≤◌, ℤ, Bool, true, false, not, ◌&&◌, ◌||◌, ◌==◌, List, [], ◌∷◌, ◌++◌, length, take, drop, Option, None, Some, AllPairs, All, refl, sym, ◌∙◌, ap, subst, arith, inl, inr, map, filter, eqb, if◌then◌else◌}
-use Rattle.std.specs.Prelude.{is_some, unwrap_or}
+use Rattle.std.proofs.Common.{◌≡◌, ℕ, zero, suc, ◌-◌, ◌<◌, Bool, false, not, ◌==◌, List, [], ◌∷◌, length, Option, None, Some, All, refl, sym, ◌∙◌, ap, arith, map, filter}
+use Rattle.std.specs.Prelude.{unwrap_or}
 use Rattle.std.specs.List.{filter_map, list_any, slice_get, cons_option, before_first, AllByRecursion}
 use Rattle.std.specs.Option.{option_map}
 use Rattle.std.proofs.Math.Path.{fun_ext}
 use Rattle.std.proofs.lemmas.Option.{same_Some}
-use Rattle.std.proofs.lemmas.Bool.{true≢false, cases_Bool, eqb-true, or_left}
 use Rattle.std.proofs.lemmas.List.Elements.{All-from_recursion}
 use Rattle.esr_history.specs.declared.event.TxnId.{TxnId}
 use Rattle.esr_history.specs.declared.event.Entry.{Entry}
-use Rattle.esr_history.specs.Events.{Beginning, is_refusal, accepted, beginning, beginnings, is_query, is_update, is_committed, is_begun}
-use Rattle.esr_history.specs.Machine.{Distance, Schedule, done, IsLegal}
-use Rattle.esr_history.specs.Operations.{Operation, operation_of, operations_in, operations, commit_order}
-use Rattle.esr_history.specs.Queries.{updates_of, is_strict, is_committed_query}
-use Rattle.esr_history.proofs.Membership.{In, each_in, Pairs, In-of_filter, any-from_number, All-from_pairs}
-use Rattle.esr_history.proofs.Bounded.{In-before_first}
-use Rattle.esr_history.proofs.Lawful.{begun_number}
-use Rattle.esr_history.proofs.Locking.{known}
-use Rattle.esr_history.proofs.Words.{committed_among, trace}
-use Rattle.esr_history.proofs.Reaches.{legal_reached}
+use Rattle.esr_history.specs.Events.{Beginning, accepted, beginning, beginnings, is_query, is_update, is_committed}
+use Rattle.esr_history.specs.Machine.{Schedule, done}
+use Rattle.esr_history.specs.Operations.{Operation, operation_of, operations}
+use Rattle.esr_history.specs.Queries.{updates_of, is_strict}
+use Rattle.esr_history.proofs.Words.{committed_among}
 use Rattle.esr_order.specs.declared.scan.Kind.{Kind}
 use Rattle.esr_order.specs.declared.scan.Step.{Step}
-use Rattle.esr_order.specs.Scans.{scanned, if_accepted, kind_of, kind_at, commit_at, is_update_of, found_before, found_early, place_of, step_of, step_by, step_at}
+use Rattle.esr_order.specs.Scans.{scanned, kind_of, kind_at, commit_at, is_update_of, found_before, place_of, step_of, step_by, step_at}
 use Rattle.esr_order.specs.Listing.{IsTableOf}
-use Rattle.esr_order.proofs.Entries.{all_entries, given_accepted, given_events, mapped_given, commits_found, kinds_found, accepts}
-use Rattle.esr_order.proofs.Placed.{InOrder}
-use Rattle.esr_order.proofs.Ordered.{in_order}
+use Rattle.esr_order.proofs.Entries.{all_entries, given_accepted, commits_found, kinds_found, accepts}
 
 -- whether a transaction has committed
 pub committed_found : (es : List Entry) (t : ℕ) → list_any (λ u. u == t) (filter_map commit_at (scanned es)) ≡ is_committed (accepted es) t
@@ -110,16 +102,6 @@ steps_placed us places table ops = All-from_recursion (λ s. s.place < length us
             → AllByRecursion (λ (s : Step). s.place < length us) (cons_option (option_map (λ i. let s : Step = record { place = i; item = o.item; writes = o.writes; value = o.value } in s) p) (filter_map (step_of places) ops))
         at None is rest = rest
         at (Some i) is rest = (get_inside us i o.txn ((table o.txn i).0 is), rest)
-
-module _ (d : Distance) (h : Schedule) (q : ℕ) (legal : IsLegal d h) where
-  -- an update of q has begun
-  pub listed_begun : (u : ℕ) → In u (updates_of h q) → (1 ≤ u) × (u < 1 + length (beginnings (done h)))
-  listed_begun u i =
-      let c : In u (commit_order (done h)) = In-before_first (λ t. eqb t q) (commit_order (done h)) u (In-of_filter (is_update (done h)) (before_first (λ t. eqb t q) (commit_order (done h))) u i).0 in
-      begun_number (done h) u ((known (legal_reached d h legal)).of_ends u (or_left (list_any (λ w. eqb w u) (commit_order (done h))) (list_any (λ w. eqb w u) (trace h).aborts) (any-from_number (commit_order (done h)) u c)))
-
-  pub listed_once : AllPairs (λ u v. u ≢ v) (updates_of h q)
-  listed_once = All-from_pairs (λ u v. u ≢ v) (updates_of h q) (in_order d h q legal).once
 
 -- how a transaction began, by its number
 pub begin_found : (es : List Entry) (q : ℕ) → (q ≡ 0 → ⊥) → (o : Option Kind) → o ≡ slice_get (filter_map kind_at es) (q - 1) → o ≡ option_map kind_of (beginning (accepted es) q)

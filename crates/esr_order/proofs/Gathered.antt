@@ -1,26 +1,22 @@
 -- The parts that are gathered make an order of the query.
-use Rattle.std.proofs.Common.{◌≡◌, ◌≢◌, ℕ, suc, ◌+◌, ◌<◌, ◌≤◌, Bool, true, false, not, ◌==◌, List, [], ◌∷◌, length, Option, None, Some, All, AllPairs, refl, sym, ◌∙◌, ap, subst, arith, inl, inr, map, eqb, if◌then◌else◌}
-use Rattle.std.specs.List.{filter_map, list_any, range_with_len, AllByRecursion, IsDistinct}
+use Rattle.std.proofs.Common.{◌≡◌, ◌≢◌, ℕ, suc, ◌+◌, ◌<◌, ◌≤◌, Bool, not, List, [], ◌∷◌, length, Option, All, AllPairs, refl, sym, ◌∙◌, ap, subst, arith, inl, inr, map, if◌then◌else◌}
+use Rattle.std.specs.List.{filter_map, range_with_len, AllByRecursion}
 use Rattle.std.proofs.Math.Nat.{le_trans}
-use Rattle.std.proofs.lemmas.Bool.{ne_eqb, eqb-true}
 use Rattle.std.proofs.lemmas.List.Elements.{All-from_recursion}
-use Rattle.std.proofs.lemmas.Map.Steps.{length-le_from_distinct_below}
 use Rattle.esr_history.specs.declared.event.TxnId.{TxnId}
 use Rattle.esr_history.specs.declared.event.Entry.{Entry}
 use Rattle.esr_history.specs.Events.{accepted, beginnings}
 use Rattle.esr_history.specs.Machine.{Distance, Schedule, done, IsLegal}
 use Rattle.esr_history.specs.Operations.{operations}
 use Rattle.esr_history.specs.Queries.{updates_of, is_strict}
-use Rattle.esr_history.proofs.Membership.{In, Pairs, Pairs-map, each_in, In-any, All-from_pairs, any-from_number}
-use Rattle.esr_history.proofs.Ranges.{legal_begins}
-use Rattle.esr_order.specs.declared.scan.Kind.{Kind}
+use Rattle.esr_history.proofs.Membership.{In, Pairs, All-from_pairs}
 use Rattle.esr_order.specs.declared.scan.Step.{Step}
 use Rattle.esr_order.specs.Scans.{scanned, kind_at, found_before, found_early, step_of, step_at}
 use Rattle.esr_order.specs.Listing.{IsTableOf, is_pair, ListsPairs}
 use Rattle.esr_order.specs.Chains.{Chain, chain_from, last_step}
-use Rattle.esr_order.specs.Orders.{Ordered, IsOrderOf}
-use Rattle.esr_order.proofs.Ordered.{in_order}
-use Rattle.esr_order.proofs.Found.{update_table, updates_found, numbers_back, length_found, steps_found, steps_placed, listed_begun}
+use Rattle.esr_order.specs.Orders.{IsOrderOf}
+use Rattle.esr_order.proofs.Ordered.{in_order, listed_begun, few_updates}
+use Rattle.esr_order.proofs.Found.{update_table, updates_found, numbers_back, length_found, steps_found, steps_placed}
 use Rattle.esr_order.proofs.Early.{must_below}
 use Rattle.esr_order.proofs.Complete.{order_found}
 
@@ -52,22 +48,8 @@ module _ (h : Schedule) (q : ℕ) (es : List Entry) (is : es ≡ h.entries) (upd
   steps_gathered places = ap (λ (l : List Entry). filter_map (step_at places) (scanned l)) is ∙ steps_found h places
 
 module _ (d : Distance) (h : Schedule) (q : ℕ) (legal : IsLegal d h) where
-  distinct : (us : List ℕ) → Pairs (λ u v. u ≡ v → ⊥) us → IsDistinct eqb us
-  unfolding IsDistinct
-  distinct [] once = tt
-  distinct (u ∷ us) once = (each_in (λ v. eqb u v ≡ false) us (λ v i. ne_eqb u v (Rattle.esr_history.proofs.Membership.each_at (λ w. u ≡ w → ⊥) us v once.0 i)), distinct us once.1)
-
-  -- there are few updates
-  pub few_updates : length (updates_of h q) ≤ 65536
-  few_updates =
-      let begins : length (beginnings (done h)) ≤ 65535 = legal_begins d h legal in
-      let below : length (updates_of h q) ≤ 1 + length (beginnings (done h)) =
-      length-le_from_distinct_below (updates_of h q) (1 + length (beginnings (done h))) (distinct (updates_of h q) (in_order d h q legal).once)
-      (λ u some. let w = In-any (eqb u) (updates_of h q) some in subst (λ v. v < 1 + length (beginnings (done h))) (sym (eqb-true u w.0 w.2)) (listed_begun d h q legal w.0 w.1).1) in
-      omega arith
-
-  pub early_few : (n : ℕ) → n ≡ (if is_strict (done h) q then length (found_early h.entries (update_table h.entries) q) else 0) → n ≤ 65536
-  early_few n is = le_trans (must_below d h q legal n is) few_updates
+  pub early_few : (n : ℕ) → n ≡ (if is_strict (done h) q then length (found_early h.entries (update_table h.entries) q) else 0) → n ≤ 65535
+  early_few n is = le_trans (must_below d h q legal n is) (few_updates d h q legal)
 
   module _ (commits : List TxnId) (same : map (λ t. t.0) commits ≡ updates_of h q) where
     pub commits_known : (n : ℕ) → n ≡ length (beginnings (done h)) → All (λ t. t.0 ≤ n) commits
@@ -88,9 +70,9 @@ module _ (d : Distance) (h : Schedule) (q : ℕ) (legal : IsLegal d h) where
         each [] once = tt
         each (t ∷ ts) once = (all_of t.0 ts once.0, each ts once.1)
 
-    pub commits_few : length commits ≤ 65536
+    pub commits_few : length commits ≤ 65535
     commits_few =
-        let few : length (updates_of h q) ≤ 65536 = few_updates in
+        let few : length (updates_of h q) ≤ 65535 = few_updates d h q legal in
         let len : length commits ≡ length (updates_of h q) = sym (length_numbers commits) ∙ ap length same in
         omega arith
 

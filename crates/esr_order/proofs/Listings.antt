@@ -1,8 +1,8 @@
 -- A list of pairs that grows row by row.
-use Rattle.std.proofs.Common.{◌≡◌, ℕ, zero, suc, ◌+◌, ◌<◌, ◌≤◌, ◌⊎◌, Bool, true, false, List, [], ◌∷◌, ◌++◌, length, get_or, refl, sym, ◌∙◌, ap, subst, inl, inr, ⊎_elim, arith, All, AllPairs, Contains}
+use Rattle.std.proofs.Common.{◌≡◌, ℕ, ◌+◌, ◌<◌, ◌≤◌, Bool, true, false, List, [], ◌∷◌, ◌++◌, refl, sym, ◌∙◌, ap, subst, inl, inr, ⊎_elim, arith, Contains}
 use Rattle.std.proofs.lemmas.List.Elements.{All-nil, All-push, All-weaker, Contains-append_left, Contains-push}
 use Rattle.std.proofs.lemmas.List.Quantifiers.{all_pairs_push}
-use Rattle.std.proofs.lemmas.Bool.{true≢false, cases_order, cases_lt}
+use Rattle.std.proofs.lemmas.Bool.{true≢false, cases_order}
 use Rattle.esr_order.specs.Listing.{IsBelow, ListsPairs, IsAhead, ListsAhead}
 
 pub listing_none : (passes : ℕ → ℕ → Bool) (n : ℕ) → ListsAhead passes n 0 0 []

@@ -1,6 +1,5 @@
 -- The closed sets are the parts of placements, for updates whose commit order keeps the conflict order.
-use Rattle.std.proofs.Common.{◌≡◌, ℕ, ◌≤◌, ℤ, Bool, true, false, not, List, [], ◌∷◌, ◌++◌, length, take, drop, refl, sym, ◌∙◌, ap, subst, inl, inr, ⊎_elim, arith, Contains, filter, if◌then◌else◌}
-use Rattle.std.specs.List.{before_first}
+use Rattle.std.proofs.Common.{◌≡◌, ℕ, ◌≤◌, Bool, true, false, not, List, [], ◌++◌, length, take, drop, sym, ◌∙◌, ap, subst, ⊎_elim, arith, Contains, filter, if◌then◌else◌}
 use Rattle.std.proofs.Math.Path.{fun_ext}
 use Rattle.std.proofs.Math.Seq.{take-append_seam}
 use Rattle.std.proofs.lemmas.List.{take-append-drop, length-append}
@@ -8,11 +7,11 @@ use Rattle.std.proofs.lemmas.Bool.{true≢false, cases_Bool, not-true, not_from_
 use Rattle.esr_items.specs.Values.{value_at}
 use Rattle.esr_history.specs.Machine.{Distance, Schedule, done}
 use Rattle.esr_history.specs.Events.{is_committed, accepted}
-use Rattle.esr_history.specs.Serial.{is_before, values_by, state, IsSerialOrder}
+use Rattle.esr_history.specs.Serial.{is_before, values_by, state}
 use Rattle.esr_history.specs.Queries.{updates_of, is_strict, before_begin, must, distance_from, members, cost}
 use Rattle.esr_history.proofs.Membership.{In, Pairs, In-Contains, Contains-In, Pairs-from_all, All-from_pairs, In-append_cases, In-append_left, In-append_right, In-filter, In-of_filter, Pairs-filter, Pairs-append, Pairs-left, Pairs-across, In-from_any, any-from_number}
 use Rattle.esr_history.proofs.LastWriter.{same_left}
-use Rattle.esr_order.specs.Placements.{is_among, IsPlacement, IsClosed, IsLeastDistance, IsLeastSet, placement_distance}
+use Rattle.esr_order.specs.Placements.{is_among, IsPlacement, IsClosed, placement_distance}
 use Rattle.esr_order.specs.Statements.{ClosedSetsAreParts}
 use Rattle.esr_order.proofs.Writers.{writers_in_order}
 

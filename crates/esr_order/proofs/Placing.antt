@@ -1,15 +1,14 @@
 -- Steps by their positions say what operations by their transactions say.
-use Rattle.std.proofs.Common.{◌≡◌, ℕ, zero, suc, ◌+◌, ◌<◌, ◌≤◌, ℤ, Bool, true, false, not, ◌&&◌, ◌||◌, ◌==◌, List, [], ◌∷◌, length, Option, None, Some, refl, sym, ◌∙◌, ap, subst, arith, inl, inr, map, filter, cond, slice_index_or}
+use Rattle.std.proofs.Common.{◌≡◌, ℕ, zero, suc, ◌+◌, ◌<◌, ◌≤◌, ℤ, Bool, true, false, not, ◌&&◌, ◌||◌, ◌==◌, List, [], ◌∷◌, length, Option, None, Some, refl, sym, ◌∙◌, ap, arith, inl, inr, map, filter, cond, slice_index_or}
 use Rattle.std.specs.Prelude.{is_some}
 use Rattle.std.specs.List.{filter_map, list_any, slice_get, cons_option, range_with_len}
 use Rattle.std.specs.Option.{option_map}
-use Rattle.std.proofs.lemmas.Bool.{cases_Bool, cases_eq, eq-eqb, ne_eqb, and_right, cond_both, cond-true, cond-false}
+use Rattle.std.proofs.lemmas.Bool.{cases_eq, eq-eqb, ne_eqb, and_right}
 use Rattle.std.proofs.lemmas.Option.{same_Some}
-use Rattle.esr_history.specs.Machine.{Schedule}
-use Rattle.esr_history.specs.Operations.{Operation, operations}
-use Rattle.esr_history.specs.Serial.{any_pair, conflict, is_before, values_by}
+use Rattle.esr_history.specs.Operations.{Operation}
+use Rattle.esr_history.specs.Serial.{any_pair, conflict}
 use Rattle.esr_history.proofs.Versions.{wrote_by}
-use Rattle.esr_history.proofs.Words.{any_of, any_given, values_trace}
+use Rattle.esr_history.proofs.Words.{any_of, any_given}
 use Rattle.esr_order.specs.declared.scan.Step.{Step}
 use Rattle.esr_order.specs.Scans.{place_of, step_of}
 use Rattle.esr_order.specs.Listing.{IsTableOf, clash, is_pair}

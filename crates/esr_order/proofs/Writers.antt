@@ -1,5 +1,5 @@
 -- Two transactions that wrote an item are in the conflict order, one way or the other.
-use Rattle.std.proofs.Common.{◌≡◌, ℕ, Bool, true, false, not, ◌&&◌, ◌||◌, ◌⊎◌, List, [], ◌∷◌, sym, ◌∙◌, ap, inl, inr, ⊎_elim, eqb, map}
+use Rattle.std.proofs.Common.{◌≡◌, ℕ, Bool, true, ◌&&◌, ◌⊎◌, List, [], ◌∷◌, sym, ◌∙◌, ap, inl, inr, ⊎_elim, eqb, map}
 use Rattle.std.specs.List.{list_any}
 use Rattle.std.proofs.lemmas.Bool.{and_from, or_left, or_right, eq-eqb}
 use Rattle.esr_history.specs.Machine.{Schedule}

@@ -1,5 +1,5 @@
 -- The versions of an item that the updates of a query leave.
-use Rattle.std.specs.Prelude.{◌≡◌, ℕ, ℤ, List, [], ◌∷◌, Bool, ◌&&◌, ◌==◌, Option, None, Some, is_some, filter, map, length, slice_get, slice_index_or}
+use Rattle.std.specs.Prelude.{ℕ, ℤ, List, [], ◌∷◌, ◌&&◌, ◌==◌, Option, None, Some, is_some, filter, map, length, slice_index_or}
 use Rattle.std.specs.List.{filter_map, range_with_len, last_or}
 use Rattle.esr_history.specs.Machine.{Schedule}
 use Rattle.esr_history.specs.Serial.{values_by}

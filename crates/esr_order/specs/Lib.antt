@@ -4,3 +4,4 @@ pub mod Scans
 pub mod Listing
 pub mod Chains
 pub mod Orders
+pub mod Worked

@@ -1,6 +1,5 @@
 -- The operations of a query's updates by their positions in commit order, and lists of pairs of positions.
-use Rattle.std.specs.Prelude.{◌≡◌, ◌↔◌, ◌<◌, ◌≤◌, ◌⊎◌, ℕ, zero, suc, ℤ, Bool, true, false, not, ◌&&◌, ◌||◌, ◌==◌, List, [], Option, Some, All, AllPairs, Contains, length, slice_get, filter, map}
-use Rattle.std.specs.List.{list_any}
+use Rattle.std.specs.Prelude.{◌≡◌, ◌↔◌, ◌<◌, ◌⊎◌, ℕ, Bool, true, not, ◌&&◌, ◌||◌, ◌==◌, List, Option, Some, All, AllPairs, Contains, slice_get}
 use Rattle.esr_history.specs.Serial.{any_pair}
 use Rattle.esr_order.specs.declared.scan.Step.{Step}
 use Rattle.esr_order.specs.Scans.{place_of}

@@ -1,5 +1,5 @@
 -- What an order tells of a query.
-use Rattle.std.specs.Prelude.{◌≡◌, ◌↔◌, ◌<◌, ◌+◌, ℕ, Bool, IsTrue, List, Option, None, Some, All, AllPairs, Contains, length, map, slice_get, slice_index_or}
+use Rattle.std.specs.Prelude.{◌≡◌, ◌↔◌, ◌<◌, ◌≤◌, ◌+◌, ℕ, Bool, IsTrue, List, Option, None, Some, All, AllPairs, Contains, length, map, slice_get, slice_index_or}
 use Rattle.esr_history.specs.declared.event.TxnId.{TxnId}
 use Rattle.esr_history.specs.Machine.{Schedule}
 use Rattle.esr_history.specs.Serial.{is_before, IsSerialOrder}
@@ -32,6 +32,7 @@ pub record IsClosedIn (h : Schedule) (q : ℕ) (o : Ordered) (S : ℕ → Bool) 
 pub record IsOrderOf (h : Schedule) (q : ℕ) (o : Ordered) : Type 0 where
   pub commits : map (λ t. t.0) o.commits ≡ updates_of h q
   pub serial : IsSerialOrder h (updates_of h q) (updates_of h q)
+  pub few : length o.commits ≤ 65535
   -- pairs of the conflict order, from a lower to a higher position, by which the same sets are closed
   pub ascending : AllPairs IsBelow o.before
   pub pairs : All (λ p. (p.0 < p.1) × (p.1 < length o.commits) × IsTrue (is_before h (update_at h q p.0) (update_at h q p.1))) o.before

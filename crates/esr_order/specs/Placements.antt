@@ -1,9 +1,9 @@
 -- Where a committed query could have read: the placements in serial orders of its updates, and the closed sets of its updates.
-use Rattle.std.specs.Prelude.{◌≡◌, ◌↔◌, ◌≤◌, ℕ, Bool, IsTrue, List, ◌==◌, take, length, Contains, All}
+use Rattle.std.specs.Prelude.{◌≡◌, ◌≤◌, ℕ, Bool, IsTrue, List, ◌==◌, take, length, Contains, All}
 use Rattle.std.specs.List.{list_any}
 use Rattle.esr_history.specs.Machine.{Distance, Schedule}
 use Rattle.esr_history.specs.Serial.{is_before, IsSerialOrder, state}
-use Rattle.esr_history.specs.Queries.{updates_of, must, distance_from, members, cost}
+use Rattle.esr_history.specs.Queries.{updates_of, must, distance_from, cost}
 
 -- the members of a list, as a set
 abbrev pub is_among : List ℕ → ℕ → Bool

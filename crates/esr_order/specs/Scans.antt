@@ -1,6 +1,6 @@
 -- What the entries of a log give, where they are accepted.
-use Rattle.std.specs.Prelude.{ℕ, zero, suc, ℤ, filter, List, Bool, true, false, not, ◌==◌, ◌&&◌, ◌||◌, Option, None, Some, slice_get, length, unwrap_or, if◌then◌else◌}
-use Rattle.std.specs.List.{filter_map, list_any, range_with_len, before_first}
+use Rattle.std.specs.Prelude.{ℕ, zero, suc, filter, List, Bool, false, ◌==◌, Option, None, Some, slice_get, length, unwrap_or, if◌then◌else◌}
+use Rattle.std.specs.List.{filter_map, range_with_len, before_first}
 use Rattle.std.specs.Option.{option_map}
 use Rattle.esr_history.specs.declared.event.Entry.{Entry}
 use Rattle.esr_history.specs.Events.{Beginning, is_refusal, beginning_of}

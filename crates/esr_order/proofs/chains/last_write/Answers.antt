@@ -1,4 +1,4 @@
-use Rattle.std.proofs.Common.{sym, ◌∙◌, ap, Some, slice_index_or, false, pos, w64, rules}
+use Rattle.std.proofs.Common.{◌∙◌, ap, Some, slice_index_or, false, pos, w64, rules}
 use mir.Val.{SFits}
 use Rattle.std.proofs.lemmas.Int.{to_z-of_z}
 use Rattle.esr_order.specs.declared.scan.Step.{Step}

@@ -1,7 +1,7 @@
-use Rattle.std.proofs.Common.{◌≡◌, refl, sym, ◌∙◌, ap, subst, ◌+◌, ◌++◌, ◌∷◌, [], ◌==◌, List, ℕ, ℤ, Option, Some, None, map, filter, w64, rules}
+use Rattle.std.proofs.Common.{◌≡◌, refl, sym, ◌∙◌, ap, ◌++◌, ◌∷◌, [], ◌==◌, List, ℕ, ℤ, Option, Some, None, map, filter, w64, rules}
 use mir.Val.{SFits}
 use Rattle.std.proofs.lemmas.Int.{to_z-of_z}
-use Rattle.esr_order.specs.Chains.{Chain, chain_from, last_of, last_step}
+use Rattle.esr_order.specs.Chains.{Chain, last_of, last_step}
 use Rattle.esr_order.proofs.ChainSteps.{chain_push, chain_skip}
 use Rattle.esr_order.proofs.chains.links_of.Goals as goal
 use Rattle.esr_order.proofs.chains.links_of.Goals.{in-Some+in_ok-push+in_ok-push-2, in_default}

@@ -1,9 +1,6 @@
-use Rattle.std.proofs.Common.{◌≡◌, sym, ◌∙◌, ap, refl, false, Option, None, Some, ◌&&◌}
-use Rattle.std.specs.Option.{option_map}
+use Rattle.std.proofs.Common.{◌≡◌, sym, ◌∙◌, false}
 use Rattle.std.proofs.lemmas.Bool.{and_from, and_left, and_right}
-use Rattle.esr_history.specs.Events.{accepted, beginning, is_query, is_committed}
-use Rattle.esr_order.specs.declared.scan.Kind.{Kind}
-use Rattle.esr_order.specs.Scans.{kind_of}
+use Rattle.esr_history.specs.Events.{accepted, is_query, is_committed}
 use Rattle.esr_order.proofs.Found.{begin_found, no_query, kind_says, committed_found}
 use Rattle.esr_order.proofs.order.find_query.Goals as goal
 use Rattle.esr_order.proofs.order.find_query.Goals.{else-kind-via-then-kind+else-has_committed, else-kind-via-else-kind}

@@ -1,4 +1,4 @@
-use Rattle.std.proofs.Common.{sym, ◌∙◌, ap, subst, ◌+◌, ◌<◌, length, arith}
+use Rattle.std.proofs.Common.{sym, ◌∙◌, ap, subst, ◌+◌, length, arith}
 use Rattle.esr_order.specs.Listing.{ListsAhead}
 use Rattle.esr_order.proofs.Listings.{listing_push, listing_skip, listing_next}
 use Rattle.esr_order.proofs.pairs.push_row.Goals as goal

@@ -1,11 +1,10 @@
-use Rattle.std.proofs.Common.{◌≡◌, ◌<◌, ◌≤◌, ℕ, List, Bool, length, map, sym, ◌∙◌, ap, subst, arith, if◌then◌else◌, true, false}
-use Rattle.esr_history.specs.declared.event.TxnId.{TxnId}
+use Rattle.std.proofs.Common.{◌≡◌, ◌<◌, ◌≤◌, length, map, sym, ◌∙◌, ap, subst, arith}
 use Rattle.esr_history.specs.Events.{beginnings}
 use Rattle.esr_history.specs.Machine.{Schedule, done}
-use Rattle.esr_history.specs.Queries.{updates_of, is_strict}
+use Rattle.esr_history.specs.Queries.{updates_of}
 use Rattle.std.specs.List.{filter_map, range_with_len}
-use Rattle.esr_history.proofs.Ranges.{legal_begins}
-use Rattle.esr_order.specs.Scans.{scanned, step_at, found_early}
+use Rattle.esr_history.proofs.WithinRanges.{legal_begins}
+use Rattle.esr_order.specs.Scans.{scanned, step_at}
 use Rattle.esr_order.specs.Listing.{IsTableOf, is_pair, ListsPairs}
 use Rattle.esr_order.specs.Chains.{seen_links, chain_from, last_step}
 use Rattle.esr_order.proofs.Gathered.{commits_gathered, begins_gathered, steps_gathered, commits_known, commits_once, commits_few, places_below, early_few, must_gathered, gathered}
@@ -32,7 +31,7 @@ places_of-requires-clause-few g c =
     let table = c.deref.ensures.value ∙ c.in_ok-updates.ensures in
     let same : map (λ t. t.0) c.deref-2.result.now ≡ updates_of h c.args.q.0 =
     commits_gathered h c.args.q.0 c.log-log.result.now.entries c.log-log.ensures.entries c.deref.result.now table c.deref-2.result.now (c.deref-2.ensures.value ∙ c.in_ok-commits.ensures) in
-    let few : length c.deref-2.result.now ≤ 65536 = commits_few g.M.Metric.distance_by h c.args.q.0 c.log-log.ensures.legal c.deref-2.result.now same in
+    let few : length c.deref-2.result.now ≤ 65535 = commits_few g.M.Metric.distance_by h c.args.q.0 c.log-log.ensures.legal c.deref-2.result.now same in
     let count : c.len.result ≡ length (beginnings (done h)) =
     c.len.ensures ∙ (c.in_ok-updates.updates.ok.0 ∙ (ap length (sym c.deref.ensures.value) ∙ begins_gathered h c.args.q.0 c.log-log.result.now.entries c.log-log.ensures.entries c.deref.result.now table)) in
     let begins : length (beginnings (done h)) ≤ 65535 = legal_begins g.M.Metric.distance_by h c.log-log.ensures.legal in
@@ -50,7 +49,7 @@ pairs_of-requires-clause-places g c =
 
 pub pairs_of-requires-clause-few : goal.pairs_of-requires-clause-few
 pairs_of-requires-clause-few g c =
-    let few : length c.in_ok-commits.commits.items ≤ 65536 =
+    let few : length c.in_ok-commits.commits.items ≤ 65535 =
     commits_few g.M.Metric.distance_by c.args.history.now.schedule c.args.q.0 c.log-log.ensures.legal c.in_ok-commits.commits.items
     (commits_gathered c.args.history.now.schedule c.args.q.0 c.log-log.result.now.entries c.log-log.ensures.entries c.deref.result.now (c.deref.ensures.value ∙ c.in_ok-updates.ensures) c.in_ok-commits.commits.items c.in_ok-commits.ensures) in
     let len : c.len-2.result ≡ length c.in_ok-commits.commits.items = c.len-2.ensures ∙ c.in_ok-commits.commits.ok.0 in
@@ -59,7 +58,7 @@ pairs_of-requires-clause-few g c =
 
 pub chains_of-requires : goal.chains_of-requires
 chains_of-requires g c =
-    let few : length c.in_ok-commits.commits.items ≤ 65536 =
+    let few : length c.in_ok-commits.commits.items ≤ 65535 =
     commits_few g.M.Metric.distance_by c.args.history.now.schedule c.args.q.0 c.log-log.ensures.legal c.in_ok-commits.commits.items
     (commits_gathered c.args.history.now.schedule c.args.q.0 c.log-log.result.now.entries c.log-log.ensures.entries c.deref.result.now (c.deref.ensures.value ∙ c.in_ok-updates.ensures) c.in_ok-commits.commits.items c.in_ok-commits.ensures) in
     let len : c.len-3.result ≡ length c.in_ok-commits.commits.items = c.len-3.ensures ∙ c.in_ok-commits.commits.ok.0 in
@@ -69,7 +68,7 @@ chains_of-requires g c =
 pub first_positions-requires : goal.first_positions-requires
 first_positions-requires g c =
     let h : Schedule = c.args.history.now.schedule in
-    let few : c.count_must.result ≤ 65536 =
+    let few : c.count_must.result ≤ 65535 =
     early_few g.M.Metric.distance_by h c.args.q.0 c.log-log.ensures.legal c.count_must.result
     (must_gathered h c.args.q.0 c.log-log.result.now.entries c.log-log.ensures.entries c.deref-6.result.now (c.deref-6.ensures.value ∙ c.in_ok-updates.ensures) c.in-Some.kind.strict c.in-Some.ensures.1 c.count_must.result c.count_must.ensures) in
     let below : c.count_must.result < 4294967296 = omega arith in
