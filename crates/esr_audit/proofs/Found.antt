@@ -10,7 +10,7 @@ use Rattle.esr_history.specs.Operations.{Operation, operations}
 use Rattle.esr_history.specs.Queries.{is_committed_query, updates_of, reads_by, members, cost, ImportBoundsDistance}
 use Rattle.esr_history.specs.Ranges.{IsWithinRanges}
 use Rattle.esr_history.proofs.Membership.{In, each_in, each_at, Each-filter}
-use Rattle.esr_history.proofs.Ranges.{legal_within_ranges}
+use Rattle.esr_history.proofs.WithinRanges.{legal_within_ranges}
 use Rattle.esr_order.specs.Placements.{is_among, IsClosed, IsLeastSet, IsSmallestLeastSet, IsLeastDistance}
 use Rattle.esr_order.specs.Statements.{ClosedSetsAreParts}
 use Rattle.esr_order.proofs.Ordered.{law_of_placements}

@@ -9,7 +9,7 @@ use Rattle.esr_history.specs.Machine.{Distance, Schedule, done, distance_in, IsL
 use Rattle.esr_history.specs.Events.{is_query}
 use Rattle.esr_history.specs.Serial.{state}
 use Rattle.esr_history.specs.Queries.{reads_by}
-use Rattle.esr_history.proofs.Ranges.{legal_within_ranges}
+use Rattle.esr_history.proofs.WithinRanges.{legal_within_ranges}
 use Rattle.esr_order.specs.Orders.{Ordered, IsOrderOf, chain_at}
 use Rattle.esr_cert.specs.declared.problem.Chain.{Chain}
 use Rattle.esr_cert.specs.Views.{chain_of, problem_of}
