@@ -6,5 +6,8 @@ mod lists;
 mod row;
 mod table;
 
+#[cfg(test)]
+mod tests;
+
 pub use lists::QueryReads;
 pub use table::LockTable;
