@@ -3,7 +3,6 @@
 
 mod account;
 mod ledgers;
-
 #[cfg(test)]
 mod tests;
 

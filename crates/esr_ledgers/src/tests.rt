@@ -1,6 +1,5 @@
-use esr_history::TxnId;
-
 use crate::{Ledgers, Quote};
+use esr_history::TxnId;
 
 #[test]
 fn an_export_limit_bounds_the_sum_over_queries(rt: HostRuntime) {

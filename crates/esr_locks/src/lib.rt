@@ -5,7 +5,6 @@ mod held;
 mod lists;
 mod row;
 mod table;
-
 #[cfg(test)]
 mod tests;
 

@@ -2,15 +2,14 @@ ghost use Rattle.std.specs.Prelude.{◌≡◌, ◌<◌, length, map};
 ghost use Rattle.std.specs.List.{range_with_len};
 ghost use Rattle.esr_locks.specs.Tables.{no_locks, room_for};
 
+use crate::{LockTable, QueryReads};
+use esr_history::TxnId;
+use esr_items::ItemId;
 use std::alloc::Global;
 use std::process::Abort;
 
-use esr_history::TxnId;
-use esr_items::ItemId;
-
-use crate::{LockTable, QueryReads};
-
 const A: ItemId = ItemId(0);
+
 const B: ItemId = ItemId(1);
 
 fn table(rt: &impl Abort, alloc: Global) -> LockTable
@@ -67,7 +66,14 @@ fn queries_stand_by_their_numbers_with_counts(rt: HostRuntime) {
     make_room(&rt, &mut locks, r, B);
     locks.add_read_query(r, B);
     assert!(rt; locks.query_reads(A).is_empty());
-    assert!(rt; locks.query_reads(B) == [QueryReads { query: r, count: 1 }, QueryReads { query: q, count: 1 }].as_slice());
+    assert!(rt;
+        locks.query_reads(B)
+            == [
+                QueryReads { query: r, count: 1 },
+                QueryReads { query: q, count: 1 }
+            ]
+            .as_slice()
+    );
     locks.release(q);
     assert!(rt; locks.query_reads(B) == [QueryReads { query: r, count: 1 }].as_slice());
 }

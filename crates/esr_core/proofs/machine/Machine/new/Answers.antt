@@ -1,7 +1,6 @@
-use Rattle.std.proofs.Common.{◌≡◌, ℕ, ◌≤◌, ◌∙◌, sym, ap, map, List, arith, [], length}
+use Rattle.std.proofs.Common.{◌≡◌, ℕ, ◌≤◌, ◌∙◌, ap, map, arith, [], length}
 use Rattle.std.specs.List.{range_with_len}
 use Rattle.esr_items.specs.declared.store.Versions.{Versions}
-use Rattle.esr_history.specs.ItemLocks.{ItemLocks}
 use Rattle.esr_history.specs.Machine.{Schedule}
 use Rattle.esr_locks.specs.Tables.{no_locks}
 use Rattle.esr_core.proofs.Opening.{tied-opening}
