@@ -1,7 +1,9 @@
 -- A solved problem of a query gives the audit's answer.
-use Rattle.std.proofs.Common.{◌≡◌, ℕ, ◌+◌, ◌<◌, ◌≤◌, Bool, true, not, eqb, ◌&&◌, List, length, filter, refl, sym, ap, ◌∙◌, subst, arith, Contains}
+use Rattle.std.proofs.Common.{◌≡◌, ℕ, zero, suc, [], ◌∷◌, map, Option, Some, None, ◌+◌, ◌<◌, ◌≤◌, Bool, true, not, eqb, ◌&&◌, List, length, filter, refl, sym, ap, ◌∙◌, subst, arith, Contains}
 use Rattle.std.specs.Prelude.{All, IsTrue}
-use Rattle.std.specs.List.{filter_map, slice_get, list_all, AllByRecursion}
+use Rattle.std.specs.Option.{option_map}
+use Rattle.esr_history.specs.declared.event.TxnId.{TxnId}
+use Rattle.std.specs.List.{cons_option, filter_map, slice_get, list_all, AllByRecursion}
 use Rattle.std.proofs.lemmas.Bool.{and_parts}
 use Rattle.std.proofs.lemmas.List.Elements.{recursion_from_All}
 use Rattle.esr_items.specs.Values.{IsValue}
@@ -55,3 +57,20 @@ module _ (d : Distance) (h : Schedule) (q : ℕ) (opened : All IsValue h.opening
         import_is = refl;
         bounded = omega (arith, costs, smallest.least.none_less (λ u. true) all_closed, bound q committed);
       }
+
+-- what is found, with its list of updates
+pub found_of : (p : Problem) (us vs : List TxnId) → map (λ (t : TxnId). t.0) us ≡ p.updates → (set : List ℕ) → vs ≡ filter_map (slice_get us) set → map (λ (t : TxnId). t.0) vs ≡ filter_map (slice_get p.updates) set
+found_of p us vs a set b = ap (map (λ (t : TxnId). t.0)) b ∙ each set ∙ ap (λ (ns : List ℕ). filter_map (slice_get ns) set) a
+  where
+    one : (us : List TxnId) (i : ℕ) → option_map (λ (t : TxnId). t.0) (slice_get us i) ≡ slice_get (map (λ (t : TxnId). t.0) us) i
+    one [] i = refl
+    one (u ∷ us) zero = refl
+    one (u ∷ us) (suc i) = one us i
+
+    add : (o : Option TxnId) (rest : List TxnId) → map (λ (t : TxnId). t.0) (cons_option o rest) ≡ cons_option (option_map (λ (t : TxnId). t.0) o) (map (λ (t : TxnId). t.0) rest)
+    add None rest = refl
+    add (Some t) rest = refl
+
+    each : (set : List ℕ) → map (λ (t : TxnId). t.0) (filter_map (slice_get us) set) ≡ filter_map (slice_get (map (λ (t : TxnId). t.0) us)) set
+    each [] = refl
+    each (i ∷ set) = add (slice_get us i) (filter_map (slice_get us) set) ∙ ap (cons_option (option_map (λ (t : TxnId). t.0) (slice_get us i))) (each set) ∙ ap (λ (o : Option ℕ). cons_option o (filter_map (slice_get (map (λ (t : TxnId). t.0) us)) set)) (one us i)

@@ -6,7 +6,16 @@ use Rattle.esr_history.specs.Queries.{members, cost}
 use Rattle.esr_order.specs.Placements.{is_among, IsLeastDistance, IsSmallestLeastSet}
 use Rattle.esr_cert.specs.Problem.{Problem}
 use Rattle.esr_cert.specs.Certificate.{Certificate, Certifies}
+use Rattle.esr_order.specs.declared.order.OrderError.{OrderError}
+use Rattle.esr_order.specs.declared.order.OrderError.TheVariants.{NotACommittedQuery, NoMemory}
+use Rattle.esr_audit.specs.declared.finding.AuditError.{AuditError}
+use Rattle.esr_audit.specs.declared.finding.AuditError.TheVariants as refusals
 use Rattle.esr_audit.specs.Problems.{StandsFor}
+
+-- why an audit gives no answer, where there is no order
+abbrev pub refusal_of : OrderError → AuditError
+refusal_of NotACommittedQuery = refusals.NotACommittedQuery
+refusal_of NoMemory = refusals.NoMemory
 
 -- The distance is the least over all placements of q; `before` is, in commit order, the smallest set of updates that stands
 -- before the position in a placement of that distance; and the distance is at most the import charged to q.

@@ -3,7 +3,8 @@
 use std::alloc::AllocError;
 
 use esr_cert::{Certificate, Problem};
-use esr_history::TxnId;
+use esr_history::{NoMemory, TxnId};
+use esr_order::OrderError;
 
 /// What an audit finds of a committed query.
 ///
@@ -43,5 +44,30 @@ impl From<AllocError> for AuditError {
 
     fn from(_: AllocError) -> AuditError {
         AuditError::NoMemory
+    }
+}
+
+impl From<NoMemory> for AuditError {
+    ghost use Rattle.std.specs.Prelude.{◌≡◌};
+    ghost use Rattle.esr_audit.specs.declared.finding.AuditError.TheVariants.{NoMemory};
+
+    ghost from_gives = { λ _ e. e ≡ NoMemory };
+
+    fn from(_: NoMemory) -> AuditError {
+        AuditError::NoMemory
+    }
+}
+
+impl From<OrderError> for AuditError {
+    ghost use Rattle.std.specs.Prelude.{◌≡◌};
+    ghost use Rattle.esr_audit.specs.Findings.{refusal_of};
+
+    ghost from_gives = { λ why e. e ≡ refusal_of why };
+
+    fn from(why: OrderError) -> AuditError {
+        match why {
+            OrderError::NotACommittedQuery => AuditError::NotACommittedQuery,
+            OrderError::NoMemory => AuditError::NoMemory,
+        }
     }
 }

@@ -2,9 +2,11 @@
 //! serial placement, with a certificate.
 #![tactic(auto)]
 
+mod audit;
 mod chains;
 mod finding;
 mod problem;
 mod reads;
 
+pub use audit::audit_query;
 pub use finding::{AuditError, Finding};
