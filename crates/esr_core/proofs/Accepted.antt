@@ -1,8 +1,8 @@
 -- What holds where an event is not refused.
-use Rattle.std.proofs.Common.{◌≡◌, ℕ, zero, suc, ℤ, ◌+◌, ◌<◌, ◌≤◌, List, [], ◌∷◌, ◌++◌, length, Bool, true, false, not, ◌&&◌, ◌||◌, ◌==◌, refl, sym, ◌∙◌, ap, subst, arith, inl, inr, Option, None, Some, if◌then◌else◌, get_or, map}
-use Rattle.std.specs.Prelude.{nat_le, All, IfSome, sum_by}
+use Rattle.std.proofs.Common.{◌≡◌, ℕ, ◌<◌, ◌≤◌, List, [], ◌∷◌, ◌++◌, length, Bool, true, false, ◌&&◌, ◌==◌, refl, sym, ◌∙◌, ap, subst, arith, Option, None, Some, if◌then◌else◌}
+use Rattle.std.specs.Prelude.{nat_le, All}
 use Rattle.std.specs.List.{filter_map, cons_option, AllByRecursion}
-use Rattle.std.proofs.lemmas.Bool.{cases_Bool, false≢true, and_parts, and_from}
+use Rattle.std.proofs.lemmas.Bool.{false≢true, and_parts}
 use Rattle.std.proofs.lemmas.Bool.Decides.{nat_tests}
 use Rattle.std.proofs.lemmas.List.Elements.{All-from_recursion}
 use Rattle.std.proofs.lemmas.List.Sums.{sum_by-le-sum_by}
@@ -13,12 +13,11 @@ use Rattle.esr_history.specs.declared.event.TxnId.{TxnId}
 use Rattle.esr_history.specs.declared.event.Event.{Event}
 use Rattle.esr_history.specs.declared.event.Event.TheVariants.{BeginUpdate, BeginQuery, Read, Write, Commit, Abort}
 use Rattle.esr_history.specs.declared.event.Refusal.{Refusal}
-use Rattle.esr_history.specs.declared.event.Refusal.TheVariants.{TooManyReads, QueryMayNotWrite}
+use Rattle.esr_history.specs.declared.event.Refusal.TheVariants.{TooManyReads}
 use Rattle.esr_history.specs.Events.{numbers, reads, reads_any, is_query, is_update, is_active, holds_read, reads_of, all_reads_of}
-use Rattle.esr_history.specs.Machine.{Distance, Schedule, done, due_in, first_reason, refusal, reasons, many_reads, when, Charge, import_full, export_full}
+use Rattle.esr_history.specs.Machine.{Distance, Schedule, done, due_in, first_reason, refusal, reasons, Charge, import_full, export_full}
 use Rattle.esr_history.specs.ItemLocks.{ItemLocks, query_reads}
-use Rattle.esr_history.proofs.Lawful.{none_applies, when_none, not_ended, update_from}
-use Rattle.esr_history.proofs.Orderly.{active_parts}
+use Rattle.esr_history.proofs.Lawful.{none_applies, when_none, not_ended}
 use Rattle.esr_ledgers.specs.declared.account.Account.{Account}
 use Rattle.esr_ledgers.specs.declared.ledgers.Quote.{Quote}
 use Rattle.esr_ledgers.specs.declared.ledgers.Quote.TheVariants.{Fits, Import, Export}

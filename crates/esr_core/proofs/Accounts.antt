@@ -1,32 +1,22 @@
 -- The accounts of transactions.
-use Rattle.std.proofs.Common.{◌≡◌, ℕ, zero, suc, ℤ, ◌+◌, ◌*◌, ◌<◌, ◌≤◌, List, [], ◌∷◌, ◌++◌, length, Bool, true, false, not, ◌&&◌, ◌||◌, ◌==◌, refl, sym, ◌∙◌, ap, subst, arith, inl, inr, Option, None, Some, if◌then◌else◌, map, add-zero, length-append, append-nil}
-use Rattle.std.specs.Prelude.{is_some, find, unwrap_or, sum_by, nat_lt, All}
-use Rattle.std.specs.List.{range_with_len, list_any, filter_map, cons_option, AllByRecursion}
+use Rattle.std.proofs.Common.{◌≡◌, ℕ, zero, suc, ℤ, ◌+◌, ◌<◌, ◌≤◌, List, [], ◌∷◌, ◌++◌, length, Bool, true, false, not, refl, sym, ◌∙◌, ap, arith, Option, None, Some, if◌then◌else◌, map, add-zero, length-append}
+use Rattle.std.specs.Prelude.{is_some, unwrap_or}
+use Rattle.std.specs.List.{range_with_len}
 use Rattle.std.specs.Option.{option_map}
-use Rattle.std.proofs.lemmas.Bool.{cases_Bool, cases_eq, false≢true, eq-eqb, ne_eqb, eqb-true, and_parts}
+use Rattle.std.proofs.lemmas.Bool.{false≢true}
 use Rattle.std.proofs.lemmas.Option.{slice_get_past}
-use Rattle.std.proofs.lemmas.List.Sums.{sum_by-cons}
 use Rattle.std.proofs.lemmas.List.FromFn.{map-range_with_len_more}
-use Rattle.esr_items.specs.declared.metric.ItemId.{ItemId}
-use Rattle.esr_history.specs.declared.event.TxnId.{TxnId}
 use Rattle.esr_history.specs.declared.event.Event.{Event}
-use Rattle.esr_history.specs.declared.event.Event.TheVariants.{BeginUpdate, BeginQuery, Read, Write, Commit, Abort}
-use Rattle.esr_history.specs.declared.event.Refusal.{Refusal}
-use Rattle.esr_history.specs.declared.event.Refusal.TheVariants.{BlockedByImport, BlockedByExport}
-use Rattle.esr_history.specs.Events.{Beginning, beginning_of, beginnings, beginning, numbers, limit_of, is_begun, is_query, is_update, holds_read, reads_of, current_value}
-use Rattle.esr_history.specs.Machine.{Distance, Schedule, Charge, done, due, due_in, charges, charges_in, charge_of_write, import_in, export_in, total, import_full, export_full, first_reason, distance_in}
-use Rattle.esr_history.specs.ItemLocks.{query_reads}
+use Rattle.esr_history.specs.Events.{Beginning, beginning_of, beginnings, beginning, numbers, limit_of, is_begun, is_query, is_update}
+use Rattle.esr_history.specs.Machine.{Charge, due, charges, import_in, export_in}
 use Rattle.esr_history.proofs.Charges.{import-push, export-push}
-use Rattle.esr_history.proofs.Lawful.{begun_number, update_from}
+use Rattle.esr_history.proofs.Lawful.{begun_number}
 use Rattle.esr_history.proofs.Ranges.{map_same, find_in_range, none_in_range, placed_end}
-use Rattle.esr_history.proofs.Sides.{IsOfKinds, charges_kinds, no_import, no_export}
+use Rattle.esr_history.proofs.Sides.{charges_kinds, no_import, no_export}
 use Rattle.esr_ledgers.specs.declared.account.Account.{Account}
-use Rattle.esr_ledgers.specs.declared.ledgers.Quote.{Quote}
-use Rattle.esr_ledgers.specs.declared.ledgers.Quote.TheVariants.{Fits, Import, Export}
-use Rattle.esr_ledgers.specs.Books.{number, account_of, is_open, is_open_query, is_open_update, limit_at, amount_at, new_account, opened, total_of, would_pass, quoted, quote_of, raised, imported, charged}
+use Rattle.esr_ledgers.specs.Books.{number, account_of, is_open, is_open_query, is_open_update, limit_at, amount_at, new_account, opened}
 use Rattle.esr_core.specs.Tied.{entry_of, books_of}
-use Rattle.esr_core.specs.States.{reason_of, charges_to}
-use Rattle.esr_core.proofs.Held.{IsBegin, numbers-kept, query-kept, limit-kept, beginnings-begin, beginning-begin, beginning-new, query_or_update, update_or_query}
+use Rattle.esr_core.proofs.Held.{IsBegin, numbers-kept, query-kept, limit-kept, beginnings-begin, beginning-begin, beginning-new, update_or_query}
 use Rattle.esr_core.proofs.Rows.{begun_at}
 
 abbrev entry : ℕ → Bool → ℕ → ℕ → ℕ → Account

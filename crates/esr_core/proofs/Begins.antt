@@ -1,8 +1,7 @@
 -- Begins of queries and of updates alike.
-use Rattle.std.proofs.Common.{◌≡◌, ℕ, ℤ, suc, ◌+◌, List, [], ◌∷◌, ◌++◌, length, Bool, true, false, ◌&&◌, refl, None, Option}
+use Rattle.std.proofs.Common.{◌≡◌, ℕ, ℤ, ◌+◌, List, [], ◌∷◌, length, Bool, true, false, ◌&&◌, refl, None}
 use Rattle.esr_history.specs.declared.event.Reply.TheVariants.{Begun}
 use Rattle.esr_history.specs.declared.event.Event.{Event}
-use Rattle.esr_history.specs.declared.event.Refusal.{Refusal}
 use Rattle.esr_history.specs.Events.{Beginning, beginnings, written}
 use Rattle.esr_history.specs.Machine.{Distance, Schedule, done, due, refusal, acceptance, first_reason, limit_too_high, too_many}
 use Rattle.esr_core.specs.States.{begin_event}

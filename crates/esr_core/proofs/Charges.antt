@@ -1,7 +1,7 @@
 -- Charges on the accounts of transactions.
-use Rattle.std.proofs.Common.{◌≡◌, ℕ, zero, suc, ℤ, ◌+◌, ◌*◌, ◌<◌, ◌≤◌, List, [], ◌∷◌, ◌++◌, length, Bool, true, false, not, ◌&&◌, ◌||◌, ◌==◌, refl, sym, ◌∙◌, ap, subst, arith, inl, inr, Option, None, Some, if◌then◌else◌, map, add-zero, zero-add}
-use Rattle.std.specs.Prelude.{is_some, find, unwrap_or, sum_by, nat_lt, All}
-use Rattle.std.specs.List.{range_with_len, filter_map, cons_option, AllByRecursion}
+use Rattle.std.proofs.Common.{◌≡◌, ℕ, zero, suc, ℤ, ◌+◌, ◌*◌, ◌<◌, ◌≤◌, List, [], ◌∷◌, ◌++◌, length, Bool, true, false, ◌&&◌, ◌==◌, refl, sym, ◌∙◌, ap, arith, inl, inr, Option, None, Some, if◌then◌else◌, map, add-zero, zero-add}
+use Rattle.std.specs.Prelude.{find, nat_lt}
+use Rattle.std.specs.List.{filter_map, cons_option, AllByRecursion}
 use Rattle.std.specs.Option.{option_map}
 use Rattle.std.proofs.lemmas.Bool.{cases_Bool, cases_eq, false≢true, eq-eqb, ne_eqb, eqb-true, and_parts}
 use Rattle.std.proofs.lemmas.Option.{same_Some}
@@ -10,24 +10,21 @@ use Rattle.std.proofs.lemmas.List.Elements.{All-from_recursion}
 use Rattle.esr_items.specs.declared.metric.ItemId.{ItemId}
 use Rattle.esr_history.specs.declared.event.TxnId.{TxnId}
 use Rattle.esr_history.specs.declared.event.Event.{Event}
-use Rattle.esr_history.specs.declared.event.Event.TheVariants.{Read, Write}
+use Rattle.esr_history.specs.declared.event.Event.TheVariants.{Write}
 use Rattle.esr_history.specs.declared.event.Refusal.{Refusal}
 use Rattle.esr_history.specs.declared.event.Refusal.TheVariants.{BlockedByImport, BlockedByExport}
-use Rattle.esr_history.specs.Events.{beginning_of, beginnings, numbers, limit_of, is_begun, is_query, is_update, is_active, holds_read, reads_of, current_value, committed_value}
-use Rattle.esr_history.specs.Machine.{Distance, Schedule, Charge, done, due, charges, charges_in, charge_of_write, charge_of_read, import_in, export_in, total, import_full, export_full, first_reason}
+use Rattle.esr_history.specs.Events.{beginning_of, beginnings, numbers, limit_of, is_begun, is_query, is_update, holds_read, reads_of, current_value}
+use Rattle.esr_history.specs.Machine.{Distance, Schedule, Charge, done, due, charges, charges_in, charge_of_write, import_in, export_in, total, import_full, export_full, first_reason}
 use Rattle.esr_history.specs.ItemLocks.{query_reads}
 use Rattle.esr_history.specs.Ascending.{IsAscendingBy}
 use Rattle.esr_history.proofs.Charges.{import-push, export-push}
-use Rattle.esr_history.proofs.Lawful.{update_from}
 use Rattle.esr_history.proofs.Ranges.{map_same, filter_map_ascends}
-use Rattle.esr_history.proofs.Sides.{IsOfKinds, due_kinds, no_import}
+use Rattle.esr_history.proofs.Sides.{due_kinds, no_import}
 use Rattle.esr_ledgers.specs.declared.account.Account.{Account}
-use Rattle.esr_ledgers.specs.declared.ledgers.Quote.{Quote}
-use Rattle.esr_ledgers.specs.declared.ledgers.Quote.TheVariants.{Fits, Import, Export}
 use Rattle.esr_ledgers.specs.Books.{number, is_open_query, limit_at, amount_at, total_of, would_pass, quoted, quote_of, raised, imported, charged, AreCharges}
 use Rattle.esr_core.specs.Tied.{entry_of, books_of}
 use Rattle.esr_core.specs.States.{reason_of, charges_to}
-use Rattle.esr_core.proofs.Held.{numbers-kept, query-kept, limit-kept, query_or_update, update_or_query}
+use Rattle.esr_core.proofs.Held.{numbers-kept, query-kept, limit-kept, query_or_update}
 use Rattle.esr_core.proofs.Rows.{begun_at}
 use Rattle.esr_core.proofs.Accounts.{query_is_begun, update_is_begun, open_query_is, open_update_is, limit_is, import_is, export_is}
 

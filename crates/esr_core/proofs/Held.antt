@@ -1,17 +1,16 @@
 -- What one more accepted event does to who is active and who holds which locks.
-use Rattle.std.proofs.Common.{◌≡◌, ℕ, zero, suc, ℤ, ◌+◌, ◌<◌, ◌≤◌, List, [], ◌∷◌, ◌++◌, length, Bool, true, false, not, ◌&&◌, ◌||◌, ◌==◌, refl, sym, ◌∙◌, ap, subst, arith, inl, inr, Option, None, Some, if◌then◌else◌}
+use Rattle.std.proofs.Common.{◌≡◌, ℕ, suc, ◌+◌, ◌<◌, ◌≤◌, List, [], ◌∷◌, ◌++◌, length, Bool, true, false, not, ◌&&◌, ◌||◌, ◌==◌, refl, sym, ◌∙◌, ap, arith, inl, inr, Option, None, Some}
 use Rattle.std.specs.Prelude.{is_some, unwrap_or, slice_get}
-use Rattle.std.specs.List.{list_any, filter_map, range_with_len}
+use Rattle.std.specs.List.{list_any, range_with_len}
 use Rattle.std.specs.Option.{option_map}
-use Rattle.std.proofs.lemmas.Bool.{cases_Bool, false≢true, cases_eq, cases_order, eq-eqb, ne_eqb, eqb-true, and_parts, and_from, and_left, and_right, or_right, or_left, or_cases, false_from_ne_true}
-use Rattle.esr_items.specs.declared.metric.ItemId.{ItemId}
+use Rattle.std.proofs.lemmas.Bool.{cases_Bool, false≢true, and_parts, and_right, or_right, or_left, or_cases, false_from_ne_true}
 use Rattle.esr_history.specs.declared.event.TxnId.{TxnId}
 use Rattle.esr_history.specs.declared.event.Event.{Event}
 use Rattle.esr_history.specs.declared.event.Event.TheVariants.{BeginUpdate, BeginQuery, Read, Write, Commit, Abort}
-use Rattle.esr_history.specs.Events.{Beginning, beginning_of, beginnings, beginning, numbers, limit_of, commits, aborts, reads, reads_any, writes, is_committed, is_aborted, is_active, is_begun, is_query, is_update, holds_read, holds_write}
-use Rattle.esr_history.proofs.Lists.{any_push, any_push_no, filter_map_push_none, filter_map_push_some, slice_get_push, slice_get_push_last, slice_get_push_past}
+use Rattle.esr_history.specs.Events.{Beginning, beginning_of, beginnings, beginning, numbers, limit_of, commits, aborts, reads, reads_any, writes, is_committed, is_aborted, is_active, is_begun, is_query, is_update}
+use Rattle.esr_history.proofs.Lists.{any_push, any_push_no, filter_map_push_none, filter_map_push_some, slice_get_push_last}
 use Rattle.esr_history.specs.Orderly.{IsOrderly, names}
-use Rattle.esr_history.proofs.Orderly.{MayFollow, active_parts, beginning-kept, beginning-push, is_begun-push, update_begun}
+use Rattle.esr_history.proofs.Orderly.{beginning-kept, beginning-push, is_begun-push}
 use Rattle.esr_history.proofs.Lawful.{begun_number}
 
 -- an event that begins and ends nothing leaves who is active

@@ -1,9 +1,9 @@
 -- The locks on items.
-use Rattle.std.proofs.Common.{◌≡◌, ℕ, zero, suc, ℤ, ◌+◌, ◌<◌, ◌≤◌, List, [], ◌∷◌, ◌++◌, length, Bool, true, false, not, ◌&&◌, ◌||◌, ◌==◌, refl, sym, ◌∙◌, ap, subst, arith, inl, inr, Option, None, Some, if◌then◌else◌, map, get_or, set, append-nil, add-zero, length-append}
-use Rattle.std.specs.Prelude.{is_some, find, filter, unwrap_or, count_by, All}
-use Rattle.std.specs.List.{range_with_len, list_any, filter_map, cons_option}
+use Rattle.std.proofs.Common.{◌≡◌, ℕ, suc, ℤ, ◌+◌, ◌<◌, ◌≤◌, List, [], ◌∷◌, ◌++◌, length, Bool, true, false, not, ◌&&◌, ◌||◌, ◌==◌, refl, sym, ◌∙◌, ap, arith, inl, inr, Option, None, Some, if◌then◌else◌, map, set, append-nil, add-zero, length-append}
+use Rattle.std.specs.Prelude.{find, filter, unwrap_or, count_by}
+use Rattle.std.specs.List.{range_with_len, list_any, filter_map}
 use Rattle.std.specs.Option.{option_map}
-use Rattle.std.proofs.lemmas.Bool.{cases_Bool, cases_eq, false≢true, and_parts, and_from, and_left, and_right, or_left, or_right, or_parts, eq-eqb, ne_eqb, eqb-true, false_from_ne_true}
+use Rattle.std.proofs.lemmas.Bool.{cases_Bool, cases_eq, false≢true, and_parts, and_from, and_left, and_right, or_right, or_parts, eq-eqb, ne_eqb, eqb-true, false_from_ne_true}
 use Rattle.std.proofs.lemmas.Option.{same_Some}
 use Rattle.std.proofs.lemmas.List.FromFn.{length-map-range_with_len, get_or-map-range_with_len}
 use Rattle.std.proofs.lemmas.List.Elements.{filter_agree, filter-append}
@@ -11,20 +11,20 @@ use Rattle.std.proofs.lemmas.List.Sums.{sum_by_push, sum_by-cons}
 use Rattle.esr_items.specs.declared.metric.ItemId.{ItemId}
 use Rattle.esr_history.specs.declared.event.TxnId.{TxnId}
 use Rattle.esr_history.specs.declared.event.Event.{Event}
-use Rattle.esr_history.specs.declared.event.Event.TheVariants.{BeginUpdate, BeginQuery, Read, Write, Commit, Abort}
-use Rattle.esr_history.specs.Events.{Beginning, beginning_of, beginnings, beginning, numbers, commits, aborts, reads, reads_any, writes, is_active, is_begun, is_query, is_update, holds_read, holds_write, reads_of}
+use Rattle.esr_history.specs.declared.event.Event.TheVariants.{Read, Write}
+use Rattle.esr_history.specs.Events.{Beginning, beginning_of, beginnings, beginning, numbers, commits, aborts, reads, writes, is_active, is_begun, is_query, is_update, holds_read, holds_write, reads_of}
 use Rattle.esr_history.specs.Machine.{writer}
 use Rattle.esr_history.specs.ItemLocks.{ItemLocks, query_reads, item_locks, locks_of}
-use Rattle.esr_history.specs.Orderly.{IsOrderly, names, last_writer}
+use Rattle.esr_history.specs.Orderly.{IsOrderly, names}
 use Rattle.esr_history.specs.Ascending.{placed}
-use Rattle.esr_history.proofs.Lists.{any_push, any_push_no, find_least, filter_map_push_none, filter_map_push_some}
+use Rattle.esr_history.proofs.Lists.{any_push, any_push_no, find_least, filter_map_push_none}
 use Rattle.esr_history.proofs.Charges.{range-push}
-use Rattle.esr_history.proofs.Orderly.{MayFollow, active_parts, update_begun}
+use Rattle.esr_history.proofs.Orderly.{active_parts, update_begun}
 use Rattle.esr_history.proofs.Lawful.{begun_number}
 use Rattle.esr_history.proofs.Ranges.{map_same, set_range, filter_map_placed, filter_map_dropped, filter-filter_map, kept_if, kept_if_own, find_same, any_in_filter, filter_in_any}
 use Rattle.esr_locks.specs.Tables.{locks_at, no_locks, is_writer, is_reader, with_reader, with_writer, with_query_read, released, keeps_from_reading, keeps_from_writing, IsLeast}
 use Rattle.esr_locks.proofs.Least.{IsLeast-same}
-use Rattle.esr_core.proofs.Held.{active-kept, active-same, held-begin, held_more, held_less, IsBegin, numbers-kept, query-kept, update-kept, beginnings-begin, beginning-begin, not_named, reads_name, writes_name, any_implies, query_or_update, update_or_query}
+use Rattle.esr_core.proofs.Held.{active-kept, held-begin, IsBegin, numbers-kept, query-kept, update-kept, beginnings-begin, beginning-begin, not_named, reads_name, writes_name, query_or_update, update_or_query}
 
 -- who passes as a writer of an item, as a reader of it
 abbrev wrote : List Event → ℕ → ℕ → Bool

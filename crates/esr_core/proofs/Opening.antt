@@ -1,17 +1,17 @@
 -- The machine before its first event, and its totals.
-use Rattle.std.proofs.Common.{◌≡◌, ℕ, ℤ, ◌+◌, ◌<◌, List, [], ◌∷◌, length, Bool, true, false, refl, sym, ◌∙◌, ap, arith, inl, inr, map, if◌then◌else◌, pos}
+use Rattle.std.proofs.Common.{◌≡◌, ℕ, ℤ, ◌+◌, ◌<◌, List, [], ◌∷◌, length, refl, sym, ◌∙◌, ap, inl, inr, map, if◌then◌else◌, pos}
 use Rattle.std.specs.Prelude.{sum_by}
 use Rattle.std.specs.List.{range_with_len}
-use Rattle.std.proofs.lemmas.Bool.{cases_Bool, false≢true}
+use Rattle.std.proofs.lemmas.Bool.{cases_Bool}
 use Rattle.std.proofs.lemmas.List.{get_or-map, length-map}
 use Rattle.std.proofs.lemmas.List.Sums.{sum_by-cons}
 use Rattle.esr_items.specs.Values.{committed_at, current_at, value_at, opened as just}
 use Rattle.esr_items.specs.declared.store.Versions.{Versions}
 use Rattle.esr_history.specs.declared.event.Event.{Event}
-use Rattle.esr_history.specs.Events.{beginnings, numbers, is_query, is_update, is_begun}
+use Rattle.esr_history.specs.Events.{numbers, is_query}
 use Rattle.esr_history.specs.Machine.{Distance, Schedule, done, charges, import_in, export_in}
 use Rattle.esr_history.specs.ItemLocks.{ItemLocks}
-use Rattle.esr_history.proofs.Lawful.{legal_orderly, update_from}
+use Rattle.esr_history.proofs.Lawful.{legal_orderly}
 use Rattle.esr_history.proofs.Sides.{charges_kinds, no_import, no_export}
 use Rattle.esr_ledgers.specs.declared.account.Account.{Account}
 use Rattle.esr_ledgers.specs.Books.{imports, exports}

@@ -1,9 +1,7 @@
 -- The reasons to refuse an event, by the parts of the machine.
-use Rattle.std.proofs.Common.{◌≡◌, ℕ, zero, suc, ℤ, ◌+◌, ◌<◌, ◌≤◌, List, [], ◌∷◌, ◌++◌, length, Bool, true, false, not, ◌&&◌, ◌||◌, ◌==◌, refl, sym, ◌∙◌, ap, subst, arith, inl, inr, Option, None, Some, if◌then◌else◌, get_or, map}
-use Rattle.std.specs.Prelude.{find, nat_le, unwrap_or, filter, All}
-use Rattle.std.specs.List.{filter_map, range_with_len, AllByRecursion}
-use Rattle.std.specs.Option.{option_map}
-use Rattle.std.proofs.lemmas.Bool.{cases_Bool, false≢true, and_parts, and_left}
+use Rattle.std.proofs.Common.{◌≡◌, ℕ, suc, ℤ, ◌<◌, ◌≤◌, List, [], ◌∷◌, length, Bool, true, false, ◌&&◌, refl, sym, ◌∙◌, ap, subst, arith, inl, inr, Option, None, Some, if◌then◌else◌, get_or}
+use Rattle.std.specs.Prelude.{find, nat_le}
+use Rattle.std.proofs.lemmas.Bool.{cases_Bool, and_parts}
 use Rattle.std.proofs.lemmas.Bool.Decides.{nat_tests}
 use Rattle.std.proofs.lemmas.Option.{same_Some}
 use Rattle.std.proofs.lemmas.List.Elements.{All-from_recursion}
@@ -12,24 +10,22 @@ use Rattle.esr_items.specs.declared.store.Versions.{Versions}
 use Rattle.esr_items.specs.declared.metric.ItemId.{ItemId}
 use Rattle.esr_history.specs.declared.event.TxnId.{TxnId}
 use Rattle.esr_history.specs.declared.event.Event.{Event}
-use Rattle.esr_history.specs.declared.event.Event.TheVariants.{Read, Write}
+use Rattle.esr_history.specs.declared.event.Event.TheVariants.{Read}
 use Rattle.esr_history.specs.declared.event.Refusal.{Refusal}
 use Rattle.esr_history.specs.declared.event.Refusal.TheVariants.{TooManyReads, QueryMayNotWrite}
-use Rattle.esr_history.specs.Events.{beginnings, numbers, is_query, is_update, is_active, is_begun, holds_write, all_reads_of, current_value, committed_value}
+use Rattle.esr_history.specs.Events.{numbers, is_query, is_update, holds_write, all_reads_of, committed_value}
 use Rattle.esr_history.specs.Machine.{Distance, Schedule, Charge, done, due_in, writer, charge_of_read, first_reason, not_begun, ended, no_item, many_reads, query_writes, out_of_range, read_blocked, write_blocked, blocked_by, import_full, export_full, refusal, when, other_writer, other_holder}
-use Rattle.esr_history.specs.ItemLocks.{ItemLocks, item_locks, locks_of, query_reads}
-use Rattle.esr_history.proofs.Lawful.{update_from}
+use Rattle.esr_history.specs.ItemLocks.{ItemLocks, item_locks}
 use Rattle.esr_ledgers.specs.declared.account.Account.{Account}
 use Rattle.esr_ledgers.specs.Books.{quote_of, AreCharges, is_open_query}
 use Rattle.esr_locks.specs.Tables.{locks_at, keeps_from_reading, keeps_from_writing, IsLeast}
 use Rattle.esr_core.specs.declared.state.Transaction.{Transaction}
-use Rattle.esr_core.specs.Tied.{IsTied, row_of, books_of}
-use Rattle.esr_core.specs.States.{reason_of, charges_to, read_charge}
-use Rattle.esr_core.proofs.Held.{update_or_query}
-use Rattle.esr_core.proofs.Rows.{rows_len, row_is}
+use Rattle.esr_core.specs.Tied.{IsTied, books_of}
+use Rattle.esr_core.specs.States.{reason_of, read_charge}
+use Rattle.esr_core.proofs.Rows.{row_is}
 use Rattle.esr_core.proofs.Locks.{locks_len, locks_here, least_writer, least_holder}
 use Rattle.esr_core.proofs.Accounts.{open_query_is, open_update_is}
-use Rattle.esr_core.proofs.Charges.{charges_by, charge_to, quote_reason, due-write, are_charges-write}
+use Rattle.esr_core.proofs.Charges.{charges_by, charge_to, quote_reason}
 
 skip : (a b c : Option Refusal) (rs : List (Option Refusal)) → None ≡ first_reason (a ∷ b ∷ []) → None ≡ c → first_reason (a ∷ b ∷ c ∷ rs) ≡ first_reason rs
 skip None None None rs p q = refl

@@ -104,7 +104,8 @@ impl Store {
         requires value { IsValue v }
         ensures { self.new ≡ current_set self.old x.0 v }
     {
-        self.items[x.0 as usize].current = v;
+        let versions = &mut self.items[x.0 as usize];
+        versions.current = v;
     }
 
     /// Makes the current value of an item its committed one.

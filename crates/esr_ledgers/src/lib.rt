@@ -3,6 +3,8 @@
 
 mod account;
 mod ledgers;
+#[cfg(test)]
+mod tests;
 
 pub use account::Account;
 pub use ledgers::{Ledgers, Quote};

@@ -1,5 +1,5 @@
 -- What one more lock and a release do to the rows and the lists of a table.
-use Rattle.std.proofs.Common.{◌≡◌, ℕ, ◌+◌, ◌<◌, ◌≤◌, List, [], ◌∷◌, ◌++◌, length, Bool, true, false, not, ◌&&◌, ◌||◌, ◌==◌, refl, sym, ◌∙◌, ap, subst, arith, inl, inr, ◌⊎◌, Option, None, Some, if◌then◌else◌, map, get_or, set, get_or-set_same, get_or-set_other, zero, suc, min, take}
+use Rattle.std.proofs.Common.{◌≡◌, ℕ, ◌+◌, ◌<◌, ◌≤◌, List, [], ◌∷◌, ◌++◌, length, Bool, true, false, not, ◌||◌, ◌==◌, refl, sym, ◌∙◌, ap, subst, arith, inl, inr, ◌⊎◌, Option, None, Some, if◌then◌else◌, map, get_or, set, get_or-set_same, get_or-set_other, zero, suc, take}
 use Rattle.std.proofs.Math.ListN.{length-set}
 use Rattle.std.specs.Prelude.{All, unwrap_or, filter, slice_index}
 use Rattle.std.specs.List.{list_any, range_with_len}

@@ -1,5 +1,5 @@
 -- The locks on items: who holds them, and what one more lock and a release change.
-use Rattle.std.specs.Prelude.{◌≡◌, ℕ, ◌+◌, ◌<◌, List, [], ◌∷◌, Bool, true, false, not, ◌&&◌, ◌||◌, ◌==◌, Option, None, Some, MatchOption, unwrap_or, filter, slice_index_or, slice_index, min, if◌then◌else◌}
+use Rattle.std.specs.Prelude.{◌≡◌, ℕ, ◌+◌, ◌<◌, List, [], Bool, true, false, not, ◌&&◌, ◌||◌, ◌==◌, Option, None, Some, MatchOption, unwrap_or, filter, slice_index_or, slice_index, min, if◌then◌else◌}
 use Rattle.std.specs.List.{list_any}
 use Rattle.std.specs.Option.{option_map}
 use Rattle.esr_items.specs.declared.metric.ItemId.{ItemId}

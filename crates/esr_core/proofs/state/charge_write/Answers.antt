@@ -1,5 +1,4 @@
-use Rattle.std.proofs.Common.{◌≡◌, ◌∙◌, sym, ap, subst, List, [], ℕ}
-use Rattle.esr_history.specs.declared.event.TxnId.{TxnId}
+use Rattle.std.proofs.Common.{◌∙◌, sym, ap}
 use Rattle.esr_ledgers.specs.Books.{charged}
 use Rattle.esr_core.proofs.Charges.{charged_none, empty_list}
 use Rattle.esr_core.proofs.state.charge_write.Goals as goal

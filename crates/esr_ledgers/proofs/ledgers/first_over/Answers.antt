@@ -1,4 +1,4 @@
-use Rattle.std.proofs.Common.{◌≡◌, ◌∙◌, sym, ap, true, false, ℕ, get_or}
+use Rattle.std.proofs.Common.{◌∙◌, sym, ap, ℕ, get_or}
 use Rattle.esr_history.specs.declared.event.TxnId.{TxnId}
 use Rattle.esr_ledgers.specs.Books.{would_pass}
 use Rattle.esr_ledgers.proofs.Finds.{find_first, find_none_more}

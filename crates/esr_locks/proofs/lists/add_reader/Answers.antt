@@ -1,7 +1,6 @@
-use Rattle.std.proofs.Common.{◌≡◌, List, ◌∙◌, sym, ap, subst, arith, not, length, rules}
+use Rattle.std.proofs.Common.{◌≡◌, ◌∙◌, sym, ap, arith, not}
 use Rattle.std.specs.List.{insert}
 use Rattle.std.proofs.lemmas.Grind.{common_steps}
-use Rattle.esr_history.specs.declared.event.TxnId.{TxnId}
 use Rattle.esr_history.specs.Ascending.{IsPlaceOf, IsGapFor}
 use Rattle.esr_history.proofs.Ascending.{placed_same, placed_gap, any_place, any_gap}
 use Rattle.esr_locks.proofs.lists.add_reader.Goals as goal

@@ -1,8 +1,8 @@
-use Rattle.std.proofs.Common.{◌≡◌, List, ◌∙◌, sym, ap, subst, arith, not, length, rules, set, get_or}
+use Rattle.std.proofs.Common.{◌≡◌, ◌∙◌, sym, ap, arith, not, set}
 use Rattle.std.specs.List.{insert}
 use Rattle.std.proofs.lemmas.Grind.{common_steps}
 use Rattle.esr_history.specs.Ascending.{IsPlaceOf, IsGapFor}
-use Rattle.esr_history.proofs.Ascending.{placed_at, placed_gap, any_place, any_gap}
+use Rattle.esr_history.proofs.Ascending.{placed_at, placed_gap, any_gap}
 use Rattle.esr_locks.specs.declared.lists.QueryReads.{QueryReads}
 use Rattle.esr_locks.specs.Rows.{first_reads, more_reads}
 use Rattle.esr_locks.proofs.lists.count_read.Goals as goal

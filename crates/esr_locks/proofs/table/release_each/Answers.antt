@@ -1,4 +1,4 @@
-use Rattle.std.proofs.Common.{◌≡◌, ◌∙◌, ℕ, ◌<◌, length, set, get_or, arith, ap, sym}
+use Rattle.std.proofs.Common.{◌∙◌, get_or}
 use Rattle.std.proofs.Math.ListN.{length-set}
 use Rattle.esr_items.specs.declared.metric.ItemId.{ItemId}
 use Rattle.esr_locks.proofs.Tables.{release_more, get_or_any}

@@ -1,9 +1,8 @@
-use Rattle.std.proofs.Common.{◌≡◌, ◌∙◌, sym, ap, subst, List}
+use Rattle.std.proofs.Common.{◌∙◌, ap, subst}
 use Rattle.esr_history.specs.Machine.{Schedule, IsLegal, done}
 use Rattle.esr_history.specs.Totals.{all_imports, all_exports}
 use Rattle.esr_history.proofs.Charges.{legal_within_limits}
 use Rattle.esr_history.proofs.Sums.{imports_are_exports}
-use Rattle.esr_ledgers.specs.declared.account.Account.{Account}
 use Rattle.esr_ledgers.specs.Books.{imports, exports}
 use Rattle.esr_core.proofs.Opening.{imports_of, exports_of}
 use Rattle.esr_core.proofs.machine.Machine.totals.Goals as goal

@@ -1,7 +1,7 @@
-use Rattle.std.proofs.Common.{◌≡◌, ℕ, suc, ◌-◌, ◌<◌, ◌≤◌, ◌∙◌, sym, ap, subst, arith, None, Some, length, get_or, true}
+use Rattle.std.proofs.Common.{◌≡◌, suc, ◌-◌, ◌<◌, ◌≤◌, ◌∙◌, sym, ap, arith, None, Some, length}
 use Rattle.esr_items.specs.Values.{versions_at}
-use Rattle.esr_history.specs.Events.{is_query, all_reads_of}
-use Rattle.esr_history.specs.Machine.{Schedule, done, due_in}
+use Rattle.esr_history.specs.Events.{all_reads_of}
+use Rattle.esr_history.specs.Machine.{done}
 use Rattle.esr_locks.specs.Tables.{locks_at}
 use Rattle.esr_core.specs.States.{read_charge, reason_of}
 use Rattle.esr_core.proofs.Reasons.{locks_count, row_reads, due_some, due_none, are_charges-read, query_many, query_none, query_some}

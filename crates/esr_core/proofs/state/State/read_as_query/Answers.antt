@@ -1,12 +1,11 @@
-use Rattle.std.proofs.Common.{◌≡◌, ℕ, suc, ◌-◌, ◌+◌, ◌<◌, ◌≤◌, ◌∙◌, sym, ap, subst, arith, refl, None, Some, Option, List, length, get_or, true, ◌∷◌, []}
+use Rattle.std.proofs.Common.{◌≡◌, ℕ, suc, ◌-◌, ◌<◌, ◌≤◌, ◌∙◌, sym, ap, arith, refl, None, Some, Option, length, get_or, true, ◌∷◌, []}
 use Rattle.std.specs.Prelude.{IfSome}
 use Rattle.esr_items.specs.Values.{versions_at}
 use Rattle.esr_history.specs.declared.event.TxnId.{TxnId}
 use Rattle.esr_history.specs.declared.event.Event.TheVariants.{Read}
-use Rattle.esr_history.specs.Events.{is_active, is_query, all_reads_of}
+use Rattle.esr_history.specs.Events.{is_active, all_reads_of}
 use Rattle.esr_history.specs.Machine.{done}
 use Rattle.esr_history.proofs.Lawful.{follows}
-use Rattle.esr_ledgers.specs.declared.account.Account.{Account}
 use Rattle.esr_ledgers.specs.declared.ledgers.Quote.TheVariants.{Fits}
 use Rattle.esr_ledgers.specs.Books.{AreCharges, quote_of}
 use Rattle.esr_locks.specs.Tables.{locks_at}

@@ -1,4 +1,4 @@
-use Rattle.std.proofs.Common.{◌≡◌, ℕ, ◌<◌, ◌∙◌, sym, ap, subst, arith, None, length, true}
+use Rattle.std.proofs.Common.{◌≡◌, ◌<◌, length, true}
 use Rattle.esr_history.specs.declared.event.Event.TheVariants.{Read}
 use Rattle.esr_history.specs.Events.{is_active, is_update}
 use Rattle.esr_history.specs.Machine.{done}

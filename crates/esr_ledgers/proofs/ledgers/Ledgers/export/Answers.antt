@@ -1,6 +1,3 @@
-use Rattle.std.proofs.Common.{◌≡◌, subst, sym, true, List}
-use Rattle.esr_ledgers.specs.declared.account.Account.{Account}
-use Rattle.esr_ledgers.specs.Books.{is_open}
 use Rattle.esr_ledgers.proofs.Books.{update_open}
 use Rattle.esr_ledgers.proofs.ledgers.Ledgers.export.Goals as goal
 

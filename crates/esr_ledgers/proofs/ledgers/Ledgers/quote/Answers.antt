@@ -1,5 +1,4 @@
-use Rattle.std.proofs.Common.{◌≡◌, subst, sym, true, List}
-use Rattle.esr_ledgers.specs.Books.{is_open, AreCharges}
+use Rattle.esr_ledgers.specs.Books.{AreCharges}
 use Rattle.esr_ledgers.proofs.Books.{all_open, update_open}
 use Rattle.esr_ledgers.proofs.ledgers.Ledgers.quote.Goals as goal
 

@@ -1,10 +1,8 @@
-use Rattle.std.proofs.Common.{◌≡◌, ◌∙◌, sym, ap, subst, refl, not, List, ℕ, map, ◌==◌, ◌+◌, ◌<◌, arith, length}
+use Rattle.std.proofs.Common.{◌≡◌, ◌∙◌, sym, ap, subst, refl, not, ℕ, map, ◌+◌, ◌<◌}
 use Rattle.std.specs.Prelude.{All}
-use Rattle.std.specs.List.{list_any}
 use Rattle.std.specs.Option.{option_map}
 use Rattle.esr_history.specs.Ascending.{placed}
 use Rattle.esr_history.proofs.Ascending.{placed_ascends, map-placed, any-map}
-use Rattle.esr_locks.specs.declared.lists.QueryReads.{QueryReads}
 use Rattle.esr_locks.specs.Rows.{RowOf, reads_of, first_reads, more_reads}
 use Rattle.esr_locks.specs.Tables.{with_query_read, is_query}
 use Rattle.esr_locks.proofs.Least.{All-from_map}

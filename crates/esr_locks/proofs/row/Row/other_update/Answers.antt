@@ -1,8 +1,6 @@
-use Rattle.std.proofs.Common.{◌≡◌, ◌∙◌, sym, ap, subst, refl, not, ℕ, map, ◌==◌, Bool, true, false, ◌&&◌, ◌||◌, rules}
-use Rattle.std.specs.Prelude.{find}
+use Rattle.std.proofs.Common.{◌≡◌, ◌∙◌, sym, ap, refl, not, ◌==◌, Bool, true, false, ◌&&◌, ◌||◌}
 use Rattle.std.specs.List.{list_any}
 use Rattle.std.specs.Option.{option_map}
-use Rattle.esr_history.specs.declared.event.TxnId.{TxnId}
 use Rattle.esr_history.proofs.Ascending.{any-map}
 use Rattle.esr_locks.specs.Rows.{RowOf}
 use Rattle.esr_locks.specs.Tables.{IsLeast, is_reader, is_writer, keeps_from_reading, keeps_from_writing}

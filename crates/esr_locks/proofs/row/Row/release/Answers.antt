@@ -1,4 +1,4 @@
-use Rattle.std.proofs.Common.{◌≡◌, ◌∙◌, sym, ap, subst, refl, not, List, ℕ, map, ◌==◌, ◌≤◌, Bool, true, false, Option, None, Some, if◌then◌else◌}
+use Rattle.std.proofs.Common.{◌≡◌, ◌∙◌, ap, subst, refl, not, ℕ, map, ◌==◌, ◌≤◌, Bool, true, false, Option, None, Some, if◌then◌else◌}
 use Rattle.std.specs.Prelude.{filter, unwrap_or}
 use Rattle.std.specs.Option.{option_map}
 use Rattle.esr_history.specs.declared.event.TxnId.{TxnId}

@@ -1,8 +1,7 @@
-use Rattle.std.proofs.Common.{◌≡◌, ℕ, ◌<◌, ◌∙◌, sym, ap, subst, refl, length, map, true, false, not, min, arith, ◌⊎◌, List, ◌++◌, ◌∷◌, [], set}
+use Rattle.std.proofs.Common.{◌≡◌, ℕ, ◌<◌, ◌∙◌, sym, ap, subst, refl, length, map, true, min, arith, ◌⊎◌, ◌++◌, ◌∷◌, [], set}
 use Rattle.std.specs.Prelude.{slice_index}
 use Rattle.std.proofs.lemmas.Bool.{not-false}
 use Rattle.std.proofs.lemmas.List.{length-map}
-use Rattle.esr_items.specs.declared.metric.ItemId.{ItemId}
 use Rattle.esr_history.specs.ItemLocks.{ItemLocks}
 use Rattle.esr_locks.specs.Rows.{RowOf, HeldOf}
 use Rattle.esr_locks.specs.Tables.{Table, room_for, locks_at, has_lock, with_query_read, is_query}

@@ -1,6 +1,5 @@
-use Rattle.std.proofs.Common.{◌≡◌, ℕ, ◌<◌, ◌∙◌, sym, ap, subst, refl, length, map, true, false, not, min, arith, ◌⊎◌, List, ◌++◌, ◌∷◌, [], set}
+use Rattle.std.proofs.Common.{◌≡◌, ◌<◌, sym, subst, length, map, set}
 use Rattle.std.proofs.lemmas.List.{length-map}
-use Rattle.esr_items.specs.declared.metric.ItemId.{ItemId}
 use Rattle.esr_history.specs.ItemLocks.{ItemLocks}
 use Rattle.esr_locks.specs.Rows.{RowOf}
 use Rattle.esr_locks.specs.Tables.{Table, locks_at, with_writer}

@@ -1,6 +1,5 @@
 use Rattle.std.proofs.Common.{◌≡◌, ◌∙◌, ℕ, ◌<◌, ◌≤◌, sym, ap, subst, map, length, true, List, arith, []}
 use Rattle.std.specs.Prelude.{All}
-use Rattle.std.proofs.lemmas.List.{length-map}
 use Rattle.esr_items.specs.declared.metric.ItemId.{ItemId}
 use Rattle.esr_locks.specs.Rows.{RowOf, HeldOf, held_at}
 use Rattle.esr_locks.specs.Tables.{Table, locks_at, has_lock, lists_item}

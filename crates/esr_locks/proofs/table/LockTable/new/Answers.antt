@@ -1,5 +1,3 @@
-use Rattle.std.proofs.Common.{subst, sym, List}
-use Rattle.esr_locks.specs.Rows.{RowOf, HeldOf, IsTable}
 use Rattle.esr_locks.proofs.Tables.{IsTable-empty}
 use Rattle.esr_locks.proofs.table.LockTable.new.Goals as goal
 

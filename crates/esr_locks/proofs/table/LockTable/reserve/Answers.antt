@@ -1,8 +1,6 @@
-use Rattle.std.proofs.Common.{◌≡◌, ℕ, ◌<◌, ◌∙◌, sym, ap, subst, length, map, set, arith, rules, List, min}
+use Rattle.std.proofs.Common.{◌≡◌, ◌<◌, ◌∙◌, sym, ap, subst, length, map, set, arith, rules, min}
 use Rattle.std.specs.Prelude.{slice_index}
 use Rattle.std.proofs.lemmas.List.{length-map}
-use Rattle.std.proofs.lemmas.Grind.{common_steps}
-use Rattle.esr_history.specs.ItemLocks.{ItemLocks}
 use Rattle.esr_locks.specs.Rows.{RowOf, HeldOf}
 use Rattle.esr_locks.specs.Tables.{Table}
 use Rattle.esr_locks.proofs.Tables.{set_same_row, room_of_row, room_of_list}

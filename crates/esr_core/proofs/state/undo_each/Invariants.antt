@@ -1,6 +1,6 @@
 use Rattle.std.proofs.Common.{◌≡◌, ℕ, ◌<◌, length}
 use Rattle.esr_items.specs.Values.{committed_at, current_at}
-use Rattle.esr_core.proofs.machine.undo_each.Given as goal
+use Rattle.esr_core.proofs.state.undo_each.Given as goal
 
 abbrev pub invariant-loop-x : goal.invariant-loop-x
 invariant-loop-x l =

@@ -1,0 +1,76 @@
+-- A solved problem of a query gives the audit's answer.
+use Rattle.std.proofs.Common.{◌≡◌, ℕ, zero, suc, [], ◌∷◌, map, Option, Some, None, ◌+◌, ◌<◌, ◌≤◌, Bool, true, not, eqb, ◌&&◌, List, length, filter, refl, sym, ap, ◌∙◌, subst, arith, Contains}
+use Rattle.std.specs.Prelude.{All, IsTrue}
+use Rattle.std.specs.Option.{option_map}
+use Rattle.esr_history.specs.declared.event.TxnId.{TxnId}
+use Rattle.std.specs.List.{cons_option, filter_map, slice_get, list_all, AllByRecursion}
+use Rattle.std.proofs.lemmas.Bool.{and_parts}
+use Rattle.std.proofs.lemmas.List.Elements.{recursion_from_All}
+use Rattle.esr_items.specs.Values.{IsValue}
+use Rattle.esr_history.specs.Machine.{Distance, Schedule, IsLegal, charges_in, import_in}
+use Rattle.esr_history.specs.Operations.{Operation, operations}
+use Rattle.esr_history.specs.Queries.{is_committed_query, updates_of, reads_by, members, cost, ImportBoundsDistance}
+use Rattle.esr_history.specs.Ranges.{IsWithinRanges}
+use Rattle.esr_history.proofs.Membership.{In, each_in, each_at, Each-filter}
+use Rattle.esr_history.proofs.WithinRanges.{legal_within_ranges}
+use Rattle.esr_order.specs.Placements.{is_among, IsClosed, IsLeastSet, IsSmallestLeastSet, IsLeastDistance}
+use Rattle.esr_order.specs.Statements.{ClosedSetsAreParts}
+use Rattle.esr_order.proofs.Ordered.{law_of_placements}
+use Rattle.esr_cert.specs.Problem as problems
+use Rattle.esr_cert.specs.Problem.{Problem, size, is_sound, has_shape, in_set, is_distinct, IsSmallestLeast}
+use Rattle.esr_cert.specs.Certificate.{Certificate, Certifies}
+use Rattle.esr_cert.proofs.Sound.{IsProblem, facts, shape_facts}
+use Rattle.esr_cert.proofs.Certified.{IsFaultless, faultless, cost_is}
+use Rattle.esr_flow.proofs.SolveLaws.{smallest_same, same_cost}
+use Rattle.esr_audit.specs.Problems.{passes_at, StandsFor}
+use Rattle.esr_audit.specs.Findings.{IsAnswer, IsShown}
+use Rattle.esr_audit.proofs.Costs.{cost_stands}
+use Rattle.esr_audit.proofs.Smallest.{known_at, smallest_stands}
+use Rattle.esr_audit.proofs.Positions.{passes_as_set, before_members}
+
+-- the items that a query read are among those of the history
+pub reads_inside : (d : Distance) (h : Schedule) (q : ℕ) → All IsValue h.opening → IsLegal d h → AllByRecursion (λ (o : Operation). o.item < length h.opening) (reads_by h q)
+reads_inside d h q opened legal =
+    Each-filter (λ (o : Operation). o.item < length h.opening) (λ (o : Operation). not o.writes && eqb o.txn q) (operations h) (recursion_from_All (λ (o : Operation). o.item < length h.opening) (operations h) (legal_within_ranges d h opened legal).items)
+
+module _ (d : Distance) (h : Schedule) (q : ℕ) (opened : All IsValue h.opening) (legal : IsLegal d h) (bound : ImportBoundsDistance d h) (committed : IsTrue (is_committed_query h q)) where
+  pub answer_from : (p : Problem) (c : Certificate) → StandsFor d h q p → is_sound p ≡ true → Certifies p c → IsSmallestLeast p (in_set c.set)
+      → IsAnswer d h q c.worth (import_in (charges_in d h) q) (filter_map (slice_get p.updates) c.set)
+  answer_from p c stands sound certified s =
+      let ok : IsProblem p = facts p sound in
+      let f : IsFaultless p c = faultless p c certified in
+      let dist : is_distinct p.updates ≡ true = (shape_facts p (and_parts _ _ sound).0).distinct in
+      let before : List ℕ = filter_map (slice_get p.updates) c.set in
+      let inside : AllByRecursion (λ (o : Operation). o.item < length h.opening) (reads_by h q) = reads_inside d h q opened legal in
+      let same : (u : ℕ) → u < size p → in_set c.set u ≡ passes_at p.updates (is_among before) u = λ u l. sym (passes_as_set p.updates dist c.set f.ascending f.known u l) in
+      let smallest : IsSmallestLeastSet d h q (is_among before) =
+        smallest_stands d h q p stands ok inside (is_among before) (known_at p.updates c.set) (smallest_same p ok (in_set c.set) (passes_at p.updates (is_among before)) same s) in
+      let costs : c.worth ≡ cost d h q (is_among before) =
+        cost_is p c f ∙ same_cost p ok (in_set c.set) (passes_at p.updates (is_among before)) same ∙ cost_stands d h q p stands inside (is_among before) in
+      let all_closed : IsClosed h q (λ u. true) = record { downward = λ u v cu cv b t. refl; holds_must = λ u m. refl } in
+      let parts : ClosedSetsAreParts d h q = law_of_placements d h q legal in
+      record {
+        least = (parts.least c.worth).1 (is_among before, smallest.least, sym costs);
+        in_order = before_members p.updates dist c.set f.ascending f.known (updates_of h q) stands.updates;
+        smallest = smallest;
+        distance_is = costs;
+        import_is = refl;
+        bounded = omega (arith, costs, smallest.least.none_less (λ u. true) all_closed, bound q committed);
+      }
+
+-- what is found, with its list of updates
+pub found_of : (p : Problem) (us vs : List TxnId) → map (λ (t : TxnId). t.0) us ≡ p.updates → (set : List ℕ) → vs ≡ filter_map (slice_get us) set → map (λ (t : TxnId). t.0) vs ≡ filter_map (slice_get p.updates) set
+found_of p us vs a set b = ap (map (λ (t : TxnId). t.0)) b ∙ each set ∙ ap (λ (ns : List ℕ). filter_map (slice_get ns) set) a
+  where
+    one : (us : List TxnId) (i : ℕ) → option_map (λ (t : TxnId). t.0) (slice_get us i) ≡ slice_get (map (λ (t : TxnId). t.0) us) i
+    one [] i = refl
+    one (u ∷ us) zero = refl
+    one (u ∷ us) (suc i) = one us i
+
+    add : (o : Option TxnId) (rest : List TxnId) → map (λ (t : TxnId). t.0) (cons_option o rest) ≡ cons_option (option_map (λ (t : TxnId). t.0) o) (map (λ (t : TxnId). t.0) rest)
+    add None rest = refl
+    add (Some t) rest = refl
+
+    each : (set : List ℕ) → map (λ (t : TxnId). t.0) (filter_map (slice_get us) set) ≡ filter_map (slice_get (map (λ (t : TxnId). t.0) us)) set
+    each [] = refl
+    each (i ∷ set) = add (slice_get us i) (filter_map (slice_get us) set) ∙ ap (cons_option (option_map (λ (t : TxnId). t.0) (slice_get us i))) (each set) ∙ ap (λ (o : Option ℕ). cons_option o (filter_map (slice_get (map (λ (t : TxnId). t.0) us)) set)) (one us i)

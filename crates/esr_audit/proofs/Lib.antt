@@ -1,0 +1,14 @@
+pub mod Values
+pub mod Places
+pub mod Costs
+pub mod Smallest
+pub mod Positions
+pub mod Found
+pub mod Stays
+pub mod Gathered
+pub mod Versions
+pub mod Standing
+pub mod Shape
+pub mod Within
+pub mod Readings
+pub mod Posed

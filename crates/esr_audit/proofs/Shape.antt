@@ -1,0 +1,125 @@
+-- The problem gathered from an order of a query breaks no rule of shape.
+use Rattle.std.proofs.Common.{◌≡◌, ◌≢◌, ℕ, zero, suc, ◌+◌, ◌<◌, ◌≤◌, Bool, true, false, cond, not, ◌&&◌, ◌||◌, eqb, List, [], ◌∷◌, length, filter, map, refl, sym, ap, ◌∙◌, subst, inl, inr, arith, Option, Some, None, Contains}
+use Rattle.std.specs.Prelude.{All, AllPairs, nat_lt}
+use Rattle.std.specs.List.{list_all, slice_get, slice_index_or, range_with_len, AllByRecursion}
+use Rattle.std.proofs.lemmas.Bool.{cases_Bool, and_from, or_left, or_right, eq-eqb, ne_eqb, lt-ltb}
+use Rattle.std.proofs.lemmas.List.{length-map}
+use Rattle.std.proofs.lemmas.List.FromFn.{length-range_with_len}
+use Rattle.std.proofs.lemmas.List.Elements.{All-contains}
+use Rattle.esr_history.specs.declared.event.TxnId.{TxnId}
+use Rattle.esr_history.specs.Machine.{Distance, Schedule}
+use Rattle.esr_history.specs.Serial.{is_before}
+use Rattle.esr_history.specs.Queries.{updates_of}
+use Rattle.esr_history.proofs.Membership.{Pairs, Pairs-from_all, any-from_In, Contains-In}
+use Rattle.std.specs.Prelude.{IsTrue}
+use Rattle.esr_order.specs.Listing.{IsBelow}
+use Rattle.esr_order.specs.Chains as orders
+use Rattle.esr_order.specs.Chains.{update_at, chain_of, chain_from, some_chain, if_written, last_written}
+use Rattle.esr_order.specs.Orders.{Ordered, IsOrderOf, chain_at}
+use Rattle.esr_cert.specs.Problem.{Chain, Problem, in_set, is_ascending, pair_lt, are_pairs_ascending, has_pair, are_linked, is_distinct, chain_has_shape, has_shape}
+use Rattle.esr_cert.proofs.Sound.{all_from}
+use Rattle.esr_audit.specs.Problems.{places, items_read, has_written, writers_of, passes_at, version_cost, chain_for, StandsFor}
+use Rattle.esr_audit.proofs.Places.{length-places}
+use Rattle.esr_audit.proofs.Versions.{chain_writers}
+use Rattle.esr_audit.proofs.Standing.{problem_from, stands, must_ascends}
+
+distinct_from : (us : List ℕ) → Pairs (λ u v. u ≢ v) us → is_distinct us ≡ true
+distinct_from [] p = refl
+distinct_from (u ∷ us) p = and_from (not (in_set us u)) (is_distinct us) (ap not (absent us p.0)) (distinct_from us p.1)
+  where
+    absent : (vs : List ℕ) → AllByRecursion (λ v. u ≢ v) vs → in_set vs u ≡ false
+    absent [] a = refl
+    absent (v ∷ vs) a = ap (λ b. b || in_set vs u) (ne_eqb v u (λ (e : v ≡ u). a.0 (sym e))) ∙ absent vs a.1
+
+pairs_ascend : (ps : List (ℕ × ℕ)) → Pairs IsBelow ps → are_pairs_ascending ps ≡ true
+pairs_ascend [] a = refl
+pairs_ascend (p ∷ []) a = refl
+pairs_ascend (p ∷ r ∷ rest) a = and_from (pair_lt p r) (are_pairs_ascending (r ∷ rest)) (below (a.0).0) (pairs_ascend (r ∷ rest) a.1)
+  where
+    below : IsBelow p r → pair_lt p r ≡ true
+    below (inl l) = or_left (nat_lt p.0 r.0) ((eqb p.0 r.0) && nat_lt p.1 r.1) (lt-ltb p.0 r.0 l)
+    below (inr (e, l)) = or_right (nat_lt p.0 r.0) ((eqb p.0 r.0) && nat_lt p.1 r.1) (and_from (eqb p.0 r.0) (nat_lt p.1 r.1) (eq-eqb p.0 r.0 e) (lt-ltb p.1 r.1 l))
+
+-- those of some numbers in a row that pass a test ascend
+range_ascends_from : (P : ℕ → Bool) (x a n : ℕ) → x < a → is_ascending (x ∷ filter P (range_with_len a n)) ≡ true
+range_ascends_from P x a zero l = refl
+range_ascends_from P x a (suc n) l = pick (P a) (range_ascends_from P a (a + 1) n (omega arith)) (range_ascends_from P x (a + 1) n (omega arith))
+  where
+    pick : (b : Bool) → is_ascending (a ∷ filter P (range_with_len (a + 1) n)) ≡ true → is_ascending (x ∷ filter P (range_with_len (a + 1) n)) ≡ true
+        → is_ascending (x ∷ cond b (a ∷ filter P (range_with_len (a + 1) n)) (filter P (range_with_len (a + 1) n))) ≡ true
+    pick true with_it without = and_from (nat_lt x a) (is_ascending (a ∷ filter P (range_with_len (a + 1) n))) (lt-ltb x a l) with_it
+    pick false with_it without = without
+
+pub range_ascends : (P : ℕ → Bool) (a n : ℕ) → is_ascending (filter P (range_with_len a n)) ≡ true
+range_ascends P a zero = refl
+range_ascends P a (suc n) = pick (P a) (range_ascends_from P a (a + 1) n (omega arith)) (range_ascends P (a + 1) n)
+  where
+    pick : (b : Bool) → is_ascending (a ∷ filter P (range_with_len (a + 1) n)) ≡ true → is_ascending (filter P (range_with_len (a + 1) n)) ≡ true
+        → is_ascending (cond b (a ∷ filter P (range_with_len (a + 1) n)) (filter P (range_with_len (a + 1) n))) ≡ true
+    pick true with_it without = with_it
+    pick false with_it without = without
+
+linked_from : (before : List (ℕ × ℕ)) (ws : List ℕ) → ((i : ℕ) → i + 1 < length ws → Contains before (slice_index_or ws i 0, slice_index_or ws (i + 1) 0)) → are_linked before ws ≡ true
+linked_from before [] near = refl
+linked_from before (w ∷ []) near = refl
+linked_from before (w ∷ x ∷ rest) near =
+    and_from (has_pair before w x) (are_linked before (x ∷ rest))
+    (any-from_In (λ (e : ℕ × ℕ). eqb e.0 w && eqb e.1 x) before (w, x) (Contains-In before (w, x) (near 0 (omega arith))) (and_from (eqb w w) (eqb x x) (eq-eqb w w refl) (eq-eqb x x refl)))
+    (linked_from before (x ∷ rest) (λ i l. let e : suc i + 1 ≡ suc (i + 1) = omega arith in subst (λ k. Contains before (slice_index_or (x ∷ rest) i 0, slice_index_or (w ∷ x ∷ rest) k 0)) e (near (suc i) (omega arith))))
+
+module _ (d : Distance) (h : Schedule) (q : ℕ) (o : Ordered) (good : IsOrderOf h q o) where
+  -- the writers of an item, each a pair with the next
+  near : (x i : ℕ) → i + 1 < length (places (updates_of h q) (has_written h x)) → Contains o.before (slice_index_or (places (updates_of h q) (has_written h x)) i 0, slice_index_or (places (updates_of h q) (has_written h x)) (i + 1) 0)
+  near x i l =
+      let c : orders.Chain = chain_from (last_written h q x) (length (updates_of h q)) in
+      let same : c.writers ≡ places (updates_of h q) (has_written h x) = chain_writers h q x in
+      subst (λ ws. Contains o.before (slice_index_or ws i 0, slice_index_or ws (i + 1) 0)) same (good.neighbours x i c (good.chains x ∙ some c.writers (omega (arith, ap length same))) (omega (arith, ap length same)))
+    where
+      some : (ws : List ℕ) → 0 < length ws → if_written ws (chain_from (last_written h q x) (length (updates_of h q))) ≡ Some (chain_from (last_written h q x) (length (updates_of h q)))
+      some [] l = absurd (omega arith)
+      some (w ∷ ws) l = refl
+
+  one_more : (x : ℕ) → length (map (version_cost d h q x) (range_with_len 0 (suc (length (writers_of h q x))))) ≡ suc (length (places (updates_of h q) (has_written h x)))
+  one_more x =
+      length-map (range_with_len 0 (suc (length (writers_of h q x)))) (version_cost d h q x)
+      ∙ length-range_with_len 0 (suc (length (writers_of h q x)))
+      ∙ ap suc (sym (length-places (updates_of h q) (has_written h x)))
+
+  chain_shape : (x : ℕ) → chain_has_shape o.before (chain_for d h q (updates_of h q) x) ≡ true
+  chain_shape x =
+      let ws : List ℕ = places (updates_of h q) (has_written h x) in
+      and_from _ (are_linked o.before ws)
+      (and_from _ (is_ascending ws) (eq-eqb _ _ (one_more x)) (range_ascends (passes_at (updates_of h q) (has_written h x)) 0 (length (updates_of h q))))
+      (linked_from o.before ws (near x))
+
+  pub chains_of : (problem_from d h q o).chains ≡ map (chain_for d h q (updates_of h q)) (items_read h q)
+  chains_of = (stands d h q o good).chains ∙ ap (λ us. map (chain_for d h q us) (items_read h q)) good.commits
+
+  all_shaped : (xs : List ℕ) → list_all (chain_has_shape o.before) (map (chain_for d h q (updates_of h q)) xs) ≡ true
+  all_shaped [] = refl
+  all_shaped (x ∷ xs) = and_from _ (list_all (chain_has_shape o.before) (map (chain_for d h q (updates_of h q)) xs)) (chain_shape x) (all_shaped xs)
+
+  items_of : (xs : List ℕ) → map (λ (c : Chain). c.item) (map (chain_for d h q (updates_of h q)) xs) ≡ xs
+  items_of [] = refl
+  items_of (x ∷ xs) = ap (λ ys. x ∷ ys) (items_of xs)
+
+  distinct : is_distinct (map (λ (t : TxnId). t.0) o.commits) ≡ true
+  distinct = ap is_distinct good.commits ∙ distinct_from (updates_of h q) (Pairs-from_all (λ u v. u ≢ v) (updates_of h q) good.serial.once)
+
+  forward : list_all (λ (e : ℕ × ℕ). nat_lt e.0 e.1) o.before ≡ true
+  forward = all_from (λ (e : ℕ × ℕ). nat_lt e.0 e.1) o.before (λ e c.
+      let p = All-contains (λ (p : ℕ × ℕ). (p.0 < p.1) × (p.1 < length o.commits) × IsTrue (is_before h (update_at h q p.0) (update_at h q p.1))) o.before e good.pairs c in
+      lt-ltb e.0 e.1 p.0)
+
+  items : is_ascending (map (λ (c : Chain). c.item) (problem_from d h q o).chains) ≡ true
+  items =
+      ap (λ (cs : List Chain). is_ascending (map (λ (c : Chain). c.item) cs)) chains_of
+      ∙ ap is_ascending (items_of (items_read h q))
+      ∙ range_ascends _ 0 (length h.opening)
+
+  chains : list_all (chain_has_shape o.before) (problem_from d h q o).chains ≡ true
+  chains = ap (list_all (chain_has_shape o.before)) chains_of ∙ all_shaped (items_read h q)
+
+  pub shaped : has_shape (problem_from d h q o) ≡ true
+  shaped =
+      and_from _ _ (and_from _ _ (and_from _ _ (and_from _ _ (and_from _ _ distinct (pairs_ascend o.before (Pairs-from_all IsBelow o.before good.ascending))) forward) items) chains) (must_ascends d h q o good)

@@ -1,0 +1,113 @@
+-- The smallest least set of a problem is that of the query that it stands for.
+use Rattle.std.proofs.Common.{◌≡◌, ℕ, zero, suc, ◌+◌, ◌<◌, ◌≤◌, Bool, true, false, cond, not, ◌&&◌, ◌||◌, eqb, List, [], ◌∷◌, ◌++◌, length, filter, refl, sym, ap, ◌∙◌, subst, inl, inr, arith, Option, Some, None, Contains}
+use Rattle.std.specs.Prelude.{All, IsTrue}
+use Rattle.std.specs.List.{list_any, list_all, filter_map, cons_option, slice_get, range_with_len, AllByRecursion}
+use Rattle.std.proofs.Math.Path.{fun_ext}
+use Rattle.std.proofs.lemmas.Bool.{cases_eq, cases_Bool, eq-eqb, ne_eqb, eqb-true, true≢false, false≢true, and_parts, and_from, or_left, or_right, or_cases, lt-ltb, ltb-true, not-true}
+use Rattle.std.proofs.lemmas.Option.{same_Some, slice_get_within}
+use Rattle.std.proofs.lemmas.List.Elements.{All-from_recursion}
+use Rattle.esr_history.specs.Machine.{Distance, Schedule}
+use Rattle.esr_history.specs.Operations.{Operation}
+use Rattle.esr_history.specs.Serial.{is_before}
+use Rattle.esr_history.specs.Queries.{updates_of, must, reads_by, members, cost}
+use Rattle.esr_history.proofs.Membership.{In, each_in, In-from_any, any-from_number, In-of_filter}
+use Rattle.esr_order.specs.Placements.{is_among, IsClosed, IsLeastSet, IsSmallestLeastSet}
+use Rattle.esr_cert.specs.Problem as problems
+use Rattle.esr_cert.specs.Problem.{Problem, size, is_closed, is_sound, in_set, is_ascending, is_distinct, IsSmallestLeast}
+use Rattle.esr_cert.proofs.Sound as sound
+use Rattle.esr_cert.proofs.Sound.{IsProblem, facts}
+use Rattle.esr_audit.specs.Problems.{passes_at, places, StandsFor}
+use Rattle.esr_audit.proofs.Costs.{cost_stands}
+
+-- a member has a place
+pub place_of : (us : List ℕ) (u : ℕ) → is_among us u ≡ true → (i : ℕ) × (i < length us) × (slice_get us i ≡ Some u)
+place_of [] u h = absurd (false≢true h)
+place_of (v ∷ us) u h =
+    let rest : is_among us u ≡ true → (i : ℕ) × (i < length us) × (slice_get us i ≡ Some u) = place_of us u in
+    elim (cases_eq v u) [
+      | inl e ↦ (0, omega arith, ap Some e)
+      | inr ne ↦ let r = rest (sym (ap (λ b. b || is_among us u) (ne_eqb v u ne)) ∙ h) in (suc r.0, omega (arith, r.1), r.2)
+    ]
+
+pub passes_here : (us : List ℕ) (S : ℕ → Bool) (i u : ℕ) → slice_get us i ≡ Some u → passes_at us S i ≡ S u
+passes_here us S i u e = ap (λ (o : Option ℕ). elim o [ Some t ↦ S t | None ↦ false ]) e
+
+pub element : (us : List ℕ) (i : ℕ) → i < length us → (u : ℕ) × (slice_get us i ≡ Some u)
+element [] i l = absurd (omega arith)
+element (u ∷ us) zero l = (u, refl)
+element (u ∷ us) (suc i) l = element us i (omega arith)
+
+module _ (d : Distance) (h : Schedule) (q : ℕ) (p : Problem) (stands : StandsFor d h q p) (ok : IsProblem p) (inside : AllByRecursion (λ (o : Operation). o.item < length h.opening) (reads_by h q)) where
+  whole_passes : (i : ℕ) → i < size p → passes_at p.updates (λ u. true) i ≡ true
+  whole_passes i l = let e = element p.updates i l in passes_here p.updates (λ u. true) i e.0 e.1
+
+  whole_closed : is_closed p (passes_at p.updates (λ u. true)) ≡ true
+  whole_closed =
+      sound.closed_from p (passes_at p.updates (λ u. true)) (record {
+        before = λ u v c t. whole_passes u (ok.pairs u v c).0;
+        must = λ u c. whole_passes u (ok.musts u c);
+      })
+
+  -- the problem's updates are a closed set
+  updates_closed : IsClosed h q (λ u. is_among p.updates u && true)
+  updates_closed = (stands.closed (λ u. true)).0 whole_closed
+
+  and_true : (b : Bool) → (b && true) ≡ b
+  and_true true = refl
+  and_true false = refl
+
+  part_closed : (T : ℕ → Bool) → IsClosed h q T → IsClosed h q (λ u. is_among p.updates u && T u)
+  part_closed T c = record {
+    downward = λ u v cu cv b t.
+        let both : (is_among p.updates v ≡ true) × (T v ≡ true) = and_parts (is_among p.updates v) (T v) t in
+        and_from (is_among p.updates u) (T u) (sym (and_true (is_among p.updates u)) ∙ updates_closed.downward u v cu cv b (and_true (is_among p.updates v) ∙ both.0)) (c.downward u v cu cv b both.1);
+    holds_must = λ u m. and_from (is_among p.updates u) (T u) (sym (and_true (is_among p.updates u)) ∙ updates_closed.holds_must u m) (c.holds_must u m);
+  }
+
+  within_updates : (S : ℕ → Bool) → ((u : ℕ) → S u ≡ true → is_among p.updates u ≡ true) → (λ u. is_among p.updates u && S u) ≡ S
+  within_updates S known = fun_ext (λ u. at (S u) (is_among p.updates u) (known u))
+    where
+      at : (s m : Bool) → (s ≡ true → m ≡ true) → (m && s) ≡ s
+      at true m k = ap (λ b. b && true) (k refl)
+      at false true k = refl
+      at false false k = refl
+
+  pub smallest_stands : (S : ℕ → Bool) → ((u : ℕ) → S u ≡ true → is_among p.updates u ≡ true) → IsSmallestLeast p (passes_at p.updates S) → IsSmallestLeastSet d h q S
+  smallest_stands S known s = record {
+      least = record { closed = closed; none_less = λ T c. none_less T c };
+      smallest = λ T t. All-from_recursion (λ u. IsTrue (S u) → IsTrue (T u)) (updates_of h q) (each_in (λ u. IsTrue (S u) → IsTrue (T u)) (updates_of h q) (λ u i su. contained T t u su));
+    }
+    where
+      closed : IsClosed h q S
+      closed = subst (IsClosed h q) (within_updates S known) ((stands.closed S).0 s.closed)
+
+      none_less : (T : ℕ → Bool) → IsClosed h q T → cost d h q S ≤ cost d h q T
+      none_less T c =
+          let l = s.least (passes_at p.updates T) ((stands.closed T).1 (part_closed T c)) in
+          omega (arith, l, cost_stands d h q p stands inside S, cost_stands d h q p stands inside T)
+
+      contained : (T : ℕ → Bool) → IsLeastSet d h q T → (u : ℕ) → S u ≡ true → T u ≡ true
+      contained T t u su =
+          let at : (i : ℕ) × (i < length p.updates) × (slice_get p.updates i ≡ Some u) = place_of p.updates u (known u su) in
+          let cheap : cost d h q T ≤ cost d h q S = t.none_less S closed in
+          let dear : problems.cost p (passes_at p.updates T) ≤ problems.cost p (passes_at p.updates S) = omega (arith, cheap, cost_stands d h q p stands inside S, cost_stands d h q p stands inside T) in
+          sym (passes_here p.updates T at.0 u at.2) ∙ s.smallest (passes_at p.updates T) ((stands.closed T).1 (part_closed T t.closed)) dear at.0 at.1 (passes_here p.updates S at.0 u at.2 ∙ su)
+
+-- ---- the transactions at a list of positions
+
+pub known_at : (us : List ℕ) (set : List ℕ) (u : ℕ) → is_among (filter_map (slice_get us) set) u ≡ true → is_among us u ≡ true
+known_at us [] u h = absurd (false≢true h)
+known_at us (i ∷ set) u h = at (slice_get us i) refl (known_at us set u) h
+  where
+    at : (o : Option ℕ) → slice_get us i ≡ o → (is_among (filter_map (slice_get us) set) u ≡ true → is_among us u ≡ true) → is_among (cons_option o (filter_map (slice_get us) set)) u ≡ true → is_among us u ≡ true
+    at None e rest h = rest h
+    at (Some v) e rest h =
+        elim (or_cases (eqb v u) (is_among (filter_map (slice_get us) set) u) h) [
+          | inl s ↦ ap (is_among us) (sym (eqb-true v u s)) ∙ found us i v e
+          | inr r ↦ rest r
+        ]
+      where
+        found : (us : List ℕ) (i v : ℕ) → slice_get us i ≡ Some v → is_among us v ≡ true
+        found [] i v e = absurd (cc)
+        found (w ∷ us) zero v e = or_left (eqb w v) (is_among us v) (eq-eqb w v (same_Some w v e))
+        found (w ∷ us) (suc i) v e = or_right (eqb w v) (is_among us v) (found us i v e)

@@ -1,0 +1,58 @@
+-- The answer of an audit stays in longer histories.
+use Rattle.std.proofs.Common.{◌≡◌, ℕ, ◌≤◌, Bool, true, List, refl, sym, ap, ◌∙◌, subst, arith, filter, Contains}
+use Rattle.std.specs.Prelude.{All, IsTrue}
+use Rattle.esr_history.specs.Machine.{Distance, Schedule, IsLegal}
+use Rattle.esr_history.specs.Serial.{is_before}
+use Rattle.esr_history.specs.Queries.{updates_of, must, members, cost, IsAlike}
+use Rattle.esr_order.specs.Placements.{is_among, IsClosed, IsLeastSet, IsSmallestLeastSet}
+use Rattle.esr_order.specs.Statements.{ClosedSetsAreParts}
+use Rattle.esr_order.proofs.Ordered.{law_of_placements}
+use Rattle.esr_audit.specs.Findings.{IsAnswer}
+
+module _ (d : Distance) (h longer : Schedule) (q : ℕ) (alike : IsAlike d h longer q) where
+  closed_then : (S : ℕ → Bool) → IsClosed h q S → IsClosed longer q S
+  closed_then S c = record {
+    downward = λ u v cu cv b t.
+        let iu : Contains (updates_of h q) u = subst (λ us. Contains us u) alike.updates cu in
+        let iv : Contains (updates_of h q) v = subst (λ us. Contains us v) alike.updates cv in
+        c.downward u v iu iv (sym (alike.order u v iu iv) ∙ b) t;
+    holds_must = λ u m. c.holds_must u (subst (λ us. Contains us u) alike.musts m);
+  }
+
+  closed_before : (S : ℕ → Bool) → IsClosed longer q S → IsClosed h q S
+  closed_before S c = record {
+    downward = λ u v cu cv b t. c.downward u v (subst (λ us. Contains us u) (sym alike.updates) cu) (subst (λ us. Contains us v) (sym alike.updates) cv) (alike.order u v cu cv ∙ b) t;
+    holds_must = λ u m. c.holds_must u (subst (λ us. Contains us u) (sym alike.musts) m);
+  }
+
+  least_then : (S : ℕ → Bool) → IsLeastSet d h q S → IsLeastSet d longer q S
+  least_then S l = record {
+    closed = closed_then S l.closed;
+    none_less = λ T c. let m : cost d h q S ≤ cost d h q T = l.none_less T (closed_before T c) in omega (arith, m, alike.costs S, alike.costs T);
+  }
+
+  least_before : (S : ℕ → Bool) → IsLeastSet d longer q S → IsLeastSet d h q S
+  least_before S l = record {
+    closed = closed_before S l.closed;
+    none_less = λ T c. let m : cost d longer q S ≤ cost d longer q T = l.none_less T (closed_then T c) in omega (arith, m, alike.costs S, alike.costs T);
+  }
+
+  smallest_then : (S : ℕ → Bool) → IsSmallestLeastSet d h q S → IsSmallestLeastSet d longer q S
+  smallest_then S s = record {
+    least = least_then S s.least;
+    smallest = λ T t. subst (All (λ u. IsTrue (S u) → IsTrue (T u))) (sym alike.updates) (s.smallest T (least_before T t));
+  }
+
+  pub answer_stays : IsLegal d longer → (distance import : ℕ) (before : List ℕ) → IsAnswer d h q distance import before → IsAnswer d longer q distance import before
+  answer_stays legal distance import before a =
+      let smallest : IsSmallestLeastSet d longer q (is_among before) = smallest_then (is_among before) a.smallest in
+      let costs : distance ≡ cost d longer q (is_among before) = a.distance_is ∙ sym (alike.costs (is_among before)) in
+      let parts : ClosedSetsAreParts d longer q = law_of_placements d longer q legal in
+      record {
+        least = (parts.least distance).1 (is_among before, smallest.least, sym costs);
+        in_order = a.in_order ∙ ap (filter (is_among before)) (sym alike.updates);
+        smallest = smallest;
+        distance_is = costs;
+        import_is = a.import_is ∙ sym alike.import;
+        bounded = a.bounded;
+      }

@@ -1,0 +1,212 @@
+-- The problem gathered from an order of a query of a legal history is within the ranges of problems.
+use Rattle.std.proofs.Common.{◌≡◌, ℕ, zero, suc, ℤ, pos, ◌+◌, ◌*◌, ◌^◌, ◌<◌, ◌≤◌, max, Bool, true, false, cond, not, ◌&&◌, eqb, List, [], ◌∷◌, ◌++◌, length, filter, map, flat_map, take, sum_by, count_by, refl, sym, ap, ◌∙◌, subst, inl, inr, arith, Option, Some, None, All, Contains}
+use Rattle.std.specs.Prelude.{IsTrue, nat_lt, nat_le, is_some, unwrap_or, slice_get}
+use Rattle.std.specs.List.{list_all, list_any, filter_map, cons_option, slice_index_or, range_with_len, AllByRecursion, before_first}
+use Rattle.std.specs.Option.{option_map}
+use Rattle.std.proofs.lemmas.Bool.{cases_Bool, and_parts, and_from, true≢false, lt-ltb, le-leb, eqb-true, eq-eqb}
+use Rattle.std.proofs.lemmas.List.{length-map}
+use Rattle.std.proofs.lemmas.List.Sums.{sum_by-cons, sum_by-le, sum_by-le-sum_by}
+use Rattle.std.proofs.lemmas.List.Elements.{All-contains, All-from_recursion, recursion_from_All}
+use Rattle.esr_items.specs.Values.{value_at, IsValue}
+use Rattle.esr_history.specs.declared.event.TxnId.{TxnId}
+use Rattle.esr_history.specs.declared.event.Event.{Event}
+use Rattle.esr_history.specs.declared.event.Event.TheVariants.{BeginUpdate, BeginQuery, Read, Write, Commit, Abort}
+use Rattle.esr_history.specs.declared.event.Reply.{Reply}
+use Rattle.esr_history.specs.declared.event.Entry.{Entry}
+use Rattle.esr_history.specs.Events.{Beginning, beginning, beginnings, is_query, is_update, is_refusal, reads_any, all_reads_of, last_value}
+use Rattle.esr_history.specs.Machine.{Distance, Schedule, done, distance_in}
+use Rattle.esr_history.specs.Operations.{Operation, operations, operation_by, operation_of, answer, commit_order}
+use Rattle.esr_history.specs.Ranges.{IsWithinRanges}
+use Rattle.esr_history.specs.Serial.{is_before, state, values_by}
+use Rattle.esr_history.specs.Queries.{updates_of, reads_by}
+use Rattle.esr_history.proofs.Membership.{In, each_in, each_at, In-of_filter, In-append_cases, Contains-In, any-from_In}
+use Rattle.esr_history.proofs.Versions.{wrote_by}
+use Rattle.esr_history.proofs.Words.{values_trace}
+use Rattle.esr_order.specs.Chains.{update_at}
+use Rattle.esr_order.specs.Orders.{Ordered, IsOrderOf}
+use Rattle.esr_cert.specs.Problem.{Chain, Problem, size, greatest, chain_is_in_range, is_in_range, is_sound, max_txn, max_item, max_cost}
+use Rattle.esr_cert.proofs.Sound.{all_from}
+use Rattle.esr_audit.specs.Problems.{passes_at, places, items_read, has_written, writers_of, read_distance, version_cost, chain_for}
+use Rattle.esr_audit.proofs.Costs.{by_item, sum_mapped}
+use Rattle.esr_audit.proofs.Standing.{problem_from}
+use Rattle.esr_audit.proofs.Shape as shape
+
+-- a query's accepted reads are as many as its reads
+pub reads_counted : (h : Schedule) (q : ℕ) → length (reads_by h q) ≡ all_reads_of (done h) q
+reads_counted h q = go (filter (λ (e : Entry). not (is_refusal e.reply)) h.entries)
+  where
+    at : (t : ℕ) (ev : Event) (r : Reply) (os : List Operation) → length (filter (λ o. not o.writes && (eqb o.txn t)) (cons_option (operation_by ev r) os)) ≡ cond (reads_any t ev) 1 0 + length (filter (λ o. not o.writes && (eqb o.txn t)) os)
+    at t (BeginUpdate l) r os = omega arith
+    at t (BeginQuery l s) r os = omega arith
+    at t (Read u y) r os = pick (eqb u.0 t)
+      where
+        pick : (b : Bool) → length (cond b (record { txn = u.0; item = y.0; writes = false; value = answer r } ∷ filter (λ o. not o.writes && (eqb o.txn t)) os) (filter (λ o. not o.writes && (eqb o.txn t)) os)) ≡ cond b 1 0 + length (filter (λ o. not o.writes && (eqb o.txn t)) os)
+        pick true = omega arith
+        pick false = omega arith
+    at t (Write u y v) r os = omega arith
+    at t (Commit u) r os = omega arith
+    at t (Abort u) r os = omega arith
+
+    go : (es : List Entry) → length (filter (λ o. not o.writes && (eqb o.txn q)) (filter_map operation_of es)) ≡ count_by (reads_any q) (map (λ e. e.event) es)
+    go [] = refl
+    go (e ∷ es) =
+        at q e.event e.reply (filter_map operation_of es)
+        ∙ ap (λ n. cond (reads_any q e.event) 1 0 + n) (go es)
+        ∙ sym (sum_by-cons (λ f. cond (reads_any q f) 1 0) e.event (map (λ e. e.event) es))
+
+last_in_range : (v : ℤ) (vs : List ℤ) → IsValue v → AllByRecursion IsValue vs → IsValue (last_value v vs)
+last_in_range v [] first all = first
+last_in_range v (w ∷ vs) first all = last_in_range w vs all.0 all.1
+
+opening_in_range : (vs : List ℤ) (x : ℕ) → AllByRecursion IsValue vs → IsValue (value_at vs x)
+opening_in_range [] x all = omega arith
+opening_in_range (v ∷ vs) zero all = all.0
+opening_in_range (v ∷ vs) (suc x) all = opening_in_range vs x all.1
+
+greatest_within : (m : ℕ) (ns : List ℕ) → AllByRecursion (λ n. n ≤ m) ns → greatest ns ≤ m
+greatest_within m [] all = omega arith
+greatest_within m (n ∷ ns) all = let rest = greatest_within m ns all.1 in let first : n ≤ m = all.0 in omega arith
+
+pub each_mapped : {X Y : Type 0} (P : Y → Type 0) (f : X → Y) (xs : List X) → ((x : X) → P (f x)) → AllByRecursion P (map f xs)
+each_mapped P f [] all = tt
+each_mapped P f (x ∷ xs) all = (all x, each_mapped P f xs all)
+
+module _ (h : Schedule) (range : IsWithinRanges h) (opened : All IsValue h.opening) where
+  -- what updates leave is a value
+  pub state_in_range : (us : List ℕ) (x : ℕ) → IsValue (state h us x)
+  state_in_range us x = last_in_range (value_at h.opening x) (flat_map (values_by h x) us) (opening_in_range h.opening x (recursion_from_All IsValue h.opening opened)) (all us)
+    where
+      both : (vs ws : List ℤ) → AllByRecursion IsValue vs → AllByRecursion IsValue ws → AllByRecursion IsValue (vs ++ ws)
+      both [] ws a b = b
+      both (v ∷ vs) ws a b = (a.0, both vs ws a.1 b)
+
+      given : (os : List Operation) → ((o : Operation) → In o os → IsValue o.value) → AllByRecursion IsValue (map (λ (o : Operation). o.value) os)
+      given [] all = tt
+      given (o ∷ os) all = (all o (inl refl), given os (λ p i. all p (inr i)))
+
+      all : (us : List ℕ) → AllByRecursion IsValue (flat_map (values_by h x) us)
+      all [] = tt
+      all (u ∷ us) =
+          both (values_by h x u) (flat_map (values_by h x) us)
+          (subst (AllByRecursion IsValue) (sym (values_trace h x u)) (given (filter (wrote_by x u) (operations h)) (λ o i. each_at (λ (o : Operation). IsValue o.value) (operations h) o (recursion_from_All (λ (o : Operation). IsValue o.value) (operations h) range.values) (In-of_filter (wrote_by x u) (operations h) o i).0)))
+          (all us)
+
+  -- what a query read are values of items that there are
+  pub reads_in_range : (q : ℕ) → AllByRecursion (λ (o : Operation). IsValue o.value × (o.item < length h.opening)) (reads_by h q)
+  reads_in_range q = each_in (λ (o : Operation). IsValue o.value × (o.item < length h.opening)) (reads_by h q) (λ o i.
+      let j = (In-of_filter (λ (o : Operation). not o.writes && eqb o.txn q) (operations h) o i).0 in
+      (each_at (λ (o : Operation). IsValue o.value) (operations h) o (recursion_from_All (λ (o : Operation). IsValue o.value) (operations h) range.values) j,
+       each_at (λ (o : Operation). o.item < length h.opening) (operations h) o (recursion_from_All (λ (o : Operation). o.item < length h.opening) (operations h) range.items) j))
+
+  -- the number of an update
+  number_in_range : (u : ℕ) → is_update (done h) u ≡ true → (0 < u) × (u ≤ 65535)
+  number_in_range zero is = absurd (true≢false (sym is))
+  number_in_range (suc k) is = let l = below (beginnings (done h)) k (some (slice_get (beginnings (done h)) k) is) in let r = range.begins in (omega arith, omega arith)
+    where
+      some : (b : Option Beginning) → unwrap_or (option_map (λ c. not c.query) b) false ≡ true → is_some b ≡ true
+      some None e = e
+      some (Some b) e = refl
+
+      below : (bs : List Beginning) (k : ℕ) → is_some (slice_get bs k) ≡ true → k < length bs
+      below [] k e = absurd (true≢false (sym e))
+      below (b ∷ bs) zero e = omega arith
+      below (b ∷ bs) (suc k) e = let l = below bs k e in omega arith
+
+module _ (d : Distance) (h : Schedule) (q : ℕ) (range : IsWithinRanges h) (opened : All IsValue h.opening)
+    (bounded : (w : List ℕ) (x : ℕ) (a b : ℤ) → IsValue a → IsValue b → d w x a b ≤ 2 * 10 ^ 15) where
+  -- one read costs at most this
+  abbrev B : ℕ
+  B = 2 * 10 ^ 15
+
+  -- as many reads of an item, each at its greatest cost
+  abbrev at_most : ℕ → ℕ
+  at_most x = sum_by (λ (o : Operation). cond (eqb o.item x) B 0) (reads_by h q)
+
+  version_within : (x j : ℕ) → version_cost d h q x j ≤ at_most x
+  version_within x j = go (reads_by h q) (reads_in_range h range opened q)
+    where
+      v : ℤ
+      v = state h (take j (writers_of h q x)) x
+
+      one : (o : Operation) → IsValue o.value → cond (eqb o.item x) (distance_in d h x o.value v) 0 ≤ cond (eqb o.item x) B 0
+      one o is = pick (eqb o.item x)
+        where
+          pick : (b : Bool) → cond b (distance_in d h x o.value v) 0 ≤ cond b B 0
+          pick true = bounded h.weights x o.value v is (state_in_range h range opened (take j (writers_of h q x)) x)
+          pick false = omega arith
+
+      go : (os : List Operation) → AllByRecursion (λ (o : Operation). IsValue o.value × (o.item < length h.opening)) os
+          → sum_by (λ (o : Operation). cond (eqb o.item x) (distance_in d h x o.value v) 0) os ≤ sum_by (λ (o : Operation). cond (eqb o.item x) B 0) os
+      go [] all = omega arith
+      go (o ∷ os) all = omega (arith, one o (all.0).0, go os all.1, sum_by-cons (λ (o : Operation). cond (eqb o.item x) (distance_in d h x o.value v) 0) o os, sum_by-cons (λ (o : Operation). cond (eqb o.item x) B 0) o os)
+
+  inside : AllByRecursion (λ (o : Operation). (list_any (λ (p : Operation). eqb p.item o.item) (reads_by h q) ≡ true) × (o.item < length h.opening)) (reads_by h q)
+  inside = each_in (λ (o : Operation). (list_any (λ (p : Operation). eqb p.item o.item) (reads_by h q) ≡ true) × (o.item < length h.opening)) (reads_by h q) (λ o i.
+      (any-from_In (λ (p : Operation). eqb p.item o.item) (reads_by h q) o i (eq-eqb o.item o.item refl), (each_at (λ (o : Operation). IsValue o.value × (o.item < length h.opening)) (reads_by h q) o (reads_in_range h range opened q) i).1))
+
+  greatest_cost : (x : ℕ) → greatest (map (version_cost d h q x) (range_with_len 0 (suc (length (writers_of h q x))))) ≤ at_most x
+  greatest_cost x = greatest_within (at_most x) (map (version_cost d h q x) (range_with_len 0 (suc (length (writers_of h q x))))) (each_mapped (λ n. n ≤ at_most x) (version_cost d h q x) (range_with_len 0 (suc (length (writers_of h q x)))) (version_within x))
+
+  sum_of_greatest : (us : List ℕ) → sum_by (λ (c : Chain). greatest c.costs) (map (chain_for d h q us) (items_read h q)) ≤ length (reads_by h q) * B
+  sum_of_greatest us =
+      let mapped : sum_by (λ (c : Chain). greatest c.costs) (map (chain_for d h q us) (items_read h q)) ≡ sum_by (λ x. greatest (map (version_cost d h q x) (range_with_len 0 (suc (length (writers_of h q x)))))) (items_read h q) = sum_mapped (λ (c : Chain). greatest c.costs) (chain_for d h q us) (items_read h q) in
+      let less : sum_by (λ x. greatest (map (version_cost d h q x) (range_with_len 0 (suc (length (writers_of h q x)))))) (items_read h q) ≤ sum_by at_most (items_read h q) = sum_by-le-sum_by (λ x. greatest (map (version_cost d h q x) (range_with_len 0 (suc (length (writers_of h q x)))))) at_most (items_read h q) greatest_cost in
+      let each : sum_by at_most (items_read h q) ≡ sum_by (λ (o : Operation). B) (reads_by h q) = by_item (λ x o. B) (λ x. list_any (λ (o : Operation). eqb o.item x) (reads_by h q)) (length h.opening) (reads_by h q) inside in
+      let all : sum_by (λ (o : Operation). B) (reads_by h q) ≤ length (reads_by h q) * B = sum_by-le (λ (o : Operation). B) B (reads_by h q) (All-from_recursion (λ (o : Operation). B ≤ B) (reads_by h q) (each_in (λ (o : Operation). B ≤ B) (reads_by h q) (λ o i. omega arith))) in
+      omega arith
+
+  module _ (o : Ordered) (good : IsOrderOf h q o) (few : length h.opening ≤ 4096) (query : IsTrue (is_query (done h) q)) where
+    abbrev p : Problem
+    p = problem_from d h q o
+
+    sized : size p ≡ length o.commits
+    sized = length-map o.commits (λ (t : TxnId). t.0)
+
+    numbers : list_all (λ t. nat_lt 0 t && nat_le t max_txn) p.updates ≡ true
+    numbers = all_from (λ t. nat_lt 0 t && nat_le t max_txn) p.updates (λ t c.
+        let i : In t (updates_of h q) = Contains-In (updates_of h q) t (subst (λ us. Contains us t) good.commits c) in
+        let r = number_in_range h range opened t (In-of_filter (is_update (done h)) (before_first (λ t. eqb t q) (commit_order (done h))) t i).1 in
+        and_from (nat_lt 0 t) (nat_le t max_txn) (lt-ltb 0 t r.0) (le-leb t max_txn r.1))
+
+    before : list_all (λ (e : ℕ × ℕ). nat_lt e.0 (size p) && nat_lt e.1 (size p)) o.before ≡ true
+    before = all_from (λ (e : ℕ × ℕ). nat_lt e.0 (size p) && nat_lt e.1 (size p)) o.before (λ e c.
+        let r = All-contains (λ (p : ℕ × ℕ). (p.0 < p.1) × (p.1 < length o.commits) × IsTrue (is_before h (update_at h q p.0) (update_at h q p.1))) o.before e good.pairs c in
+        and_from (nat_lt e.0 (size p)) (nat_lt e.1 (size p)) (lt-ltb e.0 (size p) (omega (arith, r.0, r.1, sized))) (lt-ltb e.1 (size p) (omega (arith, r.1, sized))))
+
+    must_within : list_all (λ u. nat_lt u (size p)) o.must ≡ true
+    must_within = all_from (λ u. nat_lt u (size p)) o.must (λ u c. lt-ltb u (size p) (omega (arith, All-contains (λ i. i < length o.commits) o.must u good.within c, sized)))
+
+    chain_within : (x : ℕ) → In x (items_read h q) → chain_is_in_range (size p) (chain_for d h q (updates_of h q) x) ≡ true
+    chain_within x i =
+        let l = below (λ x. list_any (λ (o : Operation). eqb o.item x) (reads_by h q)) 0 (length h.opening) x i in
+        and_from (nat_le x max_item) (list_all (λ w. nat_lt w (size p)) (places (updates_of h q) (has_written h x)))
+        (le-leb x max_item (omega arith))
+        (all_from (λ w. nat_lt w (size p)) (places (updates_of h q) (has_written h x)) (λ w c.
+          let k = below (passes_at (updates_of h q) (has_written h x)) 0 (length (updates_of h q)) w (Contains-In (places (updates_of h q) (has_written h x)) w c) in
+          lt-ltb w (size p) (omega (arith, k, ap length good.commits))))
+      where
+        in_row : (a n x : ℕ) → In x (range_with_len a n) → x < a + n
+        in_row a zero x i = absurd i
+        in_row a (suc n) x (inl e) = omega arith
+        in_row a (suc n) x (inr i) = let l = in_row (a + 1) n x i in omega arith
+
+        below : (P : ℕ → Bool) (a n x : ℕ) → In x (filter P (range_with_len a n)) → x < a + n
+        below P a n x i = in_row a n x (In-of_filter P (range_with_len a n) x i).0
+
+    chains_within : (xs : List ℕ) → ((x : ℕ) → In x xs → In x (items_read h q)) → list_all (chain_is_in_range (size p)) (map (chain_for d h q (updates_of h q)) xs) ≡ true
+    chains_within [] all = refl
+    chains_within (x ∷ xs) all = and_from (chain_is_in_range (size p) (chain_for d h q (updates_of h q) x)) (list_all (chain_is_in_range (size p)) (map (chain_for d h q (updates_of h q)) xs)) (chain_within x (all x (inl refl))) (chains_within xs (λ y i. all y (inr i)))
+
+    costs : nat_le (sum_by (λ (c : Chain). greatest c.costs) p.chains) max_cost ≡ true
+    costs =
+        let same : sum_by (λ (c : Chain). greatest c.costs) p.chains ≡ sum_by (λ (c : Chain). greatest c.costs) (map (chain_for d h q (updates_of h q)) (items_read h q)) = ap (sum_by (λ (c : Chain). greatest c.costs)) (shape.chains_of d h q o good) in
+        let sum = sum_of_greatest (updates_of h q) in
+        let many : length (reads_by h q) ≤ 1000 = subst (λ n. n ≤ 1000) (sym (reads_counted h q)) (range.reads q query) in
+        le-leb (sum_by (λ (c : Chain). greatest c.costs) p.chains) max_cost (omega arith)
+
+    pub within : is_in_range p ≡ true
+    within =
+        and_from _ _ (and_from _ _ (and_from _ _ (and_from _ _ numbers (ap (list_all (chain_is_in_range (size p))) (shape.chains_of d h q o good) ∙ chains_within (items_read h q) (λ x i. i))) before) must_within) costs
+
+    pub sound : is_sound p ≡ true
+    sound = and_from _ _ (shape.shaped d h q o good) within

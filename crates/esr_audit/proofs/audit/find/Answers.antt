@@ -1,0 +1,26 @@
+use Rattle.std.proofs.Common.{◌≡◌, true, ◌∙◌, sym, subst, refl, ap, List, ℕ, map}
+use Rattle.std.specs.List.{filter_map}
+use Rattle.std.specs.Prelude.{slice_get}
+use Rattle.esr_history.specs.declared.event.TxnId.{TxnId}
+use Rattle.esr_history.proofs.Laws.{import_bounds_distance}
+use Rattle.esr_cert.specs.Views.{certificate_of}
+use Rattle.esr_audit.specs.Findings.{IsAnswer}
+use Rattle.esr_audit.proofs.Found.{answer_from, found_of}
+use Rattle.esr_audit.proofs.audit.find.Given.{Over}
+use Rattle.esr_audit.proofs.audit.find.Goals as goal
+
+found : (g : Over) (c : goal.In_ok-before g) → map (λ (t : TxnId). t.0) c.in_ok-before.before.items ≡ filter_map (slice_get c.in_ok-problem.problem.updates) c.in_ok-certificate.certificate.set.items
+found g c = found_of c.in_ok-problem.problem c.updates.result.now c.in_ok-before.before.items c.updates.ensures.list c.in_ok-certificate.certificate.set.items (c.in_ok-before.ensures ∙ ap (filter_map (slice_get c.updates.result.now)) c.deref.ensures.value)
+
+pub returns-clause-answer : goal.returns-clause-answer
+returns-clause-answer g c =
+    let d = g.M.Metric.distance_by in
+    let h = c.args.history.now.schedule in
+    let legal = c.log-legal.ensures.legal in
+    let bound = import_bounds_distance d (λ w. record { same = g.met.M.Metric.same w; symmetric = g.met.M.Metric.symmetric w; triangle = g.met.M.Metric.triangle w }) h legal in
+    let a = answer_from d h c.args.q.0 c.log-legal.ensures.range legal bound c.requires.committed c.in_ok-problem.problem (certificate_of c.in_ok-certificate.certificate) c.in_ok-problem.ensures.stands c.updates.ensures.sound c.in_ok-certificate.ensures.certifies c.in_ok-certificate.ensures.least in
+    subst (λ (n : ℕ). IsAnswer d h c.args.q.0 c.in_ok-certificate.certificate.worth n (map (λ (t : TxnId). t.0) c.in_ok-before.before.items)) (sym c.requires.import)
+    (subst (IsAnswer d h c.args.q.0 c.in_ok-certificate.certificate.worth _) (sym (found g c)) a)
+
+pub returns-clause-shown : goal.returns-clause-shown
+returns-clause-shown g c = record { stands = c.in_ok-problem.ensures.stands; certified = c.in_ok-certificate.ensures.certifies; set_is = found g c; worth_is = refl }

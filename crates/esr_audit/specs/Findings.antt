@@ -1,0 +1,35 @@
+-- What an audit finds of a committed query.
+use Rattle.std.specs.Prelude.{◌≡◌, ◌≤◌, ℕ, List, filter}
+use Rattle.std.specs.List.{filter_map, slice_get}
+use Rattle.esr_history.specs.Machine.{Distance, Schedule, charges_in, import_in}
+use Rattle.esr_history.specs.Queries.{members, cost}
+use Rattle.esr_order.specs.Placements.{is_among, IsLeastDistance, IsSmallestLeastSet}
+use Rattle.esr_cert.specs.Problem.{Problem}
+use Rattle.esr_cert.specs.Certificate.{Certificate, Certifies}
+use Rattle.esr_order.specs.declared.order.OrderError.{OrderError}
+use Rattle.esr_order.specs.declared.order.OrderError.TheVariants.{NotACommittedQuery, NoMemory}
+use Rattle.esr_audit.specs.declared.finding.AuditError.{AuditError}
+use Rattle.esr_audit.specs.declared.finding.AuditError.TheVariants as refusals
+use Rattle.esr_audit.specs.Problems.{StandsFor}
+
+-- why an audit gives no answer, where there is no order
+abbrev pub refusal_of : OrderError → AuditError
+refusal_of NotACommittedQuery = refusals.NotACommittedQuery
+refusal_of NoMemory = refusals.NoMemory
+
+-- The distance is the least over all placements of q; `before` is, in commit order, the smallest set of updates that stands
+-- before the position in a placement of that distance; and the distance is at most the import charged to q.
+pub record IsAnswer (d : Distance) (h : Schedule) (q distance import : ℕ) (before : List ℕ) : Type 0 where
+  pub least : IsLeastDistance d h q distance
+  pub in_order : before ≡ members h q (is_among before)
+  pub smallest : IsSmallestLeastSet d h q (is_among before)
+  pub distance_is : distance ≡ cost d h q (is_among before)
+  pub import_is : import ≡ import_in (charges_in d h) q
+  pub bounded : distance ≤ import
+
+-- The distance is shown by a closed set and a flow of equal worth, of a problem that stands for q.
+pub record IsShown (d : Distance) (h : Schedule) (q distance : ℕ) (before : List ℕ) (problem : Problem) (certificate : Certificate) : Type 0 where
+  pub stands : StandsFor d h q problem
+  pub certified : Certifies problem certificate
+  pub set_is : before ≡ filter_map (slice_get problem.updates) certificate.set
+  pub worth_is : certificate.worth ≡ distance

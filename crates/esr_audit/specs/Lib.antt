@@ -1,0 +1,3 @@
+pub mod Problems
+pub mod Findings
+pub mod Reads

@@ -1,0 +1,51 @@
+-- What an auditor gathers: the values that a query read, and their distances from the versions of an item.
+use Rattle.std.specs.Prelude.{◌≡◌, ℕ, ℤ, ◌==◌, List, [], ◌∷◌, Bool, Option, Some, None, filter, map, sum_by, if◌then◌else◌}
+use Rattle.std.specs.List.{filter_map, list_any, range_with_len}
+use Rattle.esr_items.specs.Values.{value_at}
+use Rattle.esr_history.specs.declared.event.Event.{Event}
+use Rattle.esr_history.specs.declared.event.Event.TheVariants.{Read}
+use Rattle.esr_history.specs.declared.event.Reply.{Reply}
+use Rattle.esr_history.specs.declared.event.Entry.{Entry}
+use Rattle.esr_history.specs.Events.{is_refusal}
+use Rattle.esr_history.specs.Machine.{Distance, Schedule}
+use Rattle.esr_history.specs.Operations.{answer}
+use Rattle.esr_order.specs.Chains as orders
+use Rattle.esr_order.specs.Orders.{Ordered, chain_at}
+use Rattle.esr_cert.specs.Problem.{Chain}
+use Rattle.esr_audit.specs.declared.reads.Reading.{Reading}
+
+abbrev pub read_of : ℕ → Event → Reply → Option Reading
+read_of q (Read t x) reply = if t.0 == q then Some (record { item = x.0; value = answer reply }) else None
+read_of q _ reply = None
+
+-- what q read in an entry, if that is an accepted read by q
+abbrev pub read_at : ℕ → Entry → Option Reading
+read_at q e = if is_refusal e.reply then None else read_of q e.event e.reply
+
+-- the values read of item x
+abbrev pub values_of : List Reading → ℕ → List ℤ
+values_of readings x = map (λ r. r.value) (filter (λ r. r.item == x) readings)
+
+-- the distance of values of item x from a version, summed
+abbrev pub distance_sum : (ℕ → ℤ → ℤ → ℕ) → ℕ → List ℤ → ℤ → ℕ
+distance_sum d x values version = sum_by (λ v. d x v version) values
+
+abbrev pub writers_in : Option orders.Chain → List ℕ
+writers_in None = []
+writers_in (Some c) = c.writers
+
+abbrev pub values_in : Option orders.Chain → List ℤ
+values_in None = []
+values_in (Some c) = c.values
+
+-- the chain of item x, from its writers and values in an order and what was read
+abbrev pub gathered : (ℕ → ℤ → ℤ → ℕ) → List ℤ → Ordered → List Reading → ℕ → Chain
+gathered d opening order readings x = record {
+  item = x;
+  writers = writers_in (chain_at order x);
+  costs = map (distance_sum d x (values_of readings x)) (value_at opening x ∷ values_in (chain_at order x));
+}
+
+-- the items below n that were read
+abbrev pub items_in : List Reading → ℕ → List ℕ
+items_in readings n = filter (λ x. list_any (λ r. r.item == x) readings) (range_with_len 0 n)

@@ -1,0 +1,123 @@
+//! The chains of a query's problem.
+ghost use Rattle.std.specs.Prelude.{◌≡◌, ◌+◌, ◌*◌, ◌<◌, ◌≤◌, ◌^◌, ◌∷◌, ◌++◌, ◌==◌, ℕ, ℤ, List, Some, length, map, filter, All, IfOk, IsTrue, ◌↔◌};
+ghost use Rattle.std.specs.List.{list_any};
+ghost use Rattle.esr_items.specs.Values.{IsValue, value_at};
+ghost use Rattle.esr_order.specs.Chains as orders;
+ghost use Rattle.esr_order.specs.Orders.{chain_at};
+ghost use Rattle.esr_cert.specs.Views.{chain_of as chain_view};
+ghost use Rattle.std.specs.Option.{option_map};
+ghost use Rattle.esr_order.specs.Chains.{seen_links};
+ghost use Rattle.esr_audit.specs.Reads.{values_of, distance_sum, writers_in, values_in, gathered, items_in};
+
+use std::alloc::{AllocError, Global};
+
+use esr_cert::Chain;
+use esr_history::History;
+use esr_items::{ItemId, Metric};
+use esr_order::{Links, Order};
+
+use crate::reads::Reading;
+
+/// The values that were read of an item.
+fn values_read(alloc: Global, readings: &[Reading], item: u32) -> Result<Vec<i64>, AllocError>
+    ensures { IfOk result (λ v. v.items ≡ values_of readings.now item) }
+{
+    readings.iter().filter(|r| r.item == item).map(|r| r.value).collect(alloc)
+}
+
+/// Whether the item was read.
+fn is_read(readings: &[Reading], item: u32) -> bool
+    ensures { result ≡ list_any (λ r. r.item == item) readings.now }
+{
+    readings.iter().any(|r| r.item == item)
+}
+
+/// The distance of the values from a version of the item, summed.
+fn distance_to<M: Metric>(metric: &M, x: ItemId, values: &[i64], version: i64) -> u64
+    requires few { length values.now ≤ 1000 }
+    requires values { All IsValue values.now }
+    requires version { IsValue version }
+    ensures { result ≡ distance_sum (M.distance_by (M.weights metric.now)) x.0 values.now version }
+{
+    let mut sum = 0u64;
+    for value in values {
+        sum += metric.distance(x, *value, version);
+    }
+    sum
+}
+
+/// The cost of each version: of the opening value, and of what each writer left.
+fn costs_of<M: Metric>(
+    alloc: Global,
+    metric: &M,
+    x: ItemId,
+    values: &[i64],
+    opening: i64,
+    versions: &[i64],
+) -> Result<Vec<u64>, AllocError>
+    requires few { length values.now ≤ 1000 }
+    requires values { All IsValue values.now }
+    requires opening { IsValue opening }
+    requires versions { All IsValue versions.now }
+    ensures { IfOk result (λ v. v.items ≡ map (distance_sum (M.distance_by (M.weights metric.now)) x.0 values.now) (opening ∷ versions.now)) }
+{
+    let mut costs = Vec::new(alloc);
+    costs.push(distance_to(metric, x, values, opening))?;
+    for version in versions {
+        costs.push(distance_to(metric, x, values, *version))?;
+    }
+    Ok(costs)
+}
+
+/// The writers and the values of a chain, none where there is none.
+fn writers_and_values<'a>(links: Option<&'a Links>) -> (&'a [u32], &'a [i64])
+    ensures writers { result.0.now ≡ writers_in (option_map (λ l. seen_links l.now) links.entry) }
+    ensures values { result.1.now ≡ values_in (option_map (λ l. seen_links l.now) links.entry) }
+{
+    match links {
+        None => (&[], &[]),
+        Some(links) => (&links.writers, &links.values),
+    }
+}
+
+/// The chain of an item.
+fn chain_of<M: Metric>(
+    alloc: Global,
+    history: &History<M>,
+    order: &Order,
+    readings: &[Reading],
+    x: ItemId,
+) -> Result<Chain, AllocError>
+    requires item { x.0 < length history.now.schedule.opening }
+    requires few { length readings.now ≤ 1000 }
+    requires readings { All (λ r. IsValue r.value) readings.now }
+    requires versions { All IsValue (values_in (chain_at order.now x.0)) }
+    ensures { IfOk result (λ c. chain_view c ≡ gathered (M.distance_by history.now.schedule.weights) history.now.schedule.opening order.now readings.now x.0) }
+{
+    let values = values_read(alloc, readings, x.0)?;
+    let (writers, versions) = writers_and_values(order.chain(x));
+    let costs = costs_of(alloc, history.metric(), x, &values, history.opening(x), versions)?;
+    let writers = writers.to_vec(alloc)?;
+    Ok(Chain { item: x, writers, costs })
+}
+
+/// The chains of the items that were read, ascending.
+pub fn chains_of<M: Metric>(
+    alloc: Global,
+    history: &History<M>,
+    order: &Order,
+    readings: &[Reading],
+) -> Result<Vec<Chain>, AllocError>
+    requires few { length readings.now ≤ 1000 }
+    requires readings { All (λ r. IsValue r.value) readings.now }
+    requires versions { (x : ℕ) → All IsValue (values_in (chain_at order.now x)) }
+    ensures { IfOk result (λ v. map chain_view v.items ≡ map (gathered (M.distance_by history.now.schedule.weights) history.now.schedule.opening order.now readings.now) (items_in readings.now (length history.now.schedule.opening))) }
+{
+    let mut chains = Vec::new(alloc);
+    for x in 0..history.items() {
+        if is_read(readings, x) {
+            chains.push(chain_of(alloc, history, order, readings, ItemId(x))?)?;
+        }
+    }
+    Ok(chains)
+}

@@ -1,0 +1,73 @@
+//! What audits find.
+
+use std::alloc::AllocError;
+
+use esr_cert::{Certificate, Problem};
+use esr_history::{NoMemory, TxnId};
+use esr_order::OrderError;
+
+/// What an audit finds of a committed query.
+///
+/// A placement of the query is a serial order of the updates that committed before it,
+/// and a position in that order. Its distance is the sum, over the query's reads, of
+/// the distance of the value read from the value there.
+#[derive(Drop)]
+pub struct Finding {
+    pub query: TxnId,
+    /// The least distance of all placements.
+    pub distance: u64,
+    /// What the query was charged: at least the distance.
+    pub import: u64,
+    /// The smallest set of updates before the position of a placement of that
+    /// distance, in commit order.
+    pub before: Vec<TxnId>,
+    /// The problem of which the distance is the least cost.
+    pub problem: Problem,
+    /// A closed set and a flow whose equal worth shows it.
+    pub certificate: Certificate,
+}
+
+/// Why an audit gives no answer.
+#[derive(Clone, Copy, PartialEq, Eq, Debug)]
+pub enum AuditError {
+    /// The transaction is no query, or has not committed.
+    NotACommittedQuery = 1,
+    /// Memory was refused.
+    NoMemory = 2,
+}
+
+impl From<AllocError> for AuditError {
+    ghost use Rattle.std.specs.Prelude.{◌≡◌};
+    ghost use Rattle.esr_audit.specs.declared.finding.AuditError.TheVariants.{NoMemory};
+
+    ghost from_gives = { λ _ e. e ≡ NoMemory };
+
+    fn from(_: AllocError) -> AuditError {
+        AuditError::NoMemory
+    }
+}
+
+impl From<NoMemory> for AuditError {
+    ghost use Rattle.std.specs.Prelude.{◌≡◌};
+    ghost use Rattle.esr_audit.specs.declared.finding.AuditError.TheVariants.{NoMemory};
+
+    ghost from_gives = { λ _ e. e ≡ NoMemory };
+
+    fn from(_: NoMemory) -> AuditError {
+        AuditError::NoMemory
+    }
+}
+
+impl From<OrderError> for AuditError {
+    ghost use Rattle.std.specs.Prelude.{◌≡◌};
+    ghost use Rattle.esr_audit.specs.Findings.{refusal_of};
+
+    ghost from_gives = { λ why e. e ≡ refusal_of why };
+
+    fn from(why: OrderError) -> AuditError {
+        match why {
+            OrderError::NotACommittedQuery => AuditError::NotACommittedQuery,
+            OrderError::NoMemory => AuditError::NoMemory,
+        }
+    }
+}

@@ -1,0 +1,12 @@
+//! Audits of committed queries: the least distance of what a query read from any
+//! serial placement, with a certificate.
+#![tactic(auto)]
+
+mod audit;
+mod chains;
+mod finding;
+mod problem;
+mod reads;
+
+pub use audit::audit_query;
+pub use finding::{AuditError, Finding};

@@ -1,0 +1,33 @@
+use crate::{Ledgers, Quote};
+use esr_history::TxnId;
+
+#[test]
+fn an_export_limit_bounds_the_sum_over_queries(rt: HostRuntime) {
+    let mut ledgers = Ledgers::new(rt.alloc());
+    let q = TxnId(1);
+    let r = TxnId(7);
+    let u = TxnId(3);
+    ledgers.open_query(r, 5).expect(&rt, "memory");
+    ledgers.open_query(q, 10).expect(&rt, "memory");
+    ledgers.open_update(u, 15).expect(&rt, "memory");
+    assert!(rt; ledgers.quote(u, &[(q, 11), (r, 1)]) == Quote::Import(q));
+    assert!(rt; ledgers.quote(u, &[(q, 10), (r, 6)]) == Quote::Import(r));
+    assert!(rt; ledgers.quote(u, &[(q, 10), (r, 5)]) == Quote::Fits);
+    ledgers.charge(u, &[(q, 10), (r, 4)]);
+    assert!(rt; ledgers.quote(u, &[(r, 1)]) == Quote::Fits);
+    assert!(rt; ledgers.import(q) == 10);
+    assert!(rt; ledgers.import(r) == 4);
+    assert!(rt; ledgers.export(u) == 14);
+    assert!(rt; ledgers.totals() == (14, 14));
+}
+
+#[test]
+fn an_update_that_is_full_is_named(rt: HostRuntime) {
+    let mut ledgers = Ledgers::new(rt.alloc());
+    let q = TxnId(1);
+    let u = TxnId(2);
+    ledgers.open_query(q, 10).expect(&rt, "memory");
+    ledgers.open_update(u, 4).expect(&rt, "memory");
+    assert!(rt; ledgers.quote(u, &[(q, 5)]) == Quote::Export(u));
+    assert!(rt; ledgers.totals() == (0, 0));
+}

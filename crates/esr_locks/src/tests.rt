@@ -1,0 +1,79 @@
+ghost use Rattle.std.specs.Prelude.{◌≡◌, ◌<◌, length, map};
+ghost use Rattle.std.specs.List.{range_with_len};
+ghost use Rattle.esr_locks.specs.Tables.{no_locks, room_for};
+
+use crate::{LockTable, QueryReads};
+use esr_history::TxnId;
+use esr_items::ItemId;
+use std::alloc::Global;
+use std::process::Abort;
+
+const A: ItemId = ItemId(0);
+
+const B: ItemId = ItemId(1);
+
+fn table(rt: &impl Abort, alloc: Global) -> LockTable
+    ensures { result.locks ≡ map (λ x. no_locks) (range_with_len 0 2) }
+{
+    LockTable::new(alloc, 2).expect(rt, "memory")
+}
+
+fn make_room(rt: &impl Abort, locks: &mut LockTable, t: TxnId, x: ItemId)
+    requires { x.0 < length locks.old.locks }
+    ensures same { locks.new.locks ≡ locks.old.locks }
+    ensures room { 0 < room_for locks.new t.0 x.0 }
+{
+    locks.reserve(t, x).expect(rt, "memory")
+}
+
+#[test]
+fn an_upgrade_waits_for_the_smallest_other_reader(rt: HostRuntime) {
+    let mut locks = table(&rt, rt.alloc());
+    let u = TxnId(1);
+    let v = TxnId(2);
+    let w = TxnId(3);
+    make_room(&rt, &mut locks, w, A);
+    locks.add_read_update(w, A);
+    make_room(&rt, &mut locks, u, A);
+    locks.add_read_update(u, A);
+    make_room(&rt, &mut locks, v, A);
+    locks.add_read_update(v, A);
+    assert!(rt; locks.may_write(u, A) == Some(v));
+    assert!(rt; locks.may_write(v, A) == Some(u));
+    assert!(rt; locks.may_read_update(u, A) == None);
+    locks.release(v);
+    assert!(rt; locks.may_write(u, A) == Some(w));
+    locks.release(w);
+    assert!(rt; locks.may_write(u, A) == None);
+    make_room(&rt, &mut locks, u, A);
+    locks.add_write(u, A);
+    assert!(rt; locks.write_holder(A) == Some(u));
+    assert!(rt; locks.may_read_update(v, A) == Some(u));
+    assert!(rt; locks.items_of(u).len() == 2);
+    assert!(rt; locks.write_holder(B) == None);
+    locks.release(u);
+    assert!(rt; locks.write_holder(A) == None);
+    assert!(rt; locks.items_of(u).is_empty());
+}
+
+#[test]
+fn queries_stand_by_their_numbers_with_counts(rt: HostRuntime) {
+    let mut locks = table(&rt, rt.alloc());
+    let q = TxnId(4);
+    let r = TxnId(2);
+    make_room(&rt, &mut locks, q, B);
+    locks.add_read_query(q, B);
+    make_room(&rt, &mut locks, r, B);
+    locks.add_read_query(r, B);
+    assert!(rt; locks.query_reads(A).is_empty());
+    assert!(rt;
+        locks.query_reads(B)
+            == [
+                QueryReads { query: r, count: 1 },
+                QueryReads { query: q, count: 1 }
+            ]
+            .as_slice()
+    );
+    locks.release(q);
+    assert!(rt; locks.query_reads(B) == [QueryReads { query: r, count: 1 }].as_slice());
+}
