@@ -12,3 +12,4 @@ pub mod Placing
 pub mod Early
 pub mod Complete
 pub mod Gathered
+pub mod Meets

@@ -1,5 +1,5 @@
 -- The laws of placements and closed sets.
-use Rattle.std.specs.Prelude.{◌≡◌, ◌↔◌, ℕ, Bool, IsTrue, List, take}
+use Rattle.std.specs.Prelude.{◌≡◌, ◌↔◌, ℕ, Bool, IsTrue, ◌&&◌, List, take}
 use Rattle.esr_history.specs.declared.event.Entry.{Entry}
 use Rattle.esr_history.specs.Events.{is_committed}
 use Rattle.esr_history.specs.Machine.{Distance, Schedule, done, IsLegal}
@@ -22,3 +22,7 @@ LawOfPlacements = (d : Distance) (h : Schedule) (q : ℕ) → IsLegal d h → Cl
 -- What the audit of a committed query rests on is the same in every longer legal history.
 abbrev pub LawOfLongerHistories : Type 0
 LawOfLongerHistories = (d : Distance) (h : Schedule) (rest : List Entry) (q : ℕ) → IsLegal d (along h rest) → IsTrue (is_committed (done h) q) → IsAlike d h (along h rest) q
+
+-- The meet of two closed sets of least cost is one, so that the smallest is the meet of them all.
+abbrev pub LawOfLeastSets : Type 0
+LawOfLeastSets = (d : Distance) (h : Schedule) (q : ℕ) (S T : ℕ → Bool) → IsLeastSet d h q S → IsLeastSet d h q T → IsLeastSet d h q (λ u. S u && T u)

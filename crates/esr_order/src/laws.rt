@@ -1,4 +1,4 @@
-ghost use Rattle.esr_order.specs.Statements.{LawOfPlacements, LawOfLongerHistories};
+ghost use Rattle.esr_order.specs.Statements.{LawOfLeastSets, LawOfLongerHistories, LawOfPlacements};
 
 /// The closed sets of a query's updates are the parts before its placements, so that
 /// the least distance of a placement is the least cost of a closed set.
@@ -9,4 +9,10 @@ pub fn parts_are_closed_sets()
 /// What the audit of a committed query rests on stays in every longer legal history.
 pub fn longer_histories_agree()
     ensures { LawOfLongerHistories }
+{}
+
+/// The meet of two closed sets of least cost is one: where there are such sets, one
+/// is contained in all.
+pub fn least_sets_meet()
+    ensures { LawOfLeastSets }
 {}
