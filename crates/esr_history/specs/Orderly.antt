@@ -1,0 +1,29 @@
+-- What every legal history keeps of its accepted events: who acts has begun, only updates write, only the last writer of an item can be active, and nobody ends twice.
+use Rattle.std.specs.Prelude.{◌≡◌, ℕ, List, Bool, true, false, ◌==◌, Option, None, Some, if◌then◌else◌}
+use Rattle.std.specs.List.{filter_map, list_any, last_or}
+use Rattle.esr_history.specs.declared.event.Event.{Event}
+use Rattle.esr_history.specs.declared.event.Event.TheVariants.{Read, Write, Commit, Abort}
+use Rattle.esr_history.specs.Events.{writes, is_begun, is_update, is_committed, is_aborted, holds_write}
+
+-- whether an event is one of transaction t, after its begin
+abbrev pub names : ℕ → Event → Bool
+names t (Read u y) = u.0 == t
+names t (Write u y v) = u.0 == t
+names t (Commit u) = u.0 == t
+names t (Abort u) = u.0 == t
+names t _ = false
+
+-- who wrote an item
+abbrev pub writer_of : ℕ → Event → Option ℕ
+writer_of x (Write u y v) = if y.0 == x then Some u.0 else None
+writer_of x _ = None
+
+-- who wrote it last
+abbrev pub last_writer : List Event → ℕ → Option ℕ
+last_writer done x = last_or None (filter_map (writer_of x) done)
+
+pub record IsOrderly (done : List Event) : Type 0 where
+  pub begun : (t : ℕ) → list_any (names t) done ≡ true → is_begun done t ≡ true
+  pub writers : (t x : ℕ) → list_any (writes t x) done ≡ true → is_update done t ≡ true
+  pub exclusive : (t x : ℕ) → holds_write done t x ≡ true → last_writer done x ≡ Some t
+  pub once : (t : ℕ) → is_committed done t ≡ true → is_aborted done t ≡ false
