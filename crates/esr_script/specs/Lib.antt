@@ -6,3 +6,4 @@ pub mod Text
 pub mod Run
 pub mod Stages
 pub mod Parts
+pub mod Worked

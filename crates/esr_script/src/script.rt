@@ -124,7 +124,6 @@ impl Script {
             ⊎ ((e ≡ RunFault.HistoryFull) × (begin self.old name.now event ≡ Err RunFault.HistoryFull))) }
     {
         if self.transactions.number_of(name).is_some() {
-            self.stage.close(self.alloc)?;
             return said(error_line(out, LineError::NameInUse));
         }
         self.ask(alone(name), event, out)
