@@ -7,3 +7,4 @@ pub mod Steps
 pub mod Held
 pub mod Spelling
 pub mod Asks
+pub mod Buffers

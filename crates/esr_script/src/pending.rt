@@ -1,6 +1,6 @@
 //! Bytes that were read and are not yet used.
 
-ghost use Rattle.std.specs.Prelude.{◌≡◌, ℕ, ◌<◌, ◌≤◌, List, [], ◌++◌, IfOk, IfErr, OnErr, IsErrOf, drop, length, vec_len, ◌⊎◌, nat_eq, ◌||◌};
+ghost use Rattle.std.specs.Prelude.{◌≡◌, ℕ, ◌<◌, ◌≤◌, List, [], ◌++◌, IfOk, IfErr, OnErr, IsErrOf, drop, take, ◌-◌, length, nat_eq, ◌||◌};
 ghost use Rattle.std.specs.List.{position};
 ghost use Rattle.std.specs.Io.KnownBytes.{Consumes, Keeps, IsAtEnd};
 ghost use Rattle.esr_history.specs.Watch.{inner, failed};
@@ -12,79 +12,72 @@ use std::alloc::{AllocError, Global};
 use std::io::Read;
 use std::marker::Model;
 
-const CHUNK: usize = 65536;
+/// The most bytes ahead: many lines, so that reads are few.
+const ROOM: usize = 65536;
 
 const MAX_LINE_BYTES: usize = 200;
 
-/// Bytes that were read and are not yet used, seen as the list of them.
+/// Bytes that were read and are not yet used, seen as the list of them. They stand
+/// in one buffer from `start` to `end`.
 #[derive(Drop)]
 pub struct Pending {
-    bytes: Vec<u8>,
-    at: usize,
-    chunk: Vec<u8>,
+    buffer: Vec<u8>,
+    start: usize,
+    end: usize,
 }
 
 impl Model for Pending {
     ghost Value = { List ℕ };
 
-    ghost view = { λ p. drop p.at p.bytes.items };
+    ghost view = { λ p. take (p.end - p.start) (drop p.start p.buffer.items) };
 
-    ghost invariant = { λ p. (p.at ≤ vec_len p.bytes) × (0 < vec_len p.chunk) };
+    ghost invariant = { λ p. (p.start ≤ p.end) × (p.end ≤ length p.buffer.items) × (length p.buffer.items ≡ 65536) };
 }
 
 impl Pending {
     pub fn new(alloc: Global) -> Result<Pending, AllocError>
         ensures { IfOk result (λ p. p ≡ []) }
     {
-        let chunk = vec![in alloc; 0u8; CHUNK]?;
-        let bytes = Vec::with_capacity(alloc, CHUNK + MAX_LINE_BYTES)?;
+        let buffer = vec![in alloc; 0u8; ROOM]?;
         Ok(Pending {
-            bytes,
-            at: 0,
-            chunk,
+            buffer,
+            start: 0,
+            end: 0,
         })
     }
 
     pub fn bytes(&self) -> &[u8]
         ensures { result.now ≡ self.now }
     {
-        &self.bytes[self.at..]
+        &self.buffer[self.start..self.end]
     }
 
     pub fn skip(&mut self, count: usize)
         requires { count ≤ length self.old }
         ensures { self.new ≡ drop count self.old }
     {
-        self.at += count;
-    }
-
-    // Moves the bytes to the front of the buffer.
-    fn compact(&mut self)
-        ensures { self.new ≡ self.old }
-    {
-        self.bytes.rotate_left(self.at);
-        let length = self.bytes.len() - self.at;
-        self.bytes.truncate(length);
-        self.at = 0;
+        self.start += count;
     }
 
     /// Reads once, and gives the count of bytes that came: none at the end of the input.
     pub fn fill<R: Read>(&mut self, reader: &mut Watched<R>) -> Result<usize, RunFault>
+        requires { length self.old ≤ 200 }
         ensures ok { IfOk result (λ n. (more : List ℕ) × (length more ≡ n) × (self.new ≡ self.old ++ more)
             × Consumes (R.remaining (inner reader.old)) (R.remaining (inner reader.new)) more
             × (n ≡ 0 → IsAtEnd (R.remaining (inner reader.new)))) }
-        ensures read { IsErrOf result RunFault.Read → (self.new ≡ self.old)
-            × Keeps (R.remaining (inner reader.old)) (R.remaining (inner reader.new)) }
-        ensures faults { IfErr result (λ e. (e ≡ RunFault.Read) ⊎ (e ≡ RunFault.NoMemory)) }
+        ensures err { IfErr result (λ e. (e ≡ RunFault.Read) × (self.new ≡ self.old)
+            × Keeps (R.remaining (inner reader.old)) (R.remaining (inner reader.new))) }
         ensures failed { failed reader.new ≡ (failed reader.old || is_read_fault result) }
     {
-        self.compact();
-        let Ok(count) = reader.read(&mut self.chunk) else {
-            return Err(RunFault::Read);
-        };
-        match self.bytes.extend_from_slice(&self.chunk[..count]) {
-            Ok(()) => Ok(count),
-            Err(_) => Err(RunFault::NoMemory),
+        self.buffer.rotate_left(self.start);
+        self.end -= self.start;
+        self.start = 0;
+        match reader.read(&mut self.buffer[self.end..]) {
+            Ok(count) => {
+                self.end += count;
+                Ok(count)
+            }
+            Err(_) => Err(RunFault::Read),
         }
     }
 }

@@ -145,6 +145,7 @@ fn read_on<R: Read, W: Write>(
     pending: &mut Pending,
     out: &mut Vec<u8>,
 ) -> Result<usize, RunFault>
+    requires short { length pending.old ≤ 200 }
     requires reader { failed reader.old ≡ false }
     requires writer { failed writer.old ≡ false }
     ensures ok { IfOk result (λ n. (more : List ℕ) × (length more ≡ n) × (pending.new ≡ pending.old ++ more)
@@ -156,7 +157,7 @@ fn read_on<R: Read, W: Write>(
         × Keeps (R.remaining (inner reader.old)) (R.remaining (inner reader.new)) }
     ensures write { IsErrOf result RunFault.Write → (sent : List ℕ) × BeginsWith out.old.items sent
         × Appends (W.contents (inner writer.old)) (W.contents (inner writer.new)) sent }
-    ensures faults { IfErr result (λ e. (e ≡ RunFault.Read) ⊎ (e ≡ RunFault.Write) ⊎ (e ≡ RunFault.NoMemory)) }
+    ensures faults { IfErr result (λ e. (e ≡ RunFault.Read) ⊎ (e ≡ RunFault.Write)) }
     ensures reader { failed reader.new ≡ is_read_fault result }
     ensures writer { failed writer.new ≡ is_write_fault result }
 {

@@ -20,18 +20,13 @@ returns-in-Err-clause-text g c input known =
           let here = all_sent _ (unread input _ _ _ _ _ _ _ inv.2 none.0 none.1) in
           let plain : line_len c.read_on.new.pending ≡ length c.read_on.new.pending = rw none.0 more.0 in
           (inv.0 ++ c.lines.out.items, Appends-trans _ _ _ _ _ inv.1 sent.1, rw (e, sent.0) (held_read input _ _ _ _ (inv.0 ++ c.lines.out.items) [] here plain))
-      | inr other ↦ elim other [
-        | inl e ↦
-            let part = c.in-Err.ensures.write (ap (λ f. Err f) e) in
-            let other = g.R.Read.remaining (inner c.read_on.new.reader) in (
-              inv.0 ++ part.0,
-              Appends-trans _ _ _ _ _ inv.1 part.2,
-              subst (λ f. IsHeldRun input other c.read_on.new.out.items (Err f) (inv.0 ++ part.0)) (sym e) (held_write input _ _ _ _ inv.0 _ inv.2 part.0 part.1 other c.read_on.new.out.items),
-            )
-        | inr e ↦
-            let sent = c.in-Err.ensures.sent (rw e refl) in
-            (inv.0 ++ c.lines.out.items, Appends-trans _ _ _ _ _ inv.1 sent.1, rw (e, sent.0) (held_memory input _ _ _ _ (inv.0 ++ c.lines.out.items) [] (all_sent _ inv.2) (g.R.Read.remaining (inner c.read_on.new.reader))))
-      ]
+      | inr e ↦
+          let part = c.in-Err.ensures.write (ap (λ f. Err f) e) in
+          let other = g.R.Read.remaining (inner c.read_on.new.reader) in (
+            inv.0 ++ part.0,
+            Appends-trans _ _ _ _ _ inv.1 part.2,
+            subst (λ f. IsHeldRun input other c.read_on.new.out.items (Err f) (inv.0 ++ part.0)) (sym e) (held_write input _ _ _ _ inv.0 _ inv.2 part.0 part.1 other c.read_on.new.out.items),
+          )
     ]
 
 pub returns-in-Ok-eq0-clause-text : goal.returns-in-Ok-eq0-clause-text
