@@ -1,0 +1,63 @@
+-- A certificate of the least cost of a problem, and the first fault of one.
+use Rattle.std.specs.Prelude.{◌≡◌, ℕ, ◌*◌, List, [], ◌∷◌, ◌++◌, length, Bool, true, false, not, ◌&&◌, ◌==◌, nat_lt, nat_le, if◌then◌else◌, Option, Some, None, Result, Ok, Err}
+use Rattle.std.specs.List.{list_all, concat}
+use Rattle.esr_cert.specs.Problem.{Chain, Problem, size, in_set, is_ascending, is_closed, cost}
+use Rattle.esr_cert.specs.Network.{network}
+use Rattle.esr_cert.specs.Flow.{are_within, is_conserved, worth}
+use Rattle.esr_cert.specs.declared.certificate.Fault.{Fault}
+use Rattle.esr_cert.specs.declared.certificate.Fault.TheVariants.{SetNotAscending, UnknownUpdate, SetNotClosed, OverCapacity, NotConserved, WorthNotCost, TooManyAugmentations}
+
+-- a set, a flow in the network, in parts, the worth of both, and perhaps how many augmentations led to the flow
+pub record Certificate : Type 0 where
+  pub set : List ℕ
+  pub chain_flow : List (List ℕ)
+  pub back_flow : List ℕ
+  pub must_flow : List ℕ
+  pub worth : ℕ
+  pub augmentations : Option ℕ
+
+-- one amount for each arc, in the order of the arcs
+abbrev pub amounts : Certificate → List ℕ
+amounts c = concat c.chain_flow ++ c.back_flow ++ c.must_flow
+
+-- ---- the tests, each the absence of one fault
+
+abbrev pub is_known : Problem → List ℕ → Bool
+is_known p set = list_all (λ u. nat_lt u (size p)) set
+
+-- one row for each chain, as long as its costs
+abbrev pub are_rows_matched : List Chain → List (List ℕ) → Bool
+are_rows_matched [] [] = true
+are_rows_matched [] (row ∷ rows) = false
+are_rows_matched (chain ∷ chains) [] = false
+are_rows_matched (chain ∷ chains) (row ∷ rows) = (length row == length chain.costs) && are_rows_matched chains rows
+
+abbrev pub is_within : Problem → Certificate → Bool
+is_within p c = are_rows_matched p.chains c.chain_flow && (length c.back_flow == length p.before) && (length c.must_flow == length p.must) && are_within (network p).arcs (amounts c)
+
+-- the worth is the flow's and the set's cost
+abbrev pub is_tight : Problem → Certificate → Bool
+is_tight p c = (c.worth == worth (network p) (amounts c)) && (c.worth == cost p (in_set c.set))
+
+-- a count that is given is at most nodes times arcs
+abbrev pub is_short : Problem → Option ℕ → Bool
+is_short p None = true
+is_short p (Some count) = nat_le count ((network p).nodes * length (network p).arcs)
+
+-- the first fault that applies
+abbrev pub fault : Problem → Certificate → Option Fault
+fault p c =
+    if not (is_ascending c.set) then Some SetNotAscending else (
+    if not (is_known p c.set) then Some UnknownUpdate else (
+    if not (is_closed p (in_set c.set)) then Some SetNotClosed else (
+    if not (is_within p c) then Some OverCapacity else (
+    if not (is_conserved (network p) (amounts c)) then Some NotConserved else (
+    if not (is_tight p c) then Some WorthNotCost else (
+    if not (is_short p c.augmentations) then Some TooManyAugmentations else None))))))
+
+abbrev pub Certifies : Problem → Certificate → Type 0
+Certifies p c = fault p c ≡ None
+
+abbrev pub or_fault : Option Fault → Result (Unit {0}) Fault
+or_fault None = Ok tt
+or_fault (Some f) = Err f

@@ -1,0 +1,57 @@
+-- Networks with one source and one sink, and the network of a problem.
+use Rattle.std.specs.Prelude.{◌≡◌, ◌≢◌, ℕ, ◌+◌, ◌<◌, List, [], ◌∷◌, ◌++◌, length, get_or, map, Option, Some, None}
+use Rattle.std.specs.List.{flat_map}
+pub use Rattle.esr_cert.specs.declared.network.Arc.{Arc}
+use Rattle.esr_cert.specs.Problem.{Chain, Problem, size}
+
+-- nodes are numbered from 0
+pub record Network : Type 0 where
+  pub nodes : ℕ
+  pub arcs : List Arc
+  pub source : ℕ
+  pub sink : ℕ
+
+abbrev pub arc_at : List Arc → ℕ → Arc
+arc_at arcs i = get_or arcs i (record { from = 0; to = 0; capacity = Some 0 })
+
+-- arcs join nodes, and none goes into the source
+pub record IsNetwork (net : Network) : Type 0 where
+  pub ends : (i : ℕ) → i < length net.arcs → ((arc_at net.arcs i).from < net.nodes) × ((arc_at net.arcs i).to < net.nodes)
+  pub no_way_back : (i : ℕ) → i < length net.arcs → (arc_at net.arcs i).to ≢ net.source
+  pub two_ends : net.source ≢ net.sink
+  pub source_is_node : net.source < net.nodes
+
+-- from a node through the writers to the sink, with a cost as the capacity of each arc
+abbrev pub links : ℕ → ℕ → List ℕ → List ℕ → List Arc
+links from sink writers [] = []
+links from sink [] (c ∷ costs) = record { from = from; to = sink; capacity = Some c } ∷ []
+links from sink (w ∷ writers) (c ∷ costs) = record { from = from; to = w; capacity = Some c } ∷ links w sink writers costs
+
+-- the arcs of a chain, in a network of so many updates
+abbrev pub chain_links : ℕ → Chain → List Arc
+chain_links n chain = links n (n + 1) chain.writers chain.costs
+
+-- for the pair (u, v) the arc from v back to u
+abbrev pub back_arc : ℕ × ℕ → Arc
+back_arc e = record { from = e.1; to = e.0; capacity = None }
+
+abbrev pub must_arc : ℕ → ℕ → Arc
+must_arc source u = record { from = source; to = u; capacity = None }
+
+abbrev pub chain_arcs : Problem → List Arc
+chain_arcs p = flat_map (chain_links (size p)) p.chains
+
+abbrev pub back_arcs : Problem → List Arc
+back_arcs p = map back_arc p.before
+
+abbrev pub must_arcs : Problem → List Arc
+must_arcs p = map (must_arc (size p)) p.must
+
+-- updates are nodes by their positions; the source and the sink come after them
+abbrev pub network : Problem → Network
+network p = record {
+  nodes = size p + 2;
+  arcs = chain_arcs p ++ back_arcs p ++ must_arcs p;
+  source = size p;
+  sink = size p + 1;
+}

@@ -1,0 +1,35 @@
+/// A set of updates and a flow that show the least cost of a problem.
+#[derive(Debug, Drop)]
+pub struct Certificate {
+    /// The positions of the set's updates, ascending.
+    pub set: Vec<u32>,
+    /// For each chain the amounts on its arcs.
+    pub chain_flow: Vec<Vec<u64>>,
+    /// For each pair (u, v) the amount on the arc from v back to u.
+    pub back_flow: Vec<u64>,
+    /// For each update that a set must hold the amount on the arc from the source.
+    pub must_flow: Vec<u64>,
+    /// The worth of the flow, and the cost of the set.
+    pub worth: u64,
+    /// How many augmentations led to the flow, where that is told.
+    pub augmentations: Option<u64>,
+}
+
+/// Why a certificate is refused: the first that applies.
+#[derive(Clone, Copy, Debug, PartialEq, Eq)]
+pub enum Fault {
+    /// The set is not strictly ascending.
+    SetNotAscending = 1,
+    /// The set has a position at which there is no update.
+    UnknownUpdate = 2,
+    /// The set lacks an update before one of its own, or one that it must hold.
+    SetNotClosed = 3,
+    /// A list of amounts has not one for each arc, or an amount is above its arc's capacity.
+    OverCapacity = 4,
+    /// At an update the amounts in differ from the amounts out.
+    NotConserved = 5,
+    /// The worth is not the flow's, or not the set's cost.
+    WorthNotCost = 6,
+    /// The count of augmentations is above nodes times arcs.
+    TooManyAugmentations = 7,
+}
