@@ -7,7 +7,7 @@ use Rattle.std.proofs.lemmas.Str.{IsUtf8-from_ascii}
 use Rattle.std.specs.Str.Parse.{ParsesUnsigned}
 use Rattle.std.specs.List.{position, position_or_len, before_first, after_first, onto_first, slice_split, list_all}
 use Rattle.esr_script.specs.Command.{is_letter, is_name_byte, is_name, is_between}
-use Rattle.esr_script.specs.Reading.{words_of, is_blank, one_of}
+use Rattle.esr_script.specs.Reading.{words_of, is_blank, one_of, totals_of}
 
 pub which : (v : Bool) → (v ≡ true) ⊎ (v ≡ false)
 which true = inl refl
@@ -103,3 +103,6 @@ some_word (b ∷ bs) = elim (which (nat_eq b 32)) [
 -- behind a blank there is another word
 pub one_of_more : (w rest : List ℕ) → None ≡ one_of (w ∷ words_of rest)
 one_of_more w rest = rw (some_word rest).2 refl
+
+pub totals_of_more : (rest : List ℕ) → None ≡ totals_of (words_of rest)
+totals_of_more rest = rw (some_word rest).2 refl

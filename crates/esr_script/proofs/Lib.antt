@@ -8,3 +8,4 @@ pub mod Held
 pub mod Spelling
 pub mod Asks
 pub mod Buffers
+pub mod Opens

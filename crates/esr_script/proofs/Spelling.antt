@@ -7,8 +7,8 @@ use Rattle.std.specs.Fmt.{signed_decimal}
 use Rattle.std.proofs.lemmas.List.Elements.{All-nil, All-cons}
 use Rattle.std.proofs.lemmas.List.Splits.{join_with_byte-slice_split}
 use Rattle.std.proofs.lemmas.Slice.Eq.{bytes_eq-Decides}
-use Rattle.esr_script.specs.Command.{Command, item, begin_update, read, write, commit, abort, words, spelling, is_letter, is_name_byte, is_name, IsName, IsInt, IsLimit, IsCommand, is_skipped, Spells, IsPlainWord}
-use Rattle.esr_script.specs.Reading.{words_of, name_of, limit_of, int_of, one_of, two_of, three_of, both, item_of, begin_of, read_of, write_of, ended_of, command_of, command_by, reading}
+use Rattle.esr_script.specs.Command.{Command, item, begin_update, begin_query, read, write, commit, abort, totals, words, spelling, is_letter, is_name_byte, is_name, IsName, IsInt, IsLimit, IsCommand, is_skipped, Spells, IsPlainWord}
+use Rattle.esr_script.specs.Reading.{words_of, name_of, limit_of, int_of, one_of, two_of, three_of, both, item_of, begin_of, read_of, write_of, ended_of, totals_of, command_of, command_by, reading}
 use Rattle.esr_script.proofs.Cutting.{which}
 use Rattle.esr_script.proofs.Laws.{and_then_some, map_some, split_join, number_again, number_found, all_digits, int_again, int_found, left}
 
@@ -68,6 +68,9 @@ spelled line (item n v) h =
 spelled line (begin_update n l) h =
     found line (codes "begin") (n ∷ codes "update" ∷ decimal l ∷ []) (begin_update n l) h.1 (plain_text (codes "begin") refl)
     (word n h.0.0, (plain_text (codes "update") refl, (plain_number l h.0.1, tt))) (rw (named n h.0.0, number_again (10 ^ 19) l (omega arith) h.0.1) refl)
+spelled line (begin_query n l) h =
+    found line (codes "begin") (n ∷ codes "query" ∷ decimal l ∷ []) (begin_query n l) h.1 (plain_text (codes "begin") refl)
+    (word n h.0.0, (plain_text (codes "query") refl, (plain_number l h.0.1, tt))) (rw (named n h.0.0, number_again (10 ^ 19) l (omega arith) h.0.1) refl)
 spelled line (read t x) h =
     found line (codes "read") (t ∷ x ∷ []) (read t x) h.1 (plain_text (codes "read") refl) (word t h.0.0, (word x h.0.1, tt)) (rw (named t h.0.0, named x h.0.1) refl)
 spelled line (write t x v) h =
@@ -75,6 +78,7 @@ spelled line (write t x v) h =
     (word t h.0.0, (word x h.0.1, (plain_int v h.0.2, tt))) (rw (named t h.0.0, named x h.0.1, int_again v h.0.2) refl)
 spelled line (commit t) h = found line (codes "commit") (t ∷ []) (commit t) h.1 (plain_text (codes "commit") refl) (word t h.0, tt) (rw (named t h.0) refl)
 spelled line (abort t) h = found line (codes "abort") (t ∷ []) (abort t) h.1 (plain_text (codes "abort") refl) (word t h.0, tt) (rw (named t h.0) refl)
+spelled line totals h = found line (codes "totals") [] totals h.1 (plain_text (codes "totals") refl) tt refl
 
 -- ---- what is read is spelled
 
@@ -144,19 +148,33 @@ write_found ws c e =
     let v = int_found p.0.2 b.1 b.3 in
     subst (Behind (codes "write") ws) b.4 ((t.0, x.0, v.0), ap (λ l. codes "write" ∷ l) (three_found ws p.0 p.1 ∙ same_three t.1 x.1 v.1))
 
+begin_by : (kind : List ℕ) (f : List ℕ → ℕ → Command) (ws : List (List ℕ)) (p : List ℕ × List ℕ × List ℕ) (c : Command) → ws ≡ p.0 ∷ p.1 ∷ p.2 ∷ [] → bytes_eq p.1 kind ≡ true
+    → both f (name_of p.0) (limit_of p.2) ≡ Some c → ((n : List ℕ) (l : ℕ) → IsName n → IsLimit l → codes "begin" ∷ ws ≡ codes "begin" ∷ n ∷ kind ∷ decimal l ∷ [] → Behind (codes "begin") ws (f n l))
+    → Behind (codes "begin") ws c
+begin_by kind f ws p c three is_kind e spells =
+    let b = both_found f (name_of p.0) (limit_of p.2) c e in
+    let n = name_found p.0 b.0 b.2 in
+    let l = number_found (10 ^ 19) p.2 b.1 b.3 in
+    subst (Behind (codes "begin") ws) b.4 (spells b.0 b.1 n.0 l.0 (ap (λ l. codes "begin" ∷ l) (three ∙ same_three n.1 ((bytes_eq-Decides p.1 kind).0 is_kind) l.1)))
+
 begin_found : (ws : List (List ℕ)) (c : Command) → begin_of ws ≡ Some c → Behind (codes "begin") ws c
 begin_found ws c e =
-    let p = and_then_some (λ (q : List ℕ × List ℕ × List ℕ). cond (bytes_eq q.1 (codes "update")) (both begin_update (name_of q.0) (limit_of q.2)) None) (three_of ws) c e in
+    let p = and_then_some (λ (q : List ℕ × List ℕ × List ℕ). cond (bytes_eq q.1 (codes "update")) (both begin_update (name_of q.0) (limit_of q.2))
+    (cond (bytes_eq q.1 (codes "query")) (both begin_query (name_of q.0) (limit_of q.2)) None)) (three_of ws) c e in
+    let three = three_found ws p.0 p.1 in
     elim (which (bytes_eq p.0.1 (codes "update"))) [
-      | inl t ↦
-          let update : both begin_update (name_of p.0.0) (limit_of p.0.2) ≡ Some c = rw t at p.2 in
-          let b = both_found begin_update (name_of p.0.0) (limit_of p.0.2) c update in
-          let n = name_found p.0.0 b.0 b.2 in
-          let l = number_found (10 ^ 19) p.0.2 b.1 b.3 in
-          let kind : p.0.1 ≡ codes "update" = (bytes_eq-Decides p.0.1 (codes "update")).0 t in
-          subst (Behind (codes "begin") ws) b.4 ((n.0, l.0), ap (λ l. codes "begin" ∷ l) (three_found ws p.0 p.1 ∙ same_three n.1 kind l.1))
-      | inr f ↦ let none : None ≡ Some c = rw f at p.2 in cc
+      | inl t ↦ begin_by (codes "update") begin_update ws p.0 c three t (rw t at p.2) (λ n l name limit is. ((name, limit), is))
+      | inr f ↦
+          let other : cond (bytes_eq p.0.1 (codes "query")) (both begin_query (name_of p.0.0) (limit_of p.0.2)) None ≡ Some c = rw f at p.2 in
+          elim (which (bytes_eq p.0.1 (codes "query"))) [
+            | inl t ↦ begin_by (codes "query") begin_query ws p.0 c three t (rw t at other) (λ n l name limit is. ((name, limit), is))
+            | inr g ↦ let none : None ≡ Some c = rw g at other in cc
+          ]
     ]
+
+totals_found : (ws : List (List ℕ)) (c : Command) → totals_of ws ≡ Some c → Behind (codes "totals") ws c
+totals_found [] c e = let same : totals ≡ c = cc in subst (Behind (codes "totals") []) same (tt, refl)
+totals_found (w ∷ ws) c e = cc
 
 ended_found : (ws : List (List ℕ)) (t : List ℕ) → ended_of ws ≡ Some t → IsName t × (ws ≡ t ∷ [])
 ended_found ws t e =
@@ -186,12 +204,13 @@ choose k word ws a b c e here there = elim (which (bytes_eq k word)) [
 
 behind : (k : List ℕ) (ws : List (List ℕ)) (c : Command) → command_of k ws ≡ Some c → Behind k ws c
 behind k ws c e =
+    choose k (codes "totals") ws _ _ c e (totals_found ws c) (λ e.
     choose k (codes "read") ws _ _ c e (read_found ws c) (λ e.
     choose k (codes "write") ws _ _ c e (write_found ws c) (λ e.
     choose k (codes "begin") ws _ _ c e (begin_found ws c) (λ e.
     choose k (codes "commit") ws _ _ c e (commit_found ws c) (λ e.
     choose k (codes "abort") ws _ _ c e (abort_found ws c) (λ e.
-    choose k (codes "item") ws _ _ c e (item_found ws c) (λ e. cc))))))
+    choose k (codes "item") ws _ _ c e (item_found ws c) (λ e. cc)))))))
 
 by_words : (ws : List (List ℕ)) (c : Command) → command_by ws ≡ Some c → IsCommand c × (ws ≡ words c)
 by_words [] c e = cc
@@ -206,7 +225,9 @@ read_back line c e =
 pub not_skipped : (line : List ℕ) (c : Command) → Spells line c → is_skipped line ≡ false
 not_skipped line (item n v) h = ap is_skipped h.1
 not_skipped line (begin_update n l) h = ap is_skipped h.1
+not_skipped line (begin_query n l) h = ap is_skipped h.1
 not_skipped line (read t x) h = ap is_skipped h.1
 not_skipped line (write t x v) h = ap is_skipped h.1
 not_skipped line (commit t) h = ap is_skipped h.1
 not_skipped line (abort t) h = ap is_skipped h.1
+not_skipped line totals h = ap is_skipped h.1

@@ -7,19 +7,23 @@ use Rattle.std.specs.Fmt.{signed_decimal}
 pub data Command : Type 0 where
   item : (name : List ℕ) (value : ℤ) → Command
   begin_update : (name : List ℕ) (limit : ℕ) → Command
+  begin_query : (name : List ℕ) (limit : ℕ) → Command
   read : (txn item : List ℕ) → Command
   write : (txn item : List ℕ) (value : ℤ) → Command
   commit : (txn : List ℕ) → Command
   abort : (txn : List ℕ) → Command
+  totals : Command
 
 -- the words of a command
 abbrev pub words : Command → List (List ℕ)
 words (item n v) = codes "item" ∷ n ∷ signed_decimal v ∷ []
 words (begin_update n l) = codes "begin" ∷ n ∷ codes "update" ∷ decimal l ∷ []
+words (begin_query n l) = codes "begin" ∷ n ∷ codes "query" ∷ decimal l ∷ []
 words (read t x) = codes "read" ∷ t ∷ x ∷ []
 words (write t x v) = codes "write" ∷ t ∷ x ∷ signed_decimal v ∷ []
 words (commit t) = codes "commit" ∷ t ∷ []
 words (abort t) = codes "abort" ∷ t ∷ []
+words totals = codes "totals" ∷ []
 
 -- its words, parted by single blanks
 abbrev pub spelling : Command → List ℕ
@@ -54,10 +58,12 @@ IsLimit n = n < 10 ^ 19
 abbrev pub IsCommand : Command → Type 0
 IsCommand (item n v) = IsName n × IsInt v
 IsCommand (begin_update n l) = IsName n × IsLimit l
+IsCommand (begin_query n l) = IsName n × IsLimit l
 IsCommand (read t x) = IsName t × IsName x
 IsCommand (write t x v) = IsName t × IsName x × IsInt v
 IsCommand (commit t) = IsName t
 IsCommand (abort t) = IsName t
+IsCommand totals = Unit {0}
 
 -- an empty line and a comment
 abbrev pub is_skipped : List ℕ → Bool

@@ -3,7 +3,7 @@ use Rattle.std.specs.Prelude.{ℕ, ◌+◌, ◌-◌, ◌*◌, ◌^◌, ℤ, pos,
 use Rattle.std.specs.List.{slice_split}
 use Rattle.std.specs.Borrow.{Bor}
 use Rattle.std.specs.Str.{bytes_eq}
-use Rattle.esr_script.specs.Command.{Command, item, begin_update, read, write, commit, abort, is_name}
+use Rattle.esr_script.specs.Command.{Command, item, begin_update, begin_query, read, write, commit, abort, totals, is_name}
 
 abbrev pub is_blank : ℕ → Bool
 is_blank b = nat_eq b 32
@@ -65,6 +65,7 @@ abbrev pub begin_of : List (List ℕ) → Option Command
 begin_of ws =
     option_and_then (λ p.
     if bytes_eq p.1 (codes "update") then both begin_update (name_of p.0) (limit_of p.2)
+    else if bytes_eq p.1 (codes "query") then both begin_query (name_of p.0) (limit_of p.2)
     else None) (three_of ws)
 
 abbrev pub read_of : List (List ℕ) → Option Command
@@ -76,9 +77,14 @@ write_of ws = option_and_then (λ p. option_and_then (λ t. both (write t) (name
 abbrev pub ended_of : List (List ℕ) → Option (List ℕ)
 ended_of ws = option_and_then name_of (one_of ws)
 
+abbrev pub totals_of : List (List ℕ) → Option Command
+totals_of [] = Some totals
+totals_of ws = None
+
 abbrev pub command_of : List ℕ → List (List ℕ) → Option Command
 command_of word ws =
-    if bytes_eq word (codes "read") then read_of ws
+    if bytes_eq word (codes "totals") then totals_of ws
+    else if bytes_eq word (codes "read") then read_of ws
     else if bytes_eq word (codes "write") then write_of ws
     else if bytes_eq word (codes "begin") then begin_of ws
     else if bytes_eq word (codes "commit") then option_map commit (ended_of ws)

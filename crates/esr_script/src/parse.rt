@@ -2,7 +2,7 @@
 
 ghost use Rattle.std.specs.Prelude.{◌≡◌, ◌↔◌, Option, Some, option_map, IsTrue};
 ghost use Rattle.esr_script.specs.Command.{Command, is_skipped, Spells};
-ghost use Rattle.esr_script.specs.Reading.{words_of, item_of, begin_of, read_of, write_of, ended_of, command_by, reading};
+ghost use Rattle.esr_script.specs.Reading.{words_of, words_after, totals_of, item_of, begin_of, read_of, write_of, ended_of, command_by, reading};
 ghost use Rattle.esr_script.specs.View.{view, command_in, IsReadingOf};
 
 use crate::words::{cut_word, int, limit, name, one_word, three_words, two_words};
@@ -17,6 +17,11 @@ pub enum Line<'a> {
     },
     /// `begin NAME update LIMIT`
     BeginUpdate {
+        name: &'a str,
+        limit: u64,
+    },
+    /// `begin NAME query LIMIT`
+    BeginQuery {
         name: &'a str,
         limit: u64,
     },
@@ -39,6 +44,8 @@ pub enum Line<'a> {
     Abort {
         txn: &'a str,
     },
+    /// `totals`
+    Totals,
 }
 
 /// What a line of a script is.
@@ -78,6 +85,10 @@ fn begin(words: &[u8]) -> Option<Line<'_>>
         let name = name(first)?;
         let limit = limit(last)?;
         Some(Line::BeginUpdate { name, limit })
+    } else if kind == b"query".as_slice() {
+        let name = name(first)?;
+        let limit = limit(last)?;
+        Some(Line::BeginQuery { name, limit })
     } else {
         None
     }
@@ -109,11 +120,23 @@ fn ended(words: &[u8]) -> Option<&str>
     name(one_word(words)?)
 }
 
+fn totals(words: Option<&[u8]>) -> Option<Line<'static>>
+    ensures { option_map view result ≡ totals_of (words_after words.entry) }
+{
+    match words {
+        None => Some(Line::Totals),
+        Some(_) => None,
+    }
+}
+
 /// The command that the line spells.
 fn command(line: &[u8]) -> Option<Line<'_>>
     ensures { option_map view result ≡ reading line.now }
 {
     let (word, more) = cut_word(line);
+    if word == b"totals".as_slice() {
+        return totals(more);
+    }
     let words = more?;
     if word == b"read".as_slice() {
         read(words)

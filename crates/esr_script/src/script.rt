@@ -1,7 +1,6 @@
 //! What a run keeps of the lines so far, and its answer to a line.
 
 ghost use Rattle.std.specs.Prelude.{◌≡◌, ℕ, ◌+◌, ◌<◌, ◌≤◌, ◌⊎◌, List, [], ◌++◌, Ok, Err, None, OnErr, OnOk, IfErr, IsOk, ◌↔◌, length, pos};
-ghost use Rattle.esr_core.specs.States.{IsOfUpdate};
 ghost use Rattle.esr_report.specs.Names.{position_of};
 ghost use Rattle.esr_report.specs.Subjects.{named_by};
 ghost use Rattle.esr_script.specs.Text.{start, transaction_called, item_called, declare, begin, ask, obey, answer};
@@ -14,7 +13,7 @@ use crate::parse::{Line, Parsed, parse_line};
 use crate::stage::Stage;
 use esr_history::{Event, Reply, TxnId};
 use esr_items::{ItemId, LARGEST_VALUE, MOST_ITEMS};
-use esr_report::{LineError, Names, Subject, error_line, item_line, reply_line};
+use esr_report::{LineError, Names, Subject, error_line, item_line, reply_line, totals_line};
 use std::alloc::{AllocError, Global};
 use std::marker::Model;
 
@@ -84,7 +83,7 @@ impl Script {
         if self.items.number_of(name).is_some() {
             return said(error_line(out, LineError::NameInUse));
         }
-        if value.unsigned_abs() > LARGEST_VALUE as u64 {
+        if value.unsigned_abs() > LARGEST_VALUE {
             return said(error_line(out, LineError::ValueOutOfRange));
         }
         if self.items.len() >= MOST_ITEMS {
@@ -98,8 +97,7 @@ impl Script {
 
     /// Gives the machine an event, and answers with its reply.
     fn ask(&mut self, subject: Subject<'_>, event: Event, out: &mut Vec<u8>) -> Result<(), RunFault>
-        requires updates { IsOfUpdate event }
-        requires fresh { IsBegin event → position_of self.old.transactions subject.txn.now ≡ None }
+        requires { IsBegin event → position_of self.old.transactions subject.txn.now ≡ None }
         ensures ok { OnOk result ((text : List ℕ) × (ask self.old (named_by subject.entry) event ≡ Ok (self.new, text)) × (out.new.items ≡ out.old.items ++ text)) }
         ensures err { OnErr result (out.new.items ≡ out.old.items) }
         ensures faults { IfErr result (λ e. (e ≡ RunFault.NoMemory)
@@ -117,7 +115,6 @@ impl Script {
 
     /// Begins a transaction, whose name may not be bound already.
     fn begin(&mut self, name: &str, event: Event, out: &mut Vec<u8>) -> Result<(), RunFault>
-        requires updates { IsOfUpdate event }
         ensures ok { OnOk result ((text : List ℕ) × (begin self.old name.now event ≡ Ok (self.new, text)) × (out.new.items ≡ out.old.items ++ text)) }
         ensures err { OnErr result (out.new.items ≡ out.old.items) }
         ensures faults { IfErr result (λ e. (e ≡ RunFault.NoMemory)
@@ -196,6 +193,17 @@ impl Script {
         self.ask(alone(txn), event, out)
     }
 
+    /// Sums the charges so far.
+    fn totals(&mut self, out: &mut Vec<u8>) -> Result<(), RunFault>
+        ensures ok { OnOk result ((text : List ℕ) × (obey self.old command.totals ≡ Ok (self.new, text)) × (out.new.items ≡ out.old.items ++ text)) }
+        ensures err { OnErr result (out.new.items ≡ out.old.items) }
+        ensures faults { IfErr result (λ e. e ≡ RunFault.NoMemory) }
+    {
+        self.stage.close(self.alloc)?;
+        let totals = self.stage.totals();
+        said(totals_line(out, totals.import, totals.export, totals.entries))
+    }
+
     /// Obeys a command.
     fn obey(&mut self, line: Line<'_>, out: &mut Vec<u8>) -> Result<(), RunFault>
         ensures ok { OnOk result ((text : List ℕ) × (obey self.old (view line.entry) ≡ Ok (self.new, text)) × (out.new.items ≡ out.old.items ++ text)) }
@@ -210,10 +218,18 @@ impl Script {
                 Event::BeginUpdate { limit },
                 out,
             ),
+            Line::BeginQuery { name, limit } => {
+                let event = Event::BeginQuery {
+                    limit,
+                    strict: false,
+                };
+                self.begin(name, event, out)
+            }
             Line::Read { txn, item } => self.read(txn, item, out),
             Line::Write { txn, item, value } => self.write(txn, item, value, out),
             Line::Commit { txn } => self.commit(txn, out),
             Line::Abort { txn } => self.abort(txn, out),
+            Line::Totals => self.totals(out),
         }
     }
 

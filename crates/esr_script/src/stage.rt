@@ -2,11 +2,11 @@
 
 ghost use Rattle.std.specs.Prelude.{◌≡◌, ◌≢◌, ◌⊎◌, true, length, IfOk, OnOk, OnErr, IfErr};
 ghost use Rattle.esr_history.specs.Machine.{reply_to, extended};
-ghost use Rattle.esr_core.specs.States.{IsOfUpdate};
+ghost use Rattle.esr_history.specs.Totals.{all_imports, all_exports};
 ghost use Rattle.esr_script.specs.Text.{plain};
 
 use crate::fault::RunFault;
-use esr_core::{Machine, StepError};
+use esr_core::{Machine, StepError, Totals};
 use esr_history::{Event, Reply};
 use esr_items::{Plain, Store};
 use std::alloc::Global;
@@ -44,8 +44,7 @@ impl Stage {
 
     /// Gives the machine an event.
     pub fn step(&mut self, event: Event) -> Result<Reply, RunFault>
-        requires running { is_running self.old ≡ true }
-        requires updates { IsOfUpdate event }
+        requires { is_running self.old ≡ true }
         ensures room { OnOk result (length (history_of self.old).entries ≢ 1000000) }
         ensures reply { IfOk result (λ reply. reply ≡ reply_to plain (history_of self.old) event) }
         ensures added { IfOk result (λ reply. history_of self.new ≡ extended (history_of self.old) event reply) }
@@ -61,6 +60,22 @@ impl Stage {
                 Err(StepError::NoMemory) => Err(RunFault::NoMemory),
             },
             Stage::Open(_) => Err(RunFault::NoMemory),
+        }
+    }
+
+    /// The imports and exports together, and the length of the history.
+    pub fn totals(&self) -> Totals
+        ensures import { result.import ≡ all_imports plain (history_of self.now) }
+        ensures export { result.export ≡ all_exports plain (history_of self.now) }
+        ensures entries { result.entries ≡ length (history_of self.now).entries }
+    {
+        match self {
+            Stage::Running(machine) => machine.totals(),
+            Stage::Open(_) => Totals {
+                import: 0,
+                export: 0,
+                entries: 0,
+            },
         }
     }
 }

@@ -94,6 +94,23 @@ fn a_full_history_ends_at_the_next_event(rt: HostRuntime) -> Result<(), Fail> {
 }
 
 #[test]
+fn a_query_reads_at_most_a_thousand_times(rt: HostRuntime) -> Result<(), Fail> {
+    let alloc = rt.alloc();
+    let mut script = Vec::from_slice(alloc, b"item a 0\nbegin q query 0\n")?;
+    script.extend_from_slice(repeated(alloc, "read q a", 1001)?.as_slice())?;
+    script.extend_from_slice(b"totals\n")?;
+    let (ended, text) = ran(alloc, script.as_slice())?;
+    let mut expected = Vec::from_slice(alloc, b"item a 0\nbegun q 1\n")?;
+    expected.extend_from_slice(repeated(alloc, "q a 0", 1000)?.as_slice())?;
+    expected.extend_from_slice(
+        b"refused 8 too many reads\ntotals import 0 export 0 entries 1002\n",
+    )?;
+    assert!(rt; ended == Ok(()));
+    assert!(rt; text.as_slice() == expected.as_slice());
+    Ok(())
+}
+
+#[test]
 fn bytes_that_are_no_text(rt: HostRuntime) -> Result<(), Fail> {
     let (ended, text) = ran(
         rt.alloc(),
