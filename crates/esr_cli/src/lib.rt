@@ -22,8 +22,9 @@ pub enum Job {
 fn program<'a>(alloc: Global) -> Result<Command<'a>, AllocError>
     ensures { IfOk result (λ c. app_of c ≡ program) }
 {
-    let run = Command::new(alloc, "run")
-        .about("Runs a script from standard input to standard output");
+    let run = Command::new(alloc, "run").about(
+        "Runs a script from standard input to standard output",
+    );
     Command::new(alloc, "esr")
         .about("Epsilon-serializable transactions over whole-number items")
         .version("0.1.0")

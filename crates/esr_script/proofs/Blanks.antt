@@ -1,11 +1,11 @@
 -- Words between blanks, and names.
-use Rattle.std.proofs.Common.{◌≡◌, ℕ, suc, ◌+◌, ◌-◌, ◌<◌, ◌≤◌, ◌^◌, List, [], ◌∷◌, ◌++◌, ◌⊎◌, inl, inr, Bool, true, false, cond, ◌&&◌, ◌||◌, length, take, drop, refl, sym, ◌∙◌, ap, arith, nat_eq, nat_lt, nat_le, one-add, Some, None, Option, ltb-false, ltb-true, length-drop, decimal, IsUtf8, get_or, zero, eqb-true, leb-true, Result, Ok, Err}
+use Rattle.std.proofs.Common.{◌≡◌, ℕ, suc, ◌+◌, ◌-◌, ◌<◌, ◌≤◌, ◌^◌, List, [], ◌∷◌, ◌⊎◌, inl, inr, Bool, true, false, cond, ◌&&◌, ◌||◌, length, take, drop, refl, sym, ◌∙◌, ap, arith, nat_eq, nat_le, Some, None, ltb-false, ltb-true, length-drop, decimal, IsUtf8, get_or, zero, eqb-true, leb-true, Result, Ok}
 use Rattle.std.proofs.Math.Seq.{take-length}
 use Rattle.std.proofs.lemmas.List.Splits.{slice_split_first}
 use Rattle.std.proofs.lemmas.Fmt.{IsAscii-decimal, parse-decimal}
 use Rattle.std.proofs.lemmas.Str.{IsUtf8-from_ascii}
 use Rattle.std.specs.Str.Parse.{ParsesUnsigned}
-use Rattle.std.specs.List.{position, position_or_len, before_first, after_first, onto_first, slice_split, list_all}
+use Rattle.std.specs.List.{position, position_or_len, before_first, after_first, onto_first, list_all}
 use Rattle.esr_script.specs.Command.{is_letter, is_name_byte, is_name, is_between}
 use Rattle.esr_script.specs.Reading.{words_of, is_blank, one_of, totals_of}
 

@@ -1,5 +1,5 @@
 -- What the first line feed in the bytes ahead says of the lines.
-use Rattle.std.proofs.Common.{◌≡◌, ℕ, suc, ◌+◌, ◌<◌, ◌≤◌, List, [], ◌∷◌, ◌++◌, ◌⊎◌, inl, inr, Bool, true, false, length, take, drop, refl, sym, ◌∙◌, ap, arith, nat_eq, one-add, add-one, append-nil, eqb-true}
+use Rattle.std.proofs.Common.{◌≡◌, ℕ, suc, ◌+◌, ◌<◌, ◌≤◌, List, [], ◌∷◌, ◌++◌, ◌⊎◌, inl, inr, Bool, true, false, length, take, drop, refl, sym, ◌∙◌, ap, arith, nat_eq, one-add, add-one, eqb-true}
 use Rattle.std.specs.List.{onto_first}
 use Rattle.esr_script.specs.Lines.{lines, whole_lines, onto_first_whole}
 use Rattle.esr_script.specs.Parts.{line_len}

@@ -1,7 +1,6 @@
 -- Each end of a run, with the output that is not yet sent.
-use Rattle.std.proofs.Common.{◌≡◌, ◌≢◌, ℕ, ◌+◌, ◌<◌, ◌≤◌, List, [], ◌∷◌, ◌++◌, ◌⊎◌, inl, inr, Bool, true, false, length, take, drop, refl, sym, ◌∙◌, ap, subst, arith, Option, Some, None, Result, Ok, Err, OnOk, OnErr, IfErr, IfSome, append_assoc, append-nil, ◌==◌, eq-eqb, IsErrOf, ◌||◌}
+use Rattle.std.proofs.Common.{◌≡◌, ◌≢◌, ℕ, ◌+◌, ◌<◌, ◌≤◌, List, [], ◌∷◌, ◌++◌, ◌⊎◌, inl, inr, Bool, true, false, length, take, drop, refl, sym, ◌∙◌, ap, arith, Option, Some, None, Result, Ok, Err, OnOk, OnErr, IfErr, IfSome, append_assoc, append-nil, ◌==◌, eq-eqb, IsErrOf, ◌||◌}
 use Rattle.std.specs.Io.KnownBytes.{IsAtEnd, Consumes, Keeps}
-use Rattle.std.proofs.KnownBytes.{Appends-trans}
 use Rattle.esr_report.specs.Lines.{BeginsWith}
 use Rattle.esr_script.specs.declared.fault.RunFault.{RunFault}
 use Rattle.esr_script.specs.declared.fault.RunFault.TheVariants as fault

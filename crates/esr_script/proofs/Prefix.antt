@@ -1,5 +1,5 @@
 -- Where no byte is a line feed, the count of bytes before the first is the length.
-use Rattle.std.proofs.Common.{◌≡◌, ℕ, suc, ◌+◌, ◌<◌, ◌≤◌, List, [], ◌∷◌, ◌++◌, append-nil, ◌⊎◌, inl, inr, Bool, true, false, length, refl, sym, ◌∙◌, ap, arith, nat_eq, nat_lt, Some, None, Option, ltb-false, cond}
+use Rattle.std.proofs.Common.{◌≡◌, ℕ, ◌≤◌, List, [], ◌∷◌, ◌++◌, append-nil, inl, inr, Bool, true, false, length, refl, ◌∙◌, ap, arith, nat_eq, nat_lt, Some, None, ltb-false, cond}
 use Rattle.std.specs.List.{position}
 use Rattle.esr_script.specs.Parts.{line_len}
 use Rattle.esr_script.proofs.Cutting.{which}

@@ -1,13 +1,13 @@
 -- What a line spells, and what is read from it.
-use Rattle.std.proofs.Common.{◌≡◌, ℕ, suc, ◌<◌, ◌^◌, ℤ, pos, negsuc, nat_abs, List, [], ◌∷◌, ◌++◌, inl, inr, Bool, true, false, not, cond, ◌&&◌, ◌||◌, refl, sym, ◌∙◌, ap, subst, arith, nat_eq, Some, None, Option, option_map, option_and_then, codes, decimal, eqb-true, IsTrue}
-use Rattle.std.specs.List.{All, AllByRecursion, join_with_byte, list_all}
+use Rattle.std.proofs.Common.{◌≡◌, ℕ, suc, ◌<◌, ◌^◌, ℤ, pos, negsuc, nat_abs, List, [], ◌∷◌, inl, inr, Bool, true, false, not, cond, refl, sym, ◌∙◌, ap, subst, arith, nat_eq, Some, None, Option, option_map, option_and_then, codes, decimal, eqb-true}
+use Rattle.std.specs.List.{AllByRecursion, join_with_byte, list_all}
 use Rattle.std.specs.Str.{bytes_eq, all_ascii_digits}
 use Rattle.std.specs.Char.{is_ascii_digit}
 use Rattle.std.specs.Fmt.{signed_decimal}
 use Rattle.std.proofs.lemmas.List.Elements.{All-nil, All-cons}
 use Rattle.std.proofs.lemmas.List.Splits.{join_with_byte-slice_split}
 use Rattle.std.proofs.lemmas.Slice.Eq.{bytes_eq-Decides}
-use Rattle.esr_script.specs.Command.{Command, item, begin_update, begin_query, read, write, commit, abort, totals, words, spelling, is_letter, is_name_byte, is_name, IsName, IsInt, IsLimit, IsCommand, is_skipped, Spells, IsPlainWord}
+use Rattle.esr_script.specs.Command.{Command, item, begin_update, begin_query, read, write, commit, abort, totals, words, is_letter, is_name_byte, is_name, IsName, IsLimit, IsCommand, is_skipped, Spells, IsPlainWord}
 use Rattle.esr_script.specs.Reading.{words_of, name_of, limit_of, int_of, one_of, two_of, three_of, both, item_of, begin_of, read_of, write_of, ended_of, totals_of, command_of, command_by, reading}
 use Rattle.esr_script.proofs.Cutting.{which}
 use Rattle.esr_script.proofs.Laws.{and_then_some, map_some, split_join, number_again, number_found, all_digits, int_again, int_found, left}

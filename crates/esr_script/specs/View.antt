@@ -1,5 +1,5 @@
 -- A line as a command.
-use Rattle.std.specs.Prelude.{◌≡◌, ℕ, List, Bool, true, false, Option, Some, None}
+use Rattle.std.specs.Prelude.{◌≡◌, ℕ, List, true, false, Option, Some, None}
 use Rattle.esr_script.specs.declared.parse.Line.{Line}
 use Rattle.esr_script.specs.declared.parse.Line.TheVariants as line
 use Rattle.esr_script.specs.declared.parse.Parsed.{Parsed}

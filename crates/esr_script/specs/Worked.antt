@@ -1,5 +1,5 @@
 -- Scripts with the texts that they give.
-use Rattle.std.specs.Prelude.{◌≡◌, None, Some, codes, refl, List, ℕ, []}
+use Rattle.std.specs.Prelude.{codes, refl, []}
 use Rattle.std.specs.Fmt.{digits}
 use Rattle.esr_script.specs.Run.{IsWholeText}
 use Rattle.esr_script.specs.Text.{outcome}

@@ -1,5 +1,5 @@
-use Rattle.std.proofs.Common.{rules, ap, ap₂, refl, Some, true, map, List, ℕ, Option, ◌≡◌, ◌∙◌, sym, subst, Bor}
-use Rattle.clap.specs.Words.{app_of, is_simple, subcommand_of, subcommand_rows_of, Row, Text}
+use Rattle.std.proofs.Common.{ap, refl, true, map, List, ℕ, ◌≡◌, ◌∙◌, subst, Bor}
+use Rattle.clap.specs.Words.{app_of, is_simple, subcommand_of, subcommand_rows_of}
 use Rattle.clap.proofs.OnLiterals.{clap_on_literals}
 use Rattle.esr_cli.specs.Job.{program, Asks}
 use Rattle.esr_cli.proofs.command.Goals as goal

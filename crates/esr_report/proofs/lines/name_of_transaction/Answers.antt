@@ -1,4 +1,4 @@
-use Rattle.std.proofs.Common.{◌≡◌, List, ℕ, [], ap, ◌∙◌, unwrap_or, get_or}
+use Rattle.std.proofs.Common.{[], ap, ◌∙◌, unwrap_or, get_or}
 use Rattle.std.proofs.lemmas.Option.{unwrap_or-slice_get}
 use Rattle.esr_report.proofs.lines.name_of_transaction.Goals as goal
 

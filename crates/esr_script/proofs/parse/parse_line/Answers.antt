@@ -1,5 +1,5 @@
-use Rattle.std.proofs.Common.{◌≡◌, sym, ◌∙◌}
-use Rattle.esr_script.proofs.Spelling.{spelled, read_back, not_skipped}
+use Rattle.std.proofs.Common.{sym, ◌∙◌}
+use Rattle.esr_script.proofs.Spelling.{spelled, read_back}
 use Rattle.esr_script.proofs.parse.parse_line.Goals as goal
 
 pub returns-in-Some-clause-command : goal.returns-in-Some-clause-command

@@ -1,4 +1,4 @@
-use Rattle.std.proofs.Common.{◌≡◌, sym, ◌∙◌}
+use Rattle.std.proofs.Common.{sym}
 use Rattle.esr_script.proofs.Prefix.{none_is_length}
 use Rattle.esr_script.proofs.pending.line_len.Goals as goal
 

@@ -1,8 +1,7 @@
-use Rattle.std.proofs.Common.{rules, ◌≡◌, ℕ, List, [], ◌++◌, Some, Ok, Err, ◌⊎◌, inl, inr, ◌≤◌, ◌<◌, take, drop, length, arith, sym, ◌∙◌, ap, subst, append-nil, refl, false, ◌+◌}
+use Rattle.std.proofs.Common.{rules, ◌≡◌, [], ◌++◌, Err, inl, inr, length, arith, sym, ◌∙◌, ap, subst, refl}
 use Rattle.std.proofs.KnownBytes.{Appends-trans}
-use Rattle.esr_script.specs.declared.fault.RunFault.TheVariants.{Read, Write, NoMemory}
 use Rattle.esr_history.specs.Watch.{inner}
-use Rattle.esr_script.specs.Parts.{line_len, is_write_fault, IsHeldRun}
+use Rattle.esr_script.specs.Parts.{line_len, IsHeldRun}
 use Rattle.esr_script.proofs.Prefix.{same_bytes}
 use Rattle.esr_script.proofs.Steps.{advance}
 use Rattle.esr_script.proofs.Held.{has_bytes, is_long, all_sent, unread, held_read, held_memory, held_long, held_many, held_full, after_line, held_write}

@@ -1,7 +1,7 @@
-use Rattle.std.proofs.Common.{◌≡◌, ◌++◌, false, ◌||◌, ◌∙◌, sym}
+use Rattle.std.proofs.Common.{◌++◌, sym}
 use Rattle.std.proofs.KnownBytes.{Appends-trans}
 use Rattle.esr_script.specs.Parts.{is_read_fault, is_write_fault}
-use Rattle.esr_script.proofs.Held.{held_kept, held_lost, begins_part, not_written}
+use Rattle.esr_script.proofs.Held.{held_kept, begins_part, not_written}
 use Rattle.esr_script.proofs.runs.run_with.Goals as goal
 
 pub returns-in-Err-clause-text : goal.returns-in-Err-clause-text

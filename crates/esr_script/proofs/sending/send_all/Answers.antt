@@ -1,4 +1,4 @@
-use Rattle.std.proofs.Common.{◌≡◌, List, ℕ, take, drop, sym, take-append-drop}
+use Rattle.std.proofs.Common.{◌≡◌, take, drop, sym, take-append-drop}
 use Rattle.std.proofs.lemmas.Result.{IfErr-at_err}
 use Rattle.esr_script.specs.declared.fault.RunFault.TheVariants.{Write}
 use Rattle.esr_script.proofs.sending.send_all.Goals as goal

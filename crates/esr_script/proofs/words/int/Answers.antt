@@ -1,4 +1,4 @@
-use Rattle.std.proofs.Common.{rules, ◌≡◌, ℕ, sym, ◌∙◌, ap, arith, Ok, w64, to_z-of_z, FitsSigned, nat_abs}
+use Rattle.std.proofs.Common.{rules, ◌≡◌, sym, ◌∙◌, ap, arith, Ok, w64, to_z-of_z, FitsSigned, nat_abs}
 use mir.Val.{to_z, of_z}
 use Rattle.std.specs.Fmt.{signed_decimal}
 use Rattle.std.proofs.lemmas.Slice.Eq.{bytes_eq-Decides}

@@ -1,4 +1,4 @@
-use Rattle.std.proofs.Common.{rules, ◌≡◌, ℕ, sym, ◌∙◌, ap, arith, decimal, Ok}
+use Rattle.std.proofs.Common.{rules, ◌≡◌, sym, ◌∙◌, ap, arith, decimal, Ok}
 use Rattle.std.proofs.lemmas.Slice.Eq.{bytes_eq-Decides}
 use Rattle.esr_script.proofs.Blanks.{decimal_utf8, parses}
 use Rattle.esr_script.proofs.Laws.{limit_none, limit_some}

@@ -1,4 +1,4 @@
-use Rattle.std.proofs.Common.{◌≡◌, true, sym, ◌∙◌}
+use Rattle.std.proofs.Common.{◌≡◌, true}
 use Rattle.esr_script.specs.Command.{is_name}
 use Rattle.esr_script.proofs.Blanks.{name_utf8}
 use Rattle.esr_script.proofs.words.name.Goals as goal

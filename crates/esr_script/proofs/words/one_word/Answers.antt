@@ -1,4 +1,4 @@
-use Rattle.std.proofs.Common.{◌≡◌, ◌∷◌, ◌∙◌, sym, ap}
+use Rattle.std.proofs.Common.{◌∷◌, ◌∙◌, sym, ap}
 use Rattle.esr_script.specs.Reading.{one_of, words_after}
 use Rattle.esr_script.proofs.Blanks.{one_of_more}
 use Rattle.esr_script.proofs.words.one_word.Goals as goal

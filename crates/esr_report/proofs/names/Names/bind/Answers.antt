@@ -1,4 +1,4 @@
-use Rattle.std.proofs.Common.{◌≡◌, ℕ, ◌≤◌, ◌<◌, ◌^◌, length-append, Global, ◌+◌, List, length, sym, ◌∙◌, string_bytes, map, ap, ◌++◌, ◌∷◌, [], false, true, arith, None}
+use Rattle.std.proofs.Common.{◌≡◌, ◌≤◌, ◌<◌, ◌^◌, length-append, Global, List, length, ◌∙◌, string_bytes, map, ap, ◌++◌, ◌∷◌, [], false, true, arith, None}
 use Rattle.std.specs.List.{list_any}
 use Rattle.std.specs.String.{string_eq}
 use Rattle.std.specs.Str.{bytes_eq}

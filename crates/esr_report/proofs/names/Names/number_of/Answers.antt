@@ -1,4 +1,4 @@
-use Rattle.std.proofs.Common.{◌≡◌, List, ℕ, sym, ◌∙◌, string_bytes, map, ap}
+use Rattle.std.proofs.Common.{◌∙◌, string_bytes, ap}
 use Rattle.std.specs.List.{position}
 use Rattle.std.specs.Str.{bytes_eq}
 use Rattle.esr_report.proofs.Positions.{position_seen}

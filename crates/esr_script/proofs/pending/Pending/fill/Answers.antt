@@ -1,4 +1,4 @@
-use Rattle.std.proofs.Common.{◌≡◌, ◌<◌, ◌+◌, ◌-◌, take, length, refl, sym, ◌∙◌, arith}
+use Rattle.std.proofs.Common.{◌<◌, take, length, refl, sym, ◌∙◌}
 use Rattle.esr_script.proofs.Buffers.{has_room, kept, filled}
 use Rattle.esr_script.proofs.pending.Pending.fill.Goals as goal
 

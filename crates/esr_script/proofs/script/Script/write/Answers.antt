@@ -1,4 +1,4 @@
-use Rattle.std.proofs.Common.{◌≡◌, ◌∙◌, ap, ap₂, refl, ℤ, w64, to_z-of_z, sym}
+use Rattle.std.proofs.Common.{◌≡◌, ◌∙◌, ap, ap₂, ℤ, w64, to_z-of_z}
 use mir.Val.{to_z, of_z}
 use Rattle.esr_history.specs.declared.event.Event.TheVariants.{Write}
 use Rattle.esr_report.specs.Lines.{Named}
