@@ -1,7 +1,7 @@
 -- Problems and certificates, worked by hand.
-use Rattle.std.proofs.Common.{◌≡◌, ℕ, List, [], ◌∷◌, length, Bool, true, false, Option, Some, None, refl}
-use Rattle.esr_cert.specs.Problem.{Problem, Chain, in_set, is_closed, cost, has_shape, is_in_range, is_sound}
-use Rattle.esr_cert.specs.Network.{Network, network}
+use Rattle.std.proofs.Common.{◌≡◌, [], ◌∷◌, length, true, false, Some, None, refl}
+use Rattle.esr_cert.specs.Problem.{Problem, in_set, is_closed, cost, has_shape, is_in_range, is_sound}
+use Rattle.esr_cert.specs.Network.{network}
 use Rattle.esr_cert.specs.Flow.{inflow, outflow, worth}
 use Rattle.esr_cert.specs.Cut.{with_source, across}
 use Rattle.esr_cert.specs.Certificate.{Certificate, amounts, fault}

@@ -4,3 +4,6 @@ pub mod Flow
 pub mod Cut
 pub mod Certificate
 pub mod Views
+pub mod Index
+pub mod Faults
+pub mod Parts

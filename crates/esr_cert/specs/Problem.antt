@@ -1,6 +1,6 @@
 -- What a problem is, when a set of its updates is closed, and what the set costs.
 -- Updates are named by their positions, and a set of them is a test of positions.
-use Rattle.std.specs.Prelude.{◌≡◌, ℕ, suc, ◌<◌, ◌≤◌, max, List, [], ◌∷◌, length, get_or, Bool, true, false, not, ◌&&◌, ◌||◌, ◌==◌, nat_lt, nat_le, if◌then◌else◌, map}
+use Rattle.std.specs.Prelude.{◌≡◌, ℕ, suc, ◌<◌, ◌≤◌, max, List, [], ◌∷◌, length, get_or, Bool, true, not, ◌&&◌, ◌||◌, ◌==◌, nat_lt, nat_le, if◌then◌else◌, map}
 use Rattle.std.specs.List.{list_all, list_any, sum_by}
 
 -- an item that a query read: its writers, ascending, and the cost of each version, of which there is one more

@@ -1,3 +1,6 @@
+ghost use Rattle.std.specs.Prelude.{◌≡◌};
+ghost use Rattle.esr_cert.specs.Faults.{fault_number};
+
 /// A set of updates and a flow that show the least cost of a problem.
 #[derive(Debug, Drop)]
 pub struct Certificate {
@@ -32,4 +35,13 @@ pub enum Fault {
     WorthNotCost = 6,
     /// The count of augmentations is above nodes times arcs.
     TooManyAugmentations = 7,
+}
+
+impl Fault {
+    /// The number of the fault.
+    pub fn number(self) -> u8
+        ensures { result ≡ fault_number self }
+    {
+        self as u8
+    }
 }

@@ -1,10 +1,23 @@
 //! Problems, certificates of their least costs, and the check of a certificate.
+//!
+//! A problem's network has a node for each update, a source and a sink. Its cuts are the closed sets, and their
+//! capacities the costs, so by weak duality a flow is worth at most what a closed set costs. A certificate is a set
+//! and a flow of one worth: it shows that no closed set costs less.
 #![tactic(auto)]
 
 mod certificate;
+mod checker;
+mod index;
+mod lists;
 mod network;
 mod problem;
+mod range;
+mod shape;
 
 pub use certificate::{Certificate, Fault};
+pub use checker::check;
 pub use network::Arc;
-pub use problem::{BundleFault, Chain};
+pub use problem::{BundleFault, Chain, Problem};
+
+#[cfg(test)]
+mod tests;

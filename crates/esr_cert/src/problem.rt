@@ -1,4 +1,16 @@
+ghost use Rattle.std.specs.Prelude.{◌≡◌, ◌≢◌, ℕ, ◌≤◌, List, map, Bool, true, IsOk, IfOk, IfErr, Some, None};
+ghost use Rattle.esr_cert.specs.Problem.{size, is_sound};
+ghost use Rattle.esr_cert.specs.Faults.{problem_fault, bundle_fault_number};
+ghost use Rattle.esr_cert.specs.Index.{IsIndex};
+ghost use Rattle.esr_cert.specs.Views.{chain_of, problem_of};
+
+use crate::index::{Touch, index_of};
+use crate::range::is_in_range;
+use crate::shape::has_shape;
+use esr_history::TxnId;
 use esr_items::ItemId;
+use std::alloc::{AllocError, Global};
+use std::marker::Model;
 
 /// An item that the query read.
 #[derive(Debug, Drop)]
@@ -19,4 +31,128 @@ pub enum BundleFault {
     Range = 3,
     /// Memory was refused.
     NoMemory = 4,
+}
+
+impl BundleFault {
+    /// The number of the fault.
+    pub fn number(self) -> u8
+        ensures { result ≡ bundle_fault_number self }
+    {
+        self as u8
+    }
+}
+
+impl From<AllocError> for BundleFault {
+    ghost use Rattle.esr_cert.specs.declared.problem.BundleFault.TheVariants.{NoMemory};
+
+    ghost from_gives = { λ _ e. e ≡ NoMemory };
+
+    fn from(_error: AllocError) -> BundleFault {
+        BundleFault::NoMemory
+    }
+}
+
+/// Updates, the order that a closed set keeps among them, and the items whose versions a closed set decides.
+///
+/// No rule of shape or range is broken. Shape: no number stands twice in `updates`; the pairs of `before` ascend, by
+/// their first and then by their second, and the first of each is below the second; the items of the chains ascend;
+/// in each chain the writers ascend, each two neighbours are a pair of `before`, and the costs are one more than the
+/// writers; `must` ascends. Range: an update's number is 1 to 65,535; an item's number is at most 4,095; the positions
+/// in `before`, `must` and the writers are below the count of updates; and the greatest costs of the chains sum to at
+/// most 2,000,000,000,000,000,000.
+#[derive(Debug, Drop)]
+pub struct Problem {
+    updates: Vec<TxnId>,
+    before: Vec<(u32, u32)>,
+    chains: Vec<Chain>,
+    must: Vec<u32>,
+    touches: Vec<Touch>,
+}
+
+impl Model for Problem {
+    ghost use Rattle.std.specs.Prelude.{◌≡◌, true, map};
+    ghost use Rattle.esr_cert.specs.Problem as spec;
+
+    ghost Value = { spec.Problem };
+
+    ghost use Rattle.esr_cert.specs.Views.{chain_of, problem_of};
+    ghost use Rattle.esr_cert.specs.Index.{IsIndex};
+
+    ghost view = { λ p. problem_of p.updates.items p.before.items p.chains.items p.must.items };
+
+    ghost invariant = { λ p. (spec.is_sound (problem_of p.updates.items p.before.items p.chains.items p.must.items) ≡ true) × IsIndex p.before.items (map chain_of p.chains.items) p.must.items p.touches.items };
+}
+
+impl Problem {
+    /// A problem of these parts.
+    ///
+    /// `Shape` where a rule of shape is broken, `Range` where only a rule of range is, over all parts. `NoMemory` where
+    /// memory was refused, which may come in place of either.
+    pub fn new(
+        alloc: Global,
+        updates: Vec<TxnId>,
+        before: Vec<(u32, u32)>,
+        chains: Vec<Chain>,
+        must: Vec<u32>,
+    ) -> Result<Problem, BundleFault>
+        ensures ok { IfOk result (λ p. p ≡ problem_of updates.items before.items chains.items must.items) }
+        ensures sound { IsOk result → problem_fault (problem_of updates.items before.items chains.items must.items) ≡ None }
+        ensures err { IfErr result (λ e. e ≢ BundleFault.NoMemory → problem_fault (problem_of updates.items before.items chains.items must.items) ≡ Some e) }
+    {
+        if !has_shape(alloc, &updates, &before, &chains, &must)? {
+            return Err(BundleFault::Shape);
+        }
+        if !is_in_range(&updates, &before, &chains, &must) {
+            return Err(BundleFault::Range);
+        }
+        let touches = index_of(alloc, &before, &chains, &must)?;
+        Ok(Problem {
+            updates,
+            before,
+            chains,
+            must,
+            touches,
+        })
+    }
+
+    /// The numbers of the updates. Elsewhere an update is named by its position here.
+    pub fn updates(&self) -> &[TxnId]
+        ensures list { map (λ t. t.0) result.now ≡ self.now.updates }
+        ensures few { size self.now ≤ 65535 }
+        ensures sound { is_sound self.now ≡ true }
+    {
+        &self.updates
+    }
+
+    /// The pairs of updates of which the first comes before the second.
+    pub fn before(&self) -> &[(u32, u32)]
+        ensures list { result.now ≡ self.now.before }
+        ensures sound { is_sound self.now ≡ true }
+    {
+        &self.before
+    }
+
+    /// The items, ascending.
+    pub fn chains(&self) -> &[Chain]
+        ensures list { map chain_of result.now ≡ self.now.chains }
+        ensures sound { is_sound self.now ≡ true }
+    {
+        &self.chains
+    }
+
+    /// The updates that a closed set has to hold, ascending.
+    pub fn must(&self) -> &[u32]
+        ensures list { result.now ≡ self.now.must }
+        ensures sound { is_sound self.now ≡ true }
+    {
+        &self.must
+    }
+
+    /// What each update has part in, those of one update side by side.
+    pub(crate) fn touches(&self) -> &[Touch]
+        ensures index { IsIndex self.now.before self.now.chains self.now.must result.now }
+        ensures sound { is_sound self.now ≡ true }
+    {
+        &self.touches
+    }
 }

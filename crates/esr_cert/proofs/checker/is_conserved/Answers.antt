@@ -1,0 +1,8 @@
+use Rattle.std.proofs.Common.{◌∙◌}
+use Rattle.esr_cert.specs.Views.{certificate_of}
+use Rattle.esr_cert.proofs.Balance.{balanced_is}
+use Rattle.esr_cert.proofs.checker.is_conserved.Goals as goal
+
+pub returns : goal.returns
+returns c =
+    c.are_balanced.ensures ∙ balanced_is c.args.problem.now c.touches.ensures.sound (certificate_of c.args.certificate.now) c.requires c.touches.result.now c.touches.ensures.index

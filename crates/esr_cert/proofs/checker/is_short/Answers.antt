@@ -1,0 +1,24 @@
+use Rattle.std.proofs.Common.{◌≡◌, ◌∙◌, ◌+◌, ◌*◌, nat_le, sym, ap, length, sum_by, arith}
+use Rattle.std.proofs.lemmas.List.{length-map}
+use Rattle.esr_cert.specs.Network.{network}
+use Rattle.esr_cert.specs.Certificate.{is_short}
+use Rattle.esr_cert.specs.Views.{chain_of}
+use Rattle.esr_cert.proofs.Sound.{facts, are_few}
+use Rattle.esr_cert.proofs.Worth.{arc_count}
+use Rattle.esr_cert.proofs.checker.is_short.Goals as goal
+
+pub link_count-links-requires : goal.link_count-links-requires
+link_count-links-requires c = omega (arith, (are_few c.args.problem.now c.chains.ensures.sound).chains, ap length c.chains.ensures.list, length-map c.chains.result.now chain_of)
+
+pub returns : goal.returns
+returns c =
+    let p = c.args.problem.now in
+    let nodes : length c.updates.result.now + 2 ≡ (network p).nodes = omega (arith, ap length c.updates.ensures.list, length-map c.updates.result.now (λ t. t.0)) in
+    let links : c.link_count-links.result ≡ sum_by (λ chain. length chain.costs) p.chains = c.link_count-links.ensures.value ∙ ap (sum_by (λ chain. length chain.costs)) c.chains.ensures.list in
+    let arcs : c.link_count-links.result + length c.before-2.result.now + length c.must.result.now ≡ length (network p).arcs =
+    omega (arith, links, arc_count p (facts p c.chains.ensures.sound), ap length c.before-2.ensures.list, ap length c.must.ensures.list) in
+    let limit : (length c.updates.result.now + 2) * (c.link_count-links.result + length c.before-2.result.now + length c.must.result.now) ≡ (network p).nodes * length (network p).arcs =
+    ap (λ n. n * (c.link_count-links.result + length c.before-2.result.now + length c.must.result.now)) nodes ∙ ap (λ n. (network p).nodes * n) arcs in
+    ap (λ n. nat_le n ((length c.updates.result.now + 2) * (c.link_count-links.result + length c.before-2.result.now + length c.must.result.now))) c.from.ensures
+    ∙ ap (nat_le c.in-Some.count) limit
+    ∙ ap (is_short p) (sym c.in-Some.is)

@@ -1,0 +1,25 @@
+-- The numbers of the faults, and the fault of parts that make no problem.
+use Rattle.std.specs.Prelude.{ℕ, not, if◌then◌else◌, Option, Some, None}
+use Rattle.esr_cert.specs.Problem.{Problem, has_shape, is_in_range}
+use Rattle.esr_cert.specs.declared.certificate.Fault.{Fault}
+use Rattle.esr_cert.specs.declared.certificate.Fault.TheVariants.{SetNotAscending, UnknownUpdate, SetNotClosed, OverCapacity, NotConserved, WorthNotCost, TooManyAugmentations}
+use Rattle.esr_cert.specs.declared.problem.BundleFault.{BundleFault}
+use Rattle.esr_cert.specs.declared.problem.BundleFault.TheVariants.{Shape, Range, NoMemory}
+
+-- shape comes before range
+abbrev pub problem_fault : Problem → Option BundleFault
+problem_fault p = if not (has_shape p) then Some Shape else (if not (is_in_range p) then Some Range else None)
+
+abbrev pub fault_number : Fault → ℕ
+fault_number SetNotAscending = 1
+fault_number UnknownUpdate = 2
+fault_number SetNotClosed = 3
+fault_number OverCapacity = 4
+fault_number NotConserved = 5
+fault_number WorthNotCost = 6
+fault_number TooManyAugmentations = 7
+
+abbrev pub bundle_fault_number : BundleFault → ℕ
+bundle_fault_number Shape = 2
+bundle_fault_number Range = 3
+bundle_fault_number NoMemory = 4

@@ -1,0 +1,105 @@
+//! The rules of range.
+ghost use Rattle.std.specs.Prelude.{◌≡◌, ℕ, ◌+◌, ◌-◌, ◌*◌, ◌<◌, ◌≤◌, ◌&&◌, List, length, map, nat_lt, nat_le, Bool, true};
+ghost use Rattle.std.specs.List.{list_all, sum_by};
+ghost use Rattle.esr_cert.specs.Problem.{max_txn, max_item, max_cost, greatest, chain_is_in_range, is_in_range};
+ghost use Rattle.esr_cert.specs.Views.{chain_of, problem_of};
+
+use crate::lists::are_below;
+use crate::problem::Chain;
+use esr_history::TxnId;
+
+/// The largest number of a transaction.
+const MAX_TXN: u32 = 65_535;
+
+/// The largest number of an item.
+const MAX_ITEM: u32 = 4_095;
+
+/// The largest sum of the greatest cost of each chain.
+const MAX_COST: u128 = 2_000_000_000_000_000_000;
+
+fn is_update_in_range(number: u32) -> bool
+    ensures { result ≡ (nat_lt 0 number && nat_le number max_txn) }
+{
+    0 < number && number <= MAX_TXN
+}
+
+fn are_updates_in_range(updates: &[TxnId]) -> bool
+    ensures { result ≡ list_all (λ t. nat_lt 0 t && nat_le t max_txn) (map (λ t. t.0) updates.now) }
+{
+    for update in updates {
+        if !is_update_in_range(update.0) {
+            return false;
+        }
+    }
+    true
+}
+
+fn chain_is_in_range(chain: &Chain, n: usize) -> bool
+    ensures { result ≡ chain_is_in_range n (chain_of chain.now) }
+{
+    if chain.item.0 > MAX_ITEM {
+        return false;
+    }
+    are_below(&chain.writers, n)
+}
+
+fn are_chains_in_range(chains: &[Chain], n: usize) -> bool
+    ensures { result ≡ list_all (chain_is_in_range n) (map chain_of chains.now) }
+{
+    for chain in chains {
+        if !chain_is_in_range(chain, n) {
+            return false;
+        }
+    }
+    true
+}
+
+fn are_pairs_in_range(pairs: &[(u32, u32)], n: usize) -> bool
+    ensures { result ≡ list_all (λ e. nat_lt e.0 n && nat_lt e.1 n) pairs.now }
+{
+    pairs
+        .iter()
+        .all(|(u, v)| (*u as usize) < n && (*v as usize) < n)
+}
+
+fn greatest(costs: &[u64]) -> u64
+    ensures { result ≡ greatest costs.now }
+{
+    let mut most = 0;
+    for i in 0..costs.len() {
+        if costs[i] > most {
+            most = costs[i];
+        }
+    }
+    most
+}
+
+fn greatest_costs(chains: &[Chain]) -> u128
+    ensures { result ≡ sum_by (λ chain. greatest chain.costs) (map chain_of chains.now) }
+{
+    let mut sum: u128 = 0;
+    for chain in chains {
+        sum += u128::from(greatest(&chain.costs));
+    }
+    sum
+}
+
+/// Whether no rule of range is broken.
+pub fn is_in_range(updates: &[TxnId], before: &[(u32, u32)], chains: &[Chain], must: &[u32]) -> bool
+    ensures { result ≡ is_in_range (problem_of updates.now before.now chains.now must.now) }
+{
+    let n = updates.len();
+    if !are_updates_in_range(updates) {
+        return false;
+    }
+    if !are_chains_in_range(chains, n) {
+        return false;
+    }
+    if !are_pairs_in_range(before, n) {
+        return false;
+    }
+    if !are_below(must, n) {
+        return false;
+    }
+    greatest_costs(chains) <= MAX_COST
+}

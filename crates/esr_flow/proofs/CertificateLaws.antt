@@ -1,0 +1,130 @@
+-- The certificate of a greatest flow.
+use Rattle.std.proofs.Common.{◌≡◌, ℕ, ◌+◌, ◌-◌, ◌*◌, ◌<◌, ◌≤◌, Bool, true, false, ◌&&◌, List, [], ◌∷◌, ◌++◌, length, get_or, take, drop, map, flat_map, sum_by, Contains, Vec, Global, Option, Some, None, refl, sym, ap, ◌∙◌, subst, arith, eq-eqb, le-leb, append-nil, length-append, length-take, length-drop, take-add, take-append-drop}
+use Rattle.std.specs.Prelude.{◌==◌, nat_lt}
+use Rattle.std.specs.List.{concat, list_all}
+use Rattle.std.proofs.lemmas.Bool.{and_parts, and_from, eqb-true}
+use Rattle.std.proofs.lemmas.List.{length-map, map-append, take_rest}
+use Rattle.std.proofs.lemmas.List.Folds.{concat-append}
+use Rattle.std.proofs.lemmas.List.Sums.{sum_by-cons, sum_by-append}
+use Rattle.esr_cert.specs.declared.network.Arc.{Arc}
+use Rattle.esr_cert.specs.declared.problem.Chain as code
+use Rattle.esr_cert.specs.Problem.{Chain, Problem, size, in_set, is_ascending, is_closed, cost, IsSmallestLeast}
+use Rattle.esr_cert.specs.Network.{links, chain_links, chain_arcs, back_arcs, must_arcs, back_arc, must_arc, network}
+use Rattle.esr_cert.specs.Flow.{are_within, is_conserved, IsFlow, worth}
+use Rattle.esr_cert.specs.Certificate.{Certificate, amounts, are_rows_matched, is_within, is_tight, Certifies}
+use Rattle.esr_cert.specs.Views.{chain_of, rows_of}
+use Rattle.esr_cert.proofs.Sound.{here, there, IsChain, IsProblem}
+use Rattle.esr_cert.proofs.Flows.{within_from, conserved_from}
+use Rattle.esr_cert.proofs.Certified.{IsFaultless, certifies_from}
+use Rattle.esr_flow.specs.Augmentation.{IsReach}
+use Rattle.esr_flow.specs.Search.{is_marked}
+use Rattle.esr_flow.specs.Certificate.{positions}
+use Rattle.esr_flow.proofs.Smallest.{smallest_least, reach_cost}
+use Rattle.esr_flow.proofs.SolveLaws.{positions_at, positions_below, positions_ascend, smallest_same, same_cost}
+
+links_length : (from sink : ℕ) (writers costs : List ℕ) → length costs ≡ length writers + 1 → length (links from sink writers costs) ≡ length costs
+links_length from sink writers [] e = absurd (omega arith)
+links_length from sink [] (c ∷ costs) e = omega arith
+links_length from sink (w ∷ writers) (c ∷ costs) e = omega (arith, links_length w sink writers costs (omega arith))
+
+chains_length : (p : Problem) (n : ℕ) (chains : List Chain) → ((chain : Chain) → Contains chains chain → IsChain p chain) → length (flat_map (chain_links n) chains) ≡ sum_by (λ chain. length chain.costs) chains
+chains_length p n [] h = refl
+chains_length p n (c ∷ chains) h =
+    omega (
+      arith,
+      length-append (links n (n + 1) c.writers c.costs) (flat_map (chain_links n) chains),
+      links_length n (n + 1) c.writers c.costs (h c (here c chains)).one_more,
+      chains_length p n chains (λ d k. h d (there c d chains k)),
+      sum_by-cons (λ chain. length chain.costs) c chains,
+    )
+
+-- as many amounts as costs, pairs and what a set must have
+pub flow_length : (p : Problem) → IsProblem p → (flow : List ℕ) → IsFlow (network p) flow → length flow ≡ sum_by (λ chain. length chain.costs) p.chains + length p.before + length p.must
+flow_length p ok flow f =
+    omega (
+      arith,
+      f.same_length,
+      length-append (chain_arcs p ++ back_arcs p) (must_arcs p),
+      length-append (chain_arcs p) (back_arcs p),
+      chains_length p (size p) p.chains ok.chains,
+      length-map {B = Arc} p.before back_arc,
+      length-map {B = Arc} p.must (must_arc (size p)),
+    )
+
+pub costs_mapped : (chains : List code.Chain) → sum_by (λ (chain : Chain). length chain.costs) (map chain_of chains) ≡ sum_by (λ (chain : code.Chain). length chain.costs.items) chains
+costs_mapped [] = refl
+costs_mapped (c ∷ chains) = omega (arith, sum_by-cons (λ (chain : Chain). length chain.costs) (chain_of c) (map chain_of chains), sum_by-cons (λ (chain : code.Chain). length chain.costs.items) c chains, costs_mapped chains)
+
+-- a further row
+pub cut_more : (rows : List (Vec ℕ Global)) (row : Vec ℕ Global) (flow : List ℕ) (at n : ℕ) → concat (rows_of rows) ≡ take at flow → row.items ≡ take ((at + n) - at) (drop at flow) → concat (rows_of (rows ++ row ∷ [])) ≡ take (at + n) flow
+cut_more rows row flow at n h e =
+    let m : (at + n) - at ≡ n = omega arith in
+    let one : row.items ≡ take n (drop at flow) = e ∙ ap (λ k. take k (drop at flow)) m in
+    ap concat (map-append (λ (r : Vec ℕ Global). r.items) rows (row ∷ []))
+    ∙ concat-append (rows_of rows) (row.items ∷ [])
+    ∙ ap (λ xs. xs ++ (row.items ++ [])) h
+    ∙ ap (λ xs. take at flow ++ xs) (append-nil row.items ∙ one)
+    ∙ sym (take-add at n flow)
+
+matched_push : (chains : List Chain) (rows : List (List ℕ)) (chain : Chain) (row : List ℕ) → are_rows_matched chains rows ≡ true → length row ≡ length chain.costs → are_rows_matched (chains ++ chain ∷ []) (rows ++ row ∷ []) ≡ true
+matched_push [] [] chain row h e = and_from (length row == length chain.costs) true (eq-eqb (length row) (length chain.costs) e) refl
+matched_push [] (r ∷ rows) chain row h e = cc
+matched_push (c ∷ chains) [] chain row h e = cc
+matched_push (c ∷ chains) (r ∷ rows) chain row h e =
+    let both : ((length r == length c.costs) ≡ true) × (are_rows_matched chains rows ≡ true) = and_parts (length r == length c.costs) (are_rows_matched chains rows) h in
+    and_from (length r == length c.costs) (are_rows_matched (chains ++ chain ∷ []) (rows ++ row ∷ [])) both.0 (matched_push chains rows chain row both.1 e)
+
+pub matched_more : (chains : List code.Chain) (rows : List (Vec ℕ Global)) (chain : code.Chain) (row : Vec ℕ Global) → are_rows_matched (map chain_of chains) (rows_of rows) ≡ true → length row.items ≡ length chain.costs.items → are_rows_matched (map chain_of (chains ++ chain ∷ [])) (rows_of (rows ++ row ∷ [])) ≡ true
+matched_more chains rows chain row h e =
+    ap (λ cs. are_rows_matched cs (rows_of (rows ++ row ∷ []))) (map-append chain_of chains (chain ∷ []))
+    ∙ ap (are_rows_matched (map chain_of chains ++ chain_of chain ∷ [])) (map-append (λ (r : Vec ℕ Global). r.items) rows (row ∷ []))
+    ∙ matched_push (map chain_of chains) (rows_of rows) (chain_of chain) row.items h e
+
+pub sum_take : (chains : List code.Chain) (n : ℕ) → sum_by (λ (chain : code.Chain). length chain.costs.items) (take n chains) ≤ sum_by (λ (chain : code.Chain). length chain.costs.items) chains
+sum_take chains n =
+    omega (arith, sum_by-append (λ (chain : code.Chain). length chain.costs.items) (take n chains) (drop n chains), ap (sum_by (λ (chain : code.Chain). length chain.costs.items)) (take-append-drop n chains))
+
+pub row_long : (row flow : List ℕ) (at n : ℕ) → row ≡ take ((at + n) - at) (drop at flow) → at + n ≤ length flow → length row ≡ n
+row_long row flow at n e l = omega (arith, ap length e, length-take ((at + n) - at) (drop at flow), length-drop at flow)
+
+pub whole : (xs bs ms flow : List ℕ) (k n : ℕ) → xs ≡ take k flow → bs ≡ take ((k + n) - k) (drop k flow) → ms ≡ take (length flow - (k + n)) (drop (k + n) flow) → (xs ++ bs) ++ ms ≡ flow
+whole xs bs ms flow k n a b c =
+    let m : (k + n) - k ≡ n = omega arith in
+    ap (λ l. (l ++ bs) ++ ms) a
+    ∙ ap (λ l. (take k flow ++ l) ++ ms) (b ∙ ap (λ j. take j (drop k flow)) m)
+    ∙ ap (λ l. l ++ ms) (sym (take-add k n flow))
+    ∙ ap (λ l. take (k + n) flow ++ l) (c ∙ take_rest flow (k + n))
+    ∙ take-append-drop (k + n) flow
+
+-- the first part of the amounts is as long as the costs, the second as the pairs, the third as what a set must hold
+pub record Parts (p : Problem) (flow xs bs ms : List ℕ) : Type 0 where
+  pub backs : length bs ≡ length p.before
+  pub musts : length ms ≡ length p.must
+  pub whole : (xs ++ bs) ++ ms ≡ flow
+
+pub least_set : (p : Problem) → IsProblem p → (flow : List ℕ) → IsFlow (network p) flow → (marks : List Bool) → IsReach (network p) flow (is_marked marks) → is_marked marks (size p + 1) ≡ false → (set : List ℕ) → set ≡ positions (is_marked marks) (size p) → IsSmallestLeast p (in_set set)
+least_set p ok flow f marks r s set e =
+    smallest_same p ok (is_marked marks) (in_set set)
+    (λ u l. sym (positions_at (is_marked marks) (size p) u l) ∙ ap (λ xs. in_set xs u) (sym e))
+    (smallest_least p ok flow (is_marked marks) f r s)
+
+pub certified : (p : Problem) → IsProblem p → (flow : List ℕ) → IsFlow (network p) flow → (marks : List Bool) → IsReach (network p) flow (is_marked marks) → is_marked marks (size p + 1) ≡ false
+    → (c : Certificate) → c.set ≡ positions (is_marked marks) (size p) → Parts p flow (concat c.chain_flow) c.back_flow c.must_flow → are_rows_matched p.chains c.chain_flow ≡ true
+    → c.worth ≡ worth (network p) flow → (n : ℕ) → c.augmentations ≡ Some n → n ≤ (size p + 2) * length (network p).arcs → Certifies p c
+certified p ok flow f marks r s c set_is parts rows worth_is n count few =
+    let smallest : IsSmallestLeast p (in_set c.set) = least_set p ok flow f marks r s c.set set_is in
+    let same : cost p (is_marked marks) ≡ cost p (in_set c.set) =
+    same_cost p ok (is_marked marks) (in_set c.set) (λ u l. sym (positions_at (is_marked marks) (size p) u l) ∙ ap (λ xs. in_set xs u) (sym set_is)) in
+    let g : IsFlow (network p) (amounts c) = subst (IsFlow (network p)) (sym parts.whole) f in
+    let inside : are_within (network p).arcs (amounts c) ≡ true = within_from (network p).arcs (amounts c) g.same_length g.within_capacity in
+    let tight : c.worth ≡ worth (network p) (amounts c) = worth_is ∙ ap (worth (network p)) (sym parts.whole) in
+    let dear : c.worth ≡ cost p (in_set c.set) = worth_is ∙ reach_cost p ok flow (is_marked marks) f r s ∙ same in
+    certifies_from p c (record {
+      ascending = ap is_ascending set_is ∙ positions_ascend (is_marked marks) (size p);
+      known = ap (list_all (λ u. nat_lt u (size p))) set_is ∙ positions_below (is_marked marks) (size p);
+      closed = smallest.closed;
+      within = and_from _ _ (and_from _ _ (and_from _ _ rows (eq-eqb _ _ parts.backs)) (eq-eqb _ _ parts.musts)) inside;
+      conserved = conserved_from (network p) (amounts c) g.conserved;
+      tight = and_from _ _ (eq-eqb _ _ tight) (eq-eqb _ _ dear);
+      short = rw count (le-leb n ((size p + 2) * length (network p).arcs) few);
+    })

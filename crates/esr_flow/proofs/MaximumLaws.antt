@@ -1,0 +1,64 @@
+-- Least rooms from left to right, and that raised amounts fit.
+use Rattle.std.proofs.Common.{◌≡◌, ℕ, zero, suc, ◌+◌, ◌^◌, ◌<◌, ◌≤◌, min, List, [], ◌∷◌, ◌++◌, length, get_or, take, drop, Option, Some, None, refl, sym, ap, ◌∙◌, arith, add-one}
+use Rattle.std.proofs.lemmas.List.{take_more, drop_more}
+use Rattle.esr_cert.specs.declared.network.Arc.{Arc}
+use Rattle.esr_flow.specs.declared.step.Step.{Step}
+use Rattle.esr_cert.specs.Flow.{amount_at, IsFlow, worth}
+use Rattle.esr_flow.specs.Residual.{finish, room, IsPath, lesser, least_room, shift, raise}
+use Rattle.esr_cert.specs.Network.{Network, IsNetwork}
+use Rattle.esr_flow.specs.Augmentation.{Augments, Takes}
+use Rattle.esr_flow.specs.Maximum.{InArcs, LIMIT}
+use Rattle.esr_flow.specs.Search.{IsShortestPath}
+use Rattle.esr_flow.proofs.Labels.{Levels}
+use Rattle.esr_flow.proofs.FlowLaws.{After, augmented, path_labels, raise_at_most}
+
+min_assoc : (a b c : ℕ) → min (min a b) c ≡ min a (min b c)
+min_assoc a b c = omega arith
+
+pub lesser_assoc : (a b c : Option ℕ) → lesser (lesser a b) c ≡ lesser a (lesser b c)
+lesser_assoc None b c = refl
+lesser_assoc (Some a) None c = refl
+lesser_assoc (Some a) (Some b) None = refl
+lesser_assoc (Some a) (Some b) (Some c) = ap (λ n. Some n) (min_assoc a b c)
+
+pub lesser_none_right : (a : Option ℕ) → lesser a None ≡ a
+lesser_none_right None = refl
+lesser_none_right (Some a) = refl
+
+-- one step more of the least room
+pub least_more : (arcs : List Arc) (flow : List ℕ) (path : List Step) (i : ℕ) (d : Step) (least : Option ℕ) → i < length path → lesser least (least_room arcs flow (drop i path)) ≡ least_room arcs flow path → lesser (lesser least (room arcs flow (get_or path i d))) (least_room arcs flow (drop (i + 1) path)) ≡ least_room arcs flow path
+least_more arcs flow path i d least l h =
+    lesser_assoc least (room arcs flow (get_or path i d)) (least_room arcs flow (drop (i + 1) path))
+    ∙ ap (λ p. lesser least (least_room arcs flow p)) (sym (drop_more path i d l))
+    ∙ h
+
+raise_push : (flow : List ℕ) (x : ℕ) (path : List Step) (s : Step) → raise flow x (path ++ s ∷ []) ≡ shift (raise flow x path) x s
+raise_push flow x [] s = refl
+raise_push flow x (t ∷ path) s = raise_push (shift flow x t) x path s
+
+pub raise_more : (flow : List ℕ) (x : ℕ) (path : List Step) (i : ℕ) (d : Step) → i < length path → raise flow x (take (i + 1) path) ≡ shift (raise flow x (take i path)) x (get_or path i d)
+raise_more flow x path i d l = ap (raise flow x) (take_more path i d l) ∙ raise_push flow x (take i path) (get_or path i d)
+
+levels_take : (d : ℕ → ℕ) (arcs : List Arc) (k : ℕ) (path : List Step) (n : ℕ) → Levels d arcs k path → Levels d arcs k (take n path)
+levels_take d arcs k path zero h = tt
+levels_take d arcs k [] (suc n) h = tt
+levels_take d arcs k (s ∷ path) (suc n) h = (h.0, h.1, h.2, levels_take d arcs (d (finish arcs s)) path n h.3)
+
+pub path_in_arcs : (arcs : List Arc) (flow : List ℕ) (path : List Step) (a b : ℕ) → IsPath arcs flow a path b → InArcs arcs path
+path_in_arcs arcs flow [] a b h k d l = absurd (omega arith)
+path_in_arcs arcs flow (s ∷ path) a b h zero d l = h.1.0
+path_in_arcs arcs flow (s ∷ path) a b h (suc k) d l = path_in_arcs arcs flow path (finish arcs s) b h.2 k d (omega arith)
+
+abbrev pub augments : (net : Network) (flow : List ℕ) (path : List Step) (x : ℕ) → IsShortestPath net flow path → least_room net.arcs flow path ≡ Some x → Augments net flow (raise flow x path)
+augments net flow path x p e = record { path = path; amount = x; is_path = p.is_path; is_shortest = p.is_shortest; is_least = e; is_raised = refl }
+
+-- the amounts on the way fit
+pub raise_fits : (net : Network) → IsNetwork net → (flow : List ℕ) (path : List Step) (x : ℕ) → IsFlow net flow → ((i : ℕ) → amount_at flow i ≤ LIMIT) → ((f : List ℕ) → IsFlow net f → worth net f ≤ LIMIT) → IsShortestPath net flow path → least_room net.arcs flow path ≡ Some x → (k i : ℕ) → amount_at (raise flow x (take k path)) i + x < 2 ^ 64
+raise_fits net ok flow path x f amounts small p e k i =
+    let a : Augments net flow (raise flow x path) = augments net flow path x p e in
+    let after : After net flow (raise flow x path) x = augmented net ok flow (raise flow x path) f a in
+    let labels : (d : ℕ → ℕ) × Levels d net.arcs (d net.source) path = (let q = path_labels net flow (raise flow x path) a in (q.0, q.4)) in
+    omega (arith, raise_at_most labels.0 net.arcs flow x (take k path) (labels.0 net.source) i (levels_take labels.0 net.arcs (labels.0 net.source) path k labels.1), amounts i, after.raised, small (raise flow x path) after.is_flow)
+
+pub takes_more : (net : Network) (n : ℕ) (flow after : List ℕ) → Takes net n flow → Augments net flow after → Takes net (n + 1) after
+takes_more net n flow after t a = rw add-one (flow, t, a)

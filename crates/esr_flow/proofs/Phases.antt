@@ -1,0 +1,159 @@
+-- The number of augmentations: in a phase the sink's distance stays, and each augmentation leaves fewer tight arcs;
+-- each further phase has a greater distance.
+use Rattle.std.proofs.Common.{◌≡◌, ℕ, zero, suc, ◌+◌, ◌*◌, ◌<◌, ◌≤◌, true, false, ◌⊎◌, leb, min, List, [], ◌∷◌, length, replicate, Option, Some, None, refl, sym, ap, ◌∙◌, subst, inl, inr, arith, le-leb, leb-true, mul-le-mul_right, ne_eqb}
+use Rattle.std.proofs.lemmas.Bool.{or_from, and_right}
+use Rattle.std.proofs.lemmas.List.{length-replicate}
+use Rattle.esr_cert.specs.declared.network.Arc.{Arc}
+use Rattle.esr_flow.specs.declared.step.Step.{Step}
+use Rattle.esr_flow.specs.Residual.{Falls, finish, room, IsPath, lesser, least_room, shift, raise}
+use Rattle.esr_cert.specs.Flow.{within}
+use Rattle.esr_cert.specs.Network.{arc_at, Network, IsNetwork}
+use Rattle.esr_flow.specs.Augmentation.{Augments, Takes}
+use Rattle.esr_flow.proofs.Count.{count_below, count_le, count_none_lem, count_fewer}
+use Rattle.esr_flow.proofs.Labels.{Levels, Rooms, Bottle, levels_from, tight, tight_at, outcome, bottleneck, falls_after, length-shift}
+use Rattle.esr_flow.proofs.Distance.{distance, distance_sink, distance_falls, distance_limit, steps_le_nodes}
+
+within_le : (y x : ℕ) (o : Option ℕ) → y ≤ x → within x o ≡ true → within y o ≡ true
+within_le y x None l h = refl
+within_le y x (Some r) l h = le-leb y r (omega (arith, leb-true x r h))
+
+rooms_le : (arcs : List Arc) (flow : List ℕ) (y x : ℕ) (path : List Step) → y ≤ x → Rooms arcs flow x path → Rooms arcs flow y path
+rooms_le arcs flow y x [] l r = tt
+rooms_le arcs flow y x (s ∷ path) l r = (within_le y x (room arcs flow s) l r.0, rooms_le arcs flow y x path l r.1)
+
+-- the lesser of two rooms is within both, and is one of them
+lesser_parts : (a b : Option ℕ) (x : ℕ) → lesser a b ≡ Some x → (within x a ≡ true) × (within x b ≡ true) × ((a ≡ Some x) ⊎ (b ≡ Some x))
+lesser_parts None b x h = (refl, subst (λ o. within x o ≡ true) (sym h) (le-leb x x (omega arith)), inr h)
+lesser_parts (Some a) None x h = (subst (λ o. within x o ≡ true) (sym h) (le-leb x x (omega arith)), refl, inl h)
+lesser_parts (Some a) (Some b) x h =
+    let e : min a b ≡ x = cc in
+    let split : (a ≡ x) ⊎ (b ≡ x) = grind arith in
+    (le-leb x a (omega arith), le-leb x b (omega arith), elim split [ inl q ↦ inl (ap (λ n. Some n) q) | inr q ↦ inr (ap (λ n. Some n) q) ])
+
+-- what the least room on a path says of each step and of one of them
+within_room : (x : ℕ) (b : Option ℕ) → within x b ≡ true → (r : ℕ) → b ≡ Some r → x ≤ r
+within_room x None h r e = cc
+within_room x (Some s) h r e = let q : s ≡ r = cc in omega (arith, leb-true x s h)
+
+lesser_none : (a b : Option ℕ) → lesser a b ≡ None → (a ≡ None) × (b ≡ None)
+lesser_none None b h = (refl, h)
+lesser_none (Some a) None h = cc
+lesser_none (Some a) (Some b) h = cc
+
+rooms_none : (arcs : List Arc) (flow : List ℕ) (x : ℕ) (path : List Step) → least_room arcs flow path ≡ None → Rooms arcs flow x path
+rooms_none arcs flow x [] h = tt
+rooms_none arcs flow x (s ∷ path) h =
+    let p : (room arcs flow s ≡ None) × (least_room arcs flow path ≡ None) = lesser_none _ _ h in
+    (ap (within x) p.0, rooms_none arcs flow x path p.1)
+
+-- within the least room, within each
+pub rooms_within : (arcs : List Arc) (flow : List ℕ) (x : ℕ) (path : List Step) → within x (least_room arcs flow path) ≡ true → Rooms arcs flow x path
+rooms_within arcs flow x [] h = tt
+rooms_within arcs flow x (s ∷ path) h =
+    let p : (within x (room arcs flow s) ≡ true) × (within x (least_room arcs flow path) ≡ true) = lesser_within (room arcs flow s) (least_room arcs flow path) x h in
+    (p.0, rooms_within arcs flow x path p.1)
+  where
+    lesser_within : (a b : Option ℕ) (x : ℕ) → within x (lesser a b) ≡ true → (within x a ≡ true) × (within x b ≡ true)
+    lesser_within None b x h = (refl, h)
+    lesser_within (Some a) None x h = (h, refl)
+    lesser_within (Some a) (Some b) x h = let l : x ≤ min a b = leb-true x (min a b) h in (le-leb x a (omega arith), le-leb x b (omega arith))
+
+pub rooms_from : (arcs : List Arc) (flow : List ℕ) (x : ℕ) (path : List Step) → least_room arcs flow path ≡ Some x → Rooms arcs flow x path
+rooms_from arcs flow x path h = rooms_within arcs flow x path (subst (λ o. within x o ≡ true) (sym h) (le-leb x x (omega arith)))
+
+pub bottle_from : (arcs : List Arc) (flow : List ℕ) (x : ℕ) (path : List Step) → least_room arcs flow path ≡ Some x → Bottle arcs flow x path
+bottle_from arcs flow x [] h = cc
+bottle_from arcs flow x (s ∷ path) h =
+    elim (lesser_parts (room arcs flow s) (least_room arcs flow path) x h).2 [
+      | inl e ↦ inl e
+      | inr e ↦ inr (bottle_from arcs flow x path e)
+    ]
+
+pub amount_pos : (arcs : List Arc) (flow : List ℕ) (x : ℕ) (path : List Step) (a b : ℕ) → IsPath arcs flow a path b → Bottle arcs flow x path → 1 ≤ x
+amount_pos arcs flow x [] a b h r = absurd r
+amount_pos arcs flow x (s ∷ path) a b h (inl e) = within_room 1 (room arcs flow s) h.1.1 x e
+amount_pos arcs flow x (s ∷ path) a b h (inr r) = amount_pos arcs flow x path (finish arcs s) b h.2 r
+
+pub length-raise : (flow : List ℕ) (x : ℕ) (path : List Step) → length (raise flow x path) ≡ length flow
+length-raise flow x [] = refl
+length-raise flow x (s ∷ path) = length-raise (shift flow x s) x path ∙ length-shift flow x s
+
+-- an augmentation along a path on which the labels fall at each step leaves fewer tight arcs
+pub fewer_tight : (d : ℕ → ℕ) (arcs : List Arc) (flow : List ℕ) (x : ℕ) (path : List Step) (k : ℕ) → 1 ≤ x → length flow ≡ length arcs → Levels d arcs k path → Rooms arcs flow x path → Bottle arcs flow x path → suc (count_below (tight d arcs (raise flow x path)) (length arcs)) ≤ count_below (tight d arcs flow) (length arcs)
+fewer_tight d arcs flow x path k l len h r b =
+    let full : (i : ℕ) × (i < length arcs) × (tight d arcs flow i ≡ true) × (tight d arcs (raise flow x path) i ≡ false) = bottleneck d arcs flow x path k l len h r b in
+    count_fewer (tight d arcs (raise flow x path)) (tight d arcs flow) (length arcs) full.0 still full.1 full.3 full.2
+  where
+    still : (i : ℕ) → i < length arcs → tight d arcs (raise flow x path) i ≡ true → tight d arcs flow i ≡ true
+    still i m t = elim (outcome d arcs flow x path k i l h r) [ inl e ↦ ap (tight_at d (arc_at arcs i)) (sym e) ∙ t | inr q ↦ q ]
+
+-- what holds after n augmentations, for some labels
+pub record Phase (net : Network) (n : ℕ) (flow : List ℕ) : Type 0 where
+  pub label : ℕ → ℕ
+  pub at_sink : label net.sink ≡ 0
+  pub falls : Falls net.arcs flow label
+  pub few : label net.source ≤ net.nodes
+  pub spent : n + count_below (tight label net.arcs flow) (length net.arcs) ≤ label net.source * length net.arcs
+  pub same_length : length flow ≡ length net.arcs
+
+first_phase : (net : Network) → Phase net 0 (replicate (length net.arcs) 0)
+first_phase net = record {
+  label = λ v. 0;
+  at_sink = refl;
+  falls = λ s res. omega arith;
+  few = omega arith;
+  spent = omega (arith, count_none_lem (tight (λ v. 0) net.arcs (replicate (length net.arcs) 0)) (length net.arcs) (λ i. or_from _ _ (and_right _ _ (ne_eqb 0 1 (λ (e : 0 ≡ 1). omega arith))) (and_right _ _ (ne_eqb 0 1 (λ (e : 0 ≡ 1). omega arith)))));
+  same_length = length-replicate (length net.arcs) 0;
+}
+
+-- the augmentation within a phase: the path is as long as the source's label
+within_phase : (net : Network) → IsNetwork net → (n : ℕ) (flow after : List ℕ) (p : Phase net n flow) (a : Augments net flow after) → length a.path ≤ p.label net.source → Phase net (suc n) after
+within_phase net ok n flow after p a l =
+    let b : Bottle net.arcs flow a.amount a.path = bottle_from net.arcs flow a.amount a.path a.is_least in
+    let r : Rooms net.arcs flow a.amount a.path = rooms_from net.arcs flow a.amount a.path a.is_least in
+    let x : 1 ≤ a.amount = amount_pos net.arcs flow a.amount a.path net.source net.sink a.is_path b in
+    let h : Levels p.label net.arcs (p.label net.source) a.path = levels_from net.arcs flow p.label p.falls a.path net.source net.sink a.is_path (omega (arith, p.at_sink)) in
+    let fewer : suc (count_below (tight p.label net.arcs (raise flow a.amount a.path)) (length net.arcs)) ≤ count_below (tight p.label net.arcs flow) (length net.arcs) =
+    fewer_tight p.label net.arcs flow a.amount a.path (p.label net.source) x p.same_length h r b in
+    subst (Phase net (suc n)) (sym a.is_raised) (record {
+      label = p.label;
+      at_sink = p.at_sink;
+      falls = falls_after p.label net.arcs flow a.amount a.path (p.label net.source) x h r p.falls;
+      few = p.few;
+      spent = omega (arith, p.spent);
+      same_length = length-raise flow a.amount a.path ∙ p.same_length;
+    })
+
+-- where the path is longer, a phase begins
+next_phase : (net : Network) → IsNetwork net → (n : ℕ) (flow after : List ℕ) (p : Phase net n flow) (a : Augments net flow after) → p.label net.source < length a.path → (q : Phase net n flow) × (length a.path ≤ q.label net.source)
+next_phase net ok n flow after p a l =
+    let d : ℕ → ℕ = distance net.arcs flow net.sink (length a.path) in
+    let top : d net.source ≡ length a.path = distance_limit net.arcs flow net.sink (length a.path) net.source a.is_shortest in
+    let falls : Falls net.arcs flow d = distance_falls net.arcs flow net.sink (length a.path) in
+    let bottom : d net.sink ≡ 0 = distance_sink net.arcs flow net.sink (length a.path) in
+    let h : Levels d net.arcs (d net.source) a.path = levels_from net.arcs flow d falls a.path net.source net.sink a.is_path (omega arith) in
+    let few : length a.path ≤ net.nodes = omega (arith, steps_le_nodes net ok d (d net.source) a.path h, count_le (λ v. leb (d v) (d net.source)) net.nodes) in
+    let all : count_below (tight d net.arcs flow) (length net.arcs) ≤ length net.arcs = count_le (tight d net.arcs flow) (length net.arcs) in
+    let rows : suc (p.label net.source) * length net.arcs ≤ d net.source * length net.arcs = mul-le-mul_right (length net.arcs) (omega arith) in
+    (record { label = d; at_sink = bottom; falls = falls; few = omega arith; spent = omega (arith, p.spent, rows, all); same_length = p.same_length }, omega arith)
+
+phase_step : (net : Network) → IsNetwork net → (n : ℕ) (flow after : List ℕ) → Phase net n flow → Augments net flow after → Phase net (suc n) after
+phase_step net ok n flow after p a =
+    let split : (length a.path ≤ p.label net.source) ⊎ (p.label net.source < length a.path) = grind arith in
+    elim split [
+      | inl l ↦ within_phase net ok n flow after p a l
+      | inr l ↦
+          let q : (q : Phase net n flow) × (length a.path ≤ q.label net.source) = next_phase net ok n flow after p a l in
+          within_phase net ok n flow after q.0 a q.1
+    ]
+
+pub phases : (net : Network) → IsNetwork net → (n : ℕ) (flow : List ℕ) → Takes net n flow → Phase net n flow
+phases net ok zero flow h = subst (Phase net 0) (sym h) (first_phase net)
+phases net ok (suc n) flow h = phase_step net ok n h.0 flow (phases net ok n h.0 h.1) h.2
+
+-- at most nodes times arcs
+pub few_augmentations : (net : Network) → IsNetwork net → (n : ℕ) (flow : List ℕ) → Takes net n flow → n ≤ net.nodes * length net.arcs
+few_augmentations net ok n flow h =
+    let p : Phase net n flow = phases net ok n flow h in
+    let rows : p.label net.source * length net.arcs ≤ net.nodes * length net.arcs = mul-le-mul_right (length net.arcs) p.few in
+    omega (arith, p.spent, rows)

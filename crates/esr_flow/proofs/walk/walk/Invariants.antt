@@ -1,0 +1,10 @@
+use Rattle.std.proofs.Common.{◌≡◌, ◌+◌, ◌*◌, length}
+use Rattle.esr_flow.specs.Graph.{net_of}
+use Rattle.esr_flow.proofs.WalkLaws.{Walk, untried}
+use Rattle.esr_flow.proofs.walk.walk.Given as goal
+
+abbrev pub invariant-loop-at : goal.invariant-loop-at
+invariant-loop-at l = Walk (net_of l.graph) l.flow l.labels l.path.items l.at × (length l.next ≡ l.graph.nodes)
+
+abbrev pub decreases-loop-at : goal.decreases-loop-at
+decreases-loop-at l = 2 * untried l.graph.spans.items l.next + length l.path.items

@@ -1,0 +1,25 @@
+-- Augmentations along shortest paths (Edmonds and Karp, 1972), and what the source reaches in the residual network.
+use Rattle.std.specs.Prelude.{◌≡◌, ℕ, zero, suc, ◌≤◌, Bool, true, List, length, replicate, Some}
+use Rattle.esr_cert.specs.Network.{Network}
+use Rattle.esr_flow.specs.declared.step.Step.{Step}
+use Rattle.esr_flow.specs.Residual.{start, finish, IsResidual, IsPath, least_room, raise}
+
+-- one augmentation, along a residual path with fewest arcs, by the least residual amount on it
+pub record Augments (net : Network) (flow after : List ℕ) : Type 0 where
+  pub path : List Step
+  pub amount : ℕ
+  pub is_path : IsPath net.arcs flow net.source path net.sink
+  pub is_shortest : (other : List Step) → IsPath net.arcs flow net.source other net.sink → length path ≤ length other
+  pub is_least : least_room net.arcs flow path ≡ Some amount
+  pub is_raised : after ≡ raise flow amount path
+
+-- n augmentations lead from the flow of zeros to this one
+abbrev pub Takes : Network → ℕ → List ℕ → Type 0
+Takes net zero flow = flow ≡ replicate (length net.arcs) 0
+Takes net (suc n) flow = (before : List ℕ) × Takes net n before × Augments net before flow
+
+-- the nodes that the source reaches in the residual network: the source, what a residual step leads to, and no others
+pub record IsReach (net : Network) (flow : List ℕ) (has : ℕ → Bool) : Type 0 where
+  pub source : has net.source ≡ true
+  pub kept : (step : Step) → IsResidual net.arcs flow step → has (start net.arcs step) ≡ true → has (finish net.arcs step) ≡ true
+  pub reached : (v : ℕ) → has v ≡ true → (path : List Step) × IsPath net.arcs flow net.source path v

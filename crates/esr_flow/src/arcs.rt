@@ -1,0 +1,88 @@
+//! The arcs of a problem's network.
+ghost use Rattle.std.specs.Prelude.{◌≡◌, ℕ, ◌+◌, ◌<◌, ◌≤◌, true, List, ◌++◌, length, get_or, map, flat_map, IfOk};
+ghost use Rattle.esr_cert.specs.declared.problem.Chain.{Chain};
+ghost use Rattle.esr_cert.specs.Views.{chain_of};
+ghost use Rattle.esr_cert.specs.Network.{links, chain_links, back_arc, must_arc, network};
+
+use esr_cert::{Arc, Chain, Problem};
+use std::alloc::{AllocError, Global};
+
+/// Adds the arcs of a chain.
+fn push_links(
+    arcs: &mut Vec<Arc>,
+    source: usize,
+    sink: usize,
+    writers: &[u32],
+    costs: &[u64],
+) -> Result<(), AllocError>
+    requires { length costs.now ≡ length writers.now + 1 }
+    ensures { IfOk result (λ _. arcs.new.items ≡ arcs.old.items ++ links source sink writers.now costs.now) }
+{
+    let mut from = source;
+    for (j, cost) in costs.iter().enumerate() {
+        let to = if j < writers.len() {
+            writers[j] as usize
+        } else {
+            sink
+        };
+        arcs.push(Arc {
+            from,
+            to,
+            capacity: Some(*cost),
+        })?;
+        from = to;
+    }
+    Ok(())
+}
+
+/// Adds the arcs of all chains.
+fn push_chains(arcs: &mut Vec<Arc>, source: usize, chains: &[Chain]) -> Result<(), AllocError>
+    requires chains { (k : ℕ) (d : Chain) → k < length chains.now → length (get_or chains.now k d).costs.items ≡ length (get_or chains.now k d).writers.items + 1 }
+    requires source { source ≤ 65535 }
+    ensures { IfOk result (λ _. arcs.new.items ≡ arcs.old.items ++ flat_map (λ chain. chain_links source (chain_of chain)) chains.now) }
+{
+    for chain in chains {
+        push_links(arcs, source, source + 1, &chain.writers, &chain.costs)?;
+    }
+    Ok(())
+}
+
+/// Adds the back arcs.
+fn push_backs(arcs: &mut Vec<Arc>, before: &[(u32, u32)]) -> Result<(), AllocError>
+    ensures { IfOk result (λ _. arcs.new.items ≡ arcs.old.items ++ map back_arc before.now) }
+{
+    for pair in before {
+        arcs.push(Arc {
+            from: pair.1 as usize,
+            to: pair.0 as usize,
+            capacity: None,
+        })?;
+    }
+    Ok(())
+}
+
+/// Adds the arcs into the updates that a set must hold.
+fn push_musts(arcs: &mut Vec<Arc>, source: usize, must: &[u32]) -> Result<(), AllocError>
+    ensures { IfOk result (λ _. arcs.new.items ≡ arcs.old.items ++ map (must_arc source) must.now) }
+{
+    for u in must {
+        arcs.push(Arc {
+            from: source,
+            to: *u as usize,
+            capacity: None,
+        })?;
+    }
+    Ok(())
+}
+
+/// The arcs of a problem's network, in its order.
+pub fn arcs_of(alloc: Global, problem: &Problem) -> Result<Vec<Arc>, AllocError>
+    ensures { IfOk result (λ arcs. arcs.items ≡ (network problem.now).arcs) }
+{
+    let source = problem.updates().len();
+    let mut arcs = Vec::new(alloc);
+    push_chains(&mut arcs, source, problem.chains())?;
+    push_backs(&mut arcs, problem.before())?;
+    push_musts(&mut arcs, source, problem.must())?;
+    Ok(arcs)
+}

@@ -1,0 +1,168 @@
+//! A greatest flow, by shortest augmenting paths.
+ghost use Rattle.std.specs.Prelude.{◌≡◌, ℕ, ◌+◌, ◌*◌, ◌^◌, ◌<◌, ◌≤◌, ◌≢◌, Bool, true, false, length, get_or, take, IfOk, List, None};
+ghost use Rattle.esr_flow.specs.declared.step.Step.{Step};
+ghost use Rattle.esr_cert.specs.Network.{Network, IsNetwork};
+ghost use Rattle.esr_flow.specs.Residual.{arc_of, lesser, least_room, raise, IsPath};
+ghost use Rattle.esr_cert.specs.Flow.{amount_at, IsFlow, worth};
+ghost use Rattle.esr_flow.specs.Augmentation.{IsReach, Augments, Takes};
+ghost use Rattle.esr_flow.specs.Graph.{net_of, IsGraph};
+ghost use Rattle.esr_flow.specs.Search.{IsShortestPath, Guides, IsGuided, is_marked};
+ghost use Rattle.esr_flow.specs.Maximum.{InArcs, HasLimit, LIMIT};
+
+use crate::graph::{Graph, room_of};
+use crate::search::{Found, search};
+use crate::step::Step;
+use crate::walk::{rewind, walk};
+use esr_cert::Arc;
+use std::alloc::{AllocError, Global};
+
+fn lesser_of(a: Option<u64>, b: Option<u64>) -> Option<u64>
+    ensures { result ≡ lesser a b }
+{
+    match a {
+        None => b,
+        Some(x) => match b {
+            None => Some(x),
+            Some(y) => Some(x.min(y)),
+        },
+    }
+}
+
+/// The least residual amount on a path.
+fn least_room_of(arcs: &[Arc], flow: &[u64], path: &[Step]) -> Option<u64>
+    requires flow { length flow.now ≡ length arcs.now }
+    requires path { InArcs arcs.now path.now }
+    ensures { result ≡ least_room arcs.now flow.now path.now }
+{
+    let mut least = None;
+    for step in path {
+        least = lesser_of(least, room_of(arcs, flow, *step));
+    }
+    least
+}
+
+/// Raises the amounts along a path.
+fn raise_along(flow: &mut [u64], amount: u64, path: &[Step])
+    requires in_flow { (k : ℕ) (d : Step) → k < length path.now → arc_of (get_or path.now k d) < length flow.old }
+    requires fits { (k i : ℕ) → amount_at (raise flow.old amount (take k path.now)) i + amount < 2 ^ 64 }
+    ensures { flow.new ≡ raise flow.old amount path.now }
+{
+    for step in path {
+        match *step {
+            Step::Along(i) => flow[i] += amount,
+            Step::Against(i) => flow[i] = flow[i].saturating_sub(amount),
+        }
+    }
+}
+
+/// One augmentation, along a path that a search found, by the amount that it returns.
+fn augment(graph: &Graph, flow: &mut [u64], path: &[Step]) -> u64
+    requires graph { IsGraph graph.now }
+    requires flow { IsFlow (net_of graph.now) flow.old }
+    requires amounts { (i : ℕ) → amount_at flow.old i ≤ LIMIT }
+    requires small { (f : List ℕ) → IsFlow (net_of graph.now) f → worth (net_of graph.now) f ≤ LIMIT }
+    requires path { IsShortestPath (net_of graph.now) flow.old path.now }
+    requires limited { HasLimit (net_of graph.now) }
+    ensures augments { Augments (net_of graph.now) flow.old flow.new }
+    ensures worth { worth (net_of graph.now) flow.new ≡ worth (net_of graph.now) flow.old + result }
+{
+    match least_room_of(&graph.arcs, flow, path) {
+        None => unreachable!(),
+        Some(amount) => {
+            raise_along(flow, amount, path);
+            amount
+        }
+    }
+}
+
+/// How many augmentations a flow took, in how many phases, and what it is worth.
+#[derive(Clone, Copy)]
+pub struct Progress {
+    pub augmentations: u64,
+    pub phases: u64,
+    pub worth: u64,
+}
+
+/// Augments along a first path and along each that a walk down the labels finds after it.
+fn run_phase(
+    alloc: Global,
+    graph: &Graph,
+    labels: &[usize],
+    first: Vec<Step>,
+    flow: &mut [u64],
+    before: Progress,
+) -> Result<Progress, AllocError>
+    requires graph { IsGraph graph.now }
+    requires small { (f : List ℕ) → IsFlow (net_of graph.now) f → worth (net_of graph.now) f ≤ LIMIT }
+    requires limited { HasLimit (net_of graph.now) }
+    requires guides { Guides (net_of graph.now) flow.old labels.now }
+    requires first { IsGuided (net_of graph.now) flow.old labels.now first.items }
+    requires takes { Takes (net_of graph.now) before.augmentations flow.old }
+    requires worth { before.worth ≡ worth (net_of graph.now) flow.old }
+    requires phases { before.phases ≤ before.augmentations }
+    ensures takes { IfOk result (λ p. Takes (net_of graph.now) p.augmentations flow.new) }
+    ensures worth { IfOk result (λ p. p.worth ≡ worth (net_of graph.now) flow.new) }
+    ensures more { IfOk result (λ p. before.augmentations < p.augmentations) }
+    ensures phases { IfOk result (λ p. p.phases ≤ p.augmentations) }
+{
+    let mut next = vec![in alloc; 0usize; graph.nodes]?;
+    let mut augmentations = before.augmentations;
+    let mut worth = before.worth;
+    let mut path = first;
+    loop {
+        worth += augment(graph, flow, &path);
+        augmentations += 1;
+        rewind(graph, &mut next, &path);
+        match walk(alloc, graph, flow, labels, &mut next)? {
+            None => return Ok(Progress { augmentations, phases: before.phases + 1, worth }),
+            Some(found) => path = found,
+        }
+    }
+}
+
+/// A flow that no augmentation can raise, how many augmentations it took, and marks of what the source reaches.
+#[derive(Drop)]
+pub struct MaximumFlow {
+    pub flow: Vec<u64>,
+    pub augmentations: u64,
+    pub phases: u64,
+    pub worth: u64,
+    pub marks: Vec<bool>,
+}
+
+/// Augments the flow of zeros along shortest paths until there is none.
+pub fn find_maximum(alloc: Global, graph: &Graph) -> Result<MaximumFlow, AllocError>
+    requires graph { IsGraph graph.now }
+    requires small { (f : List ℕ) → IsFlow (net_of graph.now) f → worth (net_of graph.now) f ≤ LIMIT }
+    requires limited { HasLimit (net_of graph.now) }
+    ensures takes { IfOk result (λ m. Takes (net_of graph.now) m.augmentations m.flow.items) }
+    ensures few { IfOk result (λ m. m.augmentations ≤ graph.now.nodes * length graph.now.arcs.items) }
+    ensures flow { IfOk result (λ m. IsFlow (net_of graph.now) m.flow.items) }
+    ensures worth_is { IfOk result (λ m. m.worth ≡ worth (net_of graph.now) m.flow.items) }
+    ensures worth { IfOk result (λ m. m.augmentations ≤ worth (net_of graph.now) m.flow.items) }
+    ensures amounts { IfOk result (λ m. (i : ℕ) → amount_at m.flow.items i ≤ m.worth) }
+    ensures phases { IfOk result (λ m. m.phases ≤ m.augmentations) }
+    ensures reach { IfOk result (λ m. IsReach (net_of graph.now) m.flow.items (is_marked m.marks.items)) }
+    ensures end { IfOk result (λ m. (is_marked m.marks.items graph.now.sink ≡ false) × (length m.marks.items ≡ graph.now.nodes)) }
+{
+    let mut flow = vec![in alloc; 0u64; graph.arcs.len()]?;
+    let mut progress = Progress {
+        augmentations: 0,
+        phases: 0,
+        worth: 0,
+    };
+    loop {
+        match search(alloc, graph, &flow)? {
+            Found::Reach(marks) => return Ok(MaximumFlow {
+                flow,
+                augmentations: progress.augmentations,
+                phases: progress.phases,
+                worth: progress.worth,
+                marks,
+            }),
+            Found::Path(path, labels) => {
+                progress = run_phase(alloc, graph, &labels, path, &mut flow, progress)?;
+            }
+        }
+    }
+}

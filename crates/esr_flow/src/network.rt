@@ -1,0 +1,60 @@
+//! The network of a problem, ready to be solved.
+ghost use Rattle.std.specs.Prelude.{◌≡◌, ◌+◌, ◌<◌, true, IfOk};
+ghost use Rattle.esr_cert.specs.Problem.{is_sound};
+ghost use Rattle.esr_cert.specs.Network as networks;
+ghost use Rattle.esr_flow.specs.Graph.{net_of, IsGraph};
+
+use crate::arcs::arcs_of;
+use crate::graph::Graph;
+use crate::rows::{Rows, lay, steps_of};
+use esr_cert::Problem;
+use esr_history::NoMemory;
+use std::alloc::{AllocError, Global};
+
+/// The graph of a problem's network: updates are nodes by their positions, and the
+/// source and the sink come after them.
+fn graph_of(alloc: Global, problem: &Problem) -> Result<Graph, AllocError>
+    ensures graph { IfOk result IsGraph }
+    ensures network { IfOk result (λ graph. net_of graph ≡ networks.network problem.now) }
+{
+    let source = problem.updates().len();
+    let nodes = source + 2;
+    let arcs = arcs_of(alloc, problem)?;
+    let steps = steps_of(alloc, nodes, &arcs)?;
+    let Rows { spans, entries } = lay(alloc, &arcs, &steps)?;
+    Ok(Graph {
+        nodes,
+        arcs,
+        spans,
+        entries,
+        source,
+        sink: source + 1,
+    })
+}
+
+/// The network of a problem.
+///
+/// A read item gives a chain of arcs from the source through its writers to the sink,
+/// each with the cost of a version as its capacity; each pair of updates an unlimited
+/// arc from the later back to the earlier; and each update that a set must hold an
+/// unlimited arc from the source. Its cuts without unlimited arcs are the closed sets,
+/// and their capacities are the costs.
+#[derive(Drop)]
+pub struct Network<'a> {
+    pub problem: &'a Problem,
+    pub(crate) graph: Graph,
+    ghost sound: { is_sound problem.now ≡ true },
+    ghost kept: { IsGraph graph },
+    ghost same: { net_of graph ≡ networks.network problem.now },
+}
+
+impl<'a> Network<'a> {
+    /// The network of the problem, in time that grows with its arcs.
+    pub fn build(alloc: Global, problem: &'a Problem) -> Result<Network<'a>, NoMemory>
+        ensures { IfOk result (λ n. n.problem.now ≡ problem.now) }
+    {
+        let graph = graph_of(alloc, problem)?;
+        let _sound = problem.updates();
+        Ok(Network { problem, graph })
+    }
+}

@@ -1,0 +1,136 @@
+//! Breadth-first search of the residual network.
+ghost use Rattle.std.specs.Prelude.{◌≡◌, ℕ, ◌+◌, ◌-◌, ◌<◌, ◌≤◌, ◌≢◌, Bool, true, false, length, get_or, IfOk, IsTrue, IsFalse, reverse, List, Contains, slice_index_or};
+ghost use Rattle.esr_flow.specs.declared.step.Step.{Step};
+ghost use Rattle.esr_cert.specs.Network.{Network, IsNetwork, arc_at};
+ghost use Rattle.esr_cert.specs.Flow.{within, amount_at};
+ghost use Rattle.esr_flow.specs.Residual.{room, arc_of, start, finish, IsResidual, IsPath};
+ghost use Rattle.esr_flow.specs.Augmentation.{IsReach};
+ghost use Rattle.esr_flow.specs.Graph.{net_of, IsGraph, Lists};
+ghost use Rattle.esr_flow.specs.Search.{Searched, visit_at, is_marked, IsShortestPath, AfterScan, FoundSink, IsFound, Guides, IsGuided, label_at};
+
+use crate::graph::{Entry, Graph, has_room};
+use crate::step::Step;
+use std::alloc::{AllocError, Global};
+
+/// A node that was reached, by a step from the node of an earlier visit.
+#[derive(Clone, Copy)]
+pub struct Visit {
+    pub node: usize,
+    pub level: usize,
+    pub step: Step,
+    pub parent: usize,
+}
+
+/// Visits each unmarked node that a step of the row leads to, until the sink is visited.
+fn scan(
+    graph: &Graph,
+    row: &[Entry],
+    flow: &[u64],
+    visits: &mut Vec<Visit>,
+    marks: &mut Vec<bool>,
+    head: usize,
+) -> Result<bool, AllocError>
+    requires graph { IsGraph graph.now }
+    requires row { Lists graph.now.arcs.items (visit_at visits.old.items head).node row.now }
+    requires flow { length flow.now ≡ length graph.now.arcs.items }
+    requires head { head < length visits.old.items }
+    requires searched { Searched (net_of graph.now) flow.now visits.old.items marks.old.items head }
+    requires sink { is_marked marks.old.items graph.now.sink ≡ false }
+    ensures { IfOk result (λ found. AfterScan (net_of graph.now) flow.now visits.new.items marks.new.items head found) }
+{
+    let level = visits[head].level + 1;
+    for entry in row {
+        if !marks[entry.to] {
+            if has_room(&graph.arcs, flow, entry.step) {
+                visits.push(Visit {
+                    node: entry.to,
+                    level,
+                    step: entry.step,
+                    parent: head,
+                })?;
+                marks[entry.to] = true;
+                if entry.to == graph.sink {
+                    return Ok(true);
+                }
+            }
+        }
+    }
+    Ok(false)
+}
+
+/// The steps from the source to the node of the last visit, which is the sink.
+fn path_to_last(
+    alloc: Global,
+    _graph: &Graph,
+    _flow: &[u64],
+    visits: &[Visit],
+) -> Result<Vec<Step>, AllocError>
+    requires { FoundSink (net_of _graph.now) _flow.now visits.now }
+    ensures shortest { IfOk result (λ path. IsShortestPath (net_of _graph.now) _flow.now path.items) }
+    ensures steps { IfOk result (λ path. length path.items ≡ (visit_at visits.now (length visits.now - 1)).level) }
+{
+    let mut path = Vec::new(alloc);
+    let mut at = visits.len() - 1;
+    while at != 0 {
+        let visit = visits[at];
+        path.push(visit.step)?;
+        at = visit.parent;
+    }
+    path.reverse();
+    Ok(path)
+}
+
+/// For each node by how many levels its first visit comes before the last visit, which is of the sink; 0 for the others.
+fn labels_of(
+    alloc: Global,
+    graph: &Graph,
+    _flow: &[u64],
+    visits: &[Visit],
+) -> Result<Vec<usize>, AllocError>
+    requires { FoundSink (net_of graph.now) _flow.now visits.now }
+    ensures guides { IfOk result (λ labels. Guides (net_of graph.now) _flow.now labels.items) }
+    ensures source { IfOk result (λ labels. (visit_at visits.now (length visits.now - 1)).level ≤ label_at labels.items graph.now.source) }
+{
+    let last = visits[visits.len() - 1].level;
+    let mut labels = vec![in alloc; 0usize; graph.nodes]?;
+    for visit in visits {
+        let label = last.saturating_sub(visit.level);
+        labels[visit.node] = labels[visit.node].max(label);
+    }
+    Ok(labels)
+}
+
+/// What a search found: a shortest path and labels that guide to further ones of its length, or marks of the nodes that the source reaches.
+#[derive(Drop)]
+pub enum Found {
+    Path(Vec<Step>, Vec<usize>),
+    Reach(Vec<bool>),
+}
+
+/// Searches the residual network for a path from the source to the sink.
+pub fn search(alloc: Global, graph: &Graph, flow: &[u64]) -> Result<Found, AllocError>
+    requires graph { IsGraph graph.now }
+    requires flow { length flow.now ≡ length graph.now.arcs.items }
+    ensures { IfOk result (λ found. IsFound (net_of graph.now) flow.now found) }
+{
+    let mut marks = vec![in alloc; false; graph.nodes]?;
+    marks[graph.source] = true;
+    let mut visits = Vec::new(alloc);
+    visits.push(Visit {
+        node: graph.source,
+        level: 0,
+        step: Step::Along(0),
+        parent: 0,
+    })?;
+    let mut head = 0;
+    while head < visits.len() {
+        let row = graph.row(visits[head].node);
+        if scan(graph, row, flow, &mut visits, &mut marks, head)? {
+            let path = path_to_last(alloc, graph, flow, &visits)?;
+            let labels = labels_of(alloc, graph, flow, &visits)?;
+            return Ok(Found::Path(path, labels));
+        }
+        head += 1;
+    }
+    Ok(Found::Reach(marks))
+}

@@ -1,0 +1,119 @@
+//! Problems solved: a certificate with the smallest least set.
+ghost use Rattle.std.specs.Prelude.{◌≡◌, ℕ, ◌+◌, ◌*◌, ◌<◌, ◌≤◌, true, false, Some, length, map, sum_by, get_or, IfOk};
+ghost use Rattle.std.specs.List.{concat};
+ghost use Rattle.esr_cert.specs.Problem.{size, in_set, IsSmallestLeast};
+ghost use Rattle.esr_cert.specs.Network.{network};
+ghost use Rattle.esr_cert.specs.Flow as flows;
+ghost use Rattle.esr_cert.specs.Certificate.{amounts, are_rows_matched, Certifies};
+ghost use Rattle.esr_cert.specs.Views.{chain_of, rows_of, certificate_of};
+ghost use Rattle.esr_flow.specs.Augmentation.{IsReach, Takes};
+ghost use Rattle.esr_flow.specs.Search.{is_marked};
+ghost use Rattle.esr_flow.specs.Certificate.{positions};
+
+use crate::maximum::{MaximumFlow, find_maximum};
+use crate::network::Network;
+use esr_cert::{Certificate, Chain, Problem};
+use esr_history::NoMemory;
+use std::alloc::{AllocError, Global};
+
+/// The marked positions, ascending.
+fn members(alloc: Global, marks: &[bool], count: usize) -> Result<Vec<u32>, AllocError>
+    requires room { count ≤ length marks.now }
+    requires few { count ≤ 65535 }
+    ensures { IfOk result (λ set. set.items ≡ positions (is_marked marks.now) count) }
+{
+    let mut set = Vec::new(alloc);
+    for v in 0..count {
+        if marks[v] {
+            set.push(v as u32)?;
+        }
+    }
+    Ok(set)
+}
+
+/// The amounts of each chain, cut from the amounts of all chains.
+fn chain_rows(alloc: Global, flow: &[u64], chains: &[Chain]) -> Result<Vec<Vec<u64>>, AllocError>
+    requires { sum_by (λ chain. length chain.costs.items) chains.now ≡ length flow.now }
+    ensures all { IfOk result (λ rows. concat (rows_of rows.items) ≡ flow.now) }
+    ensures matched { IfOk result (λ rows. are_rows_matched (map chain_of chains.now) (rows_of rows.items) ≡ true) }
+{
+    let mut rows = Vec::new(alloc);
+    let mut at = 0;
+    for chain in chains {
+        let end = at + chain.costs.len();
+        let row = flow[at..end].to_vec(alloc)?;
+        rows.push(row)?;
+        at = end;
+    }
+    Ok(rows)
+}
+
+/// The certificate of a greatest flow, by the nodes that the source still reaches.
+fn certify(
+    alloc: Global,
+    problem: &Problem,
+    maximum: &MaximumFlow,
+) -> Result<Certificate, AllocError>
+    requires flow { flows.IsFlow (network problem.now) maximum.now.flow.items }
+    requires reach { IsReach (network problem.now) maximum.now.flow.items (is_marked maximum.now.marks.items) }
+    requires sink { is_marked maximum.now.marks.items (size problem.now + 1) ≡ false }
+    requires marks { length maximum.now.marks.items ≡ size problem.now + 2 }
+    requires worth { maximum.now.worth ≡ flows.worth (network problem.now) maximum.now.flow.items }
+    requires short { maximum.now.augmentations ≤ (size problem.now + 2) * length (network problem.now).arcs }
+    ensures amounts { IfOk result (λ c. amounts (certificate_of c) ≡ maximum.now.flow.items) }
+    ensures worth { IfOk result (λ c. c.worth ≡ maximum.now.worth) }
+    ensures count { IfOk result (λ c. c.augmentations ≡ Some maximum.now.augmentations) }
+    ensures certifies { IfOk result (λ c. Certifies problem.now (certificate_of c)) }
+    ensures least { IfOk result (λ c. IsSmallestLeast problem.now (in_set c.set.items)) }
+{
+    let flow = maximum.flow.as_slice();
+    let musts = problem.must().len();
+    let backs = problem.before().len();
+    let chains = flow.len() - musts - backs;
+    let set = members(alloc, &maximum.marks, problem.updates().len())?;
+    let chain_flow = chain_rows(alloc, &flow[..chains], problem.chains())?;
+    let back_flow = flow[chains..chains + backs].to_vec(alloc)?;
+    let must_flow = flow[chains + backs..].to_vec(alloc)?;
+    Ok(Certificate {
+        set,
+        chain_flow,
+        back_flow,
+        must_flow,
+        worth: maximum.worth,
+        augmentations: Some(maximum.augmentations),
+    })
+}
+
+/// A problem solved.
+#[derive(Drop)]
+pub struct Solved {
+    /// A closed set of least cost and a flow of equal worth.
+    pub certificate: Certificate,
+    /// How many augmentations led to the flow.
+    pub augmentations: u64,
+    /// In how many phases: searches that found a path.
+    pub phases: u64,
+}
+
+/// Solves a network's problem by augmentations along shortest paths, in phases
+/// (Edmonds and Karp 1972; Dinic 1970).
+///
+/// The certificate's set is the smallest of the closed sets of least cost.
+pub fn solve(alloc: Global, net: &Network) -> Result<Solved, NoMemory>
+    ensures certifies { IfOk result (λ s. Certifies net.now.problem.now (certificate_of s.certificate)) }
+    ensures least { IfOk result (λ s. IsSmallestLeast net.now.problem.now (in_set s.certificate.set.items)) }
+    ensures takes { IfOk result (λ s. Takes (network net.now.problem.now) s.augmentations (amounts (certificate_of s.certificate))) }
+    ensures worth { IfOk result (λ s. s.augmentations ≤ s.certificate.worth) }
+    ensures few { IfOk result (λ s. s.augmentations ≤ (size net.now.problem.now + 2) * length (network net.now.problem.now).arcs) }
+    ensures amounts { IfOk result (λ s. (i : ℕ) → get_or (amounts (certificate_of s.certificate)) i 0 ≤ s.certificate.worth) }
+    ensures count { IfOk result (λ s. s.certificate.augmentations ≡ Some s.augmentations) }
+    ensures phases { IfOk result (λ s. s.phases ≤ s.augmentations) }
+{
+    let maximum = find_maximum(alloc, &net.graph)?;
+    let certificate = certify(alloc, net.problem, &maximum)?;
+    Ok(Solved {
+        certificate,
+        augmentations: maximum.augmentations,
+        phases: maximum.phases,
+    })
+}

@@ -1,0 +1,91 @@
+//! Walks from the source to the sink along steps on which labels fall.
+ghost use Rattle.std.specs.Prelude.{◌≡◌, ℕ, ◌+◌, ◌<◌, ◌≤◌, Bool, true, false, length, get_or, IfOk, IfSome, List};
+ghost use Rattle.esr_flow.specs.declared.step.Step.{Step};
+ghost use Rattle.esr_cert.specs.Network.{Network, IsNetwork};
+ghost use Rattle.esr_cert.specs.Flow.{within};
+ghost use Rattle.esr_flow.specs.Residual.{room, arc_of, start, finish, IsPath};
+ghost use Rattle.esr_flow.specs.Graph.{net_of, IsGraph, Lists, entry_at};
+ghost use Rattle.esr_flow.specs.Search.{Guides, IsGuided, label_at};
+ghost use Rattle.esr_flow.specs.Maximum.{InArcs};
+
+use crate::graph::{Entry, Graph, has_room, start_of};
+use crate::step::Step;
+use std::alloc::{AllocError, Global};
+
+/// The first place of a node's row, from a place on, with a step that has room and
+/// leads to a lesser label; the row's length where there is none.
+fn next_down(
+    graph: &Graph,
+    flow: &[u64],
+    labels: &[usize],
+    at: usize,
+    row: &[Entry],
+    from: usize,
+) -> usize
+    requires graph { IsGraph graph.now }
+    requires node { at < graph.now.nodes }
+    requires row { Lists graph.now.arcs.items at row.now }
+    requires flow { length flow.now ≡ length graph.now.arcs.items }
+    requires labels { length labels.now ≡ graph.now.nodes }
+    ensures later { from ≤ result }
+    ensures room { result < length row.now → within 1 (room graph.now.arcs.items flow.now (entry_at row.now result).step) ≡ true }
+    ensures down { result < length row.now → label_at labels.now (entry_at row.now result).to < label_at labels.now at }
+{
+    let label = labels[at];
+    for i in from..row.len() {
+        let entry = row[i];
+        if labels[entry.to] < label {
+            if has_room(&graph.arcs, flow, entry.step) {
+                return i;
+            }
+        }
+    }
+    if from < row.len() { row.len() } else { from }
+}
+
+/// Goes from the source along steps that lead down, each node's steps from its pointer on, and back where a node has none.
+pub fn walk(
+    alloc: Global,
+    graph: &Graph,
+    flow: &[u64],
+    labels: &[usize],
+    next: &mut [usize],
+) -> Result<Option<Vec<Step>>, AllocError>
+    requires graph { IsGraph graph.now }
+    requires flow { length flow.now ≡ length graph.now.arcs.items }
+    requires guides { Guides (net_of graph.now) flow.now labels.now }
+    requires next { length next.old ≡ graph.now.nodes }
+    ensures { IfOk result (λ found. IfSome found (λ path. IsGuided (net_of graph.now) flow.now labels.now path.items)) }
+{
+    let mut path = Vec::new(alloc);
+    let mut at = graph.source;
+    while at != graph.sink {
+        let row = graph.row(at);
+        let i = next_down(graph, flow, labels, at, row, next[at]);
+        if i < row.len() {
+            next[at] = i + 1;
+            path.push(row[i].step)?;
+            at = row[i].to;
+        } else {
+            next[at] = i;
+            match path.pop() {
+                None => return Ok(None),
+                Some(step) => at = start_of(&graph.arcs, step),
+            }
+        }
+    }
+    Ok(Some(path))
+}
+
+/// Puts the pointers back to the steps of a path, which may have room left.
+pub fn rewind(graph: &Graph, next: &mut [usize], path: &[Step])
+    requires graph { IsGraph graph.now }
+    requires path { InArcs graph.now.arcs.items path.now }
+    requires next { length next.old ≡ graph.now.nodes }
+    ensures { length next.new ≡ length next.old }
+{
+    for step in path {
+        let node = start_of(&graph.arcs, *step);
+        next[node] = next[node].saturating_sub(1);
+    }
+}
