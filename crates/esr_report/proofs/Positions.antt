@@ -1,0 +1,76 @@
+-- Positions of names, seen through the keys that hold them, and a name more.
+use Rattle.std.proofs.Common.{◌≡◌, ℕ, suc, ◌+◌, ◌≤◌, List, [], ◌∷◌, ◌++◌, ◌⊎◌, inl, inr, Bool, true, false, ◌||◌, ◌&&◌, not, cond, nat_lt, map, length, refl, sym, ◌∙◌, ap, arith, Some, None, ltb-false}
+use Rattle.std.specs.List.{position, position_or_len, list_any}
+use Rattle.std.specs.Str.{bytes_eq}
+use Rattle.std.proofs.lemmas.List.Folds.{list_any-append}
+use Rattle.std.proofs.lemmas.Slice.Eq.{bytes_eq-Decides}
+use Rattle.esr_report.specs.Names.{position_of, all_distinct}
+
+which : (v : Bool) → (v ≡ true) ⊎ (v ≡ false)
+which true = inl refl
+which false = inr refl
+
+module _ {X : Type 0} (g : X → List ℕ) where
+  seen : (p : List ℕ → Bool) (xs : List X) → position_or_len (λ k. p (g k)) xs ≡ position_or_len p (map g xs)
+  seen p [] = refl
+  seen p (x ∷ xs) = ap (λ n. cond (not (p (g x))) (1 + n) 0) (seen p xs)
+
+  pub lengths : (xs : List X) → length xs ≡ length (map g xs)
+  lengths [] = refl
+  lengths (x ∷ xs) = ap suc (lengths xs)
+
+  pub position_seen : (p : List ℕ → Bool) (xs : List X) → position (λ k. p (g k)) xs ≡ position p (map g xs)
+  position_seen p xs =
+      ap (λ n. cond (nat_lt n (length xs)) (Some n) None) (seen p xs)
+      ∙ ap (λ m. cond (nat_lt (position_or_len p (map g xs)) m) (Some (position_or_len p (map g xs))) None) (lengths xs)
+
+  pub map_push : (xs : List X) (x : X) → map g (xs ++ x ∷ []) ≡ map g xs ++ g x ∷ []
+  map_push [] x = refl
+  map_push (y ∷ ys) x = ap (λ l. g y ∷ l) (map_push ys x)
+
+  pub any_seen : (p : List ℕ → Bool) (xs : List X) → list_any (λ k. p (g k)) xs ≡ list_any p (map g xs)
+  any_seen p [] = refl
+  any_seen p (x ∷ xs) = ap (λ b. p (g x) || b) (any_seen p xs)
+
+chosen_none : (v : Bool) (n : ℕ) → cond v (Some n) None ≡ None → v ≡ false
+chosen_none true n e = cc
+chosen_none false n e = refl
+
+none_before : (p : List ℕ → Bool) (names : List (List ℕ)) → length names ≤ position_or_len p names → list_any p names ≡ false
+none_before p [] h = refl
+none_before p (x ∷ xs) h = elim (which (p x)) [
+  | inl e ↦ let here : position_or_len p (x ∷ xs) ≡ 0 = rw e refl in absurd (omega (arith, h, here))
+  | inr e ↦ let later : position_or_len p (x ∷ xs) ≡ 1 + position_or_len p xs = rw e refl in rw e (none_before p xs (omega (arith, h, later)))
+]
+
+-- a name with no position is none of the names
+pub nowhere : (names : List (List ℕ)) (name : List ℕ) → position_of names name ≡ None → list_any (bytes_eq name) names ≡ false
+nowhere names name e = none_before (bytes_eq name) names (ltb-false _ _ (chosen_none _ _ e))
+
+differs : (a b : List ℕ) → bytes_eq a b ≡ false → bytes_eq b a ≡ false
+differs a b e = elim (which (bytes_eq b a)) [
+  | inl t ↦ let same = (bytes_eq-Decides a b).1 (sym ((bytes_eq-Decides b a).0 t)) in cc
+  | inr f ↦ f
+]
+
+both_false : (a b : Bool) → (a || b) ≡ false → (a ≡ false) × (b ≡ false)
+both_false true b e = cc
+both_false false b e = (refl, e)
+
+both_true : (a b : Bool) → (a && b) ≡ true → (a ≡ true) × (b ≡ true)
+both_true true b e = (refl, e)
+both_true false b e = cc
+
+not_true : (b : Bool) → not b ≡ true → b ≡ false
+not_true true e = cc
+not_true false e = refl
+
+-- a name that is none of the names may be added
+pub all_distinct-push : (names : List (List ℕ)) (name : List ℕ) → all_distinct names ≡ true → list_any (bytes_eq name) names ≡ false → all_distinct (names ++ name ∷ []) ≡ true
+all_distinct-push [] name h n = refl
+all_distinct-push (x ∷ xs) name h n =
+    let parts = both_true _ _ h in
+    let apart = both_false _ _ n in
+    let alone : list_any (bytes_eq x) (xs ++ name ∷ []) ≡ false =
+    list_any-append (bytes_eq x) xs (name ∷ []) ∙ rw (not_true (list_any (bytes_eq x) xs) parts.0, differs name x apart.0) refl in
+    rw alone (all_distinct-push xs name parts.1 apart.1)

@@ -1,0 +1,8 @@
+use Rattle.std.proofs.Common.{[], ap, ◌∙◌, unwrap_or, get_or}
+use Rattle.std.proofs.lemmas.Option.{unwrap_or-slice_get}
+use Rattle.esr_report.proofs.lines.name_of_transaction.Goals as goal
+
+pub returns-in-None : goal.returns-in-None
+returns-in-None c =
+    let size = c.saturating_sub.ensures in
+    ap (λ o. unwrap_or o []) c.in-None.ensures ∙ unwrap_or-slice_get c.args.names.now c.saturating_sub.result [] ∙ ap (λ n. get_or c.args.names.now n []) size

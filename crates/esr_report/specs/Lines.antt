@@ -1,0 +1,82 @@
+-- The lines of a report.
+use Rattle.std.specs.Prelude.{◌≡◌, ℕ, ℤ, List, [], ◌∷◌, ◌++◌, codes, decimal}
+use Rattle.std.specs.List.{join_with_byte}
+use Rattle.std.specs.Fmt.{signed_decimal}
+use Rattle.esr_history.specs.declared.event.Reply.{Reply}
+use Rattle.esr_history.specs.declared.event.Reply.TheVariants.{Begun, Value, Wrote, Committed, Aborted, Refused}
+use Rattle.esr_history.specs.declared.event.Refusal.{Refusal}
+use Rattle.esr_history.specs.declared.event.Refusal.TheVariants.{NoSuchTransaction, AlreadyEnded, NoSuchItem, QueryMayNotWrite, ValueOutOfRange, LimitOutOfRange, TooManyTransactions, TooManyReads, BlockedByLock, BlockedByImport, BlockedByExport}
+use Rattle.esr_report.specs.declared.lines.LineError.{LineError}
+use Rattle.esr_report.specs.declared.lines.LineError.TheVariants as error
+use Rattle.esr_report.specs.Names.{name_of_transaction}
+
+-- the front stands first in the whole
+abbrev pub BeginsWith : List ℕ → List ℕ → Type 0
+BeginsWith whole front = (rest : List ℕ) × (whole ≡ front ++ rest)
+
+-- words parted by blanks, and a line feed
+abbrev pub line : List (List ℕ) → List ℕ
+line words = join_with_byte 32 words ++ 10 ∷ []
+
+-- a declared item
+abbrev pub item_line : List ℕ → ℤ → List ℕ
+item_line name value = line (codes "item" ∷ name ∷ signed_decimal value ∷ [])
+
+-- a transaction that has begun, with its number
+abbrev pub begun_line : List ℕ → ℕ → List ℕ
+begun_line name number = line (codes "begun" ∷ name ∷ decimal number ∷ [])
+
+-- the value that a transaction read of an item
+abbrev pub value_line : List ℕ → List ℕ → ℤ → List ℕ
+value_line txn item value = line (txn ∷ item ∷ signed_decimal value ∷ [])
+
+abbrev pub wrote_line : List ℕ → List ℕ → ℤ → List ℕ
+wrote_line txn item value = line (codes "wrote" ∷ txn ∷ item ∷ signed_decimal value ∷ [])
+
+abbrev pub committed_line : List ℕ → List ℕ
+committed_line txn = line (codes "committed" ∷ txn ∷ [])
+
+abbrev pub aborted_line : List ℕ → List ℕ
+aborted_line txn = line (codes "aborted" ∷ txn ∷ [])
+
+-- why an event was refused; the names are those of the transactions, in the order of their numbers
+abbrev pub refusal_line : List (List ℕ) → Refusal → List ℕ
+refusal_line names NoSuchTransaction = line (codes "refused 1 no such transaction" ∷ [])
+refusal_line names AlreadyEnded = line (codes "refused 2 already ended" ∷ [])
+refusal_line names NoSuchItem = line (codes "refused 3 no such item" ∷ [])
+refusal_line names QueryMayNotWrite = line (codes "refused 4 a query may not write" ∷ [])
+refusal_line names ValueOutOfRange = line (codes "refused 5 value out of range" ∷ [])
+refusal_line names LimitOutOfRange = line (codes "refused 6 limit out of range" ∷ [])
+refusal_line names TooManyTransactions = line (codes "refused 7 too many transactions" ∷ [])
+refusal_line names TooManyReads = line (codes "refused 8 too many reads" ∷ [])
+refusal_line names (BlockedByLock holder) = line (codes "blocked 9 lock" ∷ name_of_transaction names holder.0 ∷ [])
+refusal_line names (BlockedByImport query) = line (codes "blocked 10 import" ∷ name_of_transaction names query.0 ∷ [])
+refusal_line names (BlockedByExport update) = line (codes "blocked 11 export" ∷ name_of_transaction names update.0 ∷ [])
+
+-- what an event names: a transaction, an item and a value to write, as far as it has them
+pub record Named : Type 0 where
+  pub txn : List ℕ
+  pub item : List ℕ
+  pub value : ℤ
+
+-- the machine's reply to an event
+abbrev pub reply_line : List (List ℕ) → Named → Reply → List ℕ
+reply_line names named (Begun number) = begun_line named.txn number.0
+reply_line names named (Value value) = value_line named.txn named.item value
+reply_line names named Wrote = wrote_line named.txn named.item named.value
+reply_line names named Committed = committed_line named.txn
+reply_line names named Aborted = aborted_line named.txn
+reply_line names named (Refused why) = refusal_line names why
+
+-- the totals of imports and of exports, and the length of the history
+abbrev pub totals_line : ℕ → ℕ → ℕ → List ℕ
+totals_line imports exports entries =
+    line (codes "totals import" ∷ decimal imports ∷ codes "export" ∷ decimal exports ∷ codes "entries" ∷ decimal entries ∷ [])
+
+-- what is wrong with a line that makes no event
+abbrev pub error_line : LineError → List ℕ
+error_line error.NotACommand = line (codes "error 1 not a command" ∷ [])
+error_line error.ItemsAreClosed = line (codes "error 2 items are closed" ∷ [])
+error_line error.NameInUse = line (codes "error 3 name in use" ∷ [])
+error_line error.ValueOutOfRange = line (codes "error 4 value out of range" ∷ [])
+error_line error.TooManyItems = line (codes "error 5 too many items" ∷ [])

@@ -1,0 +1,191 @@
+ghost use Rattle.std.specs.Prelude.{◌≡◌, ℕ, List, ◌++◌, ◌∷◌, OnOk, OnErr, map};
+ghost use Rattle.esr_report.specs.Lines.{BeginsWith, line, item_line, begun_line, value_line, wrote_line, refusal_line, reply_line, totals_line, error_line};
+ghost use Rattle.esr_report.specs.Subjects.{named_by};
+ghost use Rattle.esr_report.specs.Names.{name_of_transaction};
+
+use crate::names::Names;
+use esr_history::{Refusal, Reply, TxnId};
+use std::alloc::AllocError;
+
+/// What is wrong with a line that makes no event.
+#[derive(Clone, Copy, PartialEq, Eq, Debug)]
+pub enum LineError {
+    NotACommand,
+    ItemsAreClosed,
+    NameInUse,
+    ValueOutOfRange,
+    TooManyItems,
+}
+
+/// What an event names, for the line that answers it: a transaction, an item and
+/// a value to write, as far as it has them.
+#[derive(Clone, Copy, Debug)]
+pub struct Subject<'a> {
+    pub txn: &'a str,
+    pub item: &'a str,
+    pub value: i64,
+}
+
+/// Appends words parted by blanks, and a line feed.
+fn push_words(out: &mut Vec<u8>, first: &str, rest: &[&str]) -> Result<(), AllocError>
+    ensures ok { OnOk result (out.new.items ≡ out.old.items ++ line (first.now ∷ map (λ word. word.now) rest.now)) }
+    ensures kept { BeginsWith out.new.items out.old.items }
+{
+    out.extend_from_slice(first.as_bytes())?;
+    for word in rest {
+        out.push(b' ')?;
+        out.extend_from_slice(word.as_bytes())?;
+    }
+    out.push(b'\n')?;
+    Ok(())
+}
+
+/// The same, or nothing at all where memory is refused.
+fn push_line(out: &mut Vec<u8>, first: &str, rest: &[&str]) -> Result<(), AllocError>
+    ensures ok { OnOk result (out.new.items ≡ out.old.items ++ line (first.now ∷ map (λ word. word.now) rest.now)) }
+    ensures err { OnErr result (out.new.items ≡ out.old.items) }
+{
+    let mark = out.len();
+    let pushed = push_words(out, first, rest);
+    if pushed.is_err() {
+        out.truncate(mark);
+    }
+    pushed
+}
+
+/// Appends the line of a declared item.
+pub fn item_line(out: &mut Vec<u8>, name: &str, value: i64) -> Result<(), AllocError>
+    ensures ok { OnOk result (out.new.items ≡ out.old.items ++ item_line name.now value) }
+    ensures err { OnErr result (out.new.items ≡ out.old.items) }
+{
+    let mut digits = itoa::Buffer::new();
+    push_line(out, "item", &[name, digits.format(value)])
+}
+
+fn begun_line(out: &mut Vec<u8>, name: &str, number: TxnId) -> Result<(), AllocError>
+    ensures ok { OnOk result (out.new.items ≡ out.old.items ++ begun_line name.now number.0) }
+    ensures err { OnErr result (out.new.items ≡ out.old.items) }
+{
+    let mut digits = itoa::Buffer::new();
+    push_line(out, "begun", &[name, digits.format(number.0)])
+}
+
+fn value_line(out: &mut Vec<u8>, txn: &str, item: &str, value: i64) -> Result<(), AllocError>
+    ensures ok { OnOk result (out.new.items ≡ out.old.items ++ value_line txn.now item.now value) }
+    ensures err { OnErr result (out.new.items ≡ out.old.items) }
+{
+    let mut digits = itoa::Buffer::new();
+    push_line(out, txn, &[item, digits.format(value)])
+}
+
+fn wrote_line(out: &mut Vec<u8>, txn: &str, item: &str, value: i64) -> Result<(), AllocError>
+    ensures ok { OnOk result (out.new.items ≡ out.old.items ++ wrote_line txn.now item.now value) }
+    ensures err { OnErr result (out.new.items ≡ out.old.items) }
+{
+    let mut digits = itoa::Buffer::new();
+    push_line(out, "wrote", &[txn, item, digits.format(value)])
+}
+
+/// The name of a transaction, whose number is one more than its name's position.
+fn name_of_transaction(names: &Names, txn: TxnId) -> &str
+    ensures { result.now ≡ name_of_transaction names.now txn.0 }
+{
+    match names.name_of(txn.0.saturating_sub(1)) {
+        Some(name) => name,
+        None => "",
+    }
+}
+
+/// Appends the line of a refusal. The names are those of the transactions, in the
+/// order of their numbers.
+pub fn refusal_line(out: &mut Vec<u8>, names: &Names, why: Refusal) -> Result<(), AllocError>
+    ensures ok { OnOk result (out.new.items ≡ out.old.items ++ refusal_line names.now why) }
+    ensures err { OnErr result (out.new.items ≡ out.old.items) }
+{
+    match why {
+        Refusal::NoSuchTransaction => push_line(out, "refused 1 no such transaction", &[]),
+        Refusal::AlreadyEnded => push_line(out, "refused 2 already ended", &[]),
+        Refusal::NoSuchItem => push_line(out, "refused 3 no such item", &[]),
+        Refusal::QueryMayNotWrite => push_line(out, "refused 4 a query may not write", &[]),
+        Refusal::ValueOutOfRange => push_line(out, "refused 5 value out of range", &[]),
+        Refusal::LimitOutOfRange => push_line(out, "refused 6 limit out of range", &[]),
+        Refusal::TooManyTransactions => push_line(out, "refused 7 too many transactions", &[]),
+        Refusal::TooManyReads => push_line(out, "refused 8 too many reads", &[]),
+        Refusal::BlockedByLock(holder) => {
+            push_line(out, "blocked 9 lock", &[name_of_transaction(names, holder)])
+        }
+        Refusal::BlockedByImport(query) => {
+            push_line(
+                out,
+                "blocked 10 import",
+                &[name_of_transaction(names, query)],
+            )
+        }
+        Refusal::BlockedByExport(update) => {
+            push_line(
+                out,
+                "blocked 11 export",
+                &[name_of_transaction(names, update)],
+            )
+        }
+    }
+}
+
+/// Appends the line of the machine's reply to an event that names the subject. The
+/// names are those of the transactions, in the order of their numbers.
+pub fn reply_line(
+    out: &mut Vec<u8>,
+    names: &Names,
+    subject: Subject<'_>,
+    reply: Reply,
+) -> Result<(), AllocError>
+    ensures ok { OnOk result (out.new.items ≡ out.old.items ++ reply_line names.now (named_by subject.entry) reply) }
+    ensures err { OnErr result (out.new.items ≡ out.old.items) }
+{
+    match reply {
+        Reply::Begun(number) => begun_line(out, subject.txn, number),
+        Reply::Value(value) => value_line(out, subject.txn, subject.item, value),
+        Reply::Wrote => wrote_line(out, subject.txn, subject.item, subject.value),
+        Reply::Committed => push_line(out, "committed", &[subject.txn]),
+        Reply::Aborted => push_line(out, "aborted", &[subject.txn]),
+        Reply::Refused(why) => refusal_line(out, names, why),
+    }
+}
+
+/// Appends the line of the totals of all imports and of all exports, and of the
+/// length of the history.
+pub fn totals_line(
+    out: &mut Vec<u8>,
+    imports: u128,
+    exports: u128,
+    entries: u64,
+) -> Result<(), AllocError>
+    ensures ok { OnOk result (out.new.items ≡ out.old.items ++ totals_line imports exports entries) }
+    ensures err { OnErr result (out.new.items ≡ out.old.items) }
+{
+    let mut import_digits = itoa::Buffer::new();
+    let mut export_digits = itoa::Buffer::new();
+    let mut entry_digits = itoa::Buffer::new();
+    let words = [
+        import_digits.format(imports),
+        "export",
+        export_digits.format(exports),
+        "entries",
+        entry_digits.format(entries),
+    ];
+    push_line(out, "totals import", &words)
+}
+
+/// Appends the line of what is wrong with a line that makes no event.
+pub fn error_line(out: &mut Vec<u8>, error: LineError) -> Result<(), AllocError>
+    ensures ok { OnOk result (out.new.items ≡ out.old.items ++ error_line error) }
+    ensures err { OnErr result (out.new.items ≡ out.old.items) }
+{
+    match error {
+        LineError::NotACommand => push_line(out, "error 1 not a command", &[]),
+        LineError::ItemsAreClosed => push_line(out, "error 2 items are closed", &[]),
+        LineError::NameInUse => push_line(out, "error 3 name in use", &[]),
+        LineError::ValueOutOfRange => push_line(out, "error 4 value out of range", &[]),
+        LineError::TooManyItems => push_line(out, "error 5 too many items", &[]),
+    }
+}

@@ -1,0 +1,108 @@
+-- Words between blanks, and names.
+use Rattle.std.proofs.Common.{◌≡◌, ℕ, suc, ◌+◌, ◌-◌, ◌<◌, ◌≤◌, ◌^◌, List, [], ◌∷◌, ◌⊎◌, inl, inr, Bool, true, false, cond, ◌&&◌, ◌||◌, length, take, drop, refl, sym, ◌∙◌, ap, arith, nat_eq, nat_le, Some, None, ltb-false, ltb-true, length-drop, decimal, IsUtf8, get_or, zero, eqb-true, leb-true, Result, Ok}
+use Rattle.std.proofs.Math.Seq.{take-length}
+use Rattle.std.proofs.lemmas.List.Splits.{slice_split_first}
+use Rattle.std.proofs.lemmas.Fmt.{IsAscii-decimal, parse-decimal}
+use Rattle.std.proofs.lemmas.Str.{IsUtf8-from_ascii}
+use Rattle.std.specs.Str.Parse.{ParsesUnsigned}
+use Rattle.std.specs.List.{position, position_or_len, before_first, after_first, onto_first, list_all}
+use Rattle.esr_script.specs.Command.{is_letter, is_name_byte, is_name, is_between}
+use Rattle.esr_script.specs.Reading.{words_of, is_blank, one_of, totals_of}
+
+pub which : (v : Bool) → (v ≡ true) ⊎ (v ≡ false)
+which true = inl refl
+which false = inr refl
+
+chosen_none : (v : Bool) (n : ℕ) → cond v (Some n) None ≡ None → v ≡ false
+chosen_none true n e = cc
+chosen_none false n e = refl
+
+chosen_some : (v : Bool) (n m : ℕ) → cond v (Some n) None ≡ Some m → (v ≡ true) × (n ≡ m)
+chosen_some true n m e = (refl, cc)
+chosen_some false n m e = cc
+
+one_word : (bytes : List ℕ) → length bytes ≤ position_or_len is_blank bytes → words_of bytes ≡ bytes ∷ []
+one_word [] h = refl
+one_word (b ∷ bs) h = elim (which (nat_eq b 32)) [
+  | inl e ↦ let none : position_or_len is_blank (b ∷ bs) ≡ 0 = rw e refl in absurd (omega (arith, h, none))
+  | inr e ↦
+      let more : position_or_len is_blank (b ∷ bs) ≡ 1 + position_or_len is_blank bs = rw e refl in
+      let other : words_of (b ∷ bs) ≡ onto_first b (words_of bs) = rw e refl in
+      other ∙ ap (onto_first b) (one_word bs (omega (arith, h, more)))
+]
+
+pub no_blank : (bytes : List ℕ) → position is_blank bytes ≡ None → words_of bytes ≡ bytes ∷ []
+no_blank bytes e = one_word bytes (ltb-false _ _ (chosen_none _ _ e))
+
+pub at_blank : (bytes : List ℕ) (place : ℕ) → position is_blank bytes ≡ Some place
+    → words_of bytes ≡ take place bytes ∷ words_of (take (length bytes - (place + 1)) (drop (place + 1) bytes))
+at_blank bytes place e =
+    let found = chosen_some _ _ _ e in
+    let all : take (length bytes - (place + 1)) (drop (place + 1) bytes) ≡ drop (place + 1) bytes =
+    ap (λ n. take n (drop (place + 1) bytes)) (sym (length-drop (place + 1) bytes)) ∙ take-length (drop (place + 1) bytes) in
+    let split : words_of bytes ≡ before_first is_blank bytes ∷ words_of (after_first is_blank bytes) = slice_split_first is_blank bytes 0 (ltb-true _ _ found.0) in
+    rw all (split ∙ ap (λ n. take n bytes ∷ words_of (drop (n + 1) bytes)) found.1)
+
+-- ---- text
+
+pub decimal_utf8 : (word : List ℕ) (n : ℕ) → n < 10 ^ 19 → word ≡ decimal n → IsUtf8 word
+decimal_utf8 word n small is = rw is (IsUtf8-from_ascii (decimal n) (IsAscii-decimal n (omega arith)))
+
+pub parses : {E : Type 0} (word : List ℕ) (n : ℕ) (r : Result ℕ E) → ParsesUnsigned 64 10 word r → n < 10 ^ 19 → word ≡ decimal n → r ≡ Ok n
+parses word n r h small is = parse-decimal 64 n word r (omega arith) (omega arith) is h
+
+and_left : (a b : Bool) → (a && b) ≡ true → a ≡ true
+and_left true b e = refl
+and_left false b e = cc
+
+and_right : (a b : Bool) → (a && b) ≡ true → b ≡ true
+and_right true b e = e
+and_right false b e = cc
+
+or_either : (a b : Bool) → (a || b) ≡ true → (a ≡ true) ⊎ (b ≡ true)
+or_either true b e = inl refl
+or_either false b e = inr e
+
+between_small : (low high b : ℕ) → high < 128 → is_between low high b ≡ true → b < 128
+between_small low high b h e = omega (arith, h, leb-true b high (and_right (nat_le low b) (nat_le b high) e))
+
+letter_small : (b : ℕ) → is_letter b ≡ true → b < 128
+letter_small b e = elim (or_either _ _ e) [ inl l ↦ between_small 97 122 b (omega arith) l | inr l ↦ between_small 65 90 b (omega arith) l ]
+
+name_byte_small : (b : ℕ) → is_name_byte b ≡ true → b < 128
+name_byte_small b e = elim (or_either _ _ e) [
+  | inl l ↦ letter_small b l
+  | inr r ↦ elim (or_either _ _ r) [ inl l ↦ between_small 48 57 b (omega arith) l | inr l ↦ omega (arith, eqb-true b 95 l) ]
+]
+
+all_small : (bs : List ℕ) → list_all is_name_byte bs ≡ true → (i : ℕ) → get_or bs i 0 < 128
+all_small [] e i = omega arith
+all_small (b ∷ bs) e zero = name_byte_small b (and_left _ _ e)
+all_small (b ∷ bs) e (suc i) = all_small bs (and_right _ _ e) i
+
+name_ascii : (word : List ℕ) → is_name word ≡ true → (i : ℕ) → get_or word i 0 < 128
+name_ascii [] e i = omega arith
+name_ascii (b ∷ bs) e zero = letter_small b (and_left _ _ e)
+name_ascii (b ∷ bs) e (suc i) = all_small bs (and_right _ _ (and_right _ _ e)) i
+
+pub name_utf8 : (word : List ℕ) → is_name word ≡ true → IsUtf8 word
+name_utf8 word e = IsUtf8-from_ascii word (name_ascii word e)
+
+-- ---- how many words
+
+some_word : (bytes : List ℕ) → (w : List ℕ) × (ws : List (List ℕ)) × (words_of bytes ≡ w ∷ ws)
+some_word [] = ([], [], refl)
+some_word (b ∷ bs) = elim (which (nat_eq b 32)) [
+  | inl e ↦ let is : words_of (b ∷ bs) ≡ [] ∷ words_of bs = rw e refl in ([], words_of bs, is)
+  | inr e ↦
+      let more = some_word bs in
+      let is : words_of (b ∷ bs) ≡ onto_first b (words_of bs) = rw e refl in
+      (b ∷ more.0, more.1, is ∙ ap (onto_first b) more.2)
+]
+
+-- behind a blank there is another word
+pub one_of_more : (w rest : List ℕ) → None ≡ one_of (w ∷ words_of rest)
+one_of_more w rest = rw (some_word rest).2 refl
+
+pub totals_of_more : (rest : List ℕ) → None ≡ totals_of (words_of rest)
+totals_of_more rest = rw (some_word rest).2 refl

@@ -1,0 +1,57 @@
+-- Bytes ahead in a buffer, from a start to an end.
+use Rattle.std.proofs.Common.{◌≡◌, ℕ, ◌+◌, ◌-◌, ◌≤◌, ◌<◌, List, ◌++◌, length, take, drop, sym, ◌∙◌, ap, arith, length-drop, length-take, length-append}
+use borrow.Rule.Slice.PartMut.{put_mid, post_of, mid_of, same_len_mid}
+use Rattle.std.proofs.Math.Seq.{take-append_seam, take-append-add, drop-drop}
+use Rattle.std.proofs.lemmas.List.{drop-take, take-append-le, length-take-le}
+
+-- fewer bytes from the start on
+pub skipped : (items ahead : List ℕ) (s e n : ℕ) → s ≤ e → e ≤ length items → take (e - s) (drop s items) ≡ ahead → n ≤ length ahead
+    → take (e - (s + n)) (drop (s + n) items) ≡ drop n ahead
+skipped items ahead s e n order within is few =
+    let size : length ahead ≡ e - s = ap length (sym is) ∙ length-take-le (e - s) (drop s items) (omega (arith, length-drop s items)) in
+    let parts : e - s ≡ n + (e - (s + n)) = omega (arith, size) in
+    ap (take (e - (s + n))) (sym (drop-drop n s items)) ∙ sym (drop-take n (e - (s + n)) (drop s items))
+    ∙ ap (λ k. drop n (take k (drop s items))) (sym parts) ∙ ap (drop n) is
+
+module _ (items moved ahead : List ℕ) (s e len : ℕ) (order : s ≤ e) (within : e ≤ length items) (is : take (e - s) (drop s items) ≡ ahead)
+    (turned : moved ≡ drop s items ++ take s items) (whole : len ≡ length items) where
+  size : length ahead ≡ e - s
+  size = ap length (sym is) ∙ length-take-le (e - s) (drop s items) (omega (arith, length-drop s items))
+
+  long : length moved ≡ length items
+  long = ap length turned ∙ length-append (drop s items) (take s items) ∙ omega (arith, length-drop s items, length-take s items)
+
+  front : take (e - s) moved ≡ ahead
+  front = ap (take (e - s)) turned ∙ take-append-le (e - s) (drop s items) (take s items) (omega (arith, length-drop s items)) ∙ is
+
+  abbrev part : ℕ
+  part = length moved - (e - s)
+
+  module _ (read before : List ℕ) (room : length read ≡ length (mid_of (e - s) part moved)) where
+    abbrev after : List ℕ
+    after = put_mid (e - s) part moved read
+
+    -- the buffer holds what was put into it
+    held : take len (after ++ drop (length after) before) ≡ after
+    held =
+        let same : length after ≡ len = same_len_mid (e - s) part moved read room ∙ long ∙ sym whole in
+        ap (λ n. take n (after ++ drop (length after) before)) (sym same) ∙ take-append_seam after (drop (length after) before)
+
+    -- where nothing was read
+    pub kept : take ((e - s) - 0) (drop 0 (take len (after ++ drop (length after) before))) ≡ ahead
+    kept =
+        let none : (e - s) - 0 ≡ length ahead = omega (arith, size) in
+        let rest = read ++ post_of (e - s) part moved in
+        ap (take ((e - s) - 0)) held ∙ ap (λ n. take n after) none ∙ ap (λ l. take (length ahead) (l ++ rest)) front ∙ take-append_seam ahead rest
+
+    -- where so many bytes were read behind them
+    pub filled : (count : ℕ) → count ≤ length read → take (((e - s) + count) - 0) (drop 0 (take len (after ++ drop (length after) before))) ≡ ahead ++ take count read
+    filled count came =
+        let more : ((e - s) + count) - 0 ≡ length ahead + count = omega (arith, size) in
+        let rest = post_of (e - s) part moved in
+        ap (take (((e - s) + count) - 0)) held ∙ ap (λ n. take n after) more ∙ ap (λ l. take (length ahead + count) (l ++ (read ++ rest))) front
+        ∙ take-append-add ahead (read ++ rest) count ∙ ap (λ l. ahead ++ l) (take-append-le count read rest came)
+
+    -- there is room behind few bytes
+    pub has_room : length ahead ≤ 200 → len ≡ 65536 → 0 < length read
+    has_room few all = omega (arith, room, size, long, whole, few, all, length-take part (drop (e - s) moved), length-drop (e - s) moved)

@@ -1,0 +1,146 @@
+-- Each end of a run, with the output that is not yet sent.
+use Rattle.std.proofs.Common.{◌≡◌, ◌≢◌, ℕ, ◌+◌, ◌<◌, ◌≤◌, List, [], ◌∷◌, ◌++◌, ◌⊎◌, inl, inr, Bool, true, false, length, take, drop, refl, sym, ◌∙◌, ap, arith, Option, Some, None, Result, Ok, Err, OnOk, OnErr, IfErr, IfSome, append_assoc, append-nil, ◌==◌, eq-eqb, IsErrOf, ◌||◌}
+use Rattle.std.specs.Io.KnownBytes.{IsAtEnd, Consumes, Keeps}
+use Rattle.esr_report.specs.Lines.{BeginsWith}
+use Rattle.esr_script.specs.declared.fault.RunFault.{RunFault}
+use Rattle.esr_script.specs.declared.fault.RunFault.TheVariants as fault
+use Rattle.esr_script.specs.declared.pending.Next.{Next}
+use Rattle.esr_script.specs.declared.pending.Next.TheVariants as next
+use Rattle.esr_script.specs.Text.{State, start, answer, outcome, max_lines, max_line_bytes}
+use Rattle.esr_script.specs.Run.{IsRunBy}
+use Rattle.esr_script.specs.Parts.{line_len, IsNext, Standing, IsHeldRun, is_read_fault, is_write_fault}
+use Rattle.esr_script.proofs.Prefix.{line_len-le}
+use Rattle.esr_script.proofs.Steps.{begun, advance, all_read, step_line, text_begins, at_memory, at_long, at_many, at_fault_line, at_done, at_last, at_fault_last, at_read}
+
+pub standing_at_start : (input : List ℕ) (left : Option (List ℕ)) (bytes : List ℕ) (s : State) (out : List ℕ)
+    → left ≡ Some input → bytes ≡ [] → s ≡ start → out ≡ [] → Standing input left bytes 0 s ([] ++ out)
+standing_at_start input left bytes s out known none is nothing =
+    rw (none, is, nothing) (let begin : Standing input left [] 0 start [] = record { rest = input; known = known; progress = begun input } in begin)
+
+-- bytes stand ahead where it need not be read on
+pub has_bytes : (found : Next) (bytes : List ℕ) → IsNext found bytes → (found ≡ next.More → ⊥) → 0 < length bytes
+has_bytes (next.Line n) bytes h other = omega (arith, h.1)
+has_bytes next.TooLong bytes h other = omega (arith, h, line_len-le bytes)
+has_bytes next.More bytes h other = absurd (other refl)
+
+pub is_long : (found : Next) (bytes : List ℕ) → IsNext found bytes → (found ≡ next.More → ⊥) → ((n : ℕ) → found ≡ next.Line n → ⊥) → max_line_bytes < line_len bytes
+is_long (next.Line n) bytes h more line = absurd (line n refl)
+is_long next.TooLong bytes h more line = h
+is_long next.More bytes h more line = absurd (more refl)
+
+-- where all output was sent
+pub all_sent : {input : List ℕ} {left : Option (List ℕ)} {bytes : List ℕ} {n : ℕ} {s : State} (w : List ℕ) → Standing input left bytes n s w → Standing input left bytes n s (w ++ [])
+all_sent w here = rw append-nil here
+
+nothing_read : (before after : Option (List ℕ)) → Keeps before after → Consumes before after []
+nothing_read None after h = tt
+nothing_read (Some x) None h = absurd h
+nothing_read (Some x) (Some y) h = sym h
+
+-- where a read gave nothing
+pub unread : (input : List ℕ) (before after : Option (List ℕ)) (bytes same : List ℕ) (n : ℕ) (s : State) (w : List ℕ) → Standing input before bytes n s w → same ≡ bytes → Keeps before after
+    → Standing input after same n s w
+unread input before after bytes same n s w here is kept = advance input n s w before after bytes same [] here (is ∙ sym (append-nil bytes)) (nothing_read before after kept)
+
+pub is_some : (bytes seen : List ℕ) (empty : Bool) → empty ≡ (length seen == 0) → empty ≡ false → seen ≡ bytes → 0 < length bytes
+is_some [] seen empty is not_empty same =
+    let none : length seen ≡ 0 = ap length same in
+    let yes_empty : empty ≡ true = is ∙ eq-eqb (length seen) 0 none in
+    cc
+is_some (b ∷ bs) seen empty is not_empty same = omega arith
+
+module _ (input : List ℕ) (left : Option (List ℕ)) (bytes : List ℕ) (n : ℕ) (s : State) (sent out : List ℕ) (here : Standing input left bytes n s (sent ++ out)) where
+  text : BeginsWith (outcome input).text (sent ++ out)
+  text = text_begins input left bytes n s (sent ++ out) here
+
+  pub held_read : line_len bytes ≡ length bytes → IsHeldRun input left out (Err fault.Read) sent
+  held_read plain = (text, at_read input left bytes n s (sent ++ out) here plain)
+
+  pub held_memory : (other : Option (List ℕ)) → IsHeldRun input other out (Err fault.NoMemory) sent
+  held_memory other = (text, at_memory input left bytes n s (sent ++ out) here)
+
+  pub held_long : n ≢ max_lines → max_line_bytes < line_len bytes → IsHeldRun input left out (Err fault.LineTooLong) sent
+  held_long few is = (text, at_long input left bytes n s (sent ++ out) here few is)
+
+  pub held_many : n ≡ max_lines → 0 < length bytes → IsHeldRun input left out (Err fault.TooManyLines) sent
+  held_many many some = (text, at_many input left bytes n s (sent ++ out) here many some)
+
+  pub held_full : (k : ℕ) → n ≢ max_lines → IsNext (next.Line k) bytes → answer s (take k bytes) ≡ Err fault.HistoryFull → IsHeldRun input left out (Err fault.HistoryFull) sent
+  held_full k few is full = (
+    text,
+    at_fault_line input left bytes n s (sent ++ out) here fault.HistoryFull few (omega (arith, is.0, is.1)) (omega (arith, is.0, is.2))
+        (ap (λ j. answer s (take j bytes)) (sym is.0) ∙ full),
+  )
+
+  pub after_line : (k : ℕ) (s' : State) (t grown : List ℕ) → n ≢ max_lines → IsNext (next.Line k) bytes → answer s (take k bytes) ≡ Ok (s', t) → grown ≡ out ++ t
+      → Standing input left (drop (k + 1) bytes) (n + 1) s' (sent ++ grown)
+  after_line k s' t grown few is ok grew =
+      let found : Standing input left (drop (line_len bytes + 1) bytes) (n + 1) s' ((sent ++ out) ++ t) =
+      step_line input left bytes n s (sent ++ out) here s' t few (omega (arith, is.0, is.1)) (omega (arith, is.0, is.2)) (ap (λ j. answer s (take j bytes)) (sym is.0) ∙ ok) in
+      let same : (sent ++ out) ++ t ≡ sent ++ grown = append_assoc sent out t ∙ ap (λ l. sent ++ l) (sym grew) in
+      rw (is.0, ← same) found
+
+  -- a part of the output was sent
+  pub held_write : (part : List ℕ) → BeginsWith out part → (other : Option (List ℕ)) (lost : List ℕ) → IsHeldRun input other lost (Err fault.Write) (sent ++ part)
+  held_write part begins other lost =
+      (begins.0 ++ text.0, text.1 ∙ ap (λ o. (sent ++ o) ++ text.0) begins.1 ∙ simp append_assoc)
+
+  -- at the end of the input
+  module _ (end : IsAtEnd left) (plain : line_len bytes ≡ length bytes) (short : length bytes ≤ max_line_bytes) where
+    pub held_done : bytes ≡ [] → IsHeldRun input left out (Ok tt) sent
+    held_done none = (text, (all_read input left bytes n s (sent ++ out) here end, at_done input left bytes n s (sent ++ out) here end none))
+
+    held_line_last : 0 < length bytes → n ≢ max_lines → (s' : State) (t grown : List ℕ) → answer s bytes ≡ Ok (s', t) → grown ≡ out ++ t → IsHeldRun input left grown (Ok tt) sent
+    held_line_last some few s' t grown is grew =
+        let all = at_last input left bytes n s (sent ++ out) here end plain some short few s' t is in
+        let same : (sent ++ out) ++ t ≡ sent ++ grown = append_assoc sent out t ∙ ap (λ l. sent ++ l) (sym grew) in
+        let finished = rw same at all in
+        (([], ap (λ o. o.text) finished ∙ sym (append-nil (sent ++ grown))), (all_read input left bytes n s (sent ++ out) here end, finished))
+
+    held_full_last : 0 < length bytes → n ≢ max_lines → answer s bytes ≡ Err fault.HistoryFull → IsHeldRun input left out (Err fault.HistoryFull) sent
+    held_full_last some few full = (text, at_fault_last input left bytes n s (sent ++ out) here end plain some short few fault.HistoryFull full)
+
+    -- the last line, by how it was answered
+    pub held_last : 0 < length bytes → n ≢ max_lines → (r : Result (Unit {0}) RunFault) (s' : State) (grown : List ℕ)
+        → OnOk r ((t : List ℕ) × (answer s bytes ≡ Ok (s', t)) × (grown ≡ out ++ t)) → OnErr r (grown ≡ out)
+        → IfErr r (λ e. (e ≡ fault.NoMemory) ⊎ ((e ≡ fault.HistoryFull) × (answer s bytes ≡ Err fault.HistoryFull)))
+        → IsHeldRun input left grown r sent
+    held_last some few (Ok done) s' grown ok err faults = held_line_last some few s' ok.0 grown ok.1 ok.2
+    held_last some few (Err e) s' grown ok err faults = elim faults [
+      | inl m ↦ rw (m, err) (held_memory left)
+      | inr h ↦ rw (h.0, err) (held_full_last some few h.1)
+    ]
+
+-- a run that no write has ended
+pub held_kept : (input : List ℕ) (left : Option (List ℕ)) (out : List ℕ) (r : Result (Unit {0}) RunFault) (sent : List ℕ) → is_write_fault r ≡ false
+    → IsHeldRun input left out r sent → BeginsWith (outcome input).text (sent ++ out) × IsRunBy input left r (sent ++ out)
+held_kept input left out (Ok done) sent other h = h
+held_kept input left out (Err fault.Read) sent other h = h
+held_kept input left out (Err fault.Write) sent other h = cc
+held_kept input left out (Err fault.LineTooLong) sent other h = h
+held_kept input left out (Err fault.NoMemory) sent other h = h
+held_kept input left out (Err fault.HistoryFull) sent other h = h
+held_kept input left out (Err fault.TooManyLines) sent other h = h
+
+-- a run that a read or a write has ended
+pub held_lost : (input : List ℕ) (left : Option (List ℕ)) (out : List ℕ) (r : Result (Unit {0}) RunFault) (sent : List ℕ) → (is_read_fault r || is_write_fault r) ≡ true
+    → (IsErrOf r fault.Read → out ≡ []) → IsHeldRun input left out r sent → IsRunBy input left r sent
+held_lost input left out (Ok done) sent lost none h = cc
+held_lost input left out (Err fault.Read) sent lost none h = rw (none refl, append-nil) at h.1
+held_lost input left out (Err fault.Write) sent lost none h = h
+held_lost input left out (Err fault.LineTooLong) sent lost none h = cc
+held_lost input left out (Err fault.NoMemory) sent lost none h = cc
+held_lost input left out (Err fault.HistoryFull) sent lost none h = cc
+held_lost input left out (Err fault.TooManyLines) sent lost none h = cc
+
+-- a front of what begins a text begins it
+pub begins_part : (text sent out part : List ℕ) → BeginsWith text (sent ++ out) → BeginsWith out part → BeginsWith text (sent ++ part)
+begins_part text sent out part whole front = (front.0 ++ whole.0, whole.1 ∙ ap (λ o. (sent ++ o) ++ whole.0) front.1 ∙ simp append_assoc)
+
+pub if_known : (o : Option (List ℕ)) (P : List ℕ → Type 0) → ((input : List ℕ) → o ≡ Some input → P input) → IfSome o P
+if_known None P h = tt
+if_known (Some x) P h = h x refl
+
+pub not_written : (a b : Bool) → (a || b) ≡ false → b ≡ false
+not_written true b e = cc
+not_written false b e = e

@@ -1,0 +1,11 @@
+pub mod Cutting
+pub mod Prefix
+pub mod Blanks
+pub mod Ints
+pub mod Laws
+pub mod Steps
+pub mod Held
+pub mod Spelling
+pub mod Asks
+pub mod Buffers
+pub mod Opens

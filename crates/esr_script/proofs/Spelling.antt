@@ -1,0 +1,233 @@
+-- What a line spells, and what is read from it.
+use Rattle.std.proofs.Common.{◌≡◌, ℕ, suc, ◌<◌, ◌^◌, ℤ, pos, negsuc, nat_abs, List, [], ◌∷◌, inl, inr, Bool, true, false, not, cond, refl, sym, ◌∙◌, ap, subst, arith, nat_eq, Some, None, Option, option_map, option_and_then, codes, decimal, eqb-true}
+use Rattle.std.specs.List.{AllByRecursion, join_with_byte, list_all}
+use Rattle.std.specs.Str.{bytes_eq, all_ascii_digits}
+use Rattle.std.specs.Char.{is_ascii_digit}
+use Rattle.std.specs.Fmt.{signed_decimal}
+use Rattle.std.proofs.lemmas.List.Elements.{All-nil, All-cons}
+use Rattle.std.proofs.lemmas.List.Splits.{join_with_byte-slice_split}
+use Rattle.std.proofs.lemmas.Slice.Eq.{bytes_eq-Decides}
+use Rattle.esr_script.specs.Command.{Command, item, begin_update, begin_query, read, write, commit, abort, totals, words, is_letter, is_name_byte, is_name, IsName, IsLimit, IsCommand, is_skipped, Spells, IsPlainWord}
+use Rattle.esr_script.specs.Reading.{words_of, name_of, limit_of, int_of, one_of, two_of, three_of, both, item_of, begin_of, read_of, write_of, ended_of, totals_of, command_of, command_by, reading}
+use Rattle.esr_script.proofs.Cutting.{which}
+use Rattle.esr_script.proofs.Laws.{and_then_some, map_some, split_join, number_again, number_found, all_digits, int_again, int_found, left}
+
+-- ---- words without blanks
+
+unlike : (p : ℕ → Bool) → p 32 ≡ false → (b : ℕ) → p b ≡ true → nat_eq b 32 ≡ false
+unlike p not_blank b holds = elim (which (nat_eq b 32)) [
+  | inl e ↦ let blank : p 32 ≡ true = rw (eqb-true b 32 e) at holds in cc
+  | inr e ↦ e
+]
+
+plain_list : (p : ℕ → Bool) → p 32 ≡ false → (bs : List ℕ) → list_all p bs ≡ true → IsPlainWord bs
+plain_list p not_blank [] h = All-nil (λ b. nat_eq b 32 ≡ false)
+plain_list p not_blank (b ∷ bs) h =
+    let parts = left (p b) (list_all p bs) h in
+    All-cons (λ b. nat_eq b 32 ≡ false) b bs (unlike p not_blank b parts.0) (plain_list p not_blank bs parts.1)
+
+plain_text : (bs : List ℕ) → list_all (λ b. not (nat_eq b 32)) bs ≡ true → IsPlainWord bs
+plain_text bs h = plain_list (λ b. not (nat_eq b 32)) refl bs h
+
+plain_digits : (bs : List ℕ) → all_ascii_digits bs ≡ true → IsPlainWord bs
+plain_digits [] h = All-nil (λ b. nat_eq b 32 ≡ false)
+plain_digits (b ∷ bs) h =
+    let parts = left (is_ascii_digit b) (all_ascii_digits bs) h in
+    All-cons (λ b. nat_eq b 32 ≡ false) b bs (unlike is_ascii_digit refl b parts.0) (plain_digits bs parts.1)
+
+plain_name : (name : List ℕ) → is_name name ≡ true → IsPlainWord name
+plain_name [] h = All-nil (λ b. nat_eq b 32 ≡ false)
+plain_name (b ∷ bs) h =
+    let parts = left _ _ h in
+    let more = left _ _ parts.1 in
+    All-cons (λ b. nat_eq b 32 ≡ false) b bs (unlike is_letter refl b parts.0) (plain_list is_name_byte refl bs more.1)
+
+plain_number : (n : ℕ) → n < 10 ^ 19 → IsPlainWord (decimal n)
+plain_number n small = plain_digits (decimal n) (all_digits n small)
+
+plain_int : (v : ℤ) → nat_abs v < 10 ^ 18 → IsPlainWord (signed_decimal v)
+plain_int (pos n) small = plain_number n (omega arith)
+plain_int (negsuc n) small = All-cons (λ b. nat_eq b 32 ≡ false) 45 (decimal (suc n)) refl (plain_number (suc n) (omega arith))
+
+-- ---- a spelled command is read
+
+named : (name : List ℕ) → IsName name → name_of name ≡ Some name
+named name h = rw h refl
+
+word : (name : List ℕ) → IsName name → IsPlainWord name
+word name h = plain_name name h
+
+found : (line k : List ℕ) (ws : List (List ℕ)) (c : Command) → line ≡ join_with_byte 32 (k ∷ ws) → IsPlainWord k → AllByRecursion IsPlainWord ws
+    → command_of k ws ≡ Some c → reading line ≡ Some c
+found line k ws c is first rest e = ap reading is ∙ ap command_by (split_join k ws first rest) ∙ e
+
+pub spelled : (line : List ℕ) (c : Command) → Spells line c → reading line ≡ Some c
+spelled line (item n v) h =
+    found line (codes "item") (n ∷ signed_decimal v ∷ []) (item n v) h.1 (plain_text (codes "item") refl) (word n h.0.0, (plain_int v h.0.1, tt))
+    (rw (named n h.0.0, int_again v h.0.1) refl)
+spelled line (begin_update n l) h =
+    found line (codes "begin") (n ∷ codes "update" ∷ decimal l ∷ []) (begin_update n l) h.1 (plain_text (codes "begin") refl)
+    (word n h.0.0, (plain_text (codes "update") refl, (plain_number l h.0.1, tt))) (rw (named n h.0.0, number_again (10 ^ 19) l (omega arith) h.0.1) refl)
+spelled line (begin_query n l) h =
+    found line (codes "begin") (n ∷ codes "query" ∷ decimal l ∷ []) (begin_query n l) h.1 (plain_text (codes "begin") refl)
+    (word n h.0.0, (plain_text (codes "query") refl, (plain_number l h.0.1, tt))) (rw (named n h.0.0, number_again (10 ^ 19) l (omega arith) h.0.1) refl)
+spelled line (read t x) h =
+    found line (codes "read") (t ∷ x ∷ []) (read t x) h.1 (plain_text (codes "read") refl) (word t h.0.0, (word x h.0.1, tt)) (rw (named t h.0.0, named x h.0.1) refl)
+spelled line (write t x v) h =
+    found line (codes "write") (t ∷ x ∷ signed_decimal v ∷ []) (write t x v) h.1 (plain_text (codes "write") refl)
+    (word t h.0.0, (word x h.0.1, (plain_int v h.0.2, tt))) (rw (named t h.0.0, named x h.0.1, int_again v h.0.2) refl)
+spelled line (commit t) h = found line (codes "commit") (t ∷ []) (commit t) h.1 (plain_text (codes "commit") refl) (word t h.0, tt) (rw (named t h.0) refl)
+spelled line (abort t) h = found line (codes "abort") (t ∷ []) (abort t) h.1 (plain_text (codes "abort") refl) (word t h.0, tt) (rw (named t h.0) refl)
+spelled line totals h = found line (codes "totals") [] totals h.1 (plain_text (codes "totals") refl) tt refl
+
+-- ---- what is read is spelled
+
+name_found : (text name : List ℕ) → name_of text ≡ Some name → IsName name × (text ≡ name)
+name_found text name e = elim (which (is_name text)) [
+  | inl t ↦ let same : text ≡ name = let given : Some text ≡ Some name = rw t at e in cc in (rw (← same) t, same)
+  | inr f ↦ let none : None ≡ Some name = rw f at e in cc
+]
+
+both_found : {A B C : Type 0} (f : A → B → C) (a : Option A) (b : Option B) (c : C) → both f a b ≡ Some c → (x : A) × (y : B) × (a ≡ Some x) × (b ≡ Some y) × (f x y ≡ c)
+both_found f a b c e =
+    let first = and_then_some (λ x. option_map (f x) b) a c e in
+    let second = map_some (f first.0) b c first.2 in
+    (first.0, second.0, first.1, second.1, second.2)
+
+one_found : (ws : List (List ℕ)) (w : List ℕ) → one_of ws ≡ Some w → ws ≡ w ∷ []
+one_found [] w e = cc
+one_found (a ∷ []) w e = let same : a ≡ w = cc in rw same refl
+one_found (a ∷ b ∷ ws) w e = cc
+
+two_found : (ws : List (List ℕ)) (p : List ℕ × List ℕ) → two_of ws ≡ Some p → ws ≡ p.0 ∷ p.1 ∷ []
+two_found [] p e = cc
+two_found (a ∷ []) p e = cc
+two_found (a ∷ b ∷ []) p e = let given : List ℕ × List ℕ = (a, b) in let same : given ≡ p = cc in ap (λ (q : List ℕ × List ℕ). q.0 ∷ q.1 ∷ []) same
+two_found (a ∷ b ∷ c ∷ ws) p e = cc
+
+three_found : (ws : List (List ℕ)) (p : List ℕ × List ℕ × List ℕ) → three_of ws ≡ Some p → ws ≡ p.0 ∷ p.1 ∷ p.2 ∷ []
+three_found [] p e = cc
+three_found (a ∷ []) p e = cc
+three_found (a ∷ b ∷ []) p e = cc
+three_found (a ∷ b ∷ c ∷ []) p e = let given : List ℕ × List ℕ × List ℕ = (a, b, c) in let same : given ≡ p = cc in ap (λ (q : List ℕ × List ℕ × List ℕ). q.0 ∷ q.1 ∷ q.2 ∷ []) same
+three_found (a ∷ b ∷ c ∷ d ∷ ws) p e = cc
+
+same_two : {a b x y : List ℕ} → a ≡ x → b ≡ y → a ∷ b ∷ [] ≡ x ∷ y ∷ []
+same_two {a} {b} {x} {y} e f = rw (e, f) refl
+
+same_three : {a b c x y z : List ℕ} → a ≡ x → b ≡ y → c ≡ z → a ∷ b ∷ c ∷ [] ≡ x ∷ y ∷ z ∷ []
+same_three {a} {b} {c} {x} {y} {z} e f g = rw (e, f, g) refl
+
+-- the words behind a first word spell the command
+abbrev Behind : List ℕ → List (List ℕ) → Command → Type 0
+Behind k ws c = IsCommand c × (k ∷ ws ≡ words c)
+
+item_found : (ws : List (List ℕ)) (c : Command) → item_of ws ≡ Some c → Behind (codes "item") ws c
+item_found ws c e =
+    let p = and_then_some (λ (q : List ℕ × List ℕ). both item (name_of q.0) (int_of q.1)) (two_of ws) c e in
+    let b = both_found item (name_of p.0.0) (int_of p.0.1) c p.2 in
+    let n = name_found p.0.0 b.0 b.2 in
+    let v = int_found p.0.1 b.1 b.3 in
+    subst (Behind (codes "item") ws) b.4 ((n.0, v.0), ap (λ l. codes "item" ∷ l) (two_found ws p.0 p.1 ∙ same_two n.1 v.1))
+
+read_found : (ws : List (List ℕ)) (c : Command) → read_of ws ≡ Some c → Behind (codes "read") ws c
+read_found ws c e =
+    let p = and_then_some (λ (q : List ℕ × List ℕ). both read (name_of q.0) (name_of q.1)) (two_of ws) c e in
+    let b = both_found read (name_of p.0.0) (name_of p.0.1) c p.2 in
+    let t = name_found p.0.0 b.0 b.2 in
+    let x = name_found p.0.1 b.1 b.3 in
+    subst (Behind (codes "read") ws) b.4 ((t.0, x.0), ap (λ l. codes "read" ∷ l) (two_found ws p.0 p.1 ∙ same_two t.1 x.1))
+
+write_found : (ws : List (List ℕ)) (c : Command) → write_of ws ≡ Some c → Behind (codes "write") ws c
+write_found ws c e =
+    let p = and_then_some (λ (q : List ℕ × List ℕ × List ℕ). option_and_then (λ t. both (write t) (name_of q.1) (int_of q.2)) (name_of q.0)) (three_of ws) c e in
+    let a = and_then_some (λ t. both (write t) (name_of p.0.1) (int_of p.0.2)) (name_of p.0.0) c p.2 in
+    let b = both_found (write a.0) (name_of p.0.1) (int_of p.0.2) c a.2 in
+    let t = name_found p.0.0 a.0 a.1 in
+    let x = name_found p.0.1 b.0 b.2 in
+    let v = int_found p.0.2 b.1 b.3 in
+    subst (Behind (codes "write") ws) b.4 ((t.0, x.0, v.0), ap (λ l. codes "write" ∷ l) (three_found ws p.0 p.1 ∙ same_three t.1 x.1 v.1))
+
+begin_by : (kind : List ℕ) (f : List ℕ → ℕ → Command) (ws : List (List ℕ)) (p : List ℕ × List ℕ × List ℕ) (c : Command) → ws ≡ p.0 ∷ p.1 ∷ p.2 ∷ [] → bytes_eq p.1 kind ≡ true
+    → both f (name_of p.0) (limit_of p.2) ≡ Some c → ((n : List ℕ) (l : ℕ) → IsName n → IsLimit l → codes "begin" ∷ ws ≡ codes "begin" ∷ n ∷ kind ∷ decimal l ∷ [] → Behind (codes "begin") ws (f n l))
+    → Behind (codes "begin") ws c
+begin_by kind f ws p c three is_kind e spells =
+    let b = both_found f (name_of p.0) (limit_of p.2) c e in
+    let n = name_found p.0 b.0 b.2 in
+    let l = number_found (10 ^ 19) p.2 b.1 b.3 in
+    subst (Behind (codes "begin") ws) b.4 (spells b.0 b.1 n.0 l.0 (ap (λ l. codes "begin" ∷ l) (three ∙ same_three n.1 ((bytes_eq-Decides p.1 kind).0 is_kind) l.1)))
+
+begin_found : (ws : List (List ℕ)) (c : Command) → begin_of ws ≡ Some c → Behind (codes "begin") ws c
+begin_found ws c e =
+    let p = and_then_some (λ (q : List ℕ × List ℕ × List ℕ). cond (bytes_eq q.1 (codes "update")) (both begin_update (name_of q.0) (limit_of q.2))
+    (cond (bytes_eq q.1 (codes "query")) (both begin_query (name_of q.0) (limit_of q.2)) None)) (three_of ws) c e in
+    let three = three_found ws p.0 p.1 in
+    elim (which (bytes_eq p.0.1 (codes "update"))) [
+      | inl t ↦ begin_by (codes "update") begin_update ws p.0 c three t (rw t at p.2) (λ n l name limit is. ((name, limit), is))
+      | inr f ↦
+          let other : cond (bytes_eq p.0.1 (codes "query")) (both begin_query (name_of p.0.0) (limit_of p.0.2)) None ≡ Some c = rw f at p.2 in
+          elim (which (bytes_eq p.0.1 (codes "query"))) [
+            | inl t ↦ begin_by (codes "query") begin_query ws p.0 c three t (rw t at other) (λ n l name limit is. ((name, limit), is))
+            | inr g ↦ let none : None ≡ Some c = rw g at other in cc
+          ]
+    ]
+
+totals_found : (ws : List (List ℕ)) (c : Command) → totals_of ws ≡ Some c → Behind (codes "totals") ws c
+totals_found [] c e = let same : totals ≡ c = cc in subst (Behind (codes "totals") []) same (tt, refl)
+totals_found (w ∷ ws) c e = cc
+
+ended_found : (ws : List (List ℕ)) (t : List ℕ) → ended_of ws ≡ Some t → IsName t × (ws ≡ t ∷ [])
+ended_found ws t e =
+    let p = and_then_some name_of (one_of ws) t e in
+    let n = name_found p.0 t p.2 in
+    (n.0, one_found ws p.0 p.1 ∙ ap (λ w. w ∷ []) n.1)
+
+commit_found : (ws : List (List ℕ)) (c : Command) → option_map commit (ended_of ws) ≡ Some c → Behind (codes "commit") ws c
+commit_found ws c e =
+    let m = map_some commit (ended_of ws) c e in
+    let t = ended_found ws m.0 m.1 in
+    subst (Behind (codes "commit") ws) m.2 (t.0, ap (λ l. codes "commit" ∷ l) t.1)
+
+abort_found : (ws : List (List ℕ)) (c : Command) → option_map abort (ended_of ws) ≡ Some c → Behind (codes "abort") ws c
+abort_found ws c e =
+    let m = map_some abort (ended_of ws) c e in
+    let t = ended_found ws m.0 m.1 in
+    subst (Behind (codes "abort") ws) m.2 (t.0, ap (λ l. codes "abort" ∷ l) t.1)
+
+-- one of two, by the first word
+choose : (k word : List ℕ) (ws : List (List ℕ)) (a b : Option Command) (c : Command) → cond (bytes_eq k word) a b ≡ Some c
+    → (a ≡ Some c → Behind word ws c) → (b ≡ Some c → Behind k ws c) → Behind k ws c
+choose k word ws a b c e here there = elim (which (bytes_eq k word)) [
+  | inl t ↦ let first : a ≡ Some c = rw t at e in rw ((bytes_eq-Decides k word).0 t) (here first)
+  | inr f ↦ let second : b ≡ Some c = rw f at e in there second
+]
+
+behind : (k : List ℕ) (ws : List (List ℕ)) (c : Command) → command_of k ws ≡ Some c → Behind k ws c
+behind k ws c e =
+    choose k (codes "totals") ws _ _ c e (totals_found ws c) (λ e.
+    choose k (codes "read") ws _ _ c e (read_found ws c) (λ e.
+    choose k (codes "write") ws _ _ c e (write_found ws c) (λ e.
+    choose k (codes "begin") ws _ _ c e (begin_found ws c) (λ e.
+    choose k (codes "commit") ws _ _ c e (commit_found ws c) (λ e.
+    choose k (codes "abort") ws _ _ c e (abort_found ws c) (λ e.
+    choose k (codes "item") ws _ _ c e (item_found ws c) (λ e. cc)))))))
+
+by_words : (ws : List (List ℕ)) (c : Command) → command_by ws ≡ Some c → IsCommand c × (ws ≡ words c)
+by_words [] c e = cc
+by_words (k ∷ ws) c e = behind k ws c e
+
+pub read_back : (line : List ℕ) (c : Command) → reading line ≡ Some c → Spells line c
+read_back line c e =
+    let h = by_words (words_of line) c e in
+    (h.0, sym (join_with_byte-slice_split 32 line) ∙ ap (join_with_byte 32) h.1)
+
+-- a line that spells a command is not skipped
+pub not_skipped : (line : List ℕ) (c : Command) → Spells line c → is_skipped line ≡ false
+not_skipped line (item n v) h = ap is_skipped h.1
+not_skipped line (begin_update n l) h = ap is_skipped h.1
+not_skipped line (begin_query n l) h = ap is_skipped h.1
+not_skipped line (read t x) h = ap is_skipped h.1
+not_skipped line (write t x v) h = ap is_skipped h.1
+not_skipped line (commit t) h = ap is_skipped h.1
+not_skipped line (abort t) h = ap is_skipped h.1
+not_skipped line totals h = ap is_skipped h.1

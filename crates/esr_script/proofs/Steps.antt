@@ -1,0 +1,171 @@
+-- How a run goes on, and how it ends.
+use Rattle.std.proofs.Common.{◌≡◌, ◌≢◌, ℕ, ◌+◌, ◌<◌, ◌≤◌, List, [], ◌∷◌, ◌++◌, length, take, refl, sym, ◌∙◌, ap, subst, arith, Option, Some, None, Ok, Err, append_assoc, append-nil, length-append, length-take, le-ltb, lt-ltb, ne_eqb, eq-eqb}
+use Rattle.std.proofs.Math.Seq.{take-append_seam}
+use Rattle.std.specs.Io.KnownBytes.{IsAtEnd, Consumes}
+use Rattle.esr_script.specs.declared.fault.RunFault.{RunFault}
+use Rattle.esr_script.specs.declared.fault.RunFault.TheVariants.{LineTooLong, TooManyLines}
+use Rattle.esr_script.specs.Lines.{lines, whole_lines}
+use Rattle.esr_script.specs.Text.{State, start, answer, Outcome, outcome, outcome_from, outcome_of_lines, behind, stopped, max_lines, max_line_bytes}
+use Rattle.esr_report.specs.Lines.{BeginsWith}
+use Rattle.esr_script.specs.Run.{IsWholeText}
+use Rattle.esr_script.specs.Parts.{line_len, Progress, Standing}
+use Rattle.esr_script.proofs.Cutting.{lines-line, whole-line, front, behind_front, plain-front, split-front, lines-last, whole-none, Begins, begins}
+use Rattle.esr_script.proofs.Prefix.{line_len-le}
+
+-- ---- one line of an outcome
+
+pub outcome-line : (n : ℕ) (s s' : State) (line t : List ℕ) (more : List (List ℕ)) → n ≢ max_lines → length line ≤ max_line_bytes → answer s line ≡ Ok (s', t)
+    → outcome_from n s (line ∷ more) ≡ behind t (outcome_from (n + 1) s' more)
+outcome-line n s s' line t more few short is = rw (ne_eqb n max_lines few, le-ltb max_line_bytes (length line) short, is) refl
+
+pub outcome-fault : (n : ℕ) (s : State) (line : List ℕ) (f : RunFault) (more : List (List ℕ)) → n ≢ max_lines → length line ≤ max_line_bytes → answer s line ≡ Err f
+    → outcome_from n s (line ∷ more) ≡ stopped f
+outcome-fault n s line f more few short is = rw (ne_eqb n max_lines few, le-ltb max_line_bytes (length line) short, is) refl
+
+pub outcome-long : (n : ℕ) (s : State) (line : List ℕ) (more : List (List ℕ)) → n ≢ max_lines → max_line_bytes < length line
+    → outcome_from n s (line ∷ more) ≡ stopped LineTooLong
+outcome-long n s line more few long = rw (ne_eqb n max_lines few, lt-ltb max_line_bytes (length line) long) refl
+
+pub outcome-many : (n : ℕ) (s : State) (line : List ℕ) (more : List (List ℕ)) → n ≡ max_lines → outcome_from n s (line ∷ more) ≡ stopped TooManyLines
+outcome-many n s line more many = rw (eq-eqb n max_lines many) refl
+
+behind-behind : (a b : List ℕ) (o : Outcome) → behind a (behind b o) ≡ behind (a ++ b) o
+behind-behind a b o = ap (λ (t : List ℕ). let r : Outcome = record { text = t; fault = o.fault } in r) (sym (append_assoc a b o.text))
+
+behind-stopped : (a : List ℕ) (f : RunFault) → behind a (stopped f) ≡ record { text = a; fault = Some f }
+behind-stopped a f = ap (λ (t : List ℕ). let r : Outcome = record { text = t; fault = Some f } in r) (append-nil a)
+
+behind-done : (a : List ℕ) (n : ℕ) (s : State) → behind a (outcome_from n s []) ≡ record { text = a; fault = None }
+behind-done a n s = ap (λ (t : List ℕ). let r : Outcome = record { text = t; fault = None } in r) (append-nil a)
+
+-- ---- progress
+
+pub begun : (input : List ℕ) → Progress input input 0 start []
+begun input = record { used = []; answered = []; split = refl; counted = refl; cut = λ bytes. refl; cut_whole = λ bytes. refl; ran = λ more. refl }
+
+module _ (input : List ℕ) (n : ℕ) (s : State) (w : List ℕ) where
+  -- a line more
+  pub step : (bytes rest : List ℕ) (s' : State) (t : List ℕ) → Progress input (bytes ++ rest) n s w → n ≢ max_lines
+      → line_len bytes < length bytes → line_len bytes ≤ max_line_bytes → answer s (front bytes) ≡ Ok (s', t)
+      → Progress input (behind_front bytes ++ rest) (n + 1) s' (w ++ t)
+  step bytes rest s' t p few ended short is =
+      let l = front bytes in
+      let plain : line_len l ≡ length l = plain-front bytes in
+      let size : length l ≤ max_line_bytes = omega (arith, length-take (line_len bytes) bytes, line_len-le bytes) in
+      let split : input ≡ (p.used ++ (l ++ 10 ∷ [])) ++ (behind_front bytes ++ rest) =
+      p.split ∙ ap (λ b. p.used ++ (b ++ rest)) (split-front bytes ended) ∙ simp append_assoc in
+      let counted : length (p.answered ++ l ∷ []) ≡ n + 1 = length-append p.answered (l ∷ []) ∙ ap (λ k. k + 1) p.counted in
+      let cut : (b : List ℕ) → lines ((p.used ++ (l ++ 10 ∷ [])) ++ b) ≡ (p.answered ++ l ∷ []) ++ lines b =
+      λ b. let moved : (p.used ++ (l ++ 10 ∷ [])) ++ b ≡ p.used ++ (l ++ 10 ∷ b) = simp append_assoc in
+      ap lines moved ∙ p.cut (l ++ 10 ∷ b) ∙ ap (λ ls. p.answered ++ ls) (lines-line l b plain) ∙ sym (append_assoc p.answered (l ∷ []) (lines b)) in
+      let cut_whole : (b : List ℕ) → whole_lines ((p.used ++ (l ++ 10 ∷ [])) ++ b) ≡ (p.answered ++ l ∷ []) ++ whole_lines b =
+      λ b. let moved : (p.used ++ (l ++ 10 ∷ [])) ++ b ≡ p.used ++ (l ++ 10 ∷ b) = simp append_assoc in
+      ap whole_lines moved ∙ p.cut_whole (l ++ 10 ∷ b) ∙ ap (λ ls. p.answered ++ ls) (whole-line l b plain) ∙ sym (append_assoc p.answered (l ∷ []) (whole_lines b)) in
+      let ran : (more : List (List ℕ)) → outcome_of_lines ((p.answered ++ l ∷ []) ++ more) ≡ behind (w ++ t) (outcome_from (n + 1) s' more) =
+      λ more. ap outcome_of_lines (append_assoc p.answered (l ∷ []) more) ∙ p.ran (l ∷ more)
+      ∙ ap (behind w) (outcome-line n s s' l t more few size is) ∙ behind-behind w t (outcome_from (n + 1) s' more) in
+      record { used = p.used ++ (l ++ 10 ∷ []); answered = p.answered ++ l ∷ []; split = split; counted = counted; cut = cut; cut_whole = cut_whole; ran = ran }
+
+  -- the outcome of all of the input, by the lines of what is left
+  pub whole : (unread : List ℕ) (ls : List (List ℕ)) → Progress input unread n s w → lines unread ≡ ls → outcome input ≡ behind w (outcome_from n s ls)
+  whole unread ls p e = ap outcome p.split ∙ ap outcome_of_lines (p.cut unread ∙ ap (λ m. p.answered ++ m) e) ∙ p.ran ls
+
+  pub begins_with : (unread : List ℕ) → Progress input unread n s w → BeginsWith (outcome input).text w
+  begins_with unread p = ((outcome_from n s (lines unread)).text, ap (λ (o : Outcome). o.text) (whole unread (lines unread) p refl))
+
+  pub memory : (unread : List ℕ) → Progress input unread n s w → (count : ℕ) × (count ≤ length (lines input)) × IsWholeText (outcome_of_lines (take count (lines input))) w
+  memory unread p =
+      let cut : lines input ≡ p.answered ++ lines unread = ap lines p.split ∙ p.cut unread in
+      let lengths : length (lines input) ≡ length p.answered + length (lines unread) = ap length cut ∙ length-append p.answered (lines unread) in
+      let front : take (length p.answered) (lines input) ≡ p.answered = ap (take (length p.answered)) cut ∙ take-append_seam p.answered (lines unread) in
+      let text : outcome_of_lines p.answered ≡ record { text = w; fault = None } = ap outcome_of_lines (sym (append-nil p.answered)) ∙ p.ran [] ∙ behind-done w n s in
+      (length p.answered, (omega (arith, lengths)), ap outcome_of_lines front ∙ text)
+
+-- ---- with the reader
+
+-- more bytes came ahead
+pub advance : (input : List ℕ) (n : ℕ) (s : State) (w : List ℕ) (before after : Option (List ℕ)) (bytes grown more : List ℕ)
+    → Standing input before bytes n s w → grown ≡ bytes ++ more → Consumes before after more → Standing input after grown n s w
+advance input n s w None after bytes grown more here g taken = cc (here.known)
+advance input n s w (Some x) None bytes grown more here g taken = absurd taken
+advance input n s w (Some x) (Some y) bytes grown more here g taken =
+    let same : x ≡ here.rest = cc (here.known) in
+    let moved : bytes ++ here.rest ≡ grown ++ y =
+    ap (λ r. bytes ++ r) (sym same ∙ taken) ∙ sym (append_assoc bytes more y) ∙ ap (λ b. b ++ y) (sym g) in
+    record { rest = y; known = refl; progress = subst (λ u. Progress input u n s w) moved here.progress }
+
+at_end : (left : Option (List ℕ)) (rest : List ℕ) → left ≡ Some rest → IsAtEnd left → rest ≡ []
+at_end None rest e h = cc
+at_end (Some x) rest e h = cc
+
+consumed : {input : List ℕ} (left : Option (List ℕ)) (rest taken : List ℕ) → left ≡ Some rest → input ≡ taken ++ rest → Consumes (Some input) left taken
+consumed None rest taken e split = cc
+consumed (Some x) rest taken e split = let same : x ≡ rest = cc in split ∙ ap (λ r. taken ++ r) (sym same)
+
+module _ (input : List ℕ) (left : Option (List ℕ)) (bytes : List ℕ) (n : ℕ) (s : State) (w : List ℕ) where
+  pub step_line : Standing input left bytes n s w → (s' : State) (t : List ℕ) → n ≢ max_lines
+      → line_len bytes < length bytes → line_len bytes ≤ max_line_bytes → answer s (front bytes) ≡ Ok (s', t)
+      → Standing input left (behind_front bytes) (n + 1) s' (w ++ t)
+  step_line here s' t few ended short is =
+      record { rest = here.rest; known = here.known; progress = step input n s w bytes here.rest s' t here.progress few ended short is }
+
+  pub text_begins : Standing input left bytes n s w → BeginsWith (outcome input).text w
+  text_begins here = begins_with input n s w (bytes ++ here.rest) here.progress
+
+  pub at_memory : Standing input left bytes n s w → (count : ℕ) × (count ≤ length (lines input)) × IsWholeText (outcome_of_lines (take count (lines input))) w
+  at_memory here = memory input n s w (bytes ++ here.rest) here.progress
+
+  pub at_long : Standing input left bytes n s w → n ≢ max_lines → max_line_bytes < line_len bytes → outcome input ≡ record { text = w; fault = Some LineTooLong }
+  at_long here few long =
+      let b : Begins bytes here.rest = begins bytes here.rest (omega (arith, long, line_len-le bytes)) in
+      whole input n s w (bytes ++ here.rest) (b.line ∷ b.more) here.progress b.is
+      ∙ ap (behind w) (outcome-long n s b.line b.more few (omega (arith, long, b.long))) ∙ behind-stopped w LineTooLong
+
+  pub at_many : Standing input left bytes n s w → n ≡ max_lines → 0 < length bytes → outcome input ≡ record { text = w; fault = Some TooManyLines }
+  at_many here many some =
+      let b : Begins bytes here.rest = begins bytes here.rest some in
+      whole input n s w (bytes ++ here.rest) (b.line ∷ b.more) here.progress b.is
+      ∙ ap (behind w) (outcome-many n s b.line b.more many) ∙ behind-stopped w TooManyLines
+
+  pub at_fault_line : Standing input left bytes n s w → (f : RunFault) → n ≢ max_lines → line_len bytes < length bytes → line_len bytes ≤ max_line_bytes
+      → answer s (front bytes) ≡ Err f → outcome input ≡ record { text = w; fault = Some f }
+  at_fault_line here f few ended short is =
+      let size : length (front bytes) ≤ max_line_bytes = omega (arith, length-take (line_len bytes) bytes, line_len-le bytes) in
+      let moved : bytes ++ here.rest ≡ front bytes ++ 10 ∷ (behind_front bytes ++ here.rest) = ap (λ b. b ++ here.rest) (split-front bytes ended) ∙ simp append_assoc in
+      whole input n s w (bytes ++ here.rest) (front bytes ∷ lines (behind_front bytes ++ here.rest)) here.progress
+      (ap lines moved ∙ lines-line (front bytes) (behind_front bytes ++ here.rest) (plain-front bytes))
+      ∙ ap (behind w) (outcome-fault n s (front bytes) f (lines (behind_front bytes ++ here.rest)) few size is) ∙ behind-stopped w f
+
+  -- at the end of the input
+  pub all_read : Standing input left bytes n s w → IsAtEnd left → Consumes (Some input) left input
+  all_read here end = consumed left here.rest input here.known (sym (append-nil input) ∙ ap (λ r. input ++ r) (sym (at_end left here.rest here.known end)))
+
+  pub at_done : Standing input left bytes n s w → IsAtEnd left → bytes ≡ [] → outcome input ≡ record { text = w; fault = None }
+  at_done here end none =
+      let nothing : bytes ++ here.rest ≡ [] = ap (λ b. b ++ here.rest) none ∙ at_end left here.rest here.known end in
+      whole input n s w (bytes ++ here.rest) [] here.progress (ap lines nothing) ∙ behind-done w n s
+
+  last_line : Standing input left bytes n s w → IsAtEnd left → line_len bytes ≡ length bytes → 0 < length bytes → outcome input ≡ behind w (outcome_from n s (bytes ∷ []))
+  last_line here end plain some =
+      let all : bytes ++ here.rest ≡ bytes = ap (λ r. bytes ++ r) (at_end left here.rest here.known end) ∙ append-nil bytes in
+      whole input n s w (bytes ++ here.rest) (bytes ∷ []) here.progress (ap lines all ∙ lines-last bytes plain some)
+
+  pub at_last : Standing input left bytes n s w → IsAtEnd left → line_len bytes ≡ length bytes → 0 < length bytes → length bytes ≤ max_line_bytes → n ≢ max_lines
+      → (s' : State) (t : List ℕ) → answer s bytes ≡ Ok (s', t) → outcome input ≡ record { text = w ++ t; fault = None }
+  at_last here end plain some short few s' t is =
+      last_line here end plain some ∙ ap (behind w) (outcome-line n s s' bytes t [] few short is)
+      ∙ behind-behind w t (outcome_from (n + 1) s' []) ∙ behind-done (w ++ t) (n + 1) s'
+
+  pub at_fault_last : Standing input left bytes n s w → IsAtEnd left → line_len bytes ≡ length bytes → 0 < length bytes → length bytes ≤ max_line_bytes → n ≢ max_lines
+      → (f : RunFault) → answer s bytes ≡ Err f → outcome input ≡ record { text = w; fault = Some f }
+  at_fault_last here end plain some short few f is =
+      last_line here end plain some ∙ ap (behind w) (outcome-fault n s bytes f [] few short is) ∙ behind-stopped w f
+
+  -- where a read failed
+  pub at_read : Standing input left bytes n s w → line_len bytes ≡ length bytes → (taken : List ℕ) × Consumes (Some input) left taken × IsWholeText (outcome_of_lines (whole_lines taken)) w
+  at_read here plain =
+      let p = here.progress in
+      let split : input ≡ (p.used ++ bytes) ++ here.rest = p.split ∙ sym (append_assoc p.used bytes here.rest) in
+      let cut : whole_lines (p.used ++ bytes) ≡ p.answered = p.cut_whole bytes ∙ ap (λ ls. p.answered ++ ls) (whole-none bytes plain) ∙ append-nil p.answered in
+      let text : outcome_of_lines p.answered ≡ record { text = w; fault = None } = ap outcome_of_lines (sym (append-nil p.answered)) ∙ p.ran [] ∙ behind-done w n s in
+      (p.used ++ bytes, consumed left here.rest (p.used ++ bytes) here.known split, ap outcome_of_lines cut ∙ text)

@@ -1,0 +1,137 @@
+use Rattle.std.proofs.Common.{rules, ◌≡◌, [], ◌++◌, Err, inl, inr, length, arith, sym, ◌∙◌, ap, subst, refl}
+use Rattle.std.proofs.KnownBytes.{Appends-trans}
+use Rattle.esr_history.specs.Watch.{inner}
+use Rattle.esr_script.specs.Parts.{line_len, IsHeldRun}
+use Rattle.esr_script.proofs.Prefix.{same_bytes}
+use Rattle.esr_script.proofs.Steps.{advance}
+use Rattle.esr_script.proofs.Held.{has_bytes, is_long, all_sent, unread, held_read, held_memory, held_long, held_many, held_full, after_line, held_write}
+use Rattle.esr_script.proofs.runs.answer_lines.Goals as goal
+use Rattle.esr_script.proofs.runs.answer_lines.Goals.{then-len-ge-OUTPUT_FULL+in_default-send_all, else-len-ge-OUTPUT_FULL}
+
+pub returns-in-Err-clause-text : goal.returns-in-Err-clause-text
+returns-in-Err-clause-text g c input known =
+    let inv = c.lines.invariant.text input known in
+    let more = rw c.bytes.ensures at c.in-More.ensures in
+    elim c.in-Err.ensures.faults [
+      | inl e ↦
+          let none = c.in-Err.ensures.read (ap (λ f. Err f) e) in
+          let sent = c.in-Err.ensures.sent (rw e refl) in
+          let here = all_sent _ (unread input _ _ _ _ _ _ _ inv.2 none.0 none.1) in
+          let plain : line_len c.read_on.new.pending ≡ length c.read_on.new.pending = rw none.0 more.0 in
+          (inv.0 ++ c.lines.out.items, Appends-trans _ _ _ _ _ inv.1 sent.1, rw (e, sent.0) (held_read input _ _ _ _ (inv.0 ++ c.lines.out.items) [] here plain))
+      | inr e ↦
+          let part = c.in-Err.ensures.write (ap (λ f. Err f) e) in
+          let other = g.R.Read.remaining (inner c.read_on.new.reader) in (
+            inv.0 ++ part.0,
+            Appends-trans _ _ _ _ _ inv.1 part.2,
+            subst (λ f. IsHeldRun input other c.read_on.new.out.items (Err f) (inv.0 ++ part.0)) (sym e) (held_write input _ _ _ _ inv.0 _ inv.2 part.0 part.1 other c.read_on.new.out.items),
+          )
+    ]
+
+pub returns-in-Ok-eq0-clause-text : goal.returns-in-Ok-eq0-clause-text
+returns-in-Ok-eq0-clause-text g c input known =
+    let inv = c.lines.invariant.text input known in
+    let more = rw c.bytes.ensures at c.in-More.ensures in
+    let came = c.in-Ok-eq0.ensures.ok in
+    let sent = c.in-Ok-eq0.ensures.sent refl in
+    let here = all_sent _ (advance input _ _ _ _ _ _ _ came.0 inv.2 came.2 came.3) in
+    let same : c.read_on.new.pending ≡ c.lines.pending = same_bytes _ _ came.0 _ came.1 c.in-Ok-eq0.field-0-test came.2 in
+    let plain : line_len c.read_on.new.pending ≡ length c.read_on.new.pending = rw same more.0 in (
+      inv.0 ++ c.lines.out.items,
+      Appends-trans _ _ _ _ _ inv.1 sent.1,
+      c.answer_last.ensures.held input (inv.0 ++ c.lines.out.items) _ (rw sent.0 here) (came.4 c.in-Ok-eq0.field-0-test) plain,
+    )
+
+pub lines-preserved-in-Ok : goal.lines-preserved-in-Ok
+lines-preserved-in-Ok g c =
+    record {
+      bound = c.lines.invariant.bound;
+      reader = c.in-Ok.ensures.reader;
+      writer = c.in-Ok.ensures.writer;
+      text = λ input known.
+          let inv = c.lines.invariant.text input known in
+          let came = c.in-Ok.ensures.ok in
+          let sent = c.in-Ok.ensures.sent refl in
+          let here = all_sent _ (advance input _ _ _ _ _ _ _ came.0 inv.2 came.2 came.3) in
+          (inv.0 ++ c.lines.out.items, Appends-trans _ _ _ _ _ inv.1 sent.1, rw sent.0 here);
+    }
+
+pub returns-then-count-eq-MAX_LINES : goal.returns-then-count-eq-MAX_LINES
+returns-then-count-eq-MAX_LINES g c =
+    record {
+      text = λ input known.
+          let inv = c.lines.invariant.text input known in
+          let found = rw c.bytes.ensures at c.next_line-next.ensures in
+          (inv.0, inv.1, held_many input _ _ _ _ inv.0 _ inv.2 c.if-count-eq-MAX_LINES.true (has_bytes _ _ found c.in_default.not-More));
+      read = λ h. cc;
+      reader = c.lines.invariant.reader;
+      writer = c.lines.invariant.writer;
+    }
+
+pub returns-in_default-next : goal.returns-in_default-next
+returns-in_default-next g c =
+    record {
+      text = λ input known.
+          let inv = c.lines.invariant.text input known in
+          let found = rw c.bytes.ensures at c.next_line-next.ensures in
+          (inv.0, inv.1, held_long input _ _ _ _ inv.0 _ inv.2 c.if-count-eq-MAX_LINES.false (is_long _ _ found c.in_default.not-More c.in_default-next.not-Line));
+      read = λ h. cc;
+      reader = c.lines.invariant.reader;
+      writer = c.lines.invariant.writer;
+    }
+
+pub returns-in-Err-answer : goal.returns-in-Err-answer
+returns-in-Err-answer g c =
+    record {
+      text = λ input known.
+          let inv = c.lines.invariant.text input known in
+          let found = rw c.bytes.ensures at c.in-Line.ensures in
+          let kept = c.in-Err-answer.ensures.err in
+          let faults = rw c.bytes-in-lines.ensures at c.in-Err-answer.ensures.faults in
+          elim faults [
+            | inl e ↦ (inv.0, inv.1, rw (e, kept) (held_memory input _ _ _ _ inv.0 _ inv.2 (g.R.Read.remaining (inner c.lines.reader))))
+            | inr e ↦ (inv.0, inv.1, rw (e.0, kept) (held_full input _ _ _ _ inv.0 _ inv.2 c.in-Line.length c.if-count-eq-MAX_LINES.false found e.1))
+          ];
+      read = λ h. elim c.in-Err-answer.ensures.faults [ inl e ↦ cc | inr e ↦ cc ];
+      reader = elim c.in-Err-answer.ensures.faults [ inl e ↦ rw e c.lines.invariant.reader | inr e ↦ rw e.0 c.lines.invariant.reader ];
+      writer = elim c.in-Err-answer.ensures.faults [ inl e ↦ rw e c.lines.invariant.writer | inr e ↦ rw e.0 c.lines.invariant.writer ];
+    }
+
+pub returns-in-Err-send_all : goal.returns-in-Err-send_all
+returns-in-Err-send_all g c =
+    record {
+      text = λ input known.
+          let inv = c.lines.invariant.text input known in
+          let found = rw c.bytes.ensures at c.in-Line.ensures in
+          let answered = rw c.bytes-in-lines.ensures at c.in_default-answer.ensures.ok in
+          let after = after_line input _ _ _ _ inv.0 _ inv.2 c.in-Line.length _ answered.0 _ c.if-count-eq-MAX_LINES.false found answered.1 answered.2 in
+          let failed = c.in-Err-send_all.ensures.err in
+          let part = failed.1 in
+          (inv.0 ++ part.0, Appends-trans _ _ _ _ _ inv.1 part.2, rw failed.0 (held_write input _ _ _ _ inv.0 _ after part.0 part.1 (g.R.Read.remaining (inner c.lines.reader)) c.send_all.new.out.items));
+      read = λ h. let is = c.in-Err-send_all.ensures.err.0 in cc;
+      reader = let is = c.in-Err-send_all.ensures.err.0 in rw is c.lines.invariant.reader;
+      writer = search rules;
+    }
+
+pub lines-preserved : goal.lines-preserved
+lines-preserved g c =
+    record {
+      bound = omega (arith, c.lines.invariant.bound, c.if-count-eq-MAX_LINES.false);
+      reader = c.lines.invariant.reader;
+      writer = elim c.if-len-ge-OUTPUT_FULL.branch [
+        | then-len-ge-OUTPUT_FULL+in_default-send_all w ↦ rw w.writer-is (w.in_default-send_all.ensures.failed ∙ rw c.lines.invariant.writer refl)
+        | else-len-ge-OUTPUT_FULL w ↦ rw w.writer-is c.lines.invariant.writer
+      ];
+      text = λ input known.
+          let inv = c.lines.invariant.text input known in
+          let found = rw c.bytes.ensures at c.in-Line.ensures in
+          let answered = rw c.bytes-in-lines.ensures at c.in_default-answer.ensures.ok in
+          let before = after_line input _ _ _ _ inv.0 _ inv.2 c.in-Line.length _ answered.0 _ c.if-count-eq-MAX_LINES.false found answered.1 answered.2 in
+          let after = rw (← c.skip.ensures) at before in
+          elim c.if-len-ge-OUTPUT_FULL.branch [
+            | then-len-ge-OUTPUT_FULL+in_default-send_all w ↦
+                let sent = w.in_default-send_all.ensures.ok in
+                rw (w.writer-is, w.out-is) (inv.0 ++ c.answer.new.out.items, Appends-trans _ _ _ _ _ inv.1 sent.1, rw sent.0 (all_sent _ after))
+            | else-len-ge-OUTPUT_FULL w ↦ rw (w.writer-is, w.out-is) (inv.0, inv.1, after)
+          ];
+    }

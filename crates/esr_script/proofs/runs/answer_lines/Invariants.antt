@@ -1,0 +1,19 @@
+use Rattle.std.proofs.Common.{◌≡◌, ℕ, ◌+◌, ◌-◌, ◌*◌, ◌≤◌, List, ◌++◌, Some, false, length}
+use Rattle.std.specs.Io.KnownBytes.{Appends}
+use Rattle.esr_history.specs.Watch.{inner, failed}
+use Rattle.esr_script.specs.Parts.{Standing}
+use Rattle.esr_script.proofs.runs.answer_lines.Given as goal
+
+abbrev pub invariant-lines : goal.invariant-lines
+invariant-lines g l = record {
+  bound : l.count ≤ 2000000;
+  reader : failed l.reader ≡ false;
+  writer : failed l.writer ≡ false;
+  text : (input : List ℕ) → g.R.Read.remaining (inner l.initial.reader) ≡ Some input → (sent : List ℕ)
+      × Appends (g.W.Write.contents (inner l.initial.writer)) (g.W.Write.contents (inner l.writer)) sent
+      × Standing input (g.R.Read.remaining (inner l.reader)) l.pending l.count l.script (sent ++ l.out.items);
+}
+
+-- a line more takes at most 201 bytes, and a read adds one at least
+abbrev pub decreases-lines : goal.decreases-lines
+decreases-lines g l = 202 * (2000001 - l.count) + (201 - length l.pending)

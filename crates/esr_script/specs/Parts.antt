@@ -1,0 +1,61 @@
+-- What the private parts of a run speak of.
+use Rattle.std.specs.Prelude.{◌≡◌, ℕ, List, ◌++◌, ◌<◌, ◌≤◌, Bool, true, false, length, nat_eq, Option, Some, Result, Ok, Err}
+use Rattle.std.specs.List.{position_or_len}
+use Rattle.esr_report.specs.Lines.{BeginsWith}
+use Rattle.esr_script.specs.declared.fault.RunFault.{RunFault}
+use Rattle.esr_script.specs.declared.fault.RunFault.TheVariants as fault
+use Rattle.esr_script.specs.declared.pending.Next.{Next}
+use Rattle.esr_script.specs.declared.pending.Next.TheVariants as next
+use Rattle.esr_script.specs.Lines.{lines, whole_lines}
+use Rattle.esr_script.specs.Run.{IsRunBy}
+use Rattle.esr_script.specs.Text.{State, outcome, outcome_of_lines, outcome_from, behind, max_line_bytes}
+
+-- how many bytes stand before the first line feed
+abbrev pub line_len : List ℕ → ℕ
+line_len bytes = position_or_len (λ b. nat_eq b 10) bytes
+
+-- what stands next in the bytes ahead
+abbrev pub IsNext : Next → List ℕ → Type 0
+IsNext (next.Line n) bytes = (n ≡ line_len bytes) × (n < length bytes) × (n ≤ max_line_bytes)
+IsNext next.TooLong bytes = max_line_bytes < line_len bytes
+IsNext next.More bytes = (line_len bytes ≡ length bytes) × (length bytes ≤ max_line_bytes)
+
+-- whether a read failed, and whether a write did
+abbrev pub is_read_fault : {T : Type 0} → Result T RunFault → Bool
+is_read_fault (Ok done) = false
+is_read_fault (Err fault.Read) = true
+is_read_fault (Err fault.Write) = false
+is_read_fault (Err fault.LineTooLong) = false
+is_read_fault (Err fault.NoMemory) = false
+is_read_fault (Err fault.HistoryFull) = false
+is_read_fault (Err fault.TooManyLines) = false
+
+abbrev pub is_write_fault : {T : Type 0} → Result T RunFault → Bool
+is_write_fault (Ok done) = false
+is_write_fault (Err fault.Read) = false
+is_write_fault (Err fault.Write) = true
+is_write_fault (Err fault.LineTooLong) = false
+is_write_fault (Err fault.NoMemory) = false
+is_write_fault (Err fault.HistoryFull) = false
+is_write_fault (Err fault.TooManyLines) = false
+
+-- A run over the input that has answered or skipped count lines, wrote this, and has these bytes before it.
+pub record Progress (input : List ℕ) (unread : List ℕ) (count : ℕ) (state : State) (written : List ℕ) : Type 0 where
+  pub used : List ℕ
+  pub answered : List (List ℕ)
+  pub split : input ≡ used ++ unread
+  pub counted : length answered ≡ count
+  pub cut : (bytes : List ℕ) → lines (used ++ bytes) ≡ answered ++ lines bytes
+  pub cut_whole : (bytes : List ℕ) → whole_lines (used ++ bytes) ≡ answered ++ whole_lines bytes
+  pub ran : (more : List (List ℕ)) → outcome_of_lines (answered ++ more) ≡ behind written (outcome_from count state more)
+
+-- the same, where the bytes before it are these ahead and those that the reader has left
+pub record Standing (input : List ℕ) (left : Option (List ℕ)) (bytes : List ℕ) (count : ℕ) (state : State) (written : List ℕ) : Type 0 where
+  pub rest : List ℕ
+  pub known : left ≡ Some rest
+  pub progress : Progress input (bytes ++ rest) count state written
+
+-- A run that has sent this and holds this output, to be sent yet. After a failed write the output is lost, and after a failed read there is none.
+abbrev pub IsHeldRun : List ℕ → Option (List ℕ) → List ℕ → Result (Unit {0}) RunFault → List ℕ → Type 0
+IsHeldRun input left out (Err fault.Write) sent = BeginsWith (outcome input).text sent
+IsHeldRun input left out r sent = BeginsWith (outcome input).text (sent ++ out) × IsRunBy input left r (sent ++ out)

@@ -1,0 +1,100 @@
+-- The command that a line spells, found by its words.
+use Rattle.std.specs.Prelude.{ℕ, ◌+◌, ◌-◌, ◌*◌, ◌^◌, ℤ, pos, neg_ℤ, List, [], ◌∷◌, Bool, ◌&&◌, nat_eq, nat_lt, cond, Option, Some, None, codes, decimal, option_and_then, option_map, if◌then◌else◌}
+use Rattle.std.specs.List.{slice_split}
+use Rattle.std.specs.Borrow.{Bor}
+use Rattle.std.specs.Str.{bytes_eq}
+use Rattle.esr_script.specs.Command.{Command, item, begin_update, begin_query, read, write, commit, abort, totals, is_name}
+
+abbrev pub is_blank : ℕ → Bool
+is_blank b = nat_eq b 32
+
+-- the words between single blanks
+abbrev pub words_of : List ℕ → List (List ℕ)
+words_of bytes = slice_split is_blank bytes
+
+-- the words after the first blank, where there is one
+abbrev pub words_after : Option (Bor (List ℕ)) → List (List ℕ)
+words_after None = []
+words_after (Some rest) = words_of rest.now
+
+abbrev pub name_of : List ℕ → Option (List ℕ)
+name_of text = cond (is_name text) (Some text) None
+
+-- the value of digits, behind the value n of those before them
+abbrev pub value_from : ℕ → List ℕ → ℕ
+value_from n [] = n
+value_from n (c ∷ cs) = value_from (10 * n + (c - 48)) cs
+
+-- the number below the bound of which the text is the decimal form
+abbrev pub number_below : ℕ → List ℕ → Option ℕ
+number_below bound text = let n = value_from 0 text in cond (nat_lt n bound && bytes_eq text (decimal n)) (Some n) None
+
+abbrev pub limit_of : List ℕ → Option ℕ
+limit_of text = number_below (10 ^ 19) text
+
+abbrev pub minus : ℕ → Option ℤ
+minus n = cond (nat_eq n 0) None (Some (neg_ℤ (pos n)))
+
+-- the whole number of which the text is the decimal form
+abbrev pub int_of : List ℕ → Option ℤ
+int_of [] = None
+int_of (c ∷ cs) = cond (nat_eq c 45) (option_and_then minus (number_below (10 ^ 18) cs)) (option_map pos (number_below (10 ^ 18) (c ∷ cs)))
+
+-- the words, where there are so many
+abbrev pub one_of : List (List ℕ) → Option (List ℕ)
+one_of (a ∷ []) = Some a
+one_of ws = None
+
+abbrev pub two_of : List (List ℕ) → Option (List ℕ × List ℕ)
+two_of (a ∷ b ∷ []) = Some (a, b)
+two_of ws = None
+
+abbrev pub three_of : List (List ℕ) → Option (List ℕ × List ℕ × List ℕ)
+three_of (a ∷ b ∷ c ∷ []) = Some (a, b, c)
+three_of ws = None
+
+-- both, or none
+abbrev pub both : {A B C : Type 0} → (A → B → C) → Option A → Option B → Option C
+both f a b = option_and_then (λ x. option_map (f x) b) a
+
+-- the words behind each first word
+abbrev pub item_of : List (List ℕ) → Option Command
+item_of ws = option_and_then (λ p. both item (name_of p.0) (int_of p.1)) (two_of ws)
+
+abbrev pub begin_of : List (List ℕ) → Option Command
+begin_of ws =
+    option_and_then (λ p.
+    if bytes_eq p.1 (codes "update") then both begin_update (name_of p.0) (limit_of p.2)
+    else if bytes_eq p.1 (codes "query") then both begin_query (name_of p.0) (limit_of p.2)
+    else None) (three_of ws)
+
+abbrev pub read_of : List (List ℕ) → Option Command
+read_of ws = option_and_then (λ p. both read (name_of p.0) (name_of p.1)) (two_of ws)
+
+abbrev pub write_of : List (List ℕ) → Option Command
+write_of ws = option_and_then (λ p. option_and_then (λ t. both (write t) (name_of p.1) (int_of p.2)) (name_of p.0)) (three_of ws)
+
+abbrev pub ended_of : List (List ℕ) → Option (List ℕ)
+ended_of ws = option_and_then name_of (one_of ws)
+
+abbrev pub totals_of : List (List ℕ) → Option Command
+totals_of [] = Some totals
+totals_of ws = None
+
+abbrev pub command_of : List ℕ → List (List ℕ) → Option Command
+command_of word ws =
+    if bytes_eq word (codes "totals") then totals_of ws
+    else if bytes_eq word (codes "read") then read_of ws
+    else if bytes_eq word (codes "write") then write_of ws
+    else if bytes_eq word (codes "begin") then begin_of ws
+    else if bytes_eq word (codes "commit") then option_map commit (ended_of ws)
+    else if bytes_eq word (codes "abort") then option_map abort (ended_of ws)
+    else if bytes_eq word (codes "item") then item_of ws
+    else None
+
+abbrev pub command_by : List (List ℕ) → Option Command
+command_by [] = None
+command_by (word ∷ ws) = command_of word ws
+
+abbrev pub reading : List ℕ → Option Command
+reading line = command_by (words_of line)

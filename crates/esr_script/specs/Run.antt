@@ -1,0 +1,32 @@
+-- What a run may have written, by how it ended.
+use Rattle.std.specs.Prelude.{◌≡◌, ℕ, ◌≤◌, List, Option, Result, Ok, Err, Some, None, take, length}
+use Rattle.std.specs.Io.KnownBytes.{Consumes}
+use Rattle.esr_report.specs.Lines.{BeginsWith}
+use Rattle.esr_script.specs.declared.fault.RunFault.{RunFault}
+use Rattle.esr_script.specs.declared.fault.RunFault.TheVariants as fault
+use Rattle.esr_script.specs.Lines.{lines, whole_lines}
+use Rattle.esr_script.specs.Text.{Outcome, outcome, outcome_of_lines}
+
+-- no line ends the run, and this is its text
+abbrev pub IsWholeText : Outcome → List ℕ → Type 0
+IsWholeText o written = o ≡ record { text = written; fault = None }
+
+-- a line ends the run by the fault, and this is the text of those before it
+abbrev pub IsTextBefore : Outcome → RunFault → List ℕ → Type 0
+IsTextBefore o f written = o ≡ record { text = written; fault = Some f }
+
+-- A run that was given the input, left these bytes of it and ended so wrote this.
+abbrev pub IsRunBy : List ℕ → Option (List ℕ) → Result (Unit {0}) RunFault → List ℕ → Type 0
+-- the input was read to its end, and the whole text was written
+IsRunBy input left (Ok done) written = Consumes (Some input) left input × IsWholeText (outcome input) written
+-- the text of the whole lines that were read before the failure
+IsRunBy input left (Err fault.Read) written = (taken : List ℕ) × Consumes (Some input) left taken × IsWholeText (outcome_of_lines (whole_lines taken)) written
+-- a front of the text
+IsRunBy input left (Err fault.Write) written = BeginsWith (outcome input).text written
+-- the text of the lines before the one where memory ran out
+IsRunBy input left (Err fault.NoMemory) written =
+    (count : ℕ) × (count ≤ length (lines input)) × IsWholeText (outcome_of_lines (take count (lines input))) written
+-- the text of the lines before the one that ends the run so
+IsRunBy input left (Err fault.LineTooLong) written = IsTextBefore (outcome input) fault.LineTooLong written
+IsRunBy input left (Err fault.HistoryFull) written = IsTextBefore (outcome input) fault.HistoryFull written
+IsRunBy input left (Err fault.TooManyLines) written = IsTextBefore (outcome input) fault.TooManyLines written

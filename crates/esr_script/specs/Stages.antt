@@ -1,0 +1,25 @@
+-- The items before the machine is made, and the machine.
+use Rattle.std.specs.Prelude.{⊤, [], Bool, true, false}
+use Rattle.esr_history.specs.Machine.{Schedule}
+use Rattle.esr_history.specs.declared.event.Event.{Event}
+use Rattle.esr_history.specs.declared.event.Event.TheVariants as event
+use Rattle.esr_script.specs.declared.stage.Stage.{Stage}
+use Rattle.esr_script.specs.declared.stage.Stage.TheVariants as stage
+
+abbrev pub is_running : Stage → Bool
+is_running (stage.Open values) = false
+is_running (stage.Running machine) = true
+
+-- the history that the values open, or the machine's
+abbrev pub history_of : Stage → Schedule
+history_of (stage.Open values) = record { opening = values.items; weights = []; entries = [] }
+history_of (stage.Running machine) = machine
+
+-- whether an event begins a transaction
+abbrev pub IsBegin : Event → Type 0
+IsBegin (event.BeginUpdate limit) = ⊤
+IsBegin (event.BeginQuery limit strict) = ⊤
+IsBegin (event.Read txn x) = ⊥
+IsBegin (event.Write txn x value) = ⊥
+IsBegin (event.Commit txn) = ⊥
+IsBegin (event.Abort txn) = ⊥

@@ -1,0 +1,137 @@
+-- The text of a script: what a run over its lines writes, and how it ends.
+use Rattle.std.specs.Prelude.{ℕ, ◌+◌, ◌==◌, ℤ, pos, List, [], ◌∷◌, ◌++◌, Bool, true, false, not, nat_lt, nat_eq, cond, Option, Some, None, Result, Ok, Err, length, unwrap_or, if◌then◌else◌}
+use Rattle.std.specs.Option.{option_map_or}
+use Rattle.esr_items.specs.Values.{gap, is_value}
+use Rattle.esr_items.specs.declared.metric.ItemId.{ItemId}
+use Rattle.esr_history.specs.declared.event.TxnId.{TxnId}
+use Rattle.esr_history.specs.declared.event.Event.{Event}
+use Rattle.esr_history.specs.declared.event.Event.TheVariants as event
+use Rattle.esr_history.specs.declared.event.Reply.{Reply}
+use Rattle.esr_history.specs.declared.event.Reply.TheVariants as reply
+use Rattle.esr_history.specs.Machine.{Schedule, Distance, reply_to, extended}
+use Rattle.esr_history.specs.Totals.{all_imports, all_exports}
+use Rattle.esr_report.specs.declared.lines.LineError.TheVariants.{NotACommand, ItemsAreClosed, NameInUse, ValueOutOfRange, TooManyItems}
+use Rattle.esr_report.specs.Names.{position_of, is_bound}
+use Rattle.esr_report.specs.Lines.{Named, item_line, reply_line, totals_line, error_line}
+use Rattle.esr_script.specs.declared.fault.RunFault.{RunFault}
+use Rattle.esr_script.specs.declared.fault.RunFault.TheVariants as fault
+use Rattle.esr_script.specs.Lines.{lines}
+use Rattle.esr_script.specs.Command.{Command, item, begin_update, begin_query, read, write, commit, abort, totals, is_skipped}
+use Rattle.esr_script.specs.Reading.{reading}
+
+abbrev pub max_lines : ℕ
+max_lines = 2000000
+
+abbrev pub max_line_bytes : ℕ
+max_line_bytes = 200
+
+abbrev pub max_entries : ℕ
+max_entries = 1000000
+
+abbrev pub max_items : ℕ
+max_items = 4096
+
+-- the distance of two values is their difference
+abbrev pub plain : Distance
+plain weights x a b = gap a b
+
+-- what a run keeps of the lines so far
+pub record State : Type 0 where
+  -- the names of the items, and of the transactions, in the order of their numbers
+  pub items : List (List ℕ)
+  pub transactions : List (List ℕ)
+  -- whether a line came that spells another command than an item
+  pub closed : Bool
+  pub history : Schedule
+
+abbrev pub start : State
+start = record { items = []; transactions = []; closed = false; history = record { opening = []; weights = []; entries = [] } }
+
+-- transactions are numbered from 1; a name that is not bound stands for 0
+abbrev pub transaction_called : State → List ℕ → TxnId
+transaction_called s name = record { 0 = option_map_or (λ n. n + 1) (position_of s.transactions name) 0 }
+
+-- items are numbered from 0; a name that is not bound stands for a number that no item has
+abbrev pub item_called : State → List ℕ → ItemId
+item_called s name = record { 0 = unwrap_or (position_of s.items name) max_items }
+
+-- the names of the transactions after a reply: an accepted begin binds its name
+abbrev pub bound : List (List ℕ) → List ℕ → Reply → List (List ℕ)
+bound names name (reply.Begun number) = names ++ name ∷ []
+bound names name (reply.Value value) = names
+bound names name reply.Wrote = names
+bound names name reply.Committed = names
+bound names name reply.Aborted = names
+bound names name (reply.Refused why) = names
+
+-- an event is given to the machine, whose reply is an entry of the history
+abbrev pub ask : State → Named → Event → Result (State × List ℕ) RunFault
+ask s named e =
+    if length s.history.entries == max_entries then Err fault.HistoryFull
+    else (let r = reply_to plain s.history e in let names = bound s.transactions named.txn r in
+    Ok (record s { closed = true; transactions = names; history = extended s.history e r }, reply_line names named r))
+
+-- a begin, whose name may not be bound already
+abbrev pub begin : State → List ℕ → Event → Result (State × List ℕ) RunFault
+begin s name e =
+    if is_bound s.transactions name then Ok (record s { closed = true }, error_line NameInUse)
+    else ask s (record { txn = name; item = []; value = pos 0 }) e
+
+abbrev pub declare : State → List ℕ → ℤ → State × List ℕ
+declare s name value =
+    if s.closed then (s, error_line ItemsAreClosed)
+    else if is_bound s.items name then (s, error_line NameInUse)
+    else if not (is_value value) then (s, error_line ValueOutOfRange)
+    else if length s.items == max_items then (s, error_line TooManyItems)
+    else (record s { items = s.items ++ name ∷ []; history = record s.history { opening = s.history.opening ++ value ∷ [] } }, item_line name value)
+
+-- the state after a command, and its line
+abbrev pub obey : State → Command → Result (State × List ℕ) RunFault
+obey s (item name value) = Ok (declare s name value)
+obey s (begin_update name limit) = begin s name (event.BeginUpdate limit)
+obey s (begin_query name limit) = begin s name (event.BeginQuery limit false)
+obey s (read txn x) = ask s (record { txn = txn; item = x; value = pos 0 }) (event.Read (transaction_called s txn) (item_called s x))
+obey s (write txn x value) = ask s (record { txn = txn; item = x; value = value }) (event.Write (transaction_called s txn) (item_called s x) value)
+obey s (commit txn) = ask s (record { txn = txn; item = []; value = pos 0 }) (event.Commit (transaction_called s txn))
+obey s (abort txn) = ask s (record { txn = txn; item = []; value = pos 0 }) (event.Abort (transaction_called s txn))
+obey s totals = Ok (record s { closed = true }, totals_line (all_imports plain s.history) (all_exports plain s.history) (length s.history.entries))
+
+-- the state after a line, and its answer
+abbrev pub answer : State → List ℕ → Result (State × List ℕ) RunFault
+answer s line =
+    if is_skipped line then Ok (s, [])
+    else (elim (reading line) [
+      | Some command ↦ obey s command
+      | None ↦ Ok (s, error_line NotACommand)
+    ])
+
+-- the text of the answered lines, and the fault of the line that ends the run, if one does
+pub record Outcome : Type 0 where
+  pub text : List ℕ
+  pub fault : Option RunFault
+
+-- a line of which the run ends
+abbrev pub stopped : RunFault → Outcome
+stopped f = record { text = []; fault = Some f }
+
+-- the same outcome behind a text
+abbrev pub behind : List ℕ → Outcome → Outcome
+behind front o = record { text = front ++ o.text; fault = o.fault }
+
+-- the run over the lines from a state on, of which count are answered or skipped already
+abbrev pub outcome_from : ℕ → State → List (List ℕ) → Outcome
+outcome_from count state [] = record { text = []; fault = None }
+outcome_from count state (line ∷ more) =
+    cond (nat_eq count max_lines) (stopped fault.TooManyLines)
+    (cond (nat_lt max_line_bytes (length line)) (stopped fault.LineTooLong)
+    (elim (answer state line) [
+      | Ok next ↦ behind next.1 (outcome_from (count + 1) next.0 more)
+      | Err f ↦ stopped f
+    ]))
+
+abbrev pub outcome_of_lines : List (List ℕ) → Outcome
+outcome_of_lines ls = outcome_from 0 start ls
+
+-- the run over the bytes
+abbrev pub outcome : List ℕ → Outcome
+outcome bytes = outcome_of_lines (lines bytes)

@@ -1,0 +1,177 @@
+//! The lines of a script.
+
+ghost use Rattle.std.specs.Prelude.{◌≡◌, ◌↔◌, Option, Some, option_map, IsTrue};
+ghost use Rattle.esr_script.specs.Command.{Command, is_skipped, Spells};
+ghost use Rattle.esr_script.specs.Reading.{words_of, words_after, totals_of, item_of, begin_of, read_of, write_of, ended_of, command_by, reading};
+ghost use Rattle.esr_script.specs.View.{view, command_in, IsReadingOf};
+
+use crate::words::{cut_word, int, limit, name, one_word, three_words, two_words};
+
+/// A command, with its names as text of the line that spells it.
+#[derive(Clone, Copy, Debug, PartialEq, Eq)]
+pub enum Line<'a> {
+    /// `item NAME INT`
+    Item {
+        name: &'a str,
+        value: i64,
+    },
+    /// `begin NAME update LIMIT`
+    BeginUpdate {
+        name: &'a str,
+        limit: u64,
+    },
+    /// `begin NAME query LIMIT`
+    BeginQuery {
+        name: &'a str,
+        limit: u64,
+    },
+    /// `read NAME NAME`
+    Read {
+        txn: &'a str,
+        item: &'a str,
+    },
+    /// `write NAME NAME INT`
+    Write {
+        txn: &'a str,
+        item: &'a str,
+        value: i64,
+    },
+    /// `commit NAME`
+    Commit {
+        txn: &'a str,
+    },
+    /// `abort NAME`
+    Abort {
+        txn: &'a str,
+    },
+    /// `totals`
+    Totals,
+}
+
+/// What a line of a script is.
+#[derive(Clone, Copy, Debug, PartialEq, Eq)]
+pub enum Parsed<'a> {
+    /// An empty line or a comment.
+    Skipped,
+    /// A line that spells no command.
+    NotACommand,
+    Command(Line<'a>),
+}
+
+/// Whether a line is empty or a comment.
+fn is_skipped(line: &[u8]) -> bool
+    ensures { result ≡ is_skipped line.now }
+{
+    match line.first() {
+        None => true,
+        Some(byte) => *byte == b'#',
+    }
+}
+
+fn item(words: &[u8]) -> Option<Line<'_>>
+    ensures { option_map view result ≡ item_of (words_of words.now) }
+{
+    let (first, second) = two_words(words)?;
+    let name = name(first)?;
+    let value = int(second)?;
+    Some(Line::Item { name, value })
+}
+
+fn begin(words: &[u8]) -> Option<Line<'_>>
+    ensures { option_map view result ≡ begin_of (words_of words.now) }
+{
+    let (first, kind, last) = three_words(words)?;
+    if kind == b"update".as_slice() {
+        let name = name(first)?;
+        let limit = limit(last)?;
+        Some(Line::BeginUpdate { name, limit })
+    } else if kind == b"query".as_slice() {
+        let name = name(first)?;
+        let limit = limit(last)?;
+        Some(Line::BeginQuery { name, limit })
+    } else {
+        None
+    }
+}
+
+fn read(words: &[u8]) -> Option<Line<'_>>
+    ensures { option_map view result ≡ read_of (words_of words.now) }
+{
+    let (first, second) = two_words(words)?;
+    let txn = name(first)?;
+    let item = name(second)?;
+    Some(Line::Read { txn, item })
+}
+
+fn write(words: &[u8]) -> Option<Line<'_>>
+    ensures { option_map view result ≡ write_of (words_of words.now) }
+{
+    let (first, second, third) = three_words(words)?;
+    let txn = name(first)?;
+    let item = name(second)?;
+    let value = int(third)?;
+    Some(Line::Write { txn, item, value })
+}
+
+/// The transaction that a commit or an abort ends.
+fn ended(words: &[u8]) -> Option<&str>
+    ensures { option_map (λ t. t.now) result ≡ ended_of (words_of words.now) }
+{
+    name(one_word(words)?)
+}
+
+fn totals(words: Option<&[u8]>) -> Option<Line<'static>>
+    ensures { option_map view result ≡ totals_of (words_after words.entry) }
+{
+    match words {
+        None => Some(Line::Totals),
+        Some(_) => None,
+    }
+}
+
+/// The command that the line spells.
+fn command(line: &[u8]) -> Option<Line<'_>>
+    ensures { option_map view result ≡ reading line.now }
+{
+    let (word, more) = cut_word(line);
+    if word == b"totals".as_slice() {
+        return totals(more);
+    }
+    let words = more?;
+    if word == b"read".as_slice() {
+        read(words)
+    } else if word == b"write".as_slice() {
+        write(words)
+    } else if word == b"begin".as_slice() {
+        begin(words)
+    } else if word == b"commit".as_slice() {
+        let txn = ended(words)?;
+        Some(Line::Commit { txn })
+    } else if word == b"abort".as_slice() {
+        let txn = ended(words)?;
+        Some(Line::Abort { txn })
+    } else if word == b"item".as_slice() {
+        item(words)
+    } else {
+        None
+    }
+}
+
+/// What the line is. Takes no memory.
+pub fn parse_line(line: &[u8]) -> Parsed<'_>
+    // Skipped exactly for a skipped line, a command exactly where the line spells it.
+    ensures skipped { (result ≡ Parsed.Skipped) ↔ IsTrue (is_skipped line.now) }
+    ensures read { IsReadingOf line.now result }
+    ensures command { (c : Command) → (command_in result ≡ Some c) ↔ Spells line.now c }
+
+    // The reading of a line, and its spelling.
+    ensures law { (c : Command) → (reading line.now ≡ Some c) ↔ Spells line.now c }
+{
+    if is_skipped(line) {
+        return Parsed::Skipped;
+    }
+    match command(line) {
+        Some(line) => Parsed::Command(line),
+        None => Parsed::NotACommand,
+    }
+}

@@ -1,0 +1,122 @@
+//! Bytes that were read and are not yet used.
+
+ghost use Rattle.std.specs.Prelude.{◌≡◌, ℕ, ◌<◌, ◌≤◌, List, [], ◌++◌, IfOk, IfErr, OnErr, IsErrOf, drop, take, ◌-◌, length, nat_eq, ◌||◌};
+ghost use Rattle.std.specs.List.{position};
+ghost use Rattle.std.specs.Io.KnownBytes.{Consumes, Keeps, IsAtEnd};
+ghost use Rattle.esr_history.specs.Watch.{inner, failed};
+ghost use Rattle.esr_script.specs.Parts.{line_len, IsNext, is_read_fault};
+
+use crate::fault::RunFault;
+use esr_history::Watched;
+use std::alloc::{AllocError, Global};
+use std::io::Read;
+use std::marker::Model;
+
+/// The most bytes ahead: many lines, so that reads are few.
+const ROOM: usize = 65536;
+
+const MAX_LINE_BYTES: usize = 200;
+
+/// Bytes that were read and are not yet used, seen as the list of them. They stand
+/// in one buffer from `start` to `end`.
+#[derive(Drop)]
+pub struct Pending {
+    buffer: Vec<u8>,
+    start: usize,
+    end: usize,
+}
+
+impl Model for Pending {
+    ghost Value = { List ℕ };
+
+    ghost view = { λ p. take (p.end - p.start) (drop p.start p.buffer.items) };
+
+    ghost invariant = { λ p. (p.start ≤ p.end) × (p.end ≤ length p.buffer.items) × (length p.buffer.items ≡ 65536) };
+}
+
+impl Pending {
+    pub fn new(alloc: Global) -> Result<Pending, AllocError>
+        ensures { IfOk result (λ p. p ≡ []) }
+    {
+        let buffer = vec![in alloc; 0u8; ROOM]?;
+        Ok(Pending {
+            buffer,
+            start: 0,
+            end: 0,
+        })
+    }
+
+    pub fn bytes(&self) -> &[u8]
+        ensures { result.now ≡ self.now }
+    {
+        &self.buffer[self.start..self.end]
+    }
+
+    pub fn skip(&mut self, count: usize)
+        requires { count ≤ length self.old }
+        ensures { self.new ≡ drop count self.old }
+    {
+        self.start += count;
+    }
+
+    /// Reads once, and gives the count of bytes that came: none at the end of the input.
+    pub fn fill<R: Read>(&mut self, reader: &mut Watched<R>) -> Result<usize, RunFault>
+        requires { length self.old ≤ 200 }
+        ensures ok { IfOk result (λ n. (more : List ℕ) × (length more ≡ n) × (self.new ≡ self.old ++ more)
+            × Consumes (R.remaining (inner reader.old)) (R.remaining (inner reader.new)) more
+            × (n ≡ 0 → IsAtEnd (R.remaining (inner reader.new)))) }
+        ensures err { IfErr result (λ e. (e ≡ RunFault.Read) × (self.new ≡ self.old)
+            × Keeps (R.remaining (inner reader.old)) (R.remaining (inner reader.new))) }
+        ensures failed { failed reader.new ≡ (failed reader.old || is_read_fault result) }
+    {
+        self.buffer.rotate_left(self.start);
+        self.end -= self.start;
+        self.start = 0;
+        match reader.read(&mut self.buffer[self.end..]) {
+            Ok(count) => {
+                self.end += count;
+                Ok(count)
+            }
+            Err(_) => Err(RunFault::Read),
+        }
+    }
+}
+
+/// What stands next in bytes ahead.
+#[derive(Clone, Copy, Debug)]
+pub enum Next {
+    /// A line of so many bytes, and a line feed.
+    Line(usize),
+    TooLong,
+    /// No whole line yet.
+    More,
+}
+
+fn find_line_feed(bytes: &[u8]) -> Option<usize>
+    ensures { result ≡ position (λ b. nat_eq b 10) bytes.now }
+{
+    bytes.iter().position(|b| *b == b'\n')
+}
+
+/// The count of bytes before the first line feed.
+fn line_len(bytes: &[u8]) -> usize
+    ensures { result ≡ line_len bytes.now }
+{
+    match find_line_feed(bytes) {
+        Some(place) => place,
+        None => bytes.len(),
+    }
+}
+
+pub fn next_line(bytes: &[u8]) -> Next
+    ensures { IsNext result bytes.now }
+{
+    let length = line_len(bytes);
+    if length > MAX_LINE_BYTES {
+        Next::TooLong
+    } else if length < bytes.len() {
+        Next::Line(length)
+    } else {
+        Next::More
+    }
+}

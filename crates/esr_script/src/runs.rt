@@ -1,0 +1,191 @@
+//! A run over a script, from its reader to its writer.
+
+ghost use Rattle.std.specs.Prelude.{◌≡◌, ℕ, List, [], ◌++◌, Some, Ok, Err, IfSome, IsErrOf, OnOk, OnErr, IfErr, IfOk, IsTrue, ◌↔◌, true, false, ◌≤◌, ◌⊎◌, take, length, ◌||◌, Option};
+ghost use Rattle.std.specs.Io.KnownBytes.{Appends, Consumes, IsAtEnd, Keeps};
+ghost use Rattle.esr_history.specs.Watch.{inner, failed};
+ghost use Rattle.esr_report.specs.Lines.{BeginsWith};
+ghost use Rattle.esr_script.specs.Text.{answer, start};
+ghost use Rattle.esr_script.specs.Run.{IsRunBy};
+ghost use Rattle.esr_script.specs.Parts.{line_len, IsHeldRun, Standing, is_read_fault, is_write_fault};
+
+use crate::fault::RunFault;
+use crate::pending::{Next, Pending, next_line};
+use crate::script::Script;
+use crate::sending::send_all;
+use esr_history::Watched;
+use std::alloc::Global;
+use std::io::{Read, Write};
+
+const MAX_LINES: u64 = 2_000_000;
+
+const OUTPUT_FULL: usize = 32768;
+
+const OUTPUT_CAPACITY: usize = 65536;
+
+/// Reads a script to its end and writes its text.
+///
+/// What is answered is written before the run waits for more of the input. After
+/// a fault other than `Write` the text of the lines before it was written, and
+/// nothing else; after `Write` a front of the text was.
+pub fn run<R: Read, W: Write>(
+    alloc: Global,
+    reader: &mut Watched<R>,
+    writer: &mut Watched<W>,
+) -> Result<(), RunFault>
+    requires reader { failed reader.old ≡ false }
+    requires writer { failed writer.old ≡ false }
+    ensures text { IfSome (R.remaining (inner reader.old)) (λ input. (written : List ℕ)
+        × Appends (W.contents (inner writer.old)) (W.contents (inner writer.new)) written
+        × IsRunBy input (R.remaining (inner reader.new)) result written) }
+
+    // Where a read or a write has failed, the run ends so.
+    ensures reader { IsTrue (failed reader.new) ↔ IsErrOf result RunFault.Read }
+    ensures writer { IsTrue (failed writer.new) ↔ IsErrOf result RunFault.Write }
+{
+    let Ok(mut pending) = Pending::new(alloc) else {
+        return Err(RunFault::NoMemory);
+    };
+    let Ok(mut out) = Vec::with_capacity(alloc, OUTPUT_CAPACITY) else {
+        return Err(RunFault::NoMemory);
+    };
+    let mut script = Script::new(alloc);
+    run_with(reader, writer, &mut pending, &mut script, &mut out)
+}
+
+/// Runs the script with these buffers.
+fn run_with<R: Read, W: Write>(
+    reader: &mut Watched<R>,
+    writer: &mut Watched<W>,
+    pending: &mut Pending,
+    script: &mut Script,
+    out: &mut Vec<u8>,
+) -> Result<(), RunFault>
+    requires pending { pending.old ≡ [] }
+    requires script { script.old ≡ start }
+    requires out { out.old.items ≡ [] }
+    requires reader { failed reader.old ≡ false }
+    requires writer { failed writer.old ≡ false }
+    ensures text { (input : List ℕ) → R.remaining (inner reader.old) ≡ Some input → (written : List ℕ)
+        × Appends (W.contents (inner writer.old)) (W.contents (inner writer.new)) written
+        × IsRunBy input (R.remaining (inner reader.new)) result written }
+    ensures reader { failed reader.new ≡ is_read_fault result }
+    ensures writer { failed writer.new ≡ is_write_fault result }
+{
+    let ended = answer_lines(reader, writer, pending, script, out);
+    if is_lost(ended) {
+        return ended;
+    }
+    if let Err(fault) = send_all(out, writer) {
+        return Err(fault);
+    }
+    ended
+}
+
+/// Whether the reader or the writer has failed.
+fn is_lost(ended: Result<(), RunFault>) -> bool
+    ensures { result ≡ (is_read_fault ended || is_write_fault ended) }
+{
+    matches!(ended, Err(RunFault::Read | RunFault::Write))
+}
+
+/// Answers line after line. What is answered and not yet written stands in `out`.
+fn answer_lines<R: Read, W: Write>(
+    reader: &mut Watched<R>,
+    writer: &mut Watched<W>,
+    pending: &mut Pending,
+    script: &mut Script,
+    out: &mut Vec<u8>,
+) -> Result<(), RunFault>
+    requires pending { pending.old ≡ [] }
+    requires script { script.old ≡ start }
+    requires out { out.old.items ≡ [] }
+    requires reader { failed reader.old ≡ false }
+    requires writer { failed writer.old ≡ false }
+    ensures text { (input : List ℕ) → R.remaining (inner reader.old) ≡ Some input → (sent : List ℕ)
+        × Appends (W.contents (inner writer.old)) (W.contents (inner writer.new)) sent
+        × IsHeldRun input (R.remaining (inner reader.new)) out.new.items result sent }
+    ensures read { IsErrOf result RunFault.Read → out.new.items ≡ [] }
+    ensures reader { failed reader.new ≡ is_read_fault result }
+    ensures writer { failed writer.new ≡ is_write_fault result }
+{
+    let mut count: u64 = 0;
+    'lines: loop {
+        let next = next_line(pending.bytes());
+        if let Next::More = next {
+            match read_on(reader, writer, pending, out) {
+                Err(fault) => return Err(fault),
+                Ok(0) => return answer_last(pending, count, script, out),
+                Ok(_) => continue 'lines,
+            }
+        }
+        if count == MAX_LINES {
+            return Err(RunFault::TooManyLines);
+        }
+        let Next::Line(length) = next else {
+            return Err(RunFault::LineTooLong);
+        };
+        if let Err(fault) = script.answer(&pending.bytes()[..length], out) {
+            return Err(fault);
+        }
+        pending.skip(length + 1);
+        if out.len() >= OUTPUT_FULL {
+            if let Err(fault) = send_all(out, writer) {
+                return Err(fault);
+            }
+        }
+        count += 1;
+    }
+}
+
+/// Sends what is answered, and then reads once. Gives the count of bytes that
+/// came: none at the end of the input.
+fn read_on<R: Read, W: Write>(
+    reader: &mut Watched<R>,
+    writer: &mut Watched<W>,
+    pending: &mut Pending,
+    out: &mut Vec<u8>,
+) -> Result<usize, RunFault>
+    requires short { length pending.old ≤ 200 }
+    requires reader { failed reader.old ≡ false }
+    requires writer { failed writer.old ≡ false }
+    ensures ok { IfOk result (λ n. (more : List ℕ) × (length more ≡ n) × (pending.new ≡ pending.old ++ more)
+        × Consumes (R.remaining (inner reader.old)) (R.remaining (inner reader.new)) more
+        × (n ≡ 0 → IsAtEnd (R.remaining (inner reader.new)))) }
+    ensures sent { is_write_fault result ≡ false → (out.new.items ≡ [])
+        × Appends (W.contents (inner writer.old)) (W.contents (inner writer.new)) out.old.items }
+    ensures read { IsErrOf result RunFault.Read → (pending.new ≡ pending.old)
+        × Keeps (R.remaining (inner reader.old)) (R.remaining (inner reader.new)) }
+    ensures write { IsErrOf result RunFault.Write → (sent : List ℕ) × BeginsWith out.old.items sent
+        × Appends (W.contents (inner writer.old)) (W.contents (inner writer.new)) sent }
+    ensures faults { IfErr result (λ e. (e ≡ RunFault.Read) ⊎ (e ≡ RunFault.Write)) }
+    ensures reader { failed reader.new ≡ is_read_fault result }
+    ensures writer { failed writer.new ≡ is_write_fault result }
+{
+    if let Err(fault) = send_all(out, writer) {
+        return Err(fault);
+    }
+    pending.fill(reader)
+}
+
+/// Answers the line that has no line feed, where there is one.
+fn answer_last(
+    pending: &Pending,
+    count: u64,
+    script: &mut Script,
+    out: &mut Vec<u8>,
+) -> Result<(), RunFault>
+    requires short { length pending.now ≤ 200 }
+    ensures held { (input sent : List ℕ) (left : Option (List ℕ)) → Standing input left pending.now count script.old (sent ++ out.old.items)
+        → IsAtEnd left → line_len pending.now ≡ length pending.now → IsHeldRun input left out.new.items result sent }
+    ensures read { is_read_fault result ≡ false }
+    ensures write { is_write_fault result ≡ false }
+{
+    let line = pending.bytes();
+    if line.is_empty() {
+        return Ok(());
+    }
+    if count == MAX_LINES {
+        return Err(RunFault::TooManyLines);
+    }
+    script.answer(line, out)
+}

@@ -1,0 +1,271 @@
+//! What a run keeps of the lines so far, and its answer to a line.
+
+ghost use Rattle.std.specs.Prelude.{◌≡◌, ℕ, ◌+◌, ◌<◌, ◌≤◌, ◌⊎◌, List, [], ◌++◌, Ok, Err, None, OnErr, OnOk, IfErr, IsOk, ◌↔◌, length, pos};
+ghost use Rattle.esr_report.specs.Names.{position_of};
+ghost use Rattle.esr_report.specs.Subjects.{named_by};
+ghost use Rattle.esr_script.specs.Text.{start, transaction_called, item_called, declare, begin, ask, obey, answer};
+ghost use Rattle.esr_script.specs.Command as command;
+ghost use Rattle.esr_script.specs.Stages.{IsBegin};
+ghost use Rattle.esr_script.specs.View.{view};
+
+use crate::fault::RunFault;
+use crate::parse::{Line, Parsed, parse_line};
+use crate::stage::Stage;
+use esr_history::{Event, Reply, TxnId};
+use esr_items::{ItemId, LARGEST_VALUE, MOST_ITEMS};
+use esr_report::{LineError, Names, Subject, error_line, item_line, reply_line, totals_line};
+use std::alloc::{AllocError, Global};
+use std::marker::Model;
+
+/// The names that are bound, and the items or the machine.
+#[derive(Drop)]
+pub struct Script {
+    alloc: Global,
+    items: Names,
+    transactions: Names,
+    stage: Stage,
+}
+
+impl Model for Script {
+    ghost use Rattle.std.specs.Prelude.{◌≤◌, length};
+    ghost use Rattle.esr_script.specs.Text.{State};
+    ghost use Rattle.esr_script.specs.Command as command;
+    ghost use Rattle.esr_script.specs.Stages.{is_running, history_of};
+
+    ghost Value = { State };
+
+    ghost view = { λ s. record { items = s.items; transactions = s.transactions; closed = is_running s.stage; history = history_of s.stage } };
+
+    ghost invariant = { λ s. (length s.items ≤ 4096) × (length s.transactions ≤ length (history_of s.stage).entries) × (length (history_of s.stage).entries ≤ 1000000) };
+}
+
+impl Script {
+    pub fn new(alloc: Global) -> Script
+        ensures { result ≡ start }
+    {
+        Script {
+            alloc,
+            items: Names::new(alloc),
+            transactions: Names::new(alloc),
+            stage: Stage::Open(Vec::new(alloc)),
+        }
+    }
+
+    /// The transaction that the name stands for: 0 where it is not bound.
+    fn transaction(&self, name: &str) -> TxnId
+        ensures { result ≡ transaction_called self.now name.now }
+    {
+        match self.transactions.number_of(name) {
+            Some(position) => TxnId(position + 1),
+            None => TxnId(0),
+        }
+    }
+
+    /// The item that the name stands for: one that does not exist where it is not bound.
+    fn item(&self, name: &str) -> ItemId
+        ensures { result ≡ item_called self.now name.now }
+    {
+        match self.items.number_of(name) {
+            Some(position) => ItemId(position),
+            None => ItemId(4096),
+        }
+    }
+
+    /// Declares an item.
+    fn declare(&mut self, name: &str, value: i64, out: &mut Vec<u8>) -> Result<(), RunFault>
+        ensures ok { OnOk result ((text : List ℕ) × (declare self.old name.now value ≡ (self.new, text)) × (out.new.items ≡ out.old.items ++ text)) }
+        ensures err { OnErr result (out.new.items ≡ out.old.items) }
+        ensures faults { IfErr result (λ e. e ≡ RunFault.NoMemory) }
+    {
+        let Stage::Open(values) = &mut self.stage else {
+            return said(error_line(out, LineError::ItemsAreClosed));
+        };
+        if self.items.number_of(name).is_some() {
+            return said(error_line(out, LineError::NameInUse));
+        }
+        if value.unsigned_abs() > LARGEST_VALUE {
+            return said(error_line(out, LineError::ValueOutOfRange));
+        }
+        if self.items.len() >= MOST_ITEMS {
+            return said(error_line(out, LineError::TooManyItems));
+        }
+        if self.items.bind(name).is_err() || values.push(value).is_err() {
+            return Err(RunFault::NoMemory);
+        }
+        said(item_line(out, name, value))
+    }
+
+    /// Gives the machine an event, and answers with its reply.
+    fn ask(&mut self, subject: Subject<'_>, event: Event, out: &mut Vec<u8>) -> Result<(), RunFault>
+        requires { IsBegin event → position_of self.old.transactions subject.txn.now ≡ None }
+        ensures ok { OnOk result ((text : List ℕ) × (ask self.old (named_by subject.entry) event ≡ Ok (self.new, text)) × (out.new.items ≡ out.old.items ++ text)) }
+        ensures err { OnErr result (out.new.items ≡ out.old.items) }
+        ensures faults { IfErr result (λ e. (e ≡ RunFault.NoMemory)
+            ⊎ ((e ≡ RunFault.HistoryFull) × (ask self.old (named_by subject.entry) event ≡ Err RunFault.HistoryFull))) }
+    {
+        self.stage.close(self.alloc)?;
+        let reply = self.stage.step(event)?;
+        if let Reply::Begun(_) = reply {
+            if self.transactions.bind(subject.txn).is_err() {
+                return Err(RunFault::NoMemory);
+            }
+        }
+        said(reply_line(out, &self.transactions, subject, reply))
+    }
+
+    /// Begins a transaction, whose name may not be bound already.
+    fn begin(&mut self, name: &str, event: Event, out: &mut Vec<u8>) -> Result<(), RunFault>
+        ensures ok { OnOk result ((text : List ℕ) × (begin self.old name.now event ≡ Ok (self.new, text)) × (out.new.items ≡ out.old.items ++ text)) }
+        ensures err { OnErr result (out.new.items ≡ out.old.items) }
+        ensures faults { IfErr result (λ e. (e ≡ RunFault.NoMemory)
+            ⊎ ((e ≡ RunFault.HistoryFull) × (begin self.old name.now event ≡ Err RunFault.HistoryFull))) }
+    {
+        if self.transactions.number_of(name).is_some() {
+            return said(error_line(out, LineError::NameInUse));
+        }
+        self.ask(alone(name), event, out)
+    }
+
+    /// Reads an item.
+    fn read(&mut self, txn: &str, item: &str, out: &mut Vec<u8>) -> Result<(), RunFault>
+        ensures ok { OnOk result ((text : List ℕ) × (obey self.old (command.read txn.now item.now) ≡ Ok (self.new, text)) × (out.new.items ≡ out.old.items ++ text)) }
+        ensures err { OnErr result (out.new.items ≡ out.old.items) }
+        ensures faults { IfErr result (λ e. (e ≡ RunFault.NoMemory)
+            ⊎ ((e ≡ RunFault.HistoryFull) × (obey self.old (command.read txn.now item.now) ≡ Err RunFault.HistoryFull))) }
+    {
+        let event = Event::Read {
+            txn: self.transaction(txn),
+            item: self.item(item),
+        };
+        let subject = Subject {
+            txn,
+            item,
+            value: 0,
+        };
+        self.ask(subject, event, out)
+    }
+
+    /// Writes an item.
+    fn write(
+        &mut self,
+        txn: &str,
+        item: &str,
+        value: i64,
+        out: &mut Vec<u8>,
+    ) -> Result<(), RunFault>
+        ensures ok { OnOk result ((text : List ℕ) × (obey self.old (command.write txn.now item.now value) ≡ Ok (self.new, text)) × (out.new.items ≡ out.old.items ++ text)) }
+        ensures err { OnErr result (out.new.items ≡ out.old.items) }
+        ensures faults { IfErr result (λ e. (e ≡ RunFault.NoMemory)
+            ⊎ ((e ≡ RunFault.HistoryFull) × (obey self.old (command.write txn.now item.now value) ≡ Err RunFault.HistoryFull))) }
+    {
+        let event = Event::Write {
+            txn: self.transaction(txn),
+            item: self.item(item),
+            value,
+        };
+        let subject = Subject { txn, item, value };
+        self.ask(subject, event, out)
+    }
+
+    /// Commits a transaction.
+    fn commit(&mut self, txn: &str, out: &mut Vec<u8>) -> Result<(), RunFault>
+        ensures ok { OnOk result ((text : List ℕ) × (obey self.old (command.commit txn.now) ≡ Ok (self.new, text)) × (out.new.items ≡ out.old.items ++ text)) }
+        ensures err { OnErr result (out.new.items ≡ out.old.items) }
+        ensures faults { IfErr result (λ e. (e ≡ RunFault.NoMemory)
+            ⊎ ((e ≡ RunFault.HistoryFull) × (obey self.old (command.commit txn.now) ≡ Err RunFault.HistoryFull))) }
+    {
+        let event = Event::Commit {
+            txn: self.transaction(txn),
+        };
+        self.ask(alone(txn), event, out)
+    }
+
+    /// Aborts a transaction.
+    fn abort(&mut self, txn: &str, out: &mut Vec<u8>) -> Result<(), RunFault>
+        ensures ok { OnOk result ((text : List ℕ) × (obey self.old (command.abort txn.now) ≡ Ok (self.new, text)) × (out.new.items ≡ out.old.items ++ text)) }
+        ensures err { OnErr result (out.new.items ≡ out.old.items) }
+        ensures faults { IfErr result (λ e. (e ≡ RunFault.NoMemory)
+            ⊎ ((e ≡ RunFault.HistoryFull) × (obey self.old (command.abort txn.now) ≡ Err RunFault.HistoryFull))) }
+    {
+        let event = Event::Abort {
+            txn: self.transaction(txn),
+        };
+        self.ask(alone(txn), event, out)
+    }
+
+    /// Sums the charges so far.
+    fn totals(&mut self, out: &mut Vec<u8>) -> Result<(), RunFault>
+        ensures ok { OnOk result ((text : List ℕ) × (obey self.old command.totals ≡ Ok (self.new, text)) × (out.new.items ≡ out.old.items ++ text)) }
+        ensures err { OnErr result (out.new.items ≡ out.old.items) }
+        ensures faults { IfErr result (λ e. e ≡ RunFault.NoMemory) }
+    {
+        self.stage.close(self.alloc)?;
+        let totals = self.stage.totals();
+        said(totals_line(out, totals.import, totals.export, totals.entries))
+    }
+
+    /// Obeys a command.
+    fn obey(&mut self, line: Line<'_>, out: &mut Vec<u8>) -> Result<(), RunFault>
+        ensures ok { OnOk result ((text : List ℕ) × (obey self.old (view line.entry) ≡ Ok (self.new, text)) × (out.new.items ≡ out.old.items ++ text)) }
+        ensures err { OnErr result (out.new.items ≡ out.old.items) }
+        ensures faults { IfErr result (λ e. (e ≡ RunFault.NoMemory)
+            ⊎ ((e ≡ RunFault.HistoryFull) × (obey self.old (view line.entry) ≡ Err RunFault.HistoryFull))) }
+    {
+        match line {
+            Line::Item { name, value } => self.declare(name, value, out),
+            Line::BeginUpdate { name, limit } => self.begin(
+                name,
+                Event::BeginUpdate { limit },
+                out,
+            ),
+            Line::BeginQuery { name, limit } => {
+                let event = Event::BeginQuery {
+                    limit,
+                    strict: false,
+                };
+                self.begin(name, event, out)
+            }
+            Line::Read { txn, item } => self.read(txn, item, out),
+            Line::Write { txn, item, value } => self.write(txn, item, value, out),
+            Line::Commit { txn } => self.commit(txn, out),
+            Line::Abort { txn } => self.abort(txn, out),
+            Line::Totals => self.totals(out),
+        }
+    }
+
+    /// Answers a line at the end of the output. An error leaves the output as it was.
+    pub fn answer(&mut self, line: &[u8], out: &mut Vec<u8>) -> Result<(), RunFault>
+        ensures ok { OnOk result ((text : List ℕ) × (answer self.old line.now ≡ Ok (self.new, text)) × (out.new.items ≡ out.old.items ++ text)) }
+        ensures err { OnErr result (out.new.items ≡ out.old.items) }
+        ensures faults { IfErr result (λ e. (e ≡ RunFault.NoMemory)
+            ⊎ ((e ≡ RunFault.HistoryFull) × (answer self.old line.now ≡ Err RunFault.HistoryFull))) }
+    {
+        match parse_line(line) {
+            Parsed::Skipped => Ok(()),
+            Parsed::NotACommand => said(error_line(out, LineError::NotACommand)),
+            Parsed::Command(line) => self.obey(line, out),
+        }
+    }
+}
+
+/// A transaction alone is named.
+fn alone(txn: &str) -> Subject<'_>
+    ensures { named_by result ≡ record { txn = txn.now; item = []; value = pos 0 } }
+{
+    Subject {
+        txn,
+        item: "",
+        value: 0,
+    }
+}
+
+/// What came of appending a line.
+fn said(appended: Result<(), AllocError>) -> Result<(), RunFault>
+    ensures ok { IsOk result ↔ IsOk appended }
+    ensures faults { IfErr result (λ e. e ≡ RunFault.NoMemory) }
+{
+    match appended {
+        Ok(()) => Ok(()),
+        Err(_) => Err(RunFault::NoMemory),
+    }
+}

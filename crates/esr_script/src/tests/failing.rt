@@ -1,0 +1,143 @@
+//! Readers and writers that fail.
+
+use crate::{RunFault, run};
+use esr_history::Watched;
+use std::alloc::{AllocError, Global};
+use std::io;
+use std::io::{Read, Write};
+use std::process::Abort;
+use std::test::Fail;
+
+/// Lines, and the text of each.
+const LINES: [(&str, &str); 6] = [
+    ("item a 100\n", "item a 100\n"),
+    ("begin u update 0\n", "begun u 1\n"),
+    ("hello\n", "error 1 not a command\n"),
+    ("write u a 105\n", "wrote u a 105\n"),
+    ("read u a\n", "u a 105\n"),
+    ("commit u\n", "committed u\n"),
+];
+
+const SCRIPT: &str = "item a 100\nbegin u update 0\nhello\nwrite u a 105\nread u a\ncommit u\n";
+
+/// The text of the lines that are whole in so many bytes of the script.
+fn text_of_whole_lines(alloc: Global, read: usize) -> Result<Vec<u8>, AllocError> {
+    let mut text = Vec::new(alloc);
+    let mut end: usize = 0;
+    for (line, answer) in &LINES {
+        end = end.saturating_add(line.len());
+        if end <= read {
+            text.extend_from_slice(answer.as_bytes())?;
+        }
+    }
+    Ok(text)
+}
+
+/// Gives a byte at a time, and fails at one call.
+#[derive(Drop)]
+struct Cut<'a> {
+    rest: &'a [u8],
+    left: usize,
+}
+
+impl Read for Cut<'_> {
+    fn read(&mut self, buf: &mut [u8]) -> io::Result<usize> {
+        if self.left == 0 {
+            return Err(io::Error::from(io::ErrorKind::BrokenPipe));
+        }
+        self.left -= 1;
+        let mut one = [0u8; 1];
+        let count = self.rest.read(&mut one)?;
+        if count == 0 || buf.is_empty() {
+            return Ok(0);
+        }
+        buf[0] = one[0];
+        Ok(1)
+    }
+}
+
+/// How a writer fails.
+#[derive(Clone, Copy, PartialEq, Eq)]
+enum Way {
+    Errs,
+    TakesNone,
+}
+
+/// Takes up to three bytes at a time, and fails at one call.
+#[derive(Drop)]
+struct Narrow {
+    taken: Vec<u8>,
+    left: usize,
+    way: Way,
+}
+
+impl Write for Narrow {
+    fn write(&mut self, buf: &[u8]) -> io::Result<usize> {
+        if self.left == 0 {
+            return match self.way {
+                Way::Errs => Err(io::Error::from(io::ErrorKind::BrokenPipe)),
+                Way::TakesNone => Ok(0),
+            };
+        }
+        self.left -= 1;
+        let count = buf.len().min(3);
+        self.taken.extend_from_slice(&buf[..count])?;
+        Ok(count)
+    }
+
+    fn flush(&mut self) -> io::Result<()> {
+        if self.left == 0 {
+            return Err(io::Error::from(io::ErrorKind::BrokenPipe));
+        }
+        self.left -= 1;
+        Ok(())
+    }
+}
+
+#[test]
+fn each_read_fails_in_turn(rt: HostRuntime) -> Result<(), Fail> {
+    let alloc = rt.alloc();
+    for left in 0..SCRIPT.len() + 1 {
+        let mut reader = Watched::new(Cut {
+            rest: SCRIPT.as_bytes(),
+            left,
+        });
+        let mut writer = Watched::new(Vec::new(alloc));
+        let ended = run(alloc, &mut reader, &mut writer);
+        assert!(rt; ended == Err(RunFault::Read) && reader.failed() && !writer.failed());
+        let text = text_of_whole_lines(alloc, left)?;
+        assert!(rt; writer.inner().as_slice() == text.as_slice());
+    }
+    Ok(())
+}
+
+/// Whether the run ends well over a writer that fails at this call.
+fn is_written(rt: &impl Abort, alloc: Global, left: usize, way: Way) -> Result<bool, AllocError> {
+    let mut reader = Watched::new(SCRIPT.as_bytes());
+    let mut writer = Watched::new(Narrow {
+        taken: Vec::new(alloc),
+        left,
+        way,
+    });
+    let ended = run(alloc, &mut reader, &mut writer);
+    let whole = text_of_whole_lines(alloc, SCRIPT.len())?;
+    let text = writer.inner().taken.as_slice();
+    assert!(rt; ended == Ok(()) || ended == Err(RunFault::Write));
+    assert!(rt; writer.failed() == (ended != Ok(())) && !reader.failed());
+    assert!(rt; whole.as_slice().starts_with(text));
+    assert!(rt; ended != Ok(()) || text.len() == whole.len());
+    Ok(ended == Ok(()))
+}
+
+#[test]
+fn each_write_fails_in_turn(rt: HostRuntime) -> Result<(), Fail> {
+    let alloc = rt.alloc();
+    let mut written = true;
+    for left in 0..60 {
+        written = is_written(&rt, alloc, left, Way::Errs)?;
+        let taken = is_written(&rt, alloc, left, Way::TakesNone)?;
+        assert!(rt; left > 0 || !(written || taken));
+    }
+    assert!(rt; written);
+    Ok(())
+}

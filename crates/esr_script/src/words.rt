@@ -1,0 +1,138 @@
+//! The words of a line, and what each may be.
+
+ghost use Rattle.std.specs.Prelude.{◌≡◌, ◌∷◌, Option, option_map, nat_eq};
+ghost use Rattle.std.specs.List.{position, list_all};
+ghost use Rattle.esr_script.specs.Command.{is_letter, is_name_byte, is_name};
+ghost use Rattle.esr_script.specs.Reading.{is_blank, words_of, words_after, name_of, limit_of, int_of, one_of, two_of, three_of};
+
+use std::str::from_utf8;
+
+const LIMIT_END: u64 = 10_000_000_000_000_000_000;
+
+const INT_END: u64 = 1_000_000_000_000_000_000;
+
+fn find_blank(bytes: &[u8]) -> Option<usize>
+    ensures { result ≡ position is_blank bytes.now }
+{
+    bytes.iter().position(|b| *b == b' ')
+}
+
+/// The first word, and what stands after the blank behind it.
+pub fn cut_word(bytes: &[u8]) -> (&[u8], Option<&[u8]>)
+    ensures { words_of bytes.now ≡ result.0.now ∷ words_after result.1 }
+{
+    match find_blank(bytes) {
+        None => (bytes, None),
+        Some(place) => (&bytes[..place], Some(&bytes[place + 1..])),
+    }
+}
+
+/// The word, where there is one.
+pub fn one_word(bytes: &[u8]) -> Option<&[u8]>
+    ensures { option_map (λ w. w.now) result ≡ one_of (words_of bytes.now) }
+{
+    match cut_word(bytes) {
+        (word, None) => Some(word),
+        (_, Some(_)) => None,
+    }
+}
+
+/// The words, where there are two.
+pub fn two_words(bytes: &[u8]) -> Option<(&[u8], &[u8])>
+    ensures { option_map (λ p. (p.0.now, p.1.now)) result ≡ two_of (words_of bytes.now) }
+{
+    let (first, more) = cut_word(bytes);
+    let second = one_word(more?)?;
+    Some((first, second))
+}
+
+/// The words, where there are three.
+pub fn three_words(bytes: &[u8]) -> Option<(&[u8], &[u8], &[u8])>
+    ensures { option_map (λ p. (p.0.now, p.1.now, p.2.now)) result ≡ three_of (words_of bytes.now) }
+{
+    let (first, more) = cut_word(bytes);
+    let (second, third) = two_words(more?)?;
+    Some((first, second, third))
+}
+
+fn is_letter(byte: u8) -> bool
+    ensures { result ≡ is_letter byte }
+{
+    matches!(byte, b'a'..=b'z' | b'A'..=b'Z')
+}
+
+fn is_name_byte(byte: u8) -> bool
+    ensures { result ≡ is_name_byte byte }
+{
+    is_letter(byte) || matches!(byte, b'0'..=b'9' | b'_')
+}
+
+fn all_name_bytes(text: &[u8]) -> bool
+    ensures { result ≡ list_all is_name_byte text.now }
+{
+    text.iter().all(|b| is_name_byte(*b))
+}
+
+fn is_name(text: &[u8]) -> bool
+    ensures { result ≡ is_name text.now }
+{
+    match text.split_first() {
+        None => false,
+        Some((first, rest)) => { is_letter(*first) && rest.len() <= 15 && all_name_bytes(rest) }
+    }
+}
+
+/// The name that the word is.
+pub fn name(word: &[u8]) -> Option<&str>
+    ensures { option_map (λ name. name.now) result ≡ name_of word.now }
+{
+    if !is_name(word) {
+        return None;
+    }
+    match from_utf8(word) {
+        Ok(name) => Some(name),
+        Err(_) => None,
+    }
+}
+
+/// The limit of which the word is the decimal form.
+pub fn limit(word: &[u8]) -> Option<u64>
+    ensures { result ≡ limit_of word.now }
+{
+    let Ok(text) = from_utf8(word) else {
+        return None;
+    };
+    let Ok(number) = text.parse::<u64>() else {
+        return None;
+    };
+    let mut digits = itoa::Buffer::new();
+    if digits.format(number) != text {
+        return None;
+    }
+    if number < LIMIT_END {
+        Some(number)
+    } else {
+        None
+    }
+}
+
+/// The whole number of which the word is the decimal form.
+pub fn int(word: &[u8]) -> Option<i64>
+    ensures { result ≡ int_of word.now }
+{
+    let Ok(text) = from_utf8(word) else {
+        return None;
+    };
+    let Ok(number) = text.parse::<i64>() else {
+        return None;
+    };
+    let mut digits = itoa::Buffer::new();
+    if digits.format(number) != text {
+        return None;
+    }
+    if number.unsigned_abs() < INT_END {
+        Some(number)
+    } else {
+        None
+    }
+}
