@@ -12,24 +12,24 @@ use Rattle.esr_history.specs.Machine.{Schedule, Distance, extended, reply_to, ch
 use Rattle.esr_history.specs.ItemLocks.{ItemLocks, Account, item_locks, accounts}
 use Rattle.std.specs.Prelude.{Some, None}
 
-abbrev plain : Distance
+abbrev pub plain : Distance
 plain w x a b = gap a b
 
-abbrev opened : List ℤ → Schedule
+abbrev pub opened : List ℤ → Schedule
 opened values = record { opening = values; weights = []; entries = [] }
 
 -- the history after the machine has answered the events
-abbrev played : Schedule → List Event → Schedule
+abbrev pub played : Schedule → List Event → Schedule
 played h [] = h
 played h (e ∷ events) = played (extended h e (reply_to plain h e)) events
 
-abbrev replies : Schedule → List Reply
+abbrev pub replies : Schedule → List Reply
 replies h = map (λ e. e.reply) h.entries
 
-abbrev txn : ℕ → TxnId
+abbrev pub txn : ℕ → TxnId
 txn t = record { 0 = t }
 
-abbrev item : ℕ → ItemId
+abbrev pub item : ℕ → ItemId
 item x = record { 0 = x }
 
 -- a query reads what an active update has written, within its limit

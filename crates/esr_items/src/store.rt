@@ -1,112 +1,127 @@
-ghost use Rattle.std.specs.Prelude.{◌≡◌, ℤ, ◌<◌, ◌≤◌, length, slice_get, slice_set, IfOk, IsErrOf, Any, All, ◌↔◌};
-ghost use Rattle.esr_items.specs.Values.{Values, IsValue, value_at};
+ghost use Rattle.std.specs.Prelude.{◌≡◌, ℤ, ◌<◌, ◌≤◌, length, map, slice_set, IfOk, IsErrOf, Any, IsTrue, ◌↔◌};
+ghost use Rattle.esr_items.specs.Values.{IsValue, opened, committed_at, current_at, current_set, kept, undone};
 
-use crate::MOST_ITEMS;
 use crate::metric::ItemId;
+use crate::{LARGEST_VALUE, MOST_ITEMS};
 use std::alloc::Global;
 use std::marker::Model;
 
+/// Why no store is made, with the number of each reason.
 #[derive(Clone, Copy, PartialEq, Eq, Debug)]
 pub enum ItemsError {
-    TooManyItems,
-    ValueOutOfRange,
-    NoMemory,
+    /// There are more than 4,096 items.
+    TooManyItems = 1,
+    /// A value is above 1,000,000,000,000 or below its negative.
+    ValueOutOfRange = 2,
+    /// Memory was refused.
+    NoMemory = 3,
 }
 
-/// The committed and the current value of each item.
+/// The two values of an item: the one that committed transactions left, and the one that the
+/// latest write gave.
+#[derive(Clone, Copy, PartialEq, Eq, Debug)]
+pub struct Versions {
+    pub committed: i64,
+    pub current: i64,
+}
+
+/// The committed and the current value of each item. A write changes the current value in place.
 #[derive(Drop)]
 pub struct Store {
-    kept: Vec<i64>,
-    latest: Vec<i64>,
+    items: Vec<Versions>,
 }
 
 impl Model for Store {
-    ghost use Rattle.std.specs.Prelude.{◌≡◌, ◌≤◌, length, All};
-    ghost use Rattle.esr_items.specs.Values.{Values, IsValue};
+    ghost use Rattle.std.specs.Prelude.{List, ◌≤◌, length, All};
+    ghost use Rattle.esr_items.specs.declared.store.Versions.{Versions};
+    ghost use Rattle.esr_items.specs.Values.{AreValues};
 
-    ghost Value = { Values };
+    ghost Value = { List Versions };
 
-    ghost view = { λ s. record { committed = s.kept.items; current = s.latest.items } };
+    ghost view = { λ s. s.items.items };
 
-    ghost invariant = { λ s. (length s.kept.items ≡ length s.latest.items) × (length s.latest.items ≤ 4096) × All IsValue s.kept.items × All IsValue s.latest.items };
+    ghost invariant = { λ s. (length s.items.items ≤ 4096) × All AreValues s.items.items };
+}
+
+fn is_value(v: i64) -> bool
+    ensures { IsTrue result ↔ IsValue v }
+{
+    v.unsigned_abs() <= LARGEST_VALUE
 }
 
 impl Store {
-    /// Each item has the value given, as its committed and its current value.
+    /// A store in which each item has the value given, as its committed and its current value.
     pub fn new(alloc: Global, values: Vec<i64>) -> Result<Store, ItemsError>
-        ensures ok { IfOk result (λ s. (s ≡ record { committed = values.items; current = values.items }) × (length values.items ≤ 4096) × All IsValue values.items) }
+        ensures ok { IfOk result (λ s. s ≡ map opened values.items) }
         ensures many { IsErrOf result ItemsError.TooManyItems ↔ (4096 < length values.items) }
-        ensures range { IsErrOf result ItemsError.ValueOutOfRange → Any (λ v. ¬ IsValue v) values.items }
+        ensures range { IsErrOf result ItemsError.ValueOutOfRange ↔ ((length values.items ≤ 4096) × Any (λ v. ¬ IsValue v) values.items) }
     {
         if values.len() > MOST_ITEMS {
             return Err(ItemsError::TooManyItems);
         }
-        for v in &values {
-            if v.unsigned_abs() > 1_000_000_000_000 {
-                return Err(ItemsError::ValueOutOfRange);
-            }
+        if !values.iter().all(|v| is_value(*v)) {
+            return Err(ItemsError::ValueOutOfRange);
         }
-        let Ok(kept) = values.clone() else {
-            return Err(ItemsError::NoMemory);
-        };
-        let _ = alloc;
-        Ok(Store {
-            kept,
-            latest: values,
-        })
+        let versions = values.iter().map(|v| Versions {
+            committed: *v,
+            current: *v,
+        });
+        match versions.collect(alloc) {
+            Ok(items) => Ok(Store { items }),
+            Err(_) => Err(ItemsError::NoMemory),
+        }
     }
 
     /// How many items there are.
     pub fn len(&self) -> usize
-        ensures len { result ≡ length self.now.current }
-        ensures same { length self.now.committed ≡ length self.now.current }
+        ensures len { result ≡ length self.now }
         ensures most { result ≤ 4096 }
     {
-        self.latest.len()
+        self.items.len()
     }
 
-    /// The current value.
+    /// The current value of an item.
     pub fn read(&self, x: ItemId) -> i64
-        requires { x.0 < length self.now.current }
-        ensures value { result ≡ value_at self.now.current x.0 }
+        requires { x.0 < length self.now }
+        ensures value { result ≡ current_at self.now x.0 }
         ensures range { IsValue result }
     {
-        self.latest[x.0 as usize]
+        self.items[x.0 as usize].current
     }
 
-    /// The committed value.
+    /// The committed value of an item.
     pub fn committed(&self, x: ItemId) -> i64
-        requires { x.0 < length self.now.current }
-        ensures value { result ≡ value_at self.now.committed x.0 }
+        requires { x.0 < length self.now }
+        ensures value { result ≡ committed_at self.now x.0 }
         ensures range { IsValue result }
     {
-        self.kept[x.0 as usize]
+        self.items[x.0 as usize].committed
     }
 
-    /// Changes the current value.
+    /// Changes the current value of an item, and nothing else.
     pub fn write(&mut self, x: ItemId, v: i64)
-        requires item { x.0 < length self.old.current }
+        requires item { x.0 < length self.old }
         requires value { IsValue v }
-        ensures { self.new ≡ record self.old { current = slice_set self.old.current x.0 v } }
+        ensures { self.new ≡ current_set self.old x.0 v }
     {
-        self.latest[x.0 as usize] = v;
+        self.items[x.0 as usize].current = v;
     }
 
-    /// Makes the current value the committed one.
+    /// Makes the current value of an item its committed one.
     pub fn keep(&mut self, x: ItemId)
-        requires { x.0 < length self.old.current }
-        ensures same { length self.new.committed ≡ length self.new.current }
-        ensures kept { self.new ≡ record self.old { committed = slice_set self.old.committed x.0 (value_at self.old.current x.0) } }
+        requires { x.0 < length self.old }
+        ensures { self.new ≡ kept self.old x.0 }
     {
-        self.kept[x.0 as usize] = self.latest[x.0 as usize];
+        let versions = &mut self.items[x.0 as usize];
+        versions.committed = versions.current;
     }
 
-    /// Puts the committed value back.
+    /// Puts the committed value of an item back as its current one.
     pub fn undo(&mut self, x: ItemId)
-        requires { x.0 < length self.old.current }
-        ensures same { length self.new.committed ≡ length self.new.current }
-        ensures undone { self.new ≡ record self.old { current = slice_set self.old.current x.0 (value_at self.old.committed x.0) } }
+        requires { x.0 < length self.old }
+        ensures { self.new ≡ undone self.old x.0 }
     {
-        self.latest[x.0 as usize] = self.kept[x.0 as usize];
+        let versions = &mut self.items[x.0 as usize];
+        versions.current = versions.committed;
     }
 }

@@ -1,0 +1,130 @@
+-- The accounts of transactions.
+use Rattle.std.proofs.Common.{◌≡◌, ℕ, zero, suc, ℤ, ◌+◌, ◌*◌, ◌<◌, ◌≤◌, List, [], ◌∷◌, ◌++◌, length, Bool, true, false, not, ◌&&◌, ◌||◌, ◌==◌, refl, sym, ◌∙◌, ap, subst, arith, inl, inr, Option, None, Some, if◌then◌else◌, map, add-zero, length-append, append-nil}
+use Rattle.std.specs.Prelude.{is_some, find, unwrap_or, sum_by, nat_lt, All}
+use Rattle.std.specs.List.{range_with_len, list_any, filter_map, cons_option, AllByRecursion}
+use Rattle.std.specs.Option.{option_map}
+use Rattle.std.proofs.lemmas.Bool.{cases_Bool, cases_eq, false≢true, eq-eqb, ne_eqb, eqb-true, and_parts}
+use Rattle.std.proofs.lemmas.Option.{slice_get_past}
+use Rattle.std.proofs.lemmas.List.Sums.{sum_by-cons}
+use Rattle.std.proofs.lemmas.List.FromFn.{map-range_with_len_more}
+use Rattle.esr_items.specs.declared.metric.ItemId.{ItemId}
+use Rattle.esr_history.specs.declared.event.TxnId.{TxnId}
+use Rattle.esr_history.specs.declared.event.Event.{Event}
+use Rattle.esr_history.specs.declared.event.Event.TheVariants.{BeginUpdate, BeginQuery, Read, Write, Commit, Abort}
+use Rattle.esr_history.specs.declared.event.Refusal.{Refusal}
+use Rattle.esr_history.specs.declared.event.Refusal.TheVariants.{BlockedByImport, BlockedByExport}
+use Rattle.esr_history.specs.Events.{Beginning, beginning_of, beginnings, beginning, numbers, limit_of, is_begun, is_query, is_update, holds_read, reads_of, current_value}
+use Rattle.esr_history.specs.Machine.{Distance, Schedule, Charge, done, due, due_in, charges, charges_in, charge_of_write, import_in, export_in, total, import_full, export_full, first_reason, distance_in}
+use Rattle.esr_history.specs.ItemLocks.{query_reads}
+use Rattle.esr_history.proofs.Charges.{import-push, export-push}
+use Rattle.esr_history.proofs.Lawful.{begun_number, update_from}
+use Rattle.esr_history.proofs.Ranges.{map_same, find_in_range, none_in_range, placed_end}
+use Rattle.esr_history.proofs.Sides.{IsOfKinds, charges_kinds, no_import, no_export}
+use Rattle.esr_ledgers.specs.declared.account.Account.{Account}
+use Rattle.esr_ledgers.specs.declared.ledgers.Quote.{Quote}
+use Rattle.esr_ledgers.specs.declared.ledgers.Quote.TheVariants.{Fits, Import, Export}
+use Rattle.esr_ledgers.specs.Books.{number, account_of, is_open, is_open_query, is_open_update, limit_at, amount_at, new_account, opened, total_of, would_pass, quoted, quote_of, raised, imported, charged}
+use Rattle.esr_core.specs.Tied.{entry_of, books_of}
+use Rattle.esr_core.specs.States.{reason_of, charges_to}
+use Rattle.esr_core.proofs.Held.{IsBegin, numbers-kept, query-kept, limit-kept, beginnings-begin, beginning-begin, beginning-new, query_or_update, update_or_query}
+use Rattle.esr_core.proofs.Rows.{begun_at}
+
+abbrev entry : ℕ → Bool → ℕ → ℕ → ℕ → Account
+entry t query limit i x = record { number = record { 0 = t }; query = query; limit = limit; amount = if query then i else x }
+
+entry_same : (t : ℕ) (p q : Bool) (l m i j x y : ℕ) → p ≡ q → l ≡ m → i ≡ j → x ≡ y → entry t p l i x ≡ entry t q m j y
+entry_same t p q l m i j x y a b c e =
+    ap (λ (z : Bool). entry t z l i x) a ∙ (ap (λ (z : ℕ). entry t q z i x) b ∙ (ap (λ (z : ℕ). entry t q m z x) c ∙ ap (λ (z : ℕ). entry t q m j z) e))
+
+module _ (d : ℕ → ℤ → ℤ → ℕ) (opening : List ℤ) (events : List Event) where
+  -- the account of a transaction that has begun
+  pub account_begun : (t : ℕ) → is_begun events t ≡ true → account_of (books_of d opening events) t ≡ Some (entry_of d opening events t)
+  account_begun t is =
+      let n : (1 ≤ t) × (t < 1 + length (beginnings events)) = begun_number events t is in
+      find_in_range number (entry_of d opening events) (λ u. refl) t 1 (length (beginnings events)) n.0 n.1
+
+  pub query_is_begun : (t : ℕ) → is_query events t ≡ true → is_begun events t ≡ true
+  query_is_begun t is = at (beginning events t) is
+    where
+      at : (o : Option Beginning) → unwrap_or (option_map (λ b. b.query) o) false ≡ true → is_some o ≡ true
+      at None no_query = absurd (false≢true no_query)
+      at (Some b) query = refl
+
+  pub update_is_begun : (t : ℕ) → is_update events t ≡ true → is_begun events t ≡ true
+  update_is_begun t is = at (beginning events t) is
+    where
+      at : (o : Option Beginning) → unwrap_or (option_map (λ b. not b.query) o) false ≡ true → is_some o ≡ true
+      at None no_update = absurd (false≢true no_update)
+      at (Some b) update = refl
+
+  pub open_query_is : (t : ℕ) → is_query events t ≡ true → is_open_query (books_of d opening events) t ≡ true
+  open_query_is t is = ap (λ (o : Option Account). unwrap_or (option_map (λ (a : Account). a.query) o) false) (account_begun t (query_is_begun t is)) ∙ is
+
+  pub open_update_is : (t : ℕ) → is_update events t ≡ true → is_open_update (books_of d opening events) t ≡ true
+  open_update_is t is = ap (λ (o : Option Account). unwrap_or (option_map (λ (a : Account). not a.query) o) false) (account_begun t (update_is_begun t is)) ∙ ap not (update_or_query events t is)
+
+  pub limit_is : (t : ℕ) → is_begun events t ≡ true → limit_at (books_of d opening events) t ≡ limit_of events t
+  limit_is t is = ap (λ (o : Option Account). unwrap_or (option_map (λ (a : Account). a.limit) o) 0) (account_begun t is)
+
+  pub import_is : (t : ℕ) → is_query events t ≡ true → amount_at (books_of d opening events) t ≡ import_in (charges d opening events) t
+  import_is t is = ap (λ (o : Option Account). unwrap_or (option_map (λ (a : Account). a.amount) o) 0) (account_begun t (query_is_begun t is)) ∙ rw is refl
+
+  pub export_is : (t : ℕ) → is_update events t ≡ true → amount_at (books_of d opening events) t ≡ export_in (charges d opening events) t
+  export_is t is = ap (λ (o : Option Account). unwrap_or (option_map (λ (a : Account). a.amount) o) 0) (account_begun t (update_is_begun t is)) ∙ rw (update_or_query events t is) refl
+
+  -- the next number is not open
+  pub next_not_open : is_open (books_of d opening events) (suc (length (beginnings events))) ≡ false
+  next_not_open = none_in_range number (entry_of d opening events) (λ u. refl) (suc (length (beginnings events))) 1 (length (beginnings events)) (omega arith)
+
+  -- an event that begins nothing and for which nothing is due leaves the accounts
+  pub books-kept : (e : Event) → beginning_of e ≡ None → due d opening events e ≡ [] → books_of d opening events ≡ books_of d opening (events ++ e ∷ [])
+  books-kept e none nothing =
+      map_same (entry_of d opening events) (entry_of d opening (events ++ e ∷ [])) 1 (length (beginnings events)) (λ t low high. same t)
+      ∙ ap (map (entry_of d opening (events ++ e ∷ []))) (sym (numbers-kept events e none))
+    where
+      same : (t : ℕ) → entry_of d opening events t ≡ entry_of d opening (events ++ e ∷ []) t
+      same t =
+          entry_same t (is_query events t) (is_query (events ++ e ∷ []) t) (limit_of events t) (limit_of (events ++ e ∷ []) t) (import_in (charges d opening events) t) (import_in (charges d opening (events ++ e ∷ [])) t) (export_in (charges d opening events) t) (export_in (charges d opening (events ++ e ∷ [])) t)
+          (sym (query-kept events e none t)) (sym (limit-kept events e none t))
+          (sym (import-push d opening events e t ∙ (ap (λ (cs : List Charge). import_in (charges d opening events) t + import_in cs t) nothing ∙ add-zero (import_in (charges d opening events) t))))
+          (sym (export-push d opening events e t ∙ (ap (λ (cs : List Charge). export_in (charges d opening events) t + export_in cs t) nothing ∙ add-zero (export_in (charges d opening events) t))))
+
+  -- a begin opens the next account
+  pub books-begin : (e : Event) (b : Beginning) → IsBegin e b → due d opening events e ≡ [] → opened (books_of d opening events) (new_account b.query (record { 0 = suc (length (beginnings events)) }) b.limit) ≡ books_of d opening (events ++ e ∷ [])
+  books-begin e b is nothing =
+      let n = length (beginnings events) in
+      placed_end number (entry_of d opening events) (λ u. refl) (new_account b.query (record { 0 = suc n }) b.limit) (λ a. a) 1 n (omega arith)
+      ∙ (ap (λ (as' : List Account). as' ++ new_account b.query (record { 0 = suc n }) b.limit ∷ []) (map_same (entry_of d opening events) (entry_of d opening (events ++ e ∷ [])) 1 n same)
+      ∙ (ap (λ (a : Account). map (entry_of d opening (events ++ e ∷ [])) (numbers events) ++ a ∷ []) new
+      ∙ (sym (map-range_with_len_more (entry_of d opening (events ++ e ∷ [])) 1 n (suc n) (omega arith))
+      ∙ ap (λ m. map (entry_of d opening (events ++ e ∷ [])) (range_with_len 1 m)) (sym (ap length (beginnings-begin events e b is) ∙ length-append (beginnings events) (b ∷ []))))))
+    where
+      imports : (t : ℕ) → import_in (charges d opening events) t ≡ import_in (charges d opening (events ++ e ∷ [])) t
+      imports t = sym (import-push d opening events e t ∙ (ap (λ (cs : List Charge). import_in (charges d opening events) t + import_in cs t) nothing ∙ add-zero (import_in (charges d opening events) t)))
+
+      exports : (t : ℕ) → export_in (charges d opening events) t ≡ export_in (charges d opening (events ++ e ∷ [])) t
+      exports t = sym (export-push d opening events e t ∙ (ap (λ (cs : List Charge). export_in (charges d opening events) t + export_in cs t) nothing ∙ add-zero (export_in (charges d opening events) t)))
+
+      same : (t : ℕ) → 1 ≤ t → t < 1 + length (beginnings events) → entry_of d opening events t ≡ entry_of d opening (events ++ e ∷ []) t
+      same zero low high = absurd (omega arith)
+      same (suc k) low high =
+          let stays : beginning (events ++ e ∷ []) (suc k) ≡ beginning events (suc k) = beginning-begin events e (suc k) (begun_at events k (omega arith)) in
+          entry_same (suc k) (is_query events (suc k)) (is_query (events ++ e ∷ []) (suc k)) (limit_of events (suc k)) (limit_of (events ++ e ∷ []) (suc k)) (import_in (charges d opening events) (suc k)) (import_in (charges d opening (events ++ e ∷ [])) (suc k)) (export_in (charges d opening events) (suc k)) (export_in (charges d opening (events ++ e ∷ [])) (suc k))
+          (ap (λ (o : Option Beginning). unwrap_or (option_map (λ (c : Beginning). c.query) o) false) (sym stays)) (ap (λ (o : Option Beginning). unwrap_or (option_map (λ (c : Beginning). c.limit) o) 0) (sym stays)) (imports (suc k)) (exports (suc k))
+
+      new : new_account b.query (record { 0 = suc (length (beginnings events)) }) b.limit ≡ entry_of d opening (events ++ e ∷ []) (suc (length (beginnings events)))
+      new =
+          let n = suc (length (beginnings events)) in
+          let there : beginning (events ++ e ∷ []) n ≡ Some b = beginning-new events e b is in
+          let not_yet : beginning events n ≡ None = slice_get_past (beginnings events) (length (beginnings events)) (omega arith) in
+          let no_query : is_query events n ≡ false = ap (λ (o : Option Beginning). unwrap_or (option_map (λ (c : Beginning). c.query) o) false) not_yet in
+          let no_update : is_update events n ≡ false = ap (λ (o : Option Beginning). unwrap_or (option_map (λ (c : Beginning). not c.query) o) false) not_yet in
+          zero_amount b.query
+          ∙ entry_same n b.query (is_query (events ++ e ∷ []) n) b.limit (limit_of (events ++ e ∷ []) n) 0 (import_in (charges d opening (events ++ e ∷ [])) n) 0 (export_in (charges d opening (events ++ e ∷ [])) n)
+          (ap (λ (o : Option Beginning). unwrap_or (option_map (λ (c : Beginning). c.query) o) false) (sym there)) (ap (λ (o : Option Beginning). unwrap_or (option_map (λ (c : Beginning). c.limit) o) 0) (sym there))
+          (sym (no_import events (charges d opening events) (charges_kinds d opening events) n no_query) ∙ imports n)
+          (sym (no_export events (charges d opening events) (charges_kinds d opening events) n no_update) ∙ exports n)
+        where
+          zero_amount : (q : Bool) → new_account q (record { 0 = suc (length (beginnings events)) }) b.limit ≡ entry (suc (length (beginnings events))) q b.limit 0 0
+          zero_amount true = refl
+          zero_amount false = refl

@@ -1,0 +1,477 @@
+-- The locks on items.
+use Rattle.std.proofs.Common.{◌≡◌, ℕ, zero, suc, ℤ, ◌+◌, ◌<◌, ◌≤◌, List, [], ◌∷◌, ◌++◌, length, Bool, true, false, not, ◌&&◌, ◌||◌, ◌==◌, refl, sym, ◌∙◌, ap, subst, arith, inl, inr, Option, None, Some, if◌then◌else◌, map, get_or, set, append-nil, add-zero, length-append}
+use Rattle.std.specs.Prelude.{is_some, find, filter, unwrap_or, count_by, All}
+use Rattle.std.specs.List.{range_with_len, list_any, filter_map, cons_option}
+use Rattle.std.specs.Option.{option_map}
+use Rattle.std.proofs.lemmas.Bool.{cases_Bool, cases_eq, false≢true, and_parts, and_from, and_left, and_right, or_left, or_right, or_parts, eq-eqb, ne_eqb, eqb-true, false_from_ne_true}
+use Rattle.std.proofs.lemmas.Option.{same_Some}
+use Rattle.std.proofs.lemmas.List.FromFn.{length-map-range_with_len, get_or-map-range_with_len}
+use Rattle.std.proofs.lemmas.List.Elements.{filter_agree, filter-append}
+use Rattle.std.proofs.lemmas.List.Sums.{sum_by_push, sum_by-cons}
+use Rattle.esr_items.specs.declared.metric.ItemId.{ItemId}
+use Rattle.esr_history.specs.declared.event.TxnId.{TxnId}
+use Rattle.esr_history.specs.declared.event.Event.{Event}
+use Rattle.esr_history.specs.declared.event.Event.TheVariants.{BeginUpdate, BeginQuery, Read, Write, Commit, Abort}
+use Rattle.esr_history.specs.Events.{Beginning, beginning_of, beginnings, beginning, numbers, commits, aborts, reads, reads_any, writes, is_active, is_begun, is_query, is_update, holds_read, holds_write, reads_of}
+use Rattle.esr_history.specs.Machine.{writer}
+use Rattle.esr_history.specs.ItemLocks.{ItemLocks, query_reads, item_locks, locks_of}
+use Rattle.esr_history.specs.Orderly.{IsOrderly, names, last_writer}
+use Rattle.esr_history.specs.Ascending.{placed}
+use Rattle.esr_history.proofs.Lists.{any_push, any_push_no, find_least, filter_map_push_none, filter_map_push_some}
+use Rattle.esr_history.proofs.Charges.{range-push}
+use Rattle.esr_history.proofs.Orderly.{MayFollow, active_parts, update_begun}
+use Rattle.esr_history.proofs.Lawful.{begun_number}
+use Rattle.esr_history.proofs.Ranges.{map_same, set_range, filter_map_placed, filter_map_dropped, filter-filter_map, kept_if, kept_if_own, find_same, any_in_filter, filter_in_any}
+use Rattle.esr_locks.specs.Tables.{locks_at, no_locks, is_writer, is_reader, with_reader, with_writer, with_query_read, released, keeps_from_reading, keeps_from_writing, IsLeast}
+use Rattle.esr_locks.proofs.Least.{IsLeast-same}
+use Rattle.esr_core.proofs.Held.{active-kept, active-same, held-begin, held_more, held_less, IsBegin, numbers-kept, query-kept, update-kept, beginnings-begin, beginning-begin, not_named, reads_name, writes_name, any_implies, query_or_update, update_or_query}
+
+-- who passes as a writer of an item, as a reader of it
+abbrev wrote : List Event → ℕ → ℕ → Bool
+wrote done x u = is_update done u && holds_write done u x
+
+abbrev read_it : List Event → ℕ → ℕ → Bool
+read_it done x u = is_update done u && holds_read done u x
+
+pub locks_len : (done : List Event) (n : ℕ) → length (locks_of done n) ≡ n
+locks_len done n = length-map-range_with_len (item_locks done) 0 n
+
+pub locks_here : (done : List Event) (n x : ℕ) → x < n → locks_at (locks_of done n) x ≡ item_locks done x
+locks_here done n x l = get_or-map-range_with_len (item_locks done) 0 n x x no_locks l (omega arith)
+
+-- who holds a lock has a number
+holder_number : (done : List Event) (u : ℕ) (p : Bool) → (is_active done u && p) ≡ true → (1 ≤ u) × (u < 1 + length (beginnings done))
+holder_number done u p is = begun_number done u (active_parts done u (and_parts (is_active done u) p is).0).0
+
+filter_map_agree : {X : Type 0} (f g : ℕ → Option X) → ((u : ℕ) → f u ≡ g u) → (us : List ℕ) → filter_map f us ≡ filter_map g us
+filter_map_agree f g same [] = refl
+filter_map_agree f g same (u ∷ us) = rw (same u, filter_map_agree f g same us) refl
+
+module _ (done : List Event) (o : IsOrderly done) where
+  -- at most one update holds the write lock on an item
+  pub one_writer : (x u v : ℕ) → wrote done x u ≡ true → wrote done x v ≡ true → u ≡ v
+  one_writer x u v is_u is_v =
+      same_Some u v (sym (o.exclusive u x (and_parts (is_update done u) (holds_write done u x) is_u).1) ∙ o.exclusive v x (and_parts (is_update done v) (holds_write done v x) is_v).1)
+
+  wrote_number : (x u : ℕ) → wrote done x u ≡ true → (1 ≤ u) × (u < 1 + length (beginnings done))
+  wrote_number x u is = holder_number done u (list_any (writes u x) done) (and_parts (is_update done u) (holds_write done u x) is).1
+
+  -- the holder of the write lock is found
+  pub writer_found : (x u : ℕ) → wrote done x u ≡ true → writer done x ≡ Some u
+  writer_found x u is =
+      find_least (wrote done x) (length (beginnings done)) (Some u)
+      (is, λ v l. false_from_ne_true (wrote done x v) (λ is_v. let e : v ≡ u = one_writer x v u is_v is in omega arith))
+      (wrote_number x)
+
+  pub writer_none : (x : ℕ) → ((u : ℕ) → wrote done x u ≡ false) → writer done x ≡ None
+  writer_none x none = find_least (wrote done x) (length (beginnings done)) None none (wrote_number x)
+
+  -- the writer of the locks on an item is who holds the write lock
+  pub writer_is : (x u : ℕ) → is_writer (item_locks done x) u ≡ wrote done x u
+  writer_is x u =
+      elim (cases_Bool (wrote done x u)) [
+        | inl is ↦ rw (writer_found x u is) (eq-eqb u u refl ∙ sym is)
+        | inr isnt ↦ false_from_ne_true (is_writer (item_locks done x) u) (λ it. false≢true (sym isnt ∙ found (writer done x) refl it)) ∙ sym isnt
+      ]
+    where
+      found : (w : Option ℕ) → writer done x ≡ w → unwrap_or (option_map (λ v. v == u) w) false ≡ true → wrote done x u ≡ true
+      found None is it = absurd (false≢true it)
+      found (Some v) is it = ap (wrote done x) (sym (eqb-true v u it)) ∙ passes (wrote done x) (numbers done) v is
+        where
+          passes : (p : ℕ → Bool) (us : List ℕ) (w : ℕ) → find p us ≡ Some w → p w ≡ true
+          passes p [] w f = absurd (cc)
+          passes p (z ∷ us) w f =
+              elim (cases_Bool (p z)) [
+                | inl pz ↦ let same : Some z ≡ Some w = rw pz at f in rw (← same_Some z w same) pz
+                | inr fz ↦ passes p us w (rw fz at f)
+              ]
+
+  pub reader_is : (x u : ℕ) → is_reader (item_locks done x) u ≡ read_it done x u
+  reader_is x u =
+      elim (cases_Bool (read_it done x u)) [
+        | inl is ↦
+            let n : (1 ≤ u) × (u < 1 + length (beginnings done)) = holder_number done u (list_any (reads u x) done) (and_parts (is_update done u) (holds_read done u x) is).1 in
+            filter_in_any (read_it done x) u 1 (length (beginnings done)) is n.0 n.1 ∙ sym is
+        | inr isnt ↦ false_from_ne_true (is_reader (item_locks done x) u) (λ it. false≢true (sym isnt ∙ any_in_filter (read_it done x) u (numbers done) it)) ∙ sym isnt
+      ]
+
+  -- the update that keeps another from reading, and the smallest that keeps it from writing
+  pub least_writer : (t x : ℕ) (r : Option ℕ) → IsLeast (keeps_from_reading (item_locks done x) t) r → find (λ u. not (u == t) && wrote done x u) (numbers done) ≡ r
+  least_writer t x r least =
+      find_least (λ u. not (u == t) && wrote done x u) (length (beginnings done)) r
+      (IsLeast-same (keeps_from_reading (item_locks done x) t) (λ u. not (u == t) && wrote done x u) r (λ u. ap (λ b. not (u == t) && b) (writer_is x u)) least)
+      (λ u is. wrote_number x u (and_parts (not (u == t)) (wrote done x u) is).1)
+
+  either_update : (u x : ℕ) → (read_it done x u || wrote done x u) ≡ (is_update done u && (holds_read done u x || holds_write done u x))
+  either_update u x = at (is_update done u) (holds_read done u x) (holds_write done u x)
+    where
+      at : (a b c : Bool) → ((a && b) || (a && c)) ≡ (a && (b || c))
+      at true b c = refl
+      at false b c = refl
+
+  pub least_holder : (t x : ℕ) (r : Option ℕ) → IsLeast (keeps_from_writing (item_locks done x) t) r → find (λ u. not (u == t) && (is_update done u && (holds_read done u x || holds_write done u x))) (numbers done) ≡ r
+  least_holder t x r least =
+      find_least (λ u. not (u == t) && (is_update done u && (holds_read done u x || holds_write done u x))) (length (beginnings done)) r
+      (IsLeast-same (keeps_from_writing (item_locks done x) t) (λ u. not (u == t) && (is_update done u && (holds_read done u x || holds_write done u x))) r
+      (λ u. ap (λ b. not (u == t) && b) (ap (λ b. b || is_writer (item_locks done x) u) (reader_is x u) ∙ (ap (λ b. read_it done x u || b) (writer_is x u) ∙ either_update u x))) least)
+      number
+    where
+      number : (u : ℕ) → (not (u == t) && (is_update done u && (holds_read done u x || holds_write done u x))) ≡ true → (1 ≤ u) × (u < 1 + length (beginnings done))
+      number u is = begun_number done u (update_begun done u (and_parts (is_update done u) (holds_read done u x || holds_write done u x) (and_parts (not (u == t)) (is_update done u && (holds_read done u x || holds_write done u x)) is).1).0)
+
+abbrev locks_with : Option ℕ → List ℕ → List (ℕ × ℕ) → ItemLocks
+locks_with w r q = record { writer = w; readers = r; queries = q }
+
+locks_same : (w v : Option ℕ) (r s : List ℕ) (q p : List (ℕ × ℕ)) → w ≡ v → r ≡ s → q ≡ p → ◌≡◌ {A = ItemLocks} (record { writer = w; readers = r; queries = q }) (record { writer = v; readers = s; queries = p })
+locks_same w v r s q p e f g =
+    ap (λ (x : Option ℕ). locks_with x r q) e ∙ (ap (λ (x : List ℕ). locks_with v x q) f ∙ ap (λ (x : List (ℕ × ℕ)). locks_with v s x) g)
+
+-- two sets of accepted events with the same numbers and the same locks on an item
+locks_agree : (old new : List Event) (x : ℕ) → numbers new ≡ numbers old → ((u : ℕ) → wrote new x u ≡ wrote old x u) → ((u : ℕ) → read_it new x u ≡ read_it old x u) → ((u : ℕ) → query_reads new x u ≡ query_reads old x u)
+    → item_locks new x ≡ item_locks old x
+locks_agree old new x n w r q =
+    let writers : writer new x ≡ writer old x = ap (find (wrote new x)) n ∙ find_same (wrote new x) (wrote old x) w (numbers old) in
+    let readers : filter (read_it new x) (numbers new) ≡ filter (read_it old x) (numbers old) = ap (filter (read_it new x)) n ∙ filter_agree (read_it new x) (read_it old x) r (numbers old) in
+    let queries : filter_map (query_reads new x) (numbers new) ≡ filter_map (query_reads old x) (numbers old) = ap (filter_map (query_reads new x)) n ∙ filter_map_agree (query_reads new x) (query_reads old x) q (numbers old) in
+    locks_same (writer new x) (writer old x) (filter (read_it new x) (numbers new)) (filter (read_it old x) (numbers old)) (filter_map (query_reads new x) (numbers new)) (filter_map (query_reads old x) (numbers old)) writers readers queries
+
+or_nothing : (b : Bool) → (b || false) ≡ b
+or_nothing true = refl
+or_nothing false = refl
+
+query_reads_own : (done : List Event) (x u : ℕ) (y : ℕ × ℕ) → query_reads done x u ≡ Some y → y.0 ≡ u
+query_reads_own done x u y is = at (is_query done u && holds_read done u x) is
+  where
+    at : (b : Bool) → (if b then Some (u, reads_of done u x) else None) ≡ Some y → y.0 ≡ u
+    at true is' = ap (λ (z : ℕ × ℕ). z.0) (sym (same_Some (u, reads_of done u x) y is'))
+    at false is' = absurd (cc)
+
+count_none : (p : Event → Bool) (es : List Event) → list_any p es ≡ false → count_by p es ≡ 0
+count_none p [] none = refl
+count_none p (e ∷ es) none =
+    let parts : (p e ≡ false) × (list_any p es ≡ false) = or_parts (p e) (list_any p es) none in
+    sum_by-cons (λ f. if p f then 1 else 0) e es ∙ rw (parts.0, count_none p es parts.1) refl
+
+-- An event that begins and ends nothing.
+module _ (done : List Event) (e : Event) (none : beginning_of e ≡ None) (c : (t : ℕ) → commits t e ≡ false) (a : (t : ℕ) → aborts t e ≡ false) (x : ℕ) where
+  wrote-step : (u : ℕ) → wrote (done ++ e ∷ []) x u ≡ (is_update done u && (is_active done u && (list_any (writes u x) done || writes u x e)))
+  wrote-step u = rw (update-kept done e none u, active-kept done e none c a u, any_push (writes u x) done e) refl
+
+  read-step : (u : ℕ) → read_it (done ++ e ∷ []) x u ≡ (is_update done u && (is_active done u && (list_any (reads u x) done || reads u x e)))
+  read-step u = rw (update-kept done e none u, active-kept done e none c a u, any_push (reads u x) done e) refl
+
+  count-step : (u : ℕ) → reads_of (done ++ e ∷ []) u x ≡ reads_of done u x + (if reads u x e then 1 else 0)
+  count-step u = sum_by_push (λ f. if reads u x f then 1 else 0) done e
+
+  query-step : (u : ℕ) → query_reads (done ++ e ∷ []) x u ≡ (if is_query done u && (is_active done u && (list_any (reads u x) done || reads u x e)) then Some (u, reads_of done u x + (if reads u x e then 1 else 0)) else None)
+  query-step u = rw (query-kept done e none u, active-kept done e none c a u, any_push (reads u x) done e, count-step u) refl
+
+  wrote-same : (u : ℕ) → writes u x e ≡ false → wrote (done ++ e ∷ []) x u ≡ wrote done x u
+  wrote-same u fails = wrote-step u ∙ ap (λ b. is_update done u && (is_active done u && b)) (ap (λ b. list_any (writes u x) done || b) fails ∙ or_nothing (list_any (writes u x) done))
+
+  read-same : (u : ℕ) → reads u x e ≡ false → read_it (done ++ e ∷ []) x u ≡ read_it done x u
+  read-same u fails = read-step u ∙ ap (λ b. is_update done u && (is_active done u && b)) (ap (λ b. list_any (reads u x) done || b) fails ∙ or_nothing (list_any (reads u x) done))
+
+  query-same : (u : ℕ) → reads u x e ≡ false → query_reads (done ++ e ∷ []) x u ≡ query_reads done x u
+  query-same u fails =
+      query-step u
+      ∙ (ap (λ b. if is_query done u && (is_active done u && (list_any (reads u x) done || b)) then Some (u, reads_of done u x + (if b then 1 else 0)) else None) fails
+      ∙ (ap (λ b. if is_query done u && (is_active done u && b) then Some (u, reads_of done u x + 0) else None) (or_nothing (list_any (reads u x) done))
+      ∙ ap (λ n. if is_query done u && holds_read done u x then Some (u, n) else None) (add-zero (reads_of done u x))))
+
+  -- an event on another item
+  locks-other : ((u : ℕ) → writes u x e ≡ false) → ((u : ℕ) → reads u x e ≡ false) → item_locks (done ++ e ∷ []) x ≡ item_locks done x
+  locks-other w r = locks_agree done (done ++ e ∷ []) x (numbers-kept done e none) (λ u. wrote-same u (w u)) (λ u. read-same u (r u)) (λ u. query-same u (r u))
+
+-- a read by an update
+module _ (done : List Event) (t : TxnId) (x : ItemId) where
+  reads_it : reads t.0 x.0 (Read t x) ≡ true
+  reads_it = and_from (t.0 == t.0) (x.0 == x.0) (eq-eqb t.0 t.0 refl) (eq-eqb x.0 x.0 refl)
+
+  no_other_reads : (u : ℕ) → (u ≡ t.0 → ⊥) → reads u x.0 (Read t x) ≡ false
+  no_other_reads u ne = and_left (t.0 == u) (x.0 == x.0) (ne_eqb t.0 u (λ (f : t.0 ≡ u). ne (sym f)))
+
+  locks-read : is_update done t.0 ≡ true → is_active done t.0 ≡ true → item_locks (done ++ Read t x ∷ []) x.0 ≡ with_reader t.0 (item_locks done x.0)
+  locks-read update act =
+      let w : writer (done ++ Read t x ∷ []) x.0 ≡ writer done x.0 = ap (find (wrote (done ++ Read t x ∷ []) x.0)) (numbers-kept done (Read t x) refl) ∙ find_same (wrote (done ++ Read t x ∷ []) x.0) (wrote done x.0) (λ u. wrote-same done (Read t x) refl (λ v. refl) (λ v. refl) x.0 u refl) (numbers done) in
+      let r : filter (read_it (done ++ Read t x ∷ []) x.0) (numbers (done ++ Read t x ∷ [])) ≡ placed (λ u. u) t.0 t.0 (λ u. u) (filter (read_it done x.0) (numbers done)) =
+      ap (filter (read_it (done ++ Read t x ∷ []) x.0)) (numbers-kept done (Read t x) refl)
+      ∙ (filter-filter_map (read_it (done ++ Read t x ∷ []) x.0) (numbers done)
+      ∙ (filter_map_placed (λ u. u) (kept_if (read_it done x.0)) (kept_if_own (read_it done x.0)) (kept_if (read_it (done ++ Read t x ∷ []) x.0)) t.0 t.0 (λ u. u)
+      (λ u ne. ap (λ b. if b then Some u else None) (read-same done (Read t x) refl (λ v. refl) (λ v. refl) x.0 u (no_other_reads u ne)))
+      (ap (λ b. if b then Some t.0 else None) reads_now ∙ was (read_it done x.0 t.0))
+      1 (length (beginnings done)) number.0 number.1
+      ∙ ap (placed (λ u. u) t.0 t.0 (λ u. u)) (sym (filter-filter_map (read_it done x.0) (numbers done))))) in
+      let q : filter_map (query_reads (done ++ Read t x ∷ []) x.0) (numbers (done ++ Read t x ∷ [])) ≡ filter_map (query_reads done x.0) (numbers done) =
+      ap (filter_map (query_reads (done ++ Read t x ∷ []) x.0)) (numbers-kept done (Read t x) refl) ∙ filter_map_agree (query_reads (done ++ Read t x ∷ []) x.0) (query_reads done x.0) queries (numbers done) in
+      locks_same (writer (done ++ Read t x ∷ []) x.0) (writer done x.0) (filter (read_it (done ++ Read t x ∷ []) x.0) (numbers (done ++ Read t x ∷ []))) (placed (λ u. u) t.0 t.0 (λ u. u) (filter (read_it done x.0) (numbers done)))
+      (filter_map (query_reads (done ++ Read t x ∷ []) x.0) (numbers (done ++ Read t x ∷ []))) (filter_map (query_reads done x.0) (numbers done)) w r q
+    where
+      number : (1 ≤ t.0) × (t.0 < 1 + length (beginnings done))
+      number = begun_number done t.0 (update_begun done t.0 update)
+
+      reads_now : read_it (done ++ Read t x ∷ []) x.0 t.0 ≡ true
+      reads_now =
+          read-step done (Read t x) refl (λ v. refl) (λ v. refl) x.0 t.0
+          ∙ (ap (λ b. b && (is_active done t.0 && (list_any (reads t.0 x.0) done || reads t.0 x.0 (Read t x)))) update
+          ∙ (ap (λ b. b && (list_any (reads t.0 x.0) done || reads t.0 x.0 (Read t x))) act
+          ∙ or_right (list_any (reads t.0 x.0) done) (reads t.0 x.0 (Read t x)) reads_it))
+
+      was : (b : Bool) → ◌≡◌ {A = Option ℕ} (Some t.0) (Some (unwrap_or (option_map (λ u. u) (if b then Some t.0 else None)) t.0))
+      was true = refl
+      was false = refl
+
+      queries : (u : ℕ) → query_reads (done ++ Read t x ∷ []) x.0 u ≡ query_reads done x.0 u
+      queries u =
+          elim (cases_eq u t.0) [
+            | inl e ↦
+                let no_query : is_query done u ≡ false = ap (is_query done) e ∙ update_or_query done t.0 update in
+                query-step done (Read t x) refl (λ v. refl) (λ v. refl) x.0 u
+                ∙ (ap (λ b. if b && (is_active done u && (list_any (reads u x.0) done || reads u x.0 (Read t x))) then Some (u, reads_of done u x.0 + (if reads u x.0 (Read t x) then 1 else 0)) else None) no_query
+                ∙ sym (ap (λ b. if b && holds_read done u x.0 then Some (u, reads_of done u x.0) else None) no_query))
+            | inr ne ↦ query-same done (Read t x) refl (λ v. refl) (λ v. refl) x.0 u (no_other_reads u ne)
+          ]
+
+  -- a read by a query
+  locks-query : is_query done t.0 ≡ true → is_active done t.0 ≡ true → item_locks (done ++ Read t x ∷ []) x.0 ≡ with_query_read t.0 (item_locks done x.0)
+  locks-query query act =
+      let w : writer (done ++ Read t x ∷ []) x.0 ≡ writer done x.0 = ap (find (wrote (done ++ Read t x ∷ []) x.0)) (numbers-kept done (Read t x) refl) ∙ find_same (wrote (done ++ Read t x ∷ []) x.0) (wrote done x.0) (λ u. wrote-same done (Read t x) refl (λ v. refl) (λ v. refl) x.0 u refl) (numbers done) in
+      let r : filter (read_it (done ++ Read t x ∷ []) x.0) (numbers (done ++ Read t x ∷ [])) ≡ filter (read_it done x.0) (numbers done) =
+      ap (filter (read_it (done ++ Read t x ∷ []) x.0)) (numbers-kept done (Read t x) refl) ∙ filter_agree (read_it (done ++ Read t x ∷ []) x.0) (read_it done x.0) readers (numbers done) in
+      let q : filter_map (query_reads (done ++ Read t x ∷ []) x.0) (numbers (done ++ Read t x ∷ [])) ≡ placed (λ (p : ℕ × ℕ). p.0) t.0 (t.0, 1) (λ (p : ℕ × ℕ). (p.0, p.1 + 1)) (filter_map (query_reads done x.0) (numbers done)) =
+      ap (filter_map (query_reads (done ++ Read t x ∷ []) x.0)) (numbers-kept done (Read t x) refl)
+      ∙ filter_map_placed (λ (p : ℕ × ℕ). p.0) (query_reads done x.0) (query_reads_own done x.0) (query_reads (done ++ Read t x ∷ []) x.0) t.0 (t.0, 1) (λ (p : ℕ × ℕ). (p.0, p.1 + 1))
+      (λ u ne. query-same done (Read t x) refl (λ v. refl) (λ v. refl) x.0 u (no_other_reads u ne))
+      (reads_now ∙ was (list_any (reads t.0 x.0) done) refl)
+      1 (length (beginnings done)) number.0 number.1 in
+      locks_same (writer (done ++ Read t x ∷ []) x.0) (writer done x.0) (filter (read_it (done ++ Read t x ∷ []) x.0) (numbers (done ++ Read t x ∷ []))) (filter (read_it done x.0) (numbers done))
+      (filter_map (query_reads (done ++ Read t x ∷ []) x.0) (numbers (done ++ Read t x ∷ []))) (placed (λ (p : ℕ × ℕ). p.0) t.0 (t.0, 1) (λ (p : ℕ × ℕ). (p.0, p.1 + 1)) (filter_map (query_reads done x.0) (numbers done))) w r q
+    where
+      number : (1 ≤ t.0) × (t.0 < 1 + length (beginnings done))
+      number = begun_number done t.0 (active_parts done t.0 act).0
+
+      readers : (u : ℕ) → read_it (done ++ Read t x ∷ []) x.0 u ≡ read_it done x.0 u
+      readers u =
+          elim (cases_eq u t.0) [
+            | inl e ↦
+                let no_update : is_update done u ≡ false = ap (is_update done) e ∙ query_or_update done t.0 query in
+                read-step done (Read t x) refl (λ v. refl) (λ v. refl) x.0 u
+                ∙ (ap (λ b. b && (is_active done u && (list_any (reads u x.0) done || reads u x.0 (Read t x)))) no_update
+                ∙ sym (ap (λ b. b && holds_read done u x.0) no_update))
+            | inr ne ↦ read-same done (Read t x) refl (λ v. refl) (λ v. refl) x.0 u (no_other_reads u ne)
+          ]
+
+      reads_now : query_reads (done ++ Read t x ∷ []) x.0 t.0 ≡ Some (t.0, reads_of done t.0 x.0 + 1)
+      reads_now =
+          query-step done (Read t x) refl (λ v. refl) (λ v. refl) x.0 t.0
+          ∙ (ap (λ b. if b && (is_active done t.0 && (list_any (reads t.0 x.0) done || reads t.0 x.0 (Read t x))) then Some (t.0, reads_of done t.0 x.0 + (if reads t.0 x.0 (Read t x) then 1 else 0)) else None) query
+          ∙ (ap (λ b. if b && (list_any (reads t.0 x.0) done || reads t.0 x.0 (Read t x)) then Some (t.0, reads_of done t.0 x.0 + (if reads t.0 x.0 (Read t x) then 1 else 0)) else None) act
+          ∙ (ap (λ b. if list_any (reads t.0 x.0) done || b then Some (t.0, reads_of done t.0 x.0 + (if b then 1 else 0)) else None) reads_it
+          ∙ ap (λ b. if b then Some (t.0, reads_of done t.0 x.0 + 1) else None) (or_right (list_any (reads t.0 x.0) done) true refl))))
+
+      was : (b : Bool) → list_any (reads t.0 x.0) done ≡ b → ◌≡◌ {A = Option (ℕ × ℕ)} (Some (t.0, reads_of done t.0 x.0 + 1)) (Some (unwrap_or (option_map (λ (p : ℕ × ℕ). (p.0, p.1 + 1)) (query_reads done x.0 t.0)) (t.0, 1)))
+      was true did = ap (λ b. Some (unwrap_or (option_map (λ (p : ℕ × ℕ). (p.0, p.1 + 1)) (if b then Some (t.0, reads_of done t.0 x.0) else None)) (t.0, 1))) (sym (and_from (is_query done t.0) (holds_read done t.0 x.0) query (and_from (is_active done t.0) (list_any (reads t.0 x.0) done) act did)))
+      was false did =
+          ap (λ n. Some (t.0, n)) (ap (λ n. n + 1) (count_none (reads t.0 x.0) done did) ∙ (let one : 0 + 1 ≡ 1 = omega arith in one))
+          ∙ ap (λ b. Some (unwrap_or (option_map (λ (p : ℕ × ℕ). (p.0, p.1 + 1)) (if b then Some (t.0, reads_of done t.0 x.0) else None)) (t.0, 1))) (sym (and_right (is_query done t.0) (holds_read done t.0 x.0) (and_right (is_active done t.0) (list_any (reads t.0 x.0) done) did)))
+
+-- a write, where nobody else holds a lock on the item
+module _ (done : List Event) (t : TxnId) (x : ItemId) (v : ℤ) where
+  pub locks-write : IsOrderly (done ++ Write t x v ∷ []) → is_update done t.0 ≡ true → is_active done t.0 ≡ true → item_locks (done ++ Write t x v ∷ []) x.0 ≡ with_writer t.0 (item_locks done x.0)
+  locks-write o update act =
+      let w : writer (done ++ Write t x v ∷ []) x.0 ≡ Some t.0 = writer_found (done ++ Write t x v ∷ []) o x.0 t.0 writes_now in
+      let r : filter (read_it (done ++ Write t x v ∷ []) x.0) (numbers (done ++ Write t x v ∷ [])) ≡ filter (read_it done x.0) (numbers done) =
+      ap (filter (read_it (done ++ Write t x v ∷ []) x.0)) (numbers-kept done (Write t x v) refl) ∙ filter_agree (read_it (done ++ Write t x v ∷ []) x.0) (read_it done x.0) (λ u. read-same done (Write t x v) refl (λ w. refl) (λ w. refl) x.0 u refl) (numbers done) in
+      let q : filter_map (query_reads (done ++ Write t x v ∷ []) x.0) (numbers (done ++ Write t x v ∷ [])) ≡ filter_map (query_reads done x.0) (numbers done) =
+      ap (filter_map (query_reads (done ++ Write t x v ∷ []) x.0)) (numbers-kept done (Write t x v) refl) ∙ filter_map_agree (query_reads (done ++ Write t x v ∷ []) x.0) (query_reads done x.0) (λ u. query-same done (Write t x v) refl (λ w. refl) (λ w. refl) x.0 u refl) (numbers done) in
+      locks_same (writer (done ++ Write t x v ∷ []) x.0) (Some t.0) (filter (read_it (done ++ Write t x v ∷ []) x.0) (numbers (done ++ Write t x v ∷ []))) (filter (read_it done x.0) (numbers done))
+      (filter_map (query_reads (done ++ Write t x v ∷ []) x.0) (numbers (done ++ Write t x v ∷ []))) (filter_map (query_reads done x.0) (numbers done)) w r q
+    where
+      writes_now : wrote (done ++ Write t x v ∷ []) x.0 t.0 ≡ true
+      writes_now =
+          wrote-step done (Write t x v) refl (λ w. refl) (λ w. refl) x.0 t.0
+          ∙ (ap (λ b. b && (is_active done t.0 && (list_any (writes t.0 x.0) done || writes t.0 x.0 (Write t x v)))) update
+          ∙ (ap (λ b. b && (list_any (writes t.0 x.0) done || writes t.0 x.0 (Write t x v))) act
+          ∙ or_right (list_any (writes t.0 x.0) done) (writes t.0 x.0 (Write t x v)) (and_from (t.0 == t.0) (x.0 == x.0) (eq-eqb t.0 t.0 refl) (eq-eqb x.0 x.0 refl))))
+
+-- the end of a transaction
+module _ (done : List Event) (o : IsOrderly done) (e : Event) (none : beginning_of e ≡ None) (t : ℕ) (ends : (u : ℕ) → is_active (done ++ e ∷ []) u ≡ (is_active done u && not (t == u)))
+    (no_reads : (u x : ℕ) → reads u x e ≡ false) (no_writes : (u x : ℕ) → writes u x e ≡ false) (x : ℕ) where
+  drops : (a b e' c : Bool) → (a && ((b && not e') && c)) ≡ ((a && (b && c)) && not e')
+  drops true true true c = sym (and_right c false refl)
+  drops true true false true = refl
+  drops true true false false = refl
+  drops true false e' c = refl
+  drops false b e' c = refl
+
+  wrote-end : (u : ℕ) → wrote (done ++ e ∷ []) x u ≡ (wrote done x u && not (t == u))
+  wrote-end u = rw (update-kept done e none u, ends u, any_push_no (writes u x) done e (no_writes u x)) (drops (is_update done u) (is_active done u) (t == u) (list_any (writes u x) done))
+
+  read-end : (u : ℕ) → read_it (done ++ e ∷ []) x u ≡ (read_it done x u && not (t == u))
+  read-end u = rw (update-kept done e none u, ends u, any_push_no (reads u x) done e (no_reads u x)) (drops (is_update done u) (is_active done u) (t == u) (list_any (reads u x) done))
+
+  count-end : (u : ℕ) → reads_of (done ++ e ∷ []) u x ≡ reads_of done u x
+  count-end u = sum_by_push (λ f. if reads u x f then 1 else 0) done e ∙ (ap (λ b. reads_of done u x + (if b then 1 else 0)) (no_reads u x) ∙ add-zero (reads_of done u x))
+
+  query-end : (u : ℕ) → query_reads (done ++ e ∷ []) x u ≡ (if (is_query done u && holds_read done u x) && not (t == u) then Some (u, reads_of done u x) else None)
+  query-end u =
+      ap (λ n. if is_query (done ++ e ∷ []) u && holds_read (done ++ e ∷ []) u x then Some (u, n) else None) (count-end u)
+      ∙ ap (λ b. if b then Some (u, reads_of done u x) else None) (rw (query-kept done e none u, ends u, any_push_no (reads u x) done e (no_reads u x)) (drops (is_query done u) (is_active done u) (t == u) (list_any (reads u x) done)))
+
+  stays_true : (b : Bool) (u : ℕ) → (u ≡ t → ⊥) → (b && not (t == u)) ≡ b
+  stays_true b u ne = ap (λ c. b && not c) (ne_eqb t u (λ (f : t ≡ u). ne (sym f))) ∙ and_true b
+    where
+      and_true : (c : Bool) → (c && true) ≡ c
+      and_true true = refl
+      and_true false = refl
+
+  gone : (b : Bool) → (b && not (t == t)) ≡ false
+  gone b = ap (λ c. b && not c) (eq-eqb t t refl) ∙ and_right b false refl
+
+  pub locks-end : item_locks (done ++ e ∷ []) x ≡ released t (item_locks done x)
+  locks-end =
+      let r : filter (read_it (done ++ e ∷ []) x) (numbers (done ++ e ∷ [])) ≡ filter (λ u. not (u == t)) (filter (read_it done x) (numbers done)) =
+      ap (filter (read_it (done ++ e ∷ []) x)) (numbers-kept done e none)
+      ∙ (filter-filter_map (read_it (done ++ e ∷ []) x) (numbers done)
+      ∙ (filter_map_dropped (λ u. u) (kept_if (read_it done x)) (kept_if_own (read_it done x)) (kept_if (read_it (done ++ e ∷ []) x)) t
+      (λ u ne. ap (λ b. if b then Some u else None) (read-end u ∙ stays_true (read_it done x u) u ne))
+      (ap (λ b. if b then Some t else None) (read-end t ∙ gone (read_it done x t))) (numbers done)
+      ∙ ap (filter (λ u. not (u == t))) (sym (filter-filter_map (read_it done x) (numbers done))))) in
+      let q : filter_map (query_reads (done ++ e ∷ []) x) (numbers (done ++ e ∷ [])) ≡ filter (λ (p : ℕ × ℕ). not (p.0 == t)) (filter_map (query_reads done x) (numbers done)) =
+      ap (filter_map (query_reads (done ++ e ∷ []) x)) (numbers-kept done e none)
+      ∙ filter_map_dropped (λ (p : ℕ × ℕ). p.0) (query_reads done x) (query_reads_own done x) (query_reads (done ++ e ∷ []) x) t
+      (λ u ne. query-end u ∙ ap (λ b. if b then Some (u, reads_of done u x) else None) (stays_true (is_query done u && holds_read done u x) u ne))
+      (query-end t ∙ ap (λ b. if b then Some (t, reads_of done t x) else None) (gone (is_query done t && holds_read done t x))) (numbers done) in
+      locks_same (writer (done ++ e ∷ []) x) (if is_writer (item_locks done x) t then None else writer done x) (filter (read_it (done ++ e ∷ []) x) (numbers (done ++ e ∷ []))) (filter (λ u. not (u == t)) (filter (read_it done x) (numbers done)))
+      (filter_map (query_reads (done ++ e ∷ []) x) (numbers (done ++ e ∷ []))) (filter (λ (p : ℕ × ℕ). not (p.0 == t)) (filter_map (query_reads done x) (numbers done)))
+      (ap (find (wrote (done ++ e ∷ []) x)) (numbers-kept done e none) ∙ writers (wrote done x t) refl) r q
+    where
+      writers : (b : Bool) → wrote done x t ≡ b → find (wrote (done ++ e ∷ []) x) (numbers done) ≡ (if is_writer (item_locks done x) t then None else writer done x)
+      writers true is =
+          nobody (numbers done) ∙ ap (λ b. if b then None else writer done x) (sym (writer_is done o x t ∙ is))
+        where
+          fails : (u : ℕ) → wrote (done ++ e ∷ []) x u ≡ false
+          fails u =
+              elim (cases_eq u t) [
+                | inl same ↦ ap (wrote (done ++ e ∷ []) x) same ∙ (wrote-end t ∙ gone (wrote done x t))
+                | inr ne ↦ wrote-end u ∙ (stays_true (wrote done x u) u ne ∙ false_from_ne_true (wrote done x u) (λ it. ne (one_writer done o x u t it is)))
+              ]
+
+          nobody : (us : List ℕ) → find (wrote (done ++ e ∷ []) x) us ≡ None
+          nobody [] = refl
+          nobody (u ∷ us) = rw (fails u) (nobody us)
+      writers false isnt =
+          find_same (wrote (done ++ e ∷ []) x) (wrote done x) same (numbers done)
+          ∙ ap (λ b. if b then None else writer done x) (sym (writer_is done o x t ∙ isnt))
+        where
+          same : (u : ℕ) → wrote (done ++ e ∷ []) x u ≡ wrote done x u
+          same u =
+              elim (cases_eq u t) [
+                | inl is ↦ ap (wrote (done ++ e ∷ []) x) is ∙ (wrote-end t ∙ (gone (wrote done x t) ∙ (sym isnt ∙ ap (wrote done x) (sym is))))
+                | inr ne ↦ wrote-end u ∙ stays_true (wrote done x u) u ne
+              ]
+
+-- a begin
+find_longer : (p : ℕ → Bool) (a n : ℕ) → p (a + n) ≡ false → find p (range_with_len a (n + 1)) ≡ find p (range_with_len a n)
+find_longer p a n fails = ap (find p) (range-push a n) ∙ at (range_with_len a n)
+  where
+    at : (us : List ℕ) → find p (us ++ (a + n) ∷ []) ≡ find p us
+    at [] = rw fails refl
+    at (u ∷ us) =
+        elim (cases_Bool (p u)) [
+          | inl passes ↦ rw passes refl
+          | inr isnt ↦ rw isnt (at us)
+        ]
+
+module _ (done : List Event) (o : IsOrderly done) (e : Event) (b : Beginning) (is : IsBegin e b) (x : ℕ) where
+  longer : numbers (done ++ e ∷ []) ≡ range_with_len 1 (length (beginnings done) + 1)
+  longer = ap (λ (bs : List Beginning). range_with_len 1 (length bs)) (beginnings-begin done e b is) ∙ ap (range_with_len 1) (length-append (beginnings done) (b ∷ []))
+
+  holds-read : (u : ℕ) → holds_read (done ++ e ∷ []) u x ≡ holds_read done u x
+  holds-read u = held-begin done o e (reads u x) u is.commits_none is.aborts_none (is.reads_none u x) (reads_name u x)
+
+  holds-write : (u : ℕ) → holds_write (done ++ e ∷ []) u x ≡ holds_write done u x
+  holds-write u = held-begin done o e (writes u x) u is.commits_none is.aborts_none (is.writes_none u x) (writes_name u x)
+
+  -- who holds a lock has begun, as before
+  kind-same : (k : Option Beginning → Bool) (u : ℕ) (p : Bool) → (p ≡ true → is_begun done u ≡ true) → (k (beginning (done ++ e ∷ []) u) && p) ≡ (k (beginning done u) && p)
+  kind-same k u true begun = ap (λ w. k w && true) (beginning-begin done e u (begun refl))
+  kind-same k u false begun = and_right (k (beginning (done ++ e ∷ []) u)) false refl ∙ sym (and_right (k (beginning done u)) false refl)
+
+  begun_holder : (u : ℕ) (p : Bool) → (is_active done u && p) ≡ true → is_begun done u ≡ true
+  begun_holder u p held = (active_parts done u (and_parts (is_active done u) p held).0).0
+
+  wrote-begin : (u : ℕ) → wrote (done ++ e ∷ []) x u ≡ wrote done x u
+  wrote-begin u = ap (λ p. is_update (done ++ e ∷ []) u && p) (holds-write u) ∙ kind-same (λ w. unwrap_or (option_map (λ c. not c.query) w) false) u (holds_write done u x) (begun_holder u (list_any (writes u x) done))
+
+  read-begin : (u : ℕ) → read_it (done ++ e ∷ []) x u ≡ read_it done x u
+  read-begin u = ap (λ p. is_update (done ++ e ∷ []) u && p) (holds-read u) ∙ kind-same (λ w. unwrap_or (option_map (λ c. not c.query) w) false) u (holds_read done u x) (begun_holder u (list_any (reads u x) done))
+
+  query-begin : (u : ℕ) → query_reads (done ++ e ∷ []) x u ≡ query_reads done x u
+  query-begin u =
+      ap (λ n. if is_query (done ++ e ∷ []) u && holds_read (done ++ e ∷ []) u x then Some (u, n) else None) (sum_by_push (λ f. if reads u x f then 1 else 0) done e ∙ (ap (λ c. reads_of done u x + (if c then 1 else 0)) (is.reads_none u x) ∙ add-zero (reads_of done u x)))
+      ∙ ap (λ p. if p then Some (u, reads_of done u x) else None) (ap (λ p. is_query (done ++ e ∷ []) u && p) (holds-read u) ∙ kind-same (λ w. unwrap_or (option_map (λ c. c.query) w) false) u (holds_read done u x) (begun_holder u (list_any (reads u x) done)))
+
+  -- the next transaction holds nothing
+  next_holds : (p : Event → Bool) → ((g : Event) → p g ≡ true → names (suc (length (beginnings done))) g ≡ true) → (is_active done (1 + length (beginnings done)) && list_any p done) ≡ false
+  next_holds p names_it = and_right (is_active done (1 + length (beginnings done))) (list_any p done) (not_named done o p names_it)
+
+  pub locks-begin : item_locks (done ++ e ∷ []) x ≡ item_locks done x
+  locks-begin =
+      let n = length (beginnings done) in
+      let number : 1 + n ≡ suc n = omega arith in
+      let no_write : holds_write done (1 + n) x ≡ false = ap (λ k. holds_write done k x) number ∙ and_right (is_active done (suc n)) (list_any (writes (suc n) x) done) (not_named done o (writes (suc n) x) (writes_name (suc n) x)) in
+      let no_read : holds_read done (1 + n) x ≡ false = ap (λ k. holds_read done k x) number ∙ and_right (is_active done (suc n)) (list_any (reads (suc n) x) done) (not_named done o (reads (suc n) x) (reads_name (suc n) x)) in
+      let w : writer (done ++ e ∷ []) x ≡ writer done x =
+      ap (find (wrote (done ++ e ∷ []) x)) longer
+      ∙ (find_same (wrote (done ++ e ∷ []) x) (wrote done x) wrote-begin (range_with_len 1 (n + 1))
+      ∙ find_longer (wrote done x) 1 n (and_right (is_update done (1 + n)) (holds_write done (1 + n) x) no_write)) in
+      let r : filter (read_it (done ++ e ∷ []) x) (numbers (done ++ e ∷ [])) ≡ filter (read_it done x) (numbers done) =
+      ap (filter (read_it (done ++ e ∷ []) x)) longer
+      ∙ (filter_agree (read_it (done ++ e ∷ []) x) (read_it done x) read-begin (range_with_len 1 (n + 1))
+      ∙ (ap (filter (read_it done x)) (range-push 1 n)
+      ∙ (filter-append (read_it done x) (numbers done) ((1 + n) ∷ [])
+      ∙ (ap (λ c. filter (read_it done x) (numbers done) ++ (if c then (1 + n) ∷ [] else [])) (and_right (is_update done (1 + n)) (holds_read done (1 + n) x) no_read)
+      ∙ append-nil (filter (read_it done x) (numbers done)))))) in
+      let q : filter_map (query_reads (done ++ e ∷ []) x) (numbers (done ++ e ∷ [])) ≡ filter_map (query_reads done x) (numbers done) =
+      ap (filter_map (query_reads (done ++ e ∷ []) x)) longer
+      ∙ (filter_map_agree (query_reads (done ++ e ∷ []) x) (query_reads done x) query-begin (range_with_len 1 (n + 1))
+      ∙ (ap (filter_map (query_reads done x)) (range-push 1 n)
+      ∙ filter_map_push_none (query_reads done x) (numbers done) (1 + n) (ap (λ c. if c then Some (1 + n, reads_of done (1 + n) x) else None) (and_right (is_query done (1 + n)) (holds_read done (1 + n) x) no_read)))) in
+      locks_same (writer (done ++ e ∷ []) x) (writer done x) (filter (read_it (done ++ e ∷ []) x) (numbers (done ++ e ∷ []))) (filter (read_it done x) (numbers done)) (filter_map (query_reads (done ++ e ∷ []) x) (numbers (done ++ e ∷ []))) (filter_map (query_reads done x) (numbers done)) w r q
+
+-- The locks on all items, after each event.
+
+pub all-begin : (done : List Event) → IsOrderly done → (e : Event) (b : Beginning) → IsBegin e b → (n : ℕ) → locks_of (done ++ e ∷ []) n ≡ locks_of done n
+all-begin done o e b is n = map_same (item_locks (done ++ e ∷ [])) (item_locks done) 0 n (λ x low high. locks-begin done o e b is x)
+
+one_item : (done : List Event) (e : Event) (n x : ℕ) (f : ItemLocks → ItemLocks) → x < n → item_locks (done ++ e ∷ []) x ≡ f (item_locks done x) → ((y : ℕ) → (y ≡ x → ⊥) → item_locks (done ++ e ∷ []) y ≡ item_locks done y)
+    → set (locks_of done n) x (f (locks_at (locks_of done n) x)) ≡ locks_of (done ++ e ∷ []) n
+one_item done e n x f l here other =
+    set_range (item_locks done) (item_locks (done ++ e ∷ [])) 0 n x (f (locks_at (locks_of done n) x)) l
+    ((let z : 0 + x ≡ x = omega arith in ap (item_locks (done ++ e ∷ [])) z) ∙ (here ∙ ap f (sym (locks_here done n x l))))
+    (λ y ne. other y (λ (g : y ≡ x). ne (omega arith)))
+
+pub all-read : (done : List Event) (t : TxnId) (x : ItemId) (n : ℕ) → x.0 < n → is_update done t.0 ≡ true → is_active done t.0 ≡ true → set (locks_of done n) x.0 (with_reader t.0 (locks_at (locks_of done n) x.0)) ≡ locks_of (done ++ Read t x ∷ []) n
+all-read done t x n l update act =
+    one_item done (Read t x) n x.0 (with_reader t.0) l (locks-read done t x update act)
+    (λ y ne. locks-other done (Read t x) refl (λ w. refl) (λ w. refl) y (λ u. refl) (λ u. and_right (t.0 == u) (x.0 == y) (ne_eqb x.0 y (λ (f : x.0 ≡ y). ne (sym f)))))
+
+pub all-query : (done : List Event) (t : TxnId) (x : ItemId) (n : ℕ) → x.0 < n → is_query done t.0 ≡ true → is_active done t.0 ≡ true → set (locks_of done n) x.0 (with_query_read t.0 (locks_at (locks_of done n) x.0)) ≡ locks_of (done ++ Read t x ∷ []) n
+all-query done t x n l query act =
+    one_item done (Read t x) n x.0 (with_query_read t.0) l (locks-query done t x query act)
+    (λ y ne. locks-other done (Read t x) refl (λ w. refl) (λ w. refl) y (λ u. refl) (λ u. and_right (t.0 == u) (x.0 == y) (ne_eqb x.0 y (λ (f : x.0 ≡ y). ne (sym f)))))
+
+pub all-write : (done : List Event) (t : TxnId) (x : ItemId) (v : ℤ) (n : ℕ) → x.0 < n → IsOrderly (done ++ Write t x v ∷ []) → is_update done t.0 ≡ true → is_active done t.0 ≡ true → set (locks_of done n) x.0 (with_writer t.0 (locks_at (locks_of done n) x.0)) ≡ locks_of (done ++ Write t x v ∷ []) n
+all-write done t x v n l o update act =
+    one_item done (Write t x v) n x.0 (with_writer t.0) l (locks-write done t x v o update act)
+    (λ y ne. locks-other done (Write t x v) refl (λ w. refl) (λ w. refl) y (λ u. and_right (t.0 == u) (x.0 == y) (ne_eqb x.0 y (λ (f : x.0 ≡ y). ne (sym f)))) (λ u. refl))
+
+map_map : {A B C : Type 0} (g : B → C) (f : A → B) (xs : List A) → map g (map f xs) ≡ map (λ x. g (f x)) xs
+map_map g f [] = refl
+map_map g f (x ∷ xs) = ap (λ ys. g (f x) ∷ ys) (map_map g f xs)
+
+pub all-end : (done : List Event) → IsOrderly done → (e : Event) → beginning_of e ≡ None → (t : ℕ) → ((u : ℕ) → is_active (done ++ e ∷ []) u ≡ (is_active done u && not (t == u)))
+    → ((u x : ℕ) → reads u x e ≡ false) → ((u x : ℕ) → writes u x e ≡ false) → (n : ℕ) → map (released t) (locks_of done n) ≡ locks_of (done ++ e ∷ []) n
+all-end done o e none t ends r w n =
+    map_map (released t) (item_locks done) (range_with_len 0 n) ∙ map_same (λ x. released t (item_locks done x)) (item_locks (done ++ e ∷ [])) 0 n (λ x low high. sym (locks-end done o e none t ends r w x))

@@ -1,0 +1,207 @@
+-- The reasons to refuse an event, by the parts of the machine.
+use Rattle.std.proofs.Common.{◌≡◌, ℕ, zero, suc, ℤ, ◌+◌, ◌<◌, ◌≤◌, List, [], ◌∷◌, ◌++◌, length, Bool, true, false, not, ◌&&◌, ◌||◌, ◌==◌, refl, sym, ◌∙◌, ap, subst, arith, inl, inr, Option, None, Some, if◌then◌else◌, get_or, map}
+use Rattle.std.specs.Prelude.{find, nat_le, unwrap_or, filter, All}
+use Rattle.std.specs.List.{filter_map, range_with_len, AllByRecursion}
+use Rattle.std.specs.Option.{option_map}
+use Rattle.std.proofs.lemmas.Bool.{cases_Bool, false≢true, and_parts, and_left}
+use Rattle.std.proofs.lemmas.Bool.Decides.{nat_tests}
+use Rattle.std.proofs.lemmas.Option.{same_Some}
+use Rattle.std.proofs.lemmas.List.Elements.{All-from_recursion}
+use Rattle.esr_items.specs.Values.{current_at, committed_at, versions_at}
+use Rattle.esr_items.specs.declared.store.Versions.{Versions}
+use Rattle.esr_items.specs.declared.metric.ItemId.{ItemId}
+use Rattle.esr_history.specs.declared.event.TxnId.{TxnId}
+use Rattle.esr_history.specs.declared.event.Event.{Event}
+use Rattle.esr_history.specs.declared.event.Event.TheVariants.{Read, Write}
+use Rattle.esr_history.specs.declared.event.Refusal.{Refusal}
+use Rattle.esr_history.specs.declared.event.Refusal.TheVariants.{TooManyReads, QueryMayNotWrite}
+use Rattle.esr_history.specs.Events.{beginnings, numbers, is_query, is_update, is_active, is_begun, holds_write, all_reads_of, current_value, committed_value}
+use Rattle.esr_history.specs.Machine.{Distance, Schedule, Charge, done, due_in, writer, charge_of_read, first_reason, not_begun, ended, no_item, many_reads, query_writes, out_of_range, read_blocked, write_blocked, blocked_by, import_full, export_full, refusal, when, other_writer, other_holder}
+use Rattle.esr_history.specs.ItemLocks.{ItemLocks, item_locks, locks_of, query_reads}
+use Rattle.esr_history.proofs.Lawful.{update_from}
+use Rattle.esr_ledgers.specs.declared.account.Account.{Account}
+use Rattle.esr_ledgers.specs.Books.{quote_of, AreCharges, is_open_query}
+use Rattle.esr_locks.specs.Tables.{locks_at, keeps_from_reading, keeps_from_writing, IsLeast}
+use Rattle.esr_core.specs.declared.state.Transaction.{Transaction}
+use Rattle.esr_core.specs.Tied.{IsTied, row_of, books_of}
+use Rattle.esr_core.specs.States.{reason_of, charges_to, read_charge}
+use Rattle.esr_core.proofs.Held.{update_or_query}
+use Rattle.esr_core.proofs.Rows.{rows_len, row_is}
+use Rattle.esr_core.proofs.Locks.{locks_len, locks_here, least_writer, least_holder}
+use Rattle.esr_core.proofs.Accounts.{open_query_is, open_update_is}
+use Rattle.esr_core.proofs.Charges.{charges_by, charge_to, quote_reason, due-write, are_charges-write}
+
+skip : (a b c : Option Refusal) (rs : List (Option Refusal)) → None ≡ first_reason (a ∷ b ∷ []) → None ≡ c → first_reason (a ∷ b ∷ c ∷ rs) ≡ first_reason rs
+skip None None None rs p q = refl
+skip None None (Some w) rs p q = absurd (cc)
+skip None (Some v) c rs p q = absurd (cc)
+skip (Some u) b c rs p q = absurd (cc)
+
+without : (a b c : Option Refusal) → first_reason (a ∷ None ∷ b ∷ c ∷ []) ≡ first_reason (a ∷ b ∷ c ∷ [])
+without None b c = refl
+without (Some w) b c = refl
+
+alone : (a : Option Refusal) → first_reason (a ∷ None ∷ None ∷ []) ≡ a
+alone None = refl
+alone (Some w) = refl
+
+pub writer_update : (events : List Event) (x u : ℕ) → writer events x ≡ Some u → is_update events u ≡ true
+writer_update events x u found = (and_parts (is_update events u) (holds_write events u x) (passes (λ v. is_update events v && holds_write events v x) (numbers events) u found)).0
+  where
+    passes : (p : ℕ → Bool) (us : List ℕ) (w : ℕ) → find p us ≡ Some w → p w ≡ true
+    passes p [] w f = absurd (cc)
+    passes p (z ∷ us) w f =
+        elim (cases_Bool (p z)) [
+          | inl pz ↦ let same : Some z ≡ Some w = rw pz at f in rw (← same_Some z w same) pz
+          | inr fz ↦ passes p us w (rw fz at f)
+        ]
+
+module _ (d : Distance) (h : Schedule) (items : List Versions) (table : List Transaction) (locks : List ItemLocks) (accounts : List Account) (tie : IsTied (d h.weights) h.opening (done h) items table locks accounts) where
+  pub locks_count : length locks ≡ length items
+  locks_count = ap length tie.locked ∙ (locks_len (done h) (length h.opening) ∙ sym tie.count)
+
+  pub row_query : (t k : ℕ) (r : Transaction) → t ≡ suc k → k < length table → r ≡ get_or table k r → r.query ≡ is_query (done h) t
+  row_query t k r number l at = ap (λ (q : Transaction). q.query) (row_is (done h) table tie.rows k r l at) ∙ ap (is_query (done h)) (sym number)
+
+  pub row_reads : (t k : ℕ) (r : Transaction) → t ≡ suc k → k < length table → r ≡ get_or table k r → is_query (done h) t ≡ true → r.reads ≡ all_reads_of (done h) t
+  row_reads t k r number l at query =
+      ap (λ (q : Transaction). q.reads) (row_is (done h) table tie.rows k r l at)
+      ∙ (ap (λ (n : ℕ). if is_query (done h) n then all_reads_of (done h) n else 0) (sym number) ∙ ap (λ (b : Bool). if b then all_reads_of (done h) t else 0) query)
+
+  inside : (x : ℕ) → x < length items → x < length h.opening
+  inside x l = rw (← tie.count) l
+
+  writer_at : (x : ℕ) → x < length items → writer (done h) x ≡ (locks_at locks x).writer
+  writer_at x l = sym (ap (λ (ls : List ItemLocks). (locks_at ls x).writer) tie.locked ∙ ap (λ (g : ItemLocks). g.writer) (locks_here (done h) (length h.opening) x (inside x l)))
+
+  -- the charge of a read by a query
+  pub due_some : (t : TxnId) (x : ItemId) (c : TxnId × ℕ) → is_query (done h) t.0 ≡ true → x.0 < length items → read_charge (d h.weights x.0) (versions_at items x.0) (locks_at locks x.0).writer ≡ Some c
+      → (due_in d h (Read t x) ≡ charges_by c.0.0 ((t, c.1) ∷ [])) × (is_update (done h) c.0.0 ≡ true)
+  due_some t x c query l is = at (locks_at locks x.0).writer (writer_at x.0 l) is
+    where
+      at : (w : Option ℕ) → writer (done h) x.0 ≡ w → read_charge (d h.weights x.0) (versions_at items x.0) w ≡ Some c → (due_in d h (Read t x) ≡ charges_by c.0.0 ((t, c.1) ∷ [])) × (is_update (done h) c.0.0 ≡ true)
+      at None found some = absurd (cc)
+      at (Some u) found some =
+          let this : ◌≡◌ {A = TxnId × ℕ} (record { 0 = u }, d h.weights x.0 (current_at items x.0) (committed_at items x.0)) c = same_Some (record { 0 = u }, d h.weights x.0 (current_at items x.0) (committed_at items x.0)) c some in (
+            ap (λ (b : Bool). if b then charge_of_read (d h.weights) h.opening (done h) t.0 x.0 (writer (done h) x.0) else []) query
+                ∙ (ap (λ (w : Option ℕ). charge_of_read (d h.weights) h.opening (done h) t.0 x.0 w) found
+                ∙ (ap (λ (v : ℤ). charge_to u (t, d h.weights x.0 v (committed_value h.opening (done h) x.0)) ∷ []) (sym (tie.current x.0 (inside x.0 l)))
+                ∙ (ap (λ (v : ℤ). charge_to u (t, d h.weights x.0 (current_at items x.0) v) ∷ []) (sym (tie.committed x.0 (inside x.0 l)))
+                ∙ ap (λ (g : TxnId × ℕ). charges_by g.0.0 ((t, g.1) ∷ [])) this))),
+            ap (λ (g : TxnId × ℕ). is_update (done h) g.0.0) (sym this) ∙ writer_update (done h) x.0 u found,
+          )
+
+  pub due_none : (t : TxnId) (x : ItemId) → x.0 < length items → read_charge (d h.weights x.0) (versions_at items x.0) (locks_at locks x.0).writer ≡ None → due_in d h (Read t x) ≡ []
+  due_none t x l is = at (locks_at locks x.0).writer (writer_at x.0 l) is
+    where
+      none : (b : Bool) → ◌≡◌ {A = List Charge} (if b then [] else []) []
+      none true = refl
+      none false = refl
+
+      at : (w : Option ℕ) → writer (done h) x.0 ≡ w → read_charge (d h.weights x.0) (versions_at items x.0) w ≡ None → due_in d h (Read t x) ≡ []
+      at None found isnt = ap (λ (w : Option ℕ). if is_query (done h) t.0 then charge_of_read (d h.weights) h.opening (done h) t.0 x.0 w else []) found ∙ none (is_query (done h) t.0)
+      at (Some u) found isnt = absurd (cc)
+
+  -- a single charge is one of an update to a query
+  pub are_charges-read : (t u : TxnId) (amount : ℕ) → is_query (done h) t.0 ≡ true → is_update (done h) u.0 ≡ true → AreCharges accounts u ((t, amount) ∷ [])
+  are_charges-read t u amount query update =
+      subst (λ (as' : List Account). AreCharges as' u ((t, amount) ∷ [])) (sym tie.books) (record {
+        update = open_update_is (d h.weights) h.opening (done h) u.0 update;
+        queries = All-from_recursion (λ (c : TxnId × ℕ). is_open_query (books_of (d h.weights) h.opening (done h)) c.0.0 ≡ true) ((t, amount) ∷ []) (open_query_is (d h.weights) h.opening (done h) t.0 query, tt);
+        ascending = (tt, tt);
+      })
+
+  many_none : (t : ℕ) → all_reads_of (done h) t < 1000 → many_reads h t ≡ None
+  many_none t l = ap (λ b. when (is_query (done h) t && b) TooManyReads) few ∙ at (is_query (done h) t)
+    where
+      few : nat_le 1000 (all_reads_of (done h) t) ≡ false
+      few = grind (arith, nat_tests)
+
+      at : (b : Bool) → when (b && false) TooManyReads ≡ None
+      at true = refl
+      at false = refl
+
+  -- why a read by a query is refused
+  pub query_many : (t : TxnId) (x : ItemId) → is_query (done h) t.0 ≡ true → 1000 ≤ all_reads_of (done h) t.0
+      → Some TooManyReads ≡ first_reason (many_reads h t.0 ∷ import_full d h (due_in d h (Read t x)) ∷ export_full d h (due_in d h (Read t x)) ∷ [])
+  query_many t x query l =
+      let many : nat_le 1000 (all_reads_of (done h) t.0) ≡ true = grind (arith, nat_tests) in
+      sym (ap (λ (r : Option Refusal). first_reason (r ∷ import_full d h (due_in d h (Read t x)) ∷ export_full d h (due_in d h (Read t x)) ∷ [])) (ap (λ b. when (b && nat_le 1000 (all_reads_of (done h) t.0)) TooManyReads) query ∙ ap (λ b. when b TooManyReads) many))
+
+  pub query_none : (t : TxnId) (x : ItemId) → all_reads_of (done h) t.0 < 1000 → due_in d h (Read t x) ≡ []
+      → None ≡ first_reason (many_reads h t.0 ∷ import_full d h (due_in d h (Read t x)) ∷ export_full d h (due_in d h (Read t x)) ∷ [])
+  query_none t x l none =
+      sym (ap (λ (r : Option Refusal). first_reason (r ∷ import_full d h (due_in d h (Read t x)) ∷ export_full d h (due_in d h (Read t x)) ∷ [])) (many_none t.0 l)
+      ∙ ap (λ (cs : List Charge). first_reason (None ∷ import_full d h cs ∷ export_full d h cs ∷ [])) none)
+
+  pub query_some : (t u : TxnId) (x : ItemId) (amount : ℕ) → is_query (done h) t.0 ≡ true → is_update (done h) u.0 ≡ true → all_reads_of (done h) t.0 < 1000 → due_in d h (Read t x) ≡ charges_by u.0 ((t, amount) ∷ [])
+      → reason_of (quote_of accounts u ((t, amount) ∷ [])) ≡ first_reason (many_reads h t.0 ∷ import_full d h (due_in d h (Read t x)) ∷ export_full d h (due_in d h (Read t x)) ∷ [])
+  query_some t u x amount query update l owed =
+      ap (λ (as' : List Account). reason_of (quote_of as' u ((t, amount) ∷ []))) tie.books
+      ∙ (sym (quote_reason d h u (t, amount) [] update (query, tt))
+      ∙ sym (ap (λ (r : Option Refusal). first_reason (r ∷ import_full d h (due_in d h (Read t x)) ∷ export_full d h (due_in d h (Read t x)) ∷ [])) (many_none t.0 l)
+      ∙ ap (λ (cs : List Charge). first_reason (None ∷ import_full d h cs ∷ export_full d h cs ∷ [])) owed))
+
+  -- why a read is refused, where the transaction is active and the item is there
+  pub read_query : (t : TxnId) (x : ItemId) → is_query (done h) t.0 ≡ true → None ≡ first_reason (not_begun h t.0 ∷ ended h t.0 ∷ []) → None ≡ no_item h x.0
+      → first_reason (many_reads h t.0 ∷ import_full d h (due_in d h (Read t x)) ∷ export_full d h (due_in d h (Read t x)) ∷ []) ≡ refusal d h (Read t x)
+  read_query t x query active item =
+      sym (skip (not_begun h t.0) (ended h t.0) (no_item h x.0) (many_reads h t.0 ∷ read_blocked h t.0 x.0 ∷ import_full d h (due_in d h (Read t x)) ∷ export_full d h (due_in d h (Read t x)) ∷ []) active item
+      ∙ (ap (λ (b : Bool). first_reason (many_reads h t.0 ∷ (if b then None else blocked_by (other_writer (done h) t.0 x.0)) ∷ import_full d h (due_in d h (Read t x)) ∷ export_full d h (due_in d h (Read t x)) ∷ [])) query
+      ∙ without (many_reads h t.0) (import_full d h (due_in d h (Read t x))) (export_full d h (due_in d h (Read t x)))))
+
+  pub read_update : (t : TxnId) (x : ItemId) (r : Option ℕ) → x.0 < length items → IsLeast (keeps_from_reading (locks_at locks x.0) t.0) r → is_query (done h) t.0 ≡ false → None ≡ first_reason (not_begun h t.0 ∷ ended h t.0 ∷ []) → None ≡ no_item h x.0
+      → blocked_by r ≡ refusal d h (Read t x)
+  read_update t x r l least no_query active item =
+      let here : locks_at locks x.0 ≡ item_locks (done h) x.0 = ap (λ (ls : List ItemLocks). locks_at ls x.0) tie.locked ∙ locks_here (done h) (length h.opening) x.0 (inside x.0 l) in
+      let found : other_writer (done h) t.0 x.0 ≡ r = least_writer (done h) tie.orderly t.0 x.0 r (subst (λ (g : ItemLocks). IsLeast (keeps_from_reading g t.0) r) here least) in
+      sym (skip (not_begun h t.0) (ended h t.0) (no_item h x.0) (many_reads h t.0 ∷ read_blocked h t.0 x.0 ∷ import_full d h (due_in d h (Read t x)) ∷ export_full d h (due_in d h (Read t x)) ∷ []) active item
+      ∙ (ap (λ (b : Bool). first_reason (when (b && nat_le 1000 (all_reads_of (done h) t.0)) TooManyReads ∷ (if b then None else blocked_by (other_writer (done h) t.0 x.0)) ∷ import_full d h (if b then charge_of_read (d h.weights) h.opening (done h) t.0 x.0 (writer (done h) x.0) else []) ∷ export_full d h (if b then charge_of_read (d h.weights) h.opening (done h) t.0 x.0 (writer (done h) x.0) else []) ∷ [])) no_query
+      ∙ (alone (blocked_by (other_writer (done h) t.0 x.0)) ∙ ap blocked_by found)))
+
+  -- why a write is refused before its charges
+  pub write_barred : (t : TxnId) (x : ItemId) (v : ℤ) (r : Option ℕ) → x.0 < length items → IsLeast (keeps_from_writing (locks_at locks x.0) t.0) r → is_query (done h) t.0 ≡ false → None ≡ first_reason (not_begun h t.0 ∷ ended h t.0 ∷ []) → None ≡ no_item h x.0 → None ≡ out_of_range v
+      → blocked_by r ≡ first_reason (not_begun h t.0 ∷ ended h t.0 ∷ no_item h x.0 ∷ query_writes h t.0 ∷ out_of_range v ∷ write_blocked h t.0 x.0 ∷ [])
+  write_barred t x v r l least no_query active item range =
+      let here : locks_at locks x.0 ≡ item_locks (done h) x.0 = ap (λ (ls : List ItemLocks). locks_at ls x.0) tie.locked ∙ locks_here (done h) (length h.opening) x.0 (inside x.0 l) in
+      let found : other_holder (done h) t.0 x.0 ≡ r = least_holder (done h) tie.orderly t.0 x.0 r (subst (λ (g : ItemLocks). IsLeast (keeps_from_writing g t.0) r) here least) in
+      sym (skip (not_begun h t.0) (ended h t.0) (no_item h x.0) (query_writes h t.0 ∷ out_of_range v ∷ write_blocked h t.0 x.0 ∷ []) active item
+      ∙ (ap (λ (b : Bool). first_reason (when b QueryMayNotWrite ∷ out_of_range v ∷ write_blocked h t.0 x.0 ∷ [])) no_query
+      ∙ (ap (λ (o : Option Refusal). first_reason (o ∷ write_blocked h t.0 x.0 ∷ [])) (sym range)
+      ∙ (only (write_blocked h t.0 x.0) ∙ ap blocked_by found))))
+    where
+      only : (a : Option Refusal) → first_reason (a ∷ []) ≡ a
+      only None = refl
+      only (Some w) = refl
+
+  pub write_query : (t : TxnId) (x : ItemId) (v : ℤ) → is_query (done h) t.0 ≡ true → None ≡ first_reason (not_begun h t.0 ∷ ended h t.0 ∷ []) → None ≡ no_item h x.0
+      → Some QueryMayNotWrite ≡ first_reason (not_begun h t.0 ∷ ended h t.0 ∷ no_item h x.0 ∷ query_writes h t.0 ∷ out_of_range v ∷ write_blocked h t.0 x.0 ∷ [])
+  write_query t x v query active item =
+      sym (skip (not_begun h t.0) (ended h t.0) (no_item h x.0) (query_writes h t.0 ∷ out_of_range v ∷ write_blocked h t.0 x.0 ∷ []) active item
+      ∙ ap (λ (b : Bool). first_reason (when b QueryMayNotWrite ∷ out_of_range v ∷ write_blocked h t.0 x.0 ∷ [])) query)
+
+  pub write_range : (t : TxnId) (x : ItemId) (v : ℤ) (why : Refusal) → is_query (done h) t.0 ≡ false → Some why ≡ out_of_range v → None ≡ first_reason (not_begun h t.0 ∷ ended h t.0 ∷ []) → None ≡ no_item h x.0
+      → Some why ≡ first_reason (not_begun h t.0 ∷ ended h t.0 ∷ no_item h x.0 ∷ query_writes h t.0 ∷ out_of_range v ∷ write_blocked h t.0 x.0 ∷ [])
+  write_range t x v why no_query range active item =
+      sym (skip (not_begun h t.0) (ended h t.0) (no_item h x.0) (query_writes h t.0 ∷ out_of_range v ∷ write_blocked h t.0 x.0 ∷ []) active item
+      ∙ (ap (λ (b : Bool). first_reason (when b QueryMayNotWrite ∷ out_of_range v ∷ write_blocked h t.0 x.0 ∷ [])) no_query
+      ∙ ap (λ (o : Option Refusal). first_reason (o ∷ write_blocked h t.0 x.0 ∷ [])) (sym range)))
+
+-- the reasons before the charges of a write come first
+pub write_split : (a b c e f g i j : Option Refusal) → first_reason (a ∷ b ∷ c ∷ e ∷ f ∷ g ∷ []) ≡ None → first_reason (a ∷ b ∷ c ∷ e ∷ f ∷ g ∷ i ∷ j ∷ []) ≡ first_reason (i ∷ j ∷ [])
+write_split None None None None None None i j none = refl
+write_split None None None None None (Some w) i j none = absurd (cc)
+write_split None None None None (Some w) g i j none = absurd (cc)
+write_split None None None (Some w) f g i j none = absurd (cc)
+write_split None None (Some w) e f g i j none = absurd (cc)
+write_split None (Some w) c e f g i j none = absurd (cc)
+write_split (Some w) b c e f g i j none = absurd (cc)
+
+pub write_first : (a b c e f g i j : Option Refusal) (why : Refusal) → first_reason (a ∷ b ∷ c ∷ e ∷ f ∷ g ∷ []) ≡ Some why → first_reason (a ∷ b ∷ c ∷ e ∷ f ∷ g ∷ i ∷ j ∷ []) ≡ Some why
+write_first None None None None None None i j why is = absurd (cc)
+write_first None None None None None (Some w) i j why is = is
+write_first None None None None (Some w) g i j why is = is
+write_first None None None (Some w) f g i j why is = is
+write_first None None (Some w) e f g i j why is = is
+write_first None (Some w) c e f g i j why is = is
+write_first (Some w) b c e f g i j why is = is

@@ -1,0 +1,185 @@
+-- The table of transactions.
+use Rattle.std.proofs.Common.{◌≡◌, ℕ, zero, suc, ◌+◌, ◌<◌, ◌≤◌, List, [], ◌∷◌, ◌++◌, length, Bool, true, false, not, ◌&&◌, ◌||◌, ◌==◌, refl, sym, ◌∙◌, ap, subst, arith, inl, inr, Option, None, Some, if◌then◌else◌, map, get_or, set, add-zero}
+use Rattle.std.specs.Prelude.{is_some, slice_get, count_by, unwrap_or}
+use Rattle.std.specs.List.{range_with_len, list_any}
+use Rattle.std.specs.Option.{option_map}
+use Rattle.std.proofs.lemmas.Bool.{cases_Bool, false≢true, and_parts, and_from, eq-eqb, ne_eqb, and_right, eqb-true, or_parts}
+use Rattle.std.proofs.lemmas.Option.{slice_get_past, slice_get-get_or}
+use Rattle.std.proofs.lemmas.List.{map-append}
+use Rattle.std.proofs.lemmas.List.FromFn.{length-map-range_with_len, get_or-map-range_with_len, map-range_with_len_more}
+use Rattle.std.proofs.lemmas.List.Sums.{sum_by_push, sum_by-cons}
+use Rattle.esr_items.specs.declared.metric.ItemId.{ItemId}
+use Rattle.esr_history.specs.declared.event.TxnId.{TxnId}
+use Rattle.esr_history.specs.declared.event.Event.{Event}
+use Rattle.esr_history.specs.declared.event.Event.TheVariants.{BeginUpdate, BeginQuery, Read, Write, Commit, Abort}
+use Rattle.esr_history.specs.declared.event.Refusal.TheVariants.{AlreadyEnded, NoSuchTransaction}
+use Rattle.esr_history.specs.Events.{Beginning, beginning_of, beginnings, beginning, numbers, commits, aborts, reads_any, is_active, is_begun, is_query, all_reads_of}
+use Rattle.esr_history.specs.Machine.{Schedule, done, when, first_reason, not_begun, ended}
+use Rattle.esr_history.specs.Orderly.{IsOrderly, names}
+use Rattle.esr_history.proofs.Lists.{any_push_no}
+use Rattle.esr_history.proofs.Ranges.{map_same, set_range}
+use Rattle.esr_core.specs.declared.state.Transaction.{Transaction}
+use Rattle.esr_core.specs.Tied.{row_of, rows_of}
+use Rattle.esr_core.proofs.Held.{active-kept, active-same, IsBegin, numbers-kept, query-kept, beginnings-begin, beginning-begin, beginning-new, not_named, commits_name, aborts_name}
+
+-- there is a row for each transaction
+pub rows_len : (done : List Event) (table : List Transaction) → table ≡ rows_of done → length table ≡ length (beginnings done)
+rows_len done table is = ap length is ∙ length-map-range_with_len (row_of done) 1 (length (beginnings done))
+
+pub row_is : (done : List Event) (table : List Transaction) → table ≡ rows_of done → (k : ℕ) (r : Transaction) → k < length table → r ≡ get_or table k r → r ≡ row_of done (suc k)
+row_is done table is k r l at =
+    at ∙ (ap (λ (rs : List Transaction). get_or rs k r) is ∙ get_or-map-range_with_len (row_of done) 1 (length (beginnings done)) k (suc k) r (rw (← rows_len done table is) l) (omega arith))
+
+pub begun_at : (done : List Event) (k : ℕ) → k < length (beginnings done) → is_begun done (suc k) ≡ true
+begun_at done k l = some (beginnings done) k l
+  where
+    some : (xs : List Beginning) (j : ℕ) → j < length xs → is_some (slice_get xs j) ≡ true
+    some [] j l = absurd (omega arith)
+    some (x ∷ xs) zero l = refl
+    some (x ∷ xs) (suc j) l = some xs j (omega arith)
+
+reason_at : (begun act : Bool) → begun ≡ true → first_reason (when (not begun) NoSuchTransaction ∷ when (not act) AlreadyEnded ∷ []) ≡ (if act then None else Some AlreadyEnded)
+reason_at true true b = refl
+reason_at true false b = refl
+reason_at false act b = absurd (false≢true b)
+
+-- what the table says of a transaction
+module _ (h : Schedule) (table : List Transaction) (is : table ≡ rows_of (done h)) where
+  pub row_reason : (k : ℕ) (r : Transaction) → k < length table → r ≡ get_or table k r → first_reason (not_begun h (suc k) ∷ ended h (suc k) ∷ []) ≡ (if r.active then None else Some AlreadyEnded)
+  row_reason k r l at =
+      reason_at (is_begun (done h) (suc k)) (is_active (done h) (suc k)) (begun_at (done h) k (rw (← rows_len (done h) table is) l))
+      ∙ ap (λ (q : Transaction). if q.active then None else Some AlreadyEnded) (sym (row_is (done h) table is k r l at))
+
+  pub no_row_reason : (k : ℕ) → length table ≤ k → first_reason (not_begun h (suc k) ∷ ended h (suc k) ∷ []) ≡ Some NoSuchTransaction
+  no_row_reason k l = rw (slice_get_past (beginnings (done h)) k (rw (← rows_len (done h) table is) l)) refl
+
+abbrev row : Bool → Bool → ℕ → Transaction
+row q a n = record { query = q; active = a; reads = if q then n else 0 }
+
+row_same : (p q a b : Bool) (m n : ℕ) → p ≡ q → a ≡ b → m ≡ n → row p a m ≡ row q b n
+row_same p q a b m n e f g = ap (λ (x : Bool). row x a m) e ∙ (ap (λ (x : Bool). row q x m) f ∙ ap (λ (x : ℕ). row q b x) g)
+
+count_none : (p : Event → Bool) (es : List Event) → list_any p es ≡ false → count_by p es ≡ 0
+count_none p [] none = refl
+count_none p (e ∷ es) none =
+    let parts : (p e ≡ false) × (list_any p es ≡ false) = or_parts (p e) (list_any p es) none in
+    sum_by-cons (λ f. if p f then 1 else 0) e es ∙ rw (parts.0, count_none p es parts.1) refl
+
+reads_any_name : (t : ℕ) (e : Event) → reads_any t e ≡ true → names t e ≡ true
+reads_any_name t (Read u y) is = is
+reads_any_name t (Write u y v) is = absurd (false≢true is)
+reads_any_name t (BeginUpdate l) is = absurd (false≢true is)
+reads_any_name t (BeginQuery l s) is = absurd (false≢true is)
+reads_any_name t (Commit u) is = absurd (false≢true is)
+reads_any_name t (Abort u) is = absurd (false≢true is)
+
+-- the table after a begin
+pub rows-begin : (done : List Event) → IsOrderly done → (e : Event) (b : Beginning) → IsBegin e b → (table : List Transaction) → table ≡ rows_of done
+    → table ++ record { query = b.query; active = true; reads = 0 } ∷ [] ≡ rows_of (done ++ e ∷ [])
+rows-begin done o e b is table was =
+    ap (λ (rs : List Transaction). rs ++ record { query = b.query; active = true; reads = 0 } ∷ []) was
+    ∙ (ap (λ (rs : List Transaction). rs ++ record { query = b.query; active = true; reads = 0 } ∷ []) (map_same (row_of done) (row_of (done ++ e ∷ [])) 1 (length (beginnings done)) same)
+    ∙ (ap (λ (r : Transaction). map (row_of (done ++ e ∷ [])) (numbers done) ++ r ∷ []) new
+    ∙ (sym (map-range_with_len_more (row_of (done ++ e ∷ [])) 1 (length (beginnings done)) (suc (length (beginnings done))) (omega arith))
+    ∙ ap (λ n. map (row_of (done ++ e ∷ [])) (range_with_len 1 n)) (sym (longer)))))
+  where
+    longer : length (beginnings (done ++ e ∷ [])) ≡ length (beginnings done) + 1
+    longer = ap length (beginnings-begin done e b is) ∙ len (beginnings done)
+      where
+        len : (xs : List Beginning) → length (xs ++ b ∷ []) ≡ length xs + 1
+        len [] = refl
+        len (x ∷ xs) = let l : length (xs ++ b ∷ []) ≡ length xs + 1 = len xs in omega arith
+
+    no_more : (t : ℕ) → all_reads_of (done ++ e ∷ []) t ≡ all_reads_of done t
+    no_more t = sum_by_push (λ f. if reads_any t f then 1 else 0) done e ∙ rw (is.reads_any_none t) (omega arith)
+
+    same : (t : ℕ) → 1 ≤ t → t < 1 + length (beginnings done) → row_of done t ≡ row_of (done ++ e ∷ []) t
+    same zero low high = absurd (omega arith)
+    same (suc k) low high =
+        let begun : is_begun done (suc k) ≡ true = begun_at done k (omega arith) in
+        rw (active-same done e (suc k) is.commits_none is.aborts_none begun, no_more (suc k), beginning-begin done e (suc k) begun) refl
+
+    new : record { query = b.query; active = true; reads = 0 } ≡ row_of (done ++ e ∷ []) (suc (length (beginnings done)))
+    new =
+        let n = suc (length (beginnings done)) in
+        let no_reads : all_reads_of (done ++ e ∷ []) n ≡ 0 = no_more n ∙ count_none (reads_any n) done (not_named done o (reads_any n) (reads_any_name n)) in
+        let query : is_query (done ++ e ∷ []) n ≡ b.query = ap (λ (w : Option Beginning). unwrap_or (option_map (λ (c : Beginning). c.query) w) false) (beginning-new done e b is) in
+        let active : is_active (done ++ e ∷ []) n ≡ true = rw (beginning-new done e b is, any_push_no (commits n) done e (is.commits_none n), any_push_no (aborts n) done e (is.aborts_none n), not_named done o (commits n) (commits_name n), not_named done o (aborts n) (aborts_name n)) refl in
+        either b.query ∙ row_same b.query (is_query (done ++ e ∷ []) n) true (is_active (done ++ e ∷ []) n) 0 (all_reads_of (done ++ e ∷ []) n) (sym query) (sym active) (sym no_reads)
+      where
+        either : (q : Bool) → ◌≡◌ {A = Transaction} (record { query = q; active = true; reads = 0 }) (row q true 0)
+        either true = refl
+        either false = refl
+
+module _ (done : List Event) (e : Event) (none : beginning_of e ≡ None) where
+  along : (table : List Transaction) → table ≡ map (row_of (done ++ e ∷ [])) (numbers done) → table ≡ rows_of (done ++ e ∷ [])
+  along table is = is ∙ ap (map (row_of (done ++ e ∷ []))) (sym (numbers-kept done e none))
+
+  more_reads : (t : ℕ) → all_reads_of (done ++ e ∷ []) t ≡ all_reads_of done t + (if reads_any t e then 1 else 0)
+  more_reads t = sum_by_push (λ f. if reads_any t f then 1 else 0) done e
+
+  after : (t : ℕ) (act : Bool) → is_active (done ++ e ∷ []) t ≡ act → row_of (done ++ e ∷ []) t ≡ row (is_query done t) act (all_reads_of done t + (if reads_any t e then 1 else 0))
+  after t act is = row_same (is_query (done ++ e ∷ []) t) (is_query done t) (is_active (done ++ e ∷ []) t) act (all_reads_of (done ++ e ∷ []) t) (all_reads_of done t + (if reads_any t e then 1 else 0)) (query-kept done e none t) is (more_reads t)
+
+  -- an event that ends nothing and that no query reads by leaves the table
+  pub rows-kept : ((t : ℕ) → commits t e ≡ false) → ((t : ℕ) → aborts t e ≡ false) → ((t : ℕ) → is_query done t ≡ true → reads_any t e ≡ false) → (table : List Transaction) → table ≡ rows_of done → table ≡ rows_of (done ++ e ∷ [])
+  rows-kept c a r table was = along table (was ∙ map_same (row_of done) (row_of (done ++ e ∷ [])) 1 (length (beginnings done)) (λ t low high. same t))
+    where
+      same : (t : ℕ) → row_of done t ≡ row_of (done ++ e ∷ []) t
+      same t = sym (after t (is_active done t) (active-kept done e none c a t) ∙ at (is_query done t) refl)
+        where
+          at : (q : Bool) → is_query done t ≡ q → row q (is_active done t) (all_reads_of done t + (if reads_any t e then 1 else 0)) ≡ row q (is_active done t) (all_reads_of done t)
+          at true is = ap (λ (m : ℕ). row true (is_active done t) m) (ap (λ (b : Bool). all_reads_of done t + (if b then 1 else 0)) (r t is) ∙ add-zero (all_reads_of done t))
+          at false is = refl
+
+  -- a read by a query is counted
+  pub rows-read : (k : ℕ) (r : Transaction) → ((t : ℕ) → commits t e ≡ false) → ((t : ℕ) → aborts t e ≡ false) → is_query done (suc k) ≡ true → ((t : ℕ) → reads_any t e ≡ (suc k == t))
+      → (table : List Transaction) → table ≡ rows_of done → k < length table → r ≡ get_or table k r → set table k (record r { reads = r.reads + 1 }) ≡ rows_of (done ++ e ∷ [])
+  rows-read k r c a query by table was l at =
+      along (set table k (record r { reads = r.reads + 1 }))
+      (ap (λ (rs : List Transaction). set rs k (record r { reads = r.reads + 1 })) was
+      ∙ set_range (row_of done) (row_of (done ++ e ∷ [])) 1 (length (beginnings done)) k (record r { reads = r.reads + 1 }) (rw (← rows_len done table was) l) here other)
+    where
+      here : row_of (done ++ e ∷ []) (1 + k) ≡ record r { reads = r.reads + 1 }
+      here =
+          (let num : 1 + k ≡ suc k = omega arith in ap (row_of (done ++ e ∷ [])) num)
+          ∙ (after (suc k) (is_active done (suc k)) (active-kept done e none c a (suc k))
+          ∙ (ap (λ (b : Bool). row (is_query done (suc k)) (is_active done (suc k)) (all_reads_of done (suc k) + (if b then 1 else 0))) (by (suc k) ∙ eq-eqb (suc k) (suc k) refl)
+          ∙ (counts (is_query done (suc k)) query
+          ∙ ap (λ (q : Transaction). record q { reads = q.reads + 1 }) (sym (row_is done table was k r l at)))))
+        where
+          counts : (q : Bool) → q ≡ true → row q (is_active done (suc k)) (all_reads_of done (suc k) + 1) ≡ record (row q (is_active done (suc k)) (all_reads_of done (suc k))) { reads = (row q (is_active done (suc k)) (all_reads_of done (suc k))).reads + 1 }
+          counts true is = refl
+          counts false is = absurd (false≢true is)
+
+      other : (t : ℕ) → (t ≡ 1 + k → ⊥) → row_of (done ++ e ∷ []) t ≡ row_of done t
+      other t ne =
+          after t (is_active done t) (active-kept done e none c a t)
+          ∙ ap (λ (m : ℕ). row (is_query done t) (is_active done t) m) (ap (λ (b : Bool). all_reads_of done t + (if b then 1 else 0)) (by t ∙ ne_eqb (suc k) t (λ (f : suc k ≡ t). ne (omega arith))) ∙ add-zero (all_reads_of done t))
+
+  -- the end of a transaction
+  pub rows-end : (k : ℕ) (r : Transaction) → ((t : ℕ) → is_active (done ++ e ∷ []) t ≡ (is_active done t && not (suc k == t))) → ((t : ℕ) → reads_any t e ≡ false)
+      → (table : List Transaction) → table ≡ rows_of done → k < length table → r ≡ get_or table k r → set table k (record r { active = false }) ≡ rows_of (done ++ e ∷ [])
+  rows-end k r ends by table was l at =
+      along (set table k (record r { active = false }))
+      (ap (λ (rs : List Transaction). set rs k (record r { active = false })) was
+      ∙ set_range (row_of done) (row_of (done ++ e ∷ [])) 1 (length (beginnings done)) k (record r { active = false }) (rw (← rows_len done table was) l) here other)
+    where
+      count : (t : ℕ) → all_reads_of done t + (if reads_any t e then 1 else 0) ≡ all_reads_of done t
+      count t = ap (λ (b : Bool). all_reads_of done t + (if b then 1 else 0)) (by t) ∙ add-zero (all_reads_of done t)
+
+      here : row_of (done ++ e ∷ []) (1 + k) ≡ record r { active = false }
+      here =
+          (let num : 1 + k ≡ suc k = omega arith in ap (row_of (done ++ e ∷ [])) num)
+          ∙ (after (suc k) false (ends (suc k) ∙ (ap (λ (b : Bool). is_active done (suc k) && not b) (eq-eqb (suc k) (suc k) refl) ∙ and_right (is_active done (suc k)) false refl))
+          ∙ (ap (λ (m : ℕ). row (is_query done (suc k)) false m) (count (suc k))
+          ∙ ap (λ (q : Transaction). record q { active = false }) (sym (row_is done table was k r l at))))
+
+      other : (t : ℕ) → (t ≡ 1 + k → ⊥) → row_of (done ++ e ∷ []) t ≡ row_of done t
+      other t ne =
+          after t (is_active done t) (ends t ∙ (ap (λ (b : Bool). is_active done t && not b) (ne_eqb (suc k) t (λ (f : suc k ≡ t). ne (omega arith))) ∙ and_true (is_active done t)))
+          ∙ ap (λ (m : ℕ). row (is_query done t) (is_active done t) m) (count t)
+        where
+          and_true : (b : Bool) → (b && true) ≡ b
+          and_true true = refl
+          and_true false = refl

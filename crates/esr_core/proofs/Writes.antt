@@ -1,0 +1,85 @@
+-- The charges of a write, by the parts of the machine.
+use Rattle.std.proofs.Common.{◌≡◌, ℕ, ℤ, ◌+◌, ◌<◌, ◌≤◌, List, [], ◌∷◌, ◌++◌, length, Bool, true, false, ◌&&◌, refl, sym, ◌∙◌, ap, subst, Option, None, Some, if◌then◌else◌}
+use Rattle.std.specs.List.{filter_map, cons_option, AllByRecursion}
+use Rattle.std.proofs.lemmas.Bool.{and_parts}
+use Rattle.esr_items.specs.Values.{current_at}
+use Rattle.esr_items.specs.declared.store.Versions.{Versions}
+use Rattle.esr_items.specs.declared.metric.ItemId.{ItemId}
+use Rattle.esr_history.specs.declared.event.TxnId.{TxnId}
+use Rattle.esr_history.specs.declared.event.Event.{Event}
+use Rattle.esr_history.specs.declared.event.Event.TheVariants.{Write}
+use Rattle.esr_history.specs.declared.event.Refusal.{Refusal}
+use Rattle.esr_history.specs.declared.event.Refusal.TheVariants.{QueryMayNotWrite}
+use Rattle.esr_history.specs.Events.{numbers, is_query, is_update, is_active, holds_read, reads_of, current_value}
+use Rattle.esr_history.specs.Machine.{Distance, Schedule, Charge, done, due_in, first_reason, not_begun, ended, no_item, query_writes, out_of_range, write_blocked, import_full, export_full, refusal}
+use Rattle.esr_history.specs.ItemLocks.{ItemLocks, query_reads}
+use Rattle.esr_history.proofs.Lawful.{none_applies, when_none, not_ended, update_from}
+use Rattle.esr_history.proofs.Orderly.{active_parts}
+use Rattle.esr_ledgers.specs.declared.account.Account.{Account}
+use Rattle.esr_ledgers.specs.Books.{AreCharges, charged}
+use Rattle.esr_locks.specs.Tables.{locks_at}
+use Rattle.esr_core.specs.declared.state.Transaction.{Transaction}
+use Rattle.esr_core.specs.Tied.{IsTied, books_of}
+use Rattle.esr_core.specs.States.{charges_to, reason_for}
+use Rattle.esr_core.proofs.Locks.{locks_here}
+use Rattle.esr_core.proofs.Charges.{charges_by, quote_reason, due-write, are_charges-write, books-charged}
+use Rattle.esr_core.proofs.Reasons.{write_split, write_first}
+
+-- the reasons to refuse a write, its charges aside
+abbrev pub barred : Schedule → TxnId → ItemId → ℤ → Option Refusal
+barred h t x v = first_reason (not_begun h t.0 ∷ ended h t.0 ∷ no_item h x.0 ∷ query_writes h t.0 ∷ out_of_range v ∷ write_blocked h t.0 x.0 ∷ [])
+
+pub active_of : (h : Schedule) (t : TxnId) (x : ItemId) (v : ℤ) → barred h t x v ≡ None → is_active (done h) t.0 ≡ true
+active_of h t x v none =
+    let why = none_applies (not_begun h t.0 ∷ ended h t.0 ∷ no_item h x.0 ∷ query_writes h t.0 ∷ out_of_range v ∷ write_blocked h t.0 x.0 ∷ []) none in
+    not_ended h t.0 why.1.0
+
+pub update_of : (h : Schedule) (t : TxnId) (x : ItemId) (v : ℤ) → barred h t x v ≡ None → is_update (done h) t.0 ≡ true
+update_of h t x v none =
+    let why = none_applies (not_begun h t.0 ∷ ended h t.0 ∷ no_item h x.0 ∷ query_writes h t.0 ∷ out_of_range v ∷ write_blocked h t.0 x.0 ∷ []) none in
+    update_from (done h) t.0 (active_parts (done h) t.0 (active_of h t x v none)).0 (when_none (is_query (done h) t.0) QueryMayNotWrite why.1.1.1.0)
+
+pub barred_first : (d : Distance) (h : Schedule) (t : TxnId) (x : ItemId) (v : ℤ) (why : Refusal) → barred h t x v ≡ Some why → refusal d h (Write t x v) ≡ Some why
+barred_first d h t x v why is =
+    write_first (not_begun h t.0) (ended h t.0) (no_item h x.0) (query_writes h t.0) (out_of_range v) (write_blocked h t.0 x.0) (import_full d h (due_in d h (Write t x v))) (export_full d h (due_in d h (Write t x v))) why is
+
+queries_charged : (events : List Event) (x amount : ℕ) (us : List ℕ) → AllByRecursion (λ (c : TxnId × ℕ). is_query events c.0.0 ≡ true) (charges_to amount (filter_map (query_reads events x) us))
+queries_charged events x amount [] = tt
+queries_charged events x amount (q ∷ us) = at (is_query events q && holds_read events q x) refl (queries_charged events x amount us)
+  where
+    at : (b : Bool) → (is_query events q && holds_read events q x) ≡ b → AllByRecursion (λ (c : TxnId × ℕ). is_query events c.0.0 ≡ true) (charges_to amount (filter_map (query_reads events x) us))
+        → AllByRecursion (λ (c : TxnId × ℕ). is_query events c.0.0 ≡ true) (charges_to amount (cons_option (if b then Some (q, reads_of events q x) else None) (filter_map (query_reads events x) us)))
+    at true is later = ((and_parts (is_query events q) (holds_read events q x) is).0, later)
+    at false is later = later
+
+module _ (d : Distance) (h : Schedule) (items : List Versions) (table : List Transaction) (locks : List ItemLocks) (accounts : List Account) (tie : IsTied (d h.weights) h.opening (done h) items table locks accounts) (t : TxnId) (x : ItemId) (v : ℤ) (l : x.0 < length items) where
+  abbrev pub owed : List (TxnId × ℕ)
+  owed = charges_to (d h.weights x.0 v (current_at items x.0)) (locks_at locks x.0).queries
+
+  owed_is : owed ≡ charges_to (d h.weights x.0 v (current_value h.opening (done h) x.0)) (filter_map (query_reads (done h) x.0) (numbers (done h)))
+  owed_is =
+      ap (λ (w : ℤ). charges_to (d h.weights x.0 v w) (locks_at locks x.0).queries) (tie.current x.0 (rw (← tie.count) l))
+      ∙ ap (λ (g : ItemLocks). charges_to (d h.weights x.0 v (current_value h.opening (done h) x.0)) g.queries) (ap (λ (ls : List ItemLocks). locks_at ls x.0) tie.locked ∙ locks_here (done h) (length h.opening) x.0 (rw (← tie.count) l))
+
+  pub are_charges : is_update (done h) t.0 ≡ true → AreCharges accounts t owed
+  are_charges update =
+      subst (λ (as' : List Account). AreCharges as' t owed) (sym tie.books)
+      (subst (λ (cs : List (TxnId × ℕ)). AreCharges (books_of (d h.weights) h.opening (done h)) t cs) (sym owed_is) (are_charges-write (d h.weights) h.opening (done h) t x.0 (d h.weights x.0 v (current_value h.opening (done h) x.0)) update))
+
+  due_is : is_update (done h) t.0 ≡ true → due_in d h (Write t x v) ≡ charges_by t.0 owed
+  due_is update = due-write (d h.weights) h.opening (done h) t x v update ∙ ap (charges_by t.0) (sym owed_is)
+
+  pub write_books : is_update (done h) t.0 ≡ true → charged accounts t owed ≡ books_of (d h.weights) h.opening (done h ++ Write t x v ∷ [])
+  write_books update = ap (λ (as' : List Account). charged as' t owed) tie.books ∙ books-charged (d h.weights) h.opening (done h) (Write t x v) refl t owed update (due_is update)
+
+  reason_is : is_update (done h) t.0 ≡ true → (cs : List (TxnId × ℕ)) → AllByRecursion (λ (c : TxnId × ℕ). is_query (done h) c.0.0 ≡ true) cs → first_reason (import_full d h (charges_by t.0 cs) ∷ export_full d h (charges_by t.0 cs) ∷ []) ≡ reason_for accounts t cs
+  reason_is update [] all = refl
+  reason_is update (c ∷ cs) all = quote_reason d h t c cs update all ∙ ap (λ (as' : List Account). reason_for as' t (c ∷ cs)) (sym tie.books)
+
+  -- a write that is not barred is refused for its charges alone
+  pub write_reason : barred h t x v ≡ None → refusal d h (Write t x v) ≡ reason_for accounts t owed
+  write_reason none =
+      let update : is_update (done h) t.0 ≡ true = update_of h t x v none in
+      write_split (not_begun h t.0) (ended h t.0) (no_item h x.0) (query_writes h t.0) (out_of_range v) (write_blocked h t.0 x.0) (import_full d h (due_in d h (Write t x v))) (export_full d h (due_in d h (Write t x v))) none
+      ∙ (ap (λ (cs : List Charge). first_reason (import_full d h cs ∷ export_full d h cs ∷ [])) (due_is update)
+      ∙ reason_is update owed (subst (λ (cs : List (TxnId × ℕ)). AllByRecursion (λ (c : TxnId × ℕ). is_query (done h) c.0.0 ≡ true) cs) (sym owed_is) (queries_charged (done h) x.0 (d h.weights x.0 v (current_value h.opening (done h) x.0)) (numbers (done h)))))

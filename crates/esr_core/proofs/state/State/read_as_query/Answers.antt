@@ -1,0 +1,89 @@
+use Rattle.std.proofs.Common.{◌≡◌, ℕ, suc, ◌-◌, ◌+◌, ◌<◌, ◌≤◌, ◌∙◌, sym, ap, subst, arith, refl, None, Some, Option, List, length, get_or, true, ◌∷◌, []}
+use Rattle.std.specs.Prelude.{IfSome}
+use Rattle.esr_items.specs.Values.{versions_at}
+use Rattle.esr_history.specs.declared.event.TxnId.{TxnId}
+use Rattle.esr_history.specs.declared.event.Event.TheVariants.{Read}
+use Rattle.esr_history.specs.Events.{is_active, is_query, all_reads_of}
+use Rattle.esr_history.specs.Machine.{done}
+use Rattle.esr_history.proofs.Lawful.{follows}
+use Rattle.esr_ledgers.specs.declared.account.Account.{Account}
+use Rattle.esr_ledgers.specs.declared.ledgers.Quote.TheVariants.{Fits}
+use Rattle.esr_ledgers.specs.Books.{AreCharges, quote_of}
+use Rattle.esr_locks.specs.Tables.{locks_at}
+use Rattle.esr_core.specs.States.{read_charge, charged_once}
+use Rattle.esr_core.proofs.Accepted.{read_active, read_few, read_fits, few_here, read_books}
+use Rattle.esr_core.proofs.Reasons.{locks_count, row_reads, due_some, are_charges-read}
+use Rattle.esr_core.proofs.Ties.{tied-query}
+use Rattle.esr_locks.proofs.Tables.{get_or_any}
+use Rattle.esr_core.proofs.state.State.read_as_query.Goals as goal
+
+pub charge_of_read-charge-requires-clause-locked : goal.charge_of_read-charge-requires-clause-locked
+charge_of_read-charge-requires-clause-locked g c =
+    let s = c.args.self.now in
+    locks_count g.M.Metric.distance_by c.requires.accepted.0 s.items s.transactions.items s.locks.locks s.ledgers c.requires.accepted.2
+
+pub charge_read-requires-clause-charges : goal.charge_read-requires-clause-charges
+charge_read-requires-clause-charges g c =
+    let d = g.M.Metric.distance_by in
+    let h = c.requires.accepted.0 in
+    let s = c.args.self.now in
+    let is : c.charge_of_read-charge.result ≡ read_charge (d h.weights c.args.x.0) (versions_at s.items c.args.x.0) (locks_at s.locks.locks c.args.x.0).writer = rw c.requires.accepted.1 c.charge_of_read-charge.ensures in
+    each c.charge_of_read-charge.result (λ b some.
+    let owed = due_some d h s.items s.transactions.items s.locks.locks s.ledgers c.requires.accepted.2 c.args.q c.args.x b c.requires.accepted.4 c.requires.item (sym is ∙ some) in
+    are_charges-read d h s.items s.transactions.items s.locks.locks s.ledgers c.requires.accepted.2 c.args.q b.0 b.1 c.requires.accepted.4 owed.1)
+  where
+    each : (o : Option (TxnId × ℕ)) → ((b : TxnId × ℕ) → o ≡ Some b → AreCharges c.args.self.now.ledgers b.0 ((c.args.q, b.1) ∷ [])) → IfSome o (λ b. AreCharges c.args.self.now.ledgers b.0 ((c.args.q, b.1) ∷ []))
+    each None f = tt
+    each (Some b) f = f b refl
+
+pub charge_read-requires-clause-fits : goal.charge_read-requires-clause-fits
+charge_read-requires-clause-fits g c =
+    let d = g.M.Metric.distance_by in
+    let h = c.requires.accepted.0 in
+    let s = c.args.self.now in
+    let is : c.charge_of_read-charge.result ≡ read_charge (d h.weights c.args.x.0) (versions_at s.items c.args.x.0) (locks_at s.locks.locks c.args.x.0).writer = rw c.requires.accepted.1 c.charge_of_read-charge.ensures in
+    each c.charge_of_read-charge.result (λ b some.
+    let owed = due_some d h s.items s.transactions.items s.locks.locks s.ledgers c.requires.accepted.2 c.args.q c.args.x b c.requires.accepted.4 c.requires.item (sym is ∙ some) in
+    read_fits d h s.items s.transactions.items s.locks.locks s.ledgers c.requires.accepted.2 c.args.q b.0 c.args.x b.1 c.requires.accepted.3 c.requires.accepted.4 owed.1 owed.0)
+  where
+    each : (o : Option (TxnId × ℕ)) → ((b : TxnId × ℕ) → o ≡ Some b → quote_of c.args.self.now.ledgers b.0 ((c.args.q, b.1) ∷ []) ≡ Fits) → IfSome o (λ b. quote_of c.args.self.now.ledgers b.0 ((c.args.q, b.1) ∷ []) ≡ Fits)
+    each None f = tt
+    each (Some b) f = f b refl
+
+pub add_read_query-requires-clause-item : goal.add_read_query-requires-clause-item
+add_read_query-requires-clause-item g c =
+    let s = c.args.self.now in
+    rw (locks_count g.M.Metric.distance_by c.requires.accepted.0 s.items s.transactions.items s.locks.locks s.ledgers c.requires.accepted.2) c.requires.item
+
+pub add_read_query-requires-clause-few : goal.add_read_query-requires-clause-few
+add_read_query-requires-clause-few g c =
+    let s = c.args.self.now in
+    few_here g.M.Metric.distance_by c.requires.accepted.0 s.items s.transactions.items s.locks.locks s.ledgers c.requires.accepted.2 c.args.q.0 c.args.x.0 c.requires.item
+    (read_few g.M.Metric.distance_by c.requires.accepted.0 c.args.q c.args.x c.requires.accepted.3 c.requires.accepted.4)
+
+pub count_read-requires-clause-few : goal.count_read-requires-clause-few
+count_read-requires-clause-few g c = λ k row at.
+    let d = g.M.Metric.distance_by in
+    let h = c.requires.accepted.0 in
+    let s = c.args.self.now in
+    let known : (0 < c.args.q.0) × (c.args.q.0 ≤ length s.transactions.items) = c.requires.known in
+    let number : c.args.q.0 ≡ suc (c.args.q.0 - 1) = omega arith in
+    let in_table : c.args.q.0 - 1 < length s.transactions.items = omega arith in
+    let same_k : k ≡ c.args.q.0 - 1 = omega arith in
+    let reads : (get_or s.transactions.items k row).reads ≡ all_reads_of (done h) c.args.q.0 = row_reads d h s.items s.transactions.items s.locks.locks s.ledgers c.requires.accepted.2 c.args.q.0 k (get_or s.transactions.items k row) (omega arith) (omega arith) (get_or_any s.transactions.items k row (get_or s.transactions.items k row) (omega arith)) c.requires.accepted.4 in
+    let few : all_reads_of (done h) c.args.q.0 < 1000 = read_few d h c.args.q c.args.x c.requires.accepted.3 c.requires.accepted.4 in
+    rw reads few
+
+pub returns-clause-tied : goal.returns-clause-tied
+returns-clause-tied g c = λ h same tie none query.
+    let d = g.M.Metric.distance_by in
+    let s = c.args.self.now in
+    let known : (0 < c.args.q.0) × (c.args.q.0 ≤ length s.transactions.items) = c.requires.known in
+    let number : c.args.q.0 ≡ suc (c.args.q.0 - 1) = omega arith in
+    let in_table : c.args.q.0 - 1 < length s.transactions.items = omega arith in
+    let row = c.count_read.ensures (c.args.q.0 - 1) (omega arith) in
+    let is : c.charge_of_read-charge.result ≡ read_charge (d h.weights c.args.x.0) (versions_at s.items c.args.x.0) (locks_at s.locks.locks c.args.x.0).writer = rw same c.charge_of_read-charge.ensures in
+    let books = c.charge_read.ensures ∙ (ap (λ (o : Option (TxnId × ℕ)). charged_once s.ledgers c.args.q o) is ∙ read_books d h s.items s.transactions.items s.locks.locks s.ledgers tie c.args.q c.args.x query c.requires.item) in
+    let act : is_active (done h) c.args.q.0 ≡ true = read_active d h c.args.q c.args.x none in
+    let inside : c.args.x.0 < length h.opening = rw (← tie.count) c.requires.item in
+    rw (row.2, c.add_read_query.ensures) (tied-query (d h.weights) h.opening (done h) s.items s.transactions.items s.locks.locks s.ledgers tie c.args.q c.args.x (c.args.q.0 - 1) row.0 c.charge_read.new.ledgers query act (follows d h tie.orderly (Read c.args.q c.args.x) none) inside number in_table row.1 books)

@@ -1,0 +1,312 @@
+-- Each legal history reaches its trace.
+use Rattle.std.proofs.Common.{◌≡◌, ℕ, zero, suc, ℤ, ◌+◌, ◌*◌, ◌<◌, ◌≤◌, List, [], ◌∷◌, ◌++◌, length, Bool, true, false, cond, not, ◌&&◌, ◌||◌, ◌==◌, ◌⊎◌, refl, sym, ◌∙◌, ap, subst, arith, inl, inr, Option, None, Some, if◌then◌else◌, filter, eqb, count_by, append-nil, add-zero}
+use Rattle.std.specs.Prelude.{is_some, find}
+use Rattle.std.specs.List.{filter_map, list_any, cons_option, range_with_len}
+use Rattle.std.specs.Option.{option_map}
+use Rattle.std.proofs.Math.Path.{fun_ext}
+use Rattle.std.proofs.Math.Nat.{le_trans}
+use Rattle.std.proofs.lemmas.Bool.{cases_Bool, true≢false, cases_eq, eq-eqb, ne_eqb, and_from, or_parts}
+use Rattle.std.proofs.lemmas.List.Elements.{filter_map-append, filter-append}
+use Rattle.std.proofs.lemmas.List.Sums.{sum_by-cons}
+use Rattle.esr_items.specs.Values.{value_at}
+use Rattle.esr_items.specs.declared.metric.ItemId.{ItemId}
+use Rattle.esr_history.specs.declared.event.TxnId.{TxnId}
+use Rattle.esr_history.specs.declared.event.Event.{Event}
+use Rattle.esr_history.specs.declared.event.Event.TheVariants.{BeginUpdate, BeginQuery, Read, Write, Commit, Abort}
+use Rattle.esr_history.specs.declared.event.Reply.{Reply}
+use Rattle.esr_history.specs.declared.event.Reply.TheVariants.{Value, Wrote, Committed, Aborted, Refused}
+use Rattle.esr_history.specs.declared.event.Refusal.{Refusal}
+use Rattle.esr_history.specs.declared.event.Refusal.TheVariants.{QueryMayNotWrite, BlockedByLock}
+use Rattle.esr_history.specs.declared.event.Entry.{Entry}
+use Rattle.esr_history.specs.Events.{Beginning, is_refusal, beginning, beginning_of, beginnings, numbers, is_query, is_update, is_active, holds_read, holds_write, reads, writes, reads_of, committed_value, current_value}
+use Rattle.esr_history.specs.Machine.{Distance, Schedule, Charge, done, extended, distance_in, charges, charges_in, due_in, charge_of_read, charge_of_write, import_in, writer, other_writer, other_holder, blocked_by, reply_to, reasons, refusal, acceptance, answered, IsLegal}
+use Rattle.esr_history.specs.Legal.{legal_induction}
+use Rattle.esr_history.specs.Operations.{Operation, operation_by, operation_of, operations, committer, commit_order}
+use Rattle.esr_history.proofs.Lists.{filter_map_push, find_none}
+use Rattle.esr_history.proofs.Orderly.{beginning-push, beginning-kept, update_begun, active_parts}
+use Rattle.esr_history.proofs.Lawful.{done-refused, done-accepted, none_applies, NoneApplies, not_ended, begun_number, update_from, when_none}
+use Rattle.esr_history.proofs.Charges.{import-push}
+use Rattle.esr_history.proofs.Membership.{In, any-from_In}
+use Rattle.esr_history.proofs.Traces.{Setting, Trace, Keeps, ended_in, query_in, read_of, write_of, current_in, committed_in, read_count_in, Active, NoOtherWriter, NoOtherUser, with_operation, with_commit, with_abort, with_begins, Reached, Reached.nothing, Reached.begin, Reached.read_update, Reached.read_query, Reached.write, Reached.commit, Reached.abort}
+use Rattle.esr_history.proofs.Versions.{wrote_by}
+use Rattle.esr_history.proofs.Words.{query_not_update, trace, aborter, read_item_by, wrote_trace, read_trace, reads_trace, committed_trace, current_trace, active_trace, trace_active}
+
+abbrev pub setting : Distance → Schedule → Setting
+setting d h = record { opening = value_at h.opening; distance = distance_in d h }
+
+abbrev pub imports : Distance → Schedule → ℕ → ℕ
+imports d h = import_in (charges_in d h)
+
+abbrev pub IsReached : Distance → Schedule → Type 0
+IsReached d h = Reached (setting d h) (trace h) (imports d h)
+
+abbrev entry : Event → Reply → Entry
+entry e r = record { event = e; reply = r }
+
+-- operations after one more entry
+pub operations-refused : (h : Schedule) (e : Event) (why : Refusal) → operations (extended h e (Refused why)) ≡ operations h
+operations-refused h e why =
+    ap (filter_map operation_of) (filter-append (λ (n : Entry). not (is_refusal n.reply)) h.entries (entry e (Refused why) ∷ []) ∙ append-nil (filter (λ (n : Entry). not (is_refusal n.reply)) h.entries))
+
+pub operations-accepted : (h : Schedule) (e : Event) (r : Reply) → is_refusal r ≡ false → operations (extended h e r) ≡ operations h ++ cons_option (operation_by e r) []
+operations-accepted h e r is =
+    ap (filter_map operation_of) (filter-append (λ (n : Entry). not (is_refusal n.reply)) h.entries (entry e r ∷ []) ∙ ap (λ l. filter (λ (n : Entry). not (is_refusal n.reply)) h.entries ++ l) one)
+    ∙ filter_map-append operation_of (filter (λ (n : Entry). not (is_refusal n.reply)) h.entries) (entry e r ∷ [])
+  where
+    one : filter (λ (n : Entry). not (is_refusal n.reply)) (entry e r ∷ []) ≡ entry e r ∷ []
+    one = rw is refl
+
+mapped_none : {A B : Type 0} (f : A → B) (x : Option A) → option_map f x ≡ None → x ≡ None
+mapped_none f None none = refl
+mapped_none f (Some x) none = absurd (cc)
+
+count_none : {X : Type 0} (p : X → Bool) (xs : List X) → list_any p xs ≡ false → count_by p xs ≡ 0
+count_none p [] h = refl
+count_none p (x ∷ xs) h =
+    let r = or_parts (p x) (list_any p xs) h in
+    sum_by-cons (λ y. cond (p y) 1 0) x xs ∙ (ap (λ b. cond b 1 0 + count_by p xs) r.0 ∙ ap (λ z. 0 + z) (count_none p xs r.1))
+
+pub import-cons : (c : Charge) (cs : List Charge) (q : ℕ) → import_in (c ∷ cs) q ≡ cond (eqb c.query q) c.amount 0 + import_in cs q
+import-cons c cs q = sum_by-cons (λ (c : Charge). cond (eqb c.query q) c.amount 0) c cs
+
+first_amount : (c : Charge) (cs : List Charge) → c.amount ≤ import_in (c ∷ cs) c.query
+first_amount c cs = rw (import-cons c cs c.query, eq-eqb c.query c.query refl) (omega arith)
+
+-- what one of the numbers is charged
+amount_listed : (f : ℕ → Option Charge) (c : Charge) (q a n : ℕ) → f q ≡ Some c → c.query ≡ q → a ≤ q → q < a + n → c.amount ≤ import_in (filter_map f (range_with_len a n)) q
+amount_listed f c q a zero is own low high = absurd (omega arith)
+amount_listed f c q a (suc n) is own low high =
+    elim (cases_eq a q) [
+      | inl e ↦
+          let here : f a ≡ Some c = ap f e ∙ is in
+          rw here (subst (λ k. c.amount ≤ import_in (c ∷ filter_map f (range_with_len (a + 1) n)) k) own (first_amount c (filter_map f (range_with_len (a + 1) n))))
+      | inr ne ↦ le_trans (amount_listed f c q (a + 1) n is own (omega arith) (omega arith)) (more (f a) (filter_map f (range_with_len (a + 1) n)))
+    ]
+  where
+    more : (o : Option Charge) (cs : List Charge) → import_in cs q ≤ import_in (cons_option o cs) q
+    more None cs = omega arith
+    more (Some e) cs = rw (import-cons e cs q) (omega arith)
+
+and_right_false : (a b : Bool) → a ≡ true → (a && b) ≡ false → b ≡ false
+and_right_false true b is fails = fails
+and_right_false false b is fails = absurd (true≢false (sym is))
+
+module _ (d : Distance) (h : Schedule) where
+  -- the trace after an accepted event, from what the event adds
+  grown : (e : Event) (r : Reply) → is_refusal r ≡ false → (os : List Operation) (cs rs : List ℕ) (b : ℕ → Option Beginning)
+      → operations h ++ cons_option (operation_by e r) [] ≡ os → commit_order (done h) ++ cons_option (committer e) [] ≡ cs → filter_map aborter (done h) ++ cons_option (aborter e) [] ≡ rs → beginning (done h ++ e ∷ []) ≡ b
+      → trace (extended h e r) ≡ record { operations = os; commits = cs; aborts = rs; beginning = b }
+  grown e r is os cs rs b o c a g =
+      let events : done (extended h e r) ≡ done h ++ e ∷ [] = done-accepted h e r is in
+      let os' : operations (extended h e r) ≡ os = operations-accepted h e r is ∙ o in
+      let cs' : commit_order (done (extended h e r)) ≡ cs = ap commit_order events ∙ (filter_map_push committer (done h) e ∙ c) in
+      let rs' : filter_map aborter (done (extended h e r)) ≡ rs = ap (filter_map aborter) events ∙ (filter_map_push aborter (done h) e ∙ a) in
+      let b' : beginning (done (extended h e r)) ≡ b = ap beginning events ∙ g in
+      λ i. record { operations = os' i; commits = cs' i; aborts = rs' i; beginning = b' i }
+
+  same_begins : (e : Event) → beginning_of e ≡ None → beginning (done h ++ e ∷ []) ≡ beginning (done h)
+  same_begins e none = fun_ext (λ u. beginning-kept (done h) e u none)
+
+  pub with_imports : (e : Event) (r : Reply) → is_refusal r ≡ false → (q : ℕ) → imports d (extended h e r) q ≡ imports d h q + import_in (due_in d h e) q
+  with_imports e r is q = ap (λ (es : List Event). import_in (charges (distance_in d h) h.opening es) q) (done-accepted h e r is) ∙ import-push (distance_in d h) h.opening (done h) e q
+
+  no_imports : (e : Event) (r : Reply) → is_refusal r ≡ false → ((q : ℕ) → import_in (due_in d h e) q ≡ 0) → imports d (extended h e r) ≡ imports d h
+  no_imports e r is none = fun_ext (λ q. with_imports e r is q ∙ (ap (λ n. imports d h q + n) (none q) ∙ add-zero (imports d h q)))
+
+  linked : (e : Event) (r : Reply) (t : Trace) (m : ℕ → ℕ) → trace (extended h e r) ≡ t → imports d (extended h e r) ≡ m → Reached (setting d h) t m → IsReached d (extended h e r)
+  linked e r t m same sums reached =
+      subst (λ (w : Trace). Reached (setting d h) w (imports d (extended h e r))) (sym same) (subst (λ (w : ℕ → ℕ). Reached (setting d h) t w) (sym sums) reached)
+
+  pub refused_trace : (e : Event) (why : Refusal) → trace (extended h e (Refused why)) ≡ trace h
+  refused_trace e why =
+      let events : done (extended h e (Refused why)) ≡ done h = done-refused h e why in
+      λ i. record { operations = operations-refused h e why i; commits = commit_order (events i); aborts = filter_map aborter (events i); beginning = beginning (events i) }
+
+  pub refused_imports : (e : Event) (why : Refusal) → imports d (extended h e (Refused why)) ≡ imports d h
+  refused_imports e why = ap (λ (es : List Event). import_in (charges (distance_in d h) h.opening es)) (done-refused h e why)
+
+  refused_step : (e : Event) (why : Refusal) → IsReached d h → IsReached d (extended h e (Refused why))
+  refused_step e why reached = linked e (Refused why) (trace h) (imports d h) (refused_trace e why) (refused_imports e why) reached
+
+  -- where no update holds a lock, all who used the item have ended
+  active_user : (u : ℕ) → is_update (done h) u ≡ true → ended_in (trace h) u ≡ false → is_active (done h) u ≡ true
+  active_user u update running = trace_active h u (record { begun = update_begun (done h) u update; open_ended = running })
+
+  holds_written : (o : Operation) → In o (operations h) → o.writes ≡ true → is_active (done h) o.txn ≡ true → holds_write (done h) o.txn o.item ≡ true
+  holds_written o i w act =
+      and_from (is_active (done h) o.txn) (list_any (writes o.txn o.item) (done h)) act
+      (wrote_trace h o.txn o.item ∙ any-from_In (wrote_by o.item o.txn) (operations h) o i (rw (w, eq-eqb o.item o.item refl, eq-eqb o.txn o.txn refl) refl))
+
+  holds_taken : (o : Operation) → In o (operations h) → o.writes ≡ false → is_active (done h) o.txn ≡ true → holds_read (done h) o.txn o.item ≡ true
+  holds_taken o i w act =
+      and_from (is_active (done h) o.txn) (list_any (reads o.txn o.item) (done h)) act
+      (read_trace h o.txn o.item ∙ any-from_In (read_item_by o.item o.txn) (operations h) o i (rw (w, eq-eqb o.item o.item refl, eq-eqb o.txn o.txn refl) refl))
+
+  no_writer : (t x : ℕ) → ((u : ℕ) → (u ≡ t → ⊥) → is_update (done h) u ≡ true → holds_write (done h) u x ≡ false) → NoOtherWriter (trace h) t x
+  no_writer t x free = record {
+    none = λ o i w here other update.
+        elim (cases_Bool (ended_in (trace h) o.txn)) [
+          | inl over ↦ over
+          | inr running ↦ absurd (true≢false (sym (subst (λ y. holds_write (done h) o.txn y ≡ true) here (holds_written o i w (active_user o.txn update running))) ∙ free o.txn other update))
+        ];
+  }
+
+  no_user : (t x : ℕ) → ((u : ℕ) → (u ≡ t → ⊥) → is_update (done h) u ≡ true → (holds_read (done h) u x || holds_write (done h) u x) ≡ false) → NoOtherUser (trace h) t x
+  no_user t x free = record {
+    none = λ o i here other update.
+        elim (cases_Bool (ended_in (trace h) o.txn)) [
+          | inl over ↦ over
+          | inr running ↦
+              let act = active_user o.txn update running in
+              let p = or_parts (holds_read (done h) o.txn o.item) (holds_write (done h) o.txn o.item) (subst (λ y. (holds_read (done h) o.txn y || holds_write (done h) o.txn y) ≡ false) (sym here) (free o.txn other update)) in
+              elim (cases_Bool o.writes) [
+                | inl w ↦ absurd (true≢false (sym (holds_written o i w act) ∙ p.1))
+                | inr r ↦ absurd (true≢false (sym (holds_taken o i r act) ∙ p.0))
+              ]
+        ];
+  }
+
+  -- who is not found fails the test
+  unfound : (p : ℕ → Bool) → find (λ u. is_update (done h) u && p u) (numbers (done h)) ≡ None → (u : ℕ) → is_update (done h) u ≡ true → p u ≡ false
+  unfound p none u update =
+      let n = begun_number (done h) u (update_begun (done h) u update) in
+      and_right_false (is_update (done h) u) (p u) update (find_none (λ u. is_update (done h) u && p u) 1 (length (beginnings (done h))) none u n.0 n.1)
+
+  unfound_other : (p : ℕ → Bool) (t : ℕ) → find (λ u. not (u == t) && (is_update (done h) u && p u)) (numbers (done h)) ≡ None → (u : ℕ) → (u ≡ t → ⊥) → is_update (done h) u ≡ true → p u ≡ false
+  unfound_other p t none u other update =
+      let n = begun_number (done h) u (update_begun (done h) u update) in
+      and_right_false (is_update (done h) u) (p u) update
+      (and_right_false (not (u == t)) (is_update (done h) u && p u) (ap not (ne_eqb u t other)) (find_none (λ u. not (u == t) && (is_update (done h) u && p u)) 1 (length (beginnings (done h))) none u n.0 n.1))
+
+  -- the trace after an operation
+  pub operation_trace : (e : Event) (r : Reply) (o : Operation) → is_refusal r ≡ false → operation_by e r ≡ Some o → committer e ≡ None → aborter e ≡ None → beginning_of e ≡ None → trace (extended h e r) ≡ with_operation (trace h) o
+  operation_trace e r o is op c a b =
+      grown e r is (operations h ++ o ∷ []) (commit_order (done h)) (filter_map aborter (done h)) (beginning (done h))
+      (ap (λ p. operations h ++ cons_option p []) op) (ap (λ p. commit_order (done h) ++ cons_option p []) c ∙ append-nil (commit_order (done h)))
+      (ap (λ p. filter_map aborter (done h) ++ cons_option p []) a ∙ append-nil (filter_map aborter (done h))) (same_begins e b)
+
+  pub begin_trace : (e : Event) (r : Reply) → is_refusal r ≡ false → operation_by e r ≡ None → committer e ≡ None → aborter e ≡ None → trace (extended h e r) ≡ with_begins (trace h) (beginning (done h ++ e ∷ []))
+  begin_trace e r is op c a =
+      grown e r is (operations h) (commit_order (done h)) (filter_map aborter (done h)) (beginning (done h ++ e ∷ []))
+      (ap (λ p. operations h ++ cons_option p []) op ∙ append-nil (operations h)) (ap (λ p. commit_order (done h) ++ cons_option p []) c ∙ append-nil (commit_order (done h)))
+      (ap (λ p. filter_map aborter (done h) ++ cons_option p []) a ∙ append-nil (filter_map aborter (done h))) refl
+
+  pub commit_trace : (t : TxnId) → trace (extended h (Commit t) Committed) ≡ with_commit (trace h) t.0
+  commit_trace t =
+      grown (Commit t) Committed refl (operations h) (commit_order (done h) ++ t.0 ∷ []) (filter_map aborter (done h)) (beginning (done h)) (append-nil (operations h)) refl (append-nil (filter_map aborter (done h))) (same_begins (Commit t) refl)
+
+  pub abort_trace : (t : TxnId) → trace (extended h (Abort t) Aborted) ≡ with_abort (trace h) t.0
+  abort_trace t =
+      grown (Abort t) Aborted refl (operations h) (commit_order (done h)) (filter_map aborter (done h) ++ t.0 ∷ []) (beginning (done h)) (append-nil (operations h)) (append-nil (commit_order (done h))) refl (same_begins (Abort t) refl)
+
+  pub begins_kept : (e : Event) → Keeps (beginning (done h)) (beginning (done h ++ e ∷ []))
+  begins_kept e u begun = at (beginning (done h) u) refl begun
+    where
+      at : (b : Option Beginning) → beginning (done h) u ≡ b → is_some b ≡ true → beginning (done h ++ e ∷ []) u ≡ beginning (done h) u
+      at None was is_it = absurd (true≢false (sym is_it))
+      at (Some b) was is_it = beginning-push (done h) e u b was ∙ sym was
+
+  begin_step : (e : Event) (r : Reply) → is_refusal r ≡ false → operation_by e r ≡ None → committer e ≡ None → aborter e ≡ None → ((q : ℕ) → import_in (due_in d h e) q ≡ 0) → IsReached d h → IsReached d (extended h e r)
+  begin_step e r is op c a free reached =
+      linked e r (with_begins (trace h) (beginning (done h ++ e ∷ []))) (imports d h) (begin_trace e r is op c a) (no_imports e r is free) (begin reached (beginning (done h ++ e ∷ [])) (begins_kept e))
+
+  commit_step : (t : TxnId) → IsReached d h → is_active (done h) t.0 ≡ true → IsReached d (extended h (Commit t) Committed)
+  commit_step t reached act =
+      linked (Commit t) Committed (with_commit (trace h) t.0) (imports d h) (commit_trace t) (no_imports (Commit t) Committed refl (λ q. refl)) (commit reached t.0 (active_trace h t.0 act))
+
+  abort_step : (t : TxnId) → IsReached d h → is_active (done h) t.0 ≡ true → IsReached d (extended h (Abort t) Aborted)
+  abort_step t reached act =
+      linked (Abort t) Aborted (with_abort (trace h) t.0) (imports d h) (abort_trace t) (no_imports (Abort t) Aborted refl (λ q. refl)) (abort reached t.0 (active_trace h t.0 act))
+
+  -- a read by an update, which is charged nothing
+  update_reads : (t : TxnId) (x : ItemId) → IsReached d h → is_active (done h) t.0 ≡ true → is_query (done h) t.0 ≡ false → blocked_by (other_writer (done h) t.0 x.0) ≡ None
+      → IsReached d (extended h (Read t x) (Value (current_value h.opening (done h) x.0)))
+  update_reads t x reached act not_query free =
+      let o : Operation = read_of t.0 x.0 (current_value h.opening (done h) x.0) in
+      linked (Read t x) (Value (current_value h.opening (done h) x.0)) (with_operation (trace h) (read_of t.0 x.0 (current_in (value_at h.opening) (trace h) x.0))) (imports d h)
+      (operation_trace (Read t x) (Value (current_value h.opening (done h) x.0)) o refl refl refl refl refl ∙ ap (λ v. with_operation (trace h) (read_of t.0 x.0 v)) (current_trace h x.0))
+      (no_imports (Read t x) (Value (current_value h.opening (done h) x.0)) refl
+      (λ q. ap (λ b. import_in (if b then charge_of_read (distance_in d h) h.opening (done h) t.0 x.0 (writer (done h) x.0) else []) q) not_query))
+      (read_update reached t.0 x.0 (active_trace h t.0 act) (update_from (done h) t.0 (active_parts (done h) t.0 act).0 not_query)
+      (no_writer t.0 x.0 (unfound_other (λ u. holds_write (done h) u x.0) t.0 (mapped_none (λ u. BlockedByLock (record { 0 = u })) (other_writer (done h) t.0 x.0) free))))
+
+  query_reads : (t : TxnId) (x : ItemId) → IsReached d h → is_active (done h) t.0 ≡ true → is_query (done h) t.0 ≡ true
+      → IsReached d (extended h (Read t x) (Value (current_value h.opening (done h) x.0)))
+  query_reads t x reached act query =
+      let o : Operation = read_of t.0 x.0 (current_value h.opening (done h) x.0) in
+      linked (Read t x) (Value (current_value h.opening (done h) x.0)) (with_operation (trace h) (read_of t.0 x.0 (current_in (value_at h.opening) (trace h) x.0))) (λ q. imports d h q + import_in (due_in d h (Read t x)) q)
+      (operation_trace (Read t x) (Value (current_value h.opening (done h) x.0)) o refl refl refl refl refl ∙ ap (λ v. with_operation (trace h) (read_of t.0 x.0 v)) (current_trace h x.0))
+      (fun_ext (with_imports (Read t x) (Value (current_value h.opening (done h) x.0)) refl))
+      (read_query reached t.0 x.0 (import_in (due_in d h (Read t x))) (active_trace h t.0 act) (query_not_update (done h) t.0 query) (paid (writer (done h) x.0) refl))
+    where
+      paid : (w : Option ℕ) → writer (done h) x.0 ≡ w
+          → NoOtherWriter (trace h) t.0 x.0 ⊎ (distance_in d h x.0 (current_in (value_at h.opening) (trace h) x.0) (committed_in (value_at h.opening) (trace h) x.0) ≤ import_in (due_in d h (Read t x)) t.0)
+      paid None none = inl (no_writer t.0 x.0 (λ u other update. unfound (λ u. holds_write (done h) u x.0) none u update))
+      paid (Some u) some =
+          let c : Charge = record { query = t.0; update = u; amount = distance_in d h x.0 (current_value h.opening (done h) x.0) (committed_value h.opening (done h) x.0) } in
+          let one : due_in d h (Read t x) ≡ c ∷ [] = ap (λ b. if b then charge_of_read (distance_in d h) h.opening (done h) t.0 x.0 (writer (done h) x.0) else []) query ∙ ap (charge_of_read (distance_in d h) h.opening (done h) t.0 x.0) some in
+          let amount : distance_in d h x.0 (current_in (value_at h.opening) (trace h) x.0) (committed_in (value_at h.opening) (trace h) x.0) ≡ c.amount =
+          ap (λ v. distance_in d h x.0 v (committed_in (value_at h.opening) (trace h) x.0)) (sym (current_trace h x.0)) ∙ ap (distance_in d h x.0 (current_value h.opening (done h) x.0)) (sym (committed_trace h x.0)) in
+          inr (rw (amount, one) (first_amount c []))
+
+  -- a write is charged to each active query that has read the item
+  write_step : (t : TxnId) (x : ItemId) (v : ℤ) → IsReached d h → is_active (done h) t.0 ≡ true → is_query (done h) t.0 ≡ false → blocked_by (other_holder (done h) t.0 x.0) ≡ None
+      → IsReached d (extended h (Write t x v) Wrote)
+  write_step t x v reached act not_query free =
+      linked (Write t x v) Wrote (with_operation (trace h) (write_of t.0 x.0 v)) (λ q. imports d h q + import_in (due_in d h (Write t x v)) q)
+      (operation_trace (Write t x v) Wrote (write_of t.0 x.0 v) refl refl refl refl refl)
+      (fun_ext (with_imports (Write t x v) Wrote refl))
+      (write reached t.0 x.0 v (import_in (due_in d h (Write t x v))) (active_trace h t.0 act) update
+      (no_user t.0 x.0 (unfound_other (λ u. holds_read (done h) u x.0 || holds_write (done h) u x.0) t.0 (mapped_none (λ u. BlockedByLock (record { 0 = u })) (other_holder (done h) t.0 x.0) free)))
+      paid)
+    where
+      update : is_update (done h) t.0 ≡ true
+      update = update_from (done h) t.0 (active_parts (done h) t.0 act).0 not_query
+
+      charge : ℕ → Option Charge
+      charge = charge_of_write (distance_in d h) h.opening (done h) t.0 x.0 v
+
+      listed : due_in d h (Write t x v) ≡ filter_map charge (numbers (done h))
+      listed = ap (λ b. if b then filter_map charge (numbers (done h)) else []) update
+
+      paid : (q : ℕ) → Active (trace h) q → query_in (trace h) q ≡ true → read_count_in (trace h) x.0 q * distance_in d h x.0 v (current_in (value_at h.opening) (trace h) x.0) ≤ import_in (due_in d h (Write t x v)) q
+      paid q a query =
+          rw (sym (reads_trace h q x.0), sym (current_trace h x.0), listed)
+          (elim (cases_Bool (list_any (reads q x.0) (done h))) [
+            | inl did ↦
+                let n = begun_number (done h) q a.begun in
+                let held : holds_read (done h) q x.0 ≡ true = and_from (is_active (done h) q) (list_any (reads q x.0) (done h)) (trace_active h q a) did in
+                amount_listed charge (record { query = q; update = t.0; amount = reads_of (done h) q x.0 * distance_in d h x.0 v (current_value h.opening (done h) x.0) }) q 1 (length (beginnings (done h)))
+                (rw (query, held) refl) refl n.0 n.1
+            | inr not_did ↦
+                let none : reads_of (done h) q x.0 ≡ 0 = count_none (reads q x.0) (done h) not_did in
+                rw none (omega arith)
+          ])
+
+  accepted_step : (e : Event) → IsReached d h → NoneApplies (reasons d h e) → IsReached d (extended h e (acceptance h e))
+  accepted_step (BeginUpdate l) reached none = begin_step (BeginUpdate l) (acceptance h (BeginUpdate l)) refl refl refl refl (λ q. refl) reached
+  accepted_step (BeginQuery l s) reached none = begin_step (BeginQuery l s) (acceptance h (BeginQuery l s)) refl refl refl refl (λ q. refl) reached
+  accepted_step (Read t x) reached none =
+      let act : is_active (done h) t.0 ≡ true = not_ended h t.0 none.1.0 in
+      elim (cases_Bool (is_query (done h) t.0)) [
+        | inl query ↦ query_reads t x reached act query
+        | inr not_query ↦ update_reads t x reached act not_query (sym (ap (λ b. if b then None else blocked_by (other_writer (done h) t.0 x.0)) not_query) ∙ none.1.1.1.1.0)
+      ]
+  accepted_step (Write t x v) reached none =
+      write_step t x v reached (not_ended h t.0 none.1.0) (when_none (is_query (done h) t.0) QueryMayNotWrite none.1.1.1.0) none.1.1.1.1.1.0
+  accepted_step (Commit t) reached none = commit_step t reached (not_ended h t.0 none.1.0)
+  accepted_step (Abort t) reached none = abort_step t reached (not_ended h t.0 none.1.0)
+
+  pub reached_step : (e : Event) (r : Reply) → r ≡ reply_to d h e → IsReached d h → IsReached d (extended h e r)
+  reached_step e r is reached = at (refusal d h e) refl
+    where
+      at : (why : Option Refusal) → refusal d h e ≡ why → IsReached d (extended h e r)
+      at None none =
+          let answer : r ≡ acceptance h e = is ∙ ap (λ w. answered w (acceptance h e)) none in
+          subst (λ w. IsReached d (extended h e w)) (sym answer) (accepted_step e reached (none_applies (reasons d h e) none))
+      at (Some why) some =
+          let answer : r ≡ Refused why = is ∙ ap (λ w. answered w (acceptance h e)) some in
+          subst (λ w. IsReached d (extended h e w)) (sym answer) (refused_step e why reached)
+
+pub legal_reached : (d : Distance) (h : Schedule) → IsLegal d h → IsReached d h
+legal_reached d h legal = legal_induction d (IsReached d) (λ g e r is reached. reached_step d g e r is reached) h nothing legal

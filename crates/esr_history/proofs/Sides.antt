@@ -1,0 +1,103 @@
+-- Who is charged: queries import, updates export.
+use Rattle.std.proofs.Common.{◌≡◌, ℕ, suc, ℤ, ◌+◌, ◌*◌, List, [], ◌∷◌, ◌++◌, Bool, true, false, not, ◌&&◌, ◌==◌, refl, sym, ◌∙◌, ap, subst, arith, inl, inr, Option, None, Some, if◌then◌else◌, append_assoc, append-nil}
+use Rattle.std.specs.Prelude.{find, unwrap_or, sum_by}
+use Rattle.std.specs.List.{filter_map, cons_option, AllByRecursion}
+use Rattle.std.specs.Option.{option_map}
+use Rattle.std.proofs.lemmas.Bool.{cases_Bool, false≢true, cases_eq, ne_eqb, and_parts}
+use Rattle.std.proofs.lemmas.List.Sums.{sum_by-cons}
+use Rattle.std.proofs.lemmas.Option.{same_Some}
+use Rattle.esr_history.specs.declared.event.Event.{Event}
+use Rattle.esr_history.specs.declared.event.Event.TheVariants.{BeginUpdate, BeginQuery, Read, Write, Commit, Abort}
+use Rattle.esr_history.specs.Events.{Beginning, beginning, numbers, is_query, is_update, reads_of, holds_read, holds_write, current_value}
+use Rattle.esr_history.specs.Machine.{Charge, due, charges, charges_after, charge_of_read, charge_of_write, writer, import_in, export_in}
+use Rattle.esr_history.proofs.Orderly.{beginning-push, is_update-push}
+
+-- a charge is of an update to a query
+abbrev pub IsOfKinds : List Event → Charge → Type 0
+IsOfKinds events c = (is_query events c.query ≡ true) × (is_update events c.update ≡ true)
+
+pub is_query-push : (events : List Event) (e : Event) (t : ℕ) → is_query events t ≡ true → is_query (events ++ e ∷ []) t ≡ true
+is_query-push events e t is = at (beginning events t) refl is
+  where
+    at : (b : Option Beginning) → beginning events t ≡ b → unwrap_or (option_map (λ c. c.query) b) false ≡ true → is_query (events ++ e ∷ []) t ≡ true
+    at None none no_query = absurd (false≢true no_query)
+    at (Some b) some query = ap (λ o. unwrap_or (option_map (λ c. c.query) o) false) (beginning-push events e t b some) ∙ query
+
+find_passes : (p : ℕ → Bool) (us : List ℕ) (u : ℕ) → find p us ≡ Some u → p u ≡ true
+find_passes p [] u found = absurd (cc)
+find_passes p (v ∷ us) u found =
+    elim (cases_Bool (p v)) [
+      | inl passes ↦ let same : Some v ≡ Some u = rw passes at found in rw (← same_Some v u same) passes
+      | inr fails ↦ find_passes p us u (rw fails at found)
+    ]
+
+all_append : (P : Charge → Type 0) (xs ys : List Charge) → AllByRecursion P xs → AllByRecursion P ys → AllByRecursion P (xs ++ ys)
+all_append P [] ys a b = b
+all_append P (x ∷ xs) ys a b = (a.0, all_append P xs ys a.1 b)
+
+all_later : (before : List Event) (e : Event) (cs : List Charge) → AllByRecursion (IsOfKinds before) cs → AllByRecursion (IsOfKinds (before ++ e ∷ [])) cs
+all_later before e [] all = tt
+all_later before e (c ∷ cs) all = ((is_query-push before e c.query all.0.0, is_update-push before e c.update all.0.1), all_later before e cs all.1)
+
+all_along : (before later : List Event) (cs : List Charge) → AllByRecursion (IsOfKinds before) cs → AllByRecursion (IsOfKinds (before ++ later)) cs
+all_along before [] cs all = subst (λ (es : List Event). AllByRecursion (IsOfKinds es) cs) (sym (append-nil before)) all
+all_along before (e ∷ later) cs all = subst (λ (es : List Event). AllByRecursion (IsOfKinds es) cs) (append_assoc before (e ∷ []) later) (all_along (before ++ e ∷ []) later cs (all_later before e cs all))
+
+all_given : (P : Charge → Type 0) (f : ℕ → Option Charge) → ((x : ℕ) (y : Charge) → f x ≡ Some y → P y) → (xs : List ℕ) → AllByRecursion P (filter_map f xs)
+all_given P f gives [] = tt
+all_given P f gives (x ∷ xs) = at (f x) refl (all_given P f gives xs)
+  where
+    at : (o : Option Charge) → f x ≡ o → AllByRecursion P (filter_map f xs) → AllByRecursion P (cons_option o (filter_map f xs))
+    at None is later = later
+    at (Some y) is later = (gives x y is, later)
+
+pub due_kinds : (d : ℕ → ℤ → ℤ → ℕ) (opening : List ℤ) (events : List Event) (e : Event) → AllByRecursion (IsOfKinds events) (due d opening events e)
+due_kinds d opening events (Read q x) = read (is_query events q.0) refl (writer events x.0) refl
+  where
+    read : (b : Bool) → is_query events q.0 ≡ b → (u : Option ℕ) → writer events x.0 ≡ u → AllByRecursion (IsOfKinds events) (if b then charge_of_read d opening events q.0 x.0 u else [])
+    read false is u w = tt
+    read true is None w = tt
+    read true is (Some u) w =
+        let p : (is_update events u && holds_write events u x.0) ≡ true = find_passes (λ v. is_update events v && holds_write events v x.0) (numbers events) u w in
+        ((is, (and_parts (is_update events u) (holds_write events u x.0) p).0), tt)
+due_kinds d opening events (Write u x v) = write (is_update events u.0) refl
+  where
+    gives : is_update events u.0 ≡ true → (q : ℕ) (c : Charge) → charge_of_write d opening events u.0 x.0 v q ≡ Some c → IsOfKinds events c
+    gives is q c got = at (is_query events q && holds_read events q x.0) refl got
+      where
+        at : (b : Bool) → (is_query events q && holds_read events q x.0) ≡ b → (if b then Some (record { query = q; update = u.0; amount = reads_of events q x.0 * d x.0 v (current_value opening events x.0) }) else None) ≡ Some c → IsOfKinds events c
+        at true both got' =
+            subst (IsOfKinds events) (same_Some (record { query = q; update = u.0; amount = reads_of events q x.0 * d x.0 v (current_value opening events x.0) }) c got')
+            ((and_parts (is_query events q) (holds_read events q x.0) both).0, is)
+        at false both got' = absurd (cc)
+
+    write : (b : Bool) → is_update events u.0 ≡ b → AllByRecursion (IsOfKinds events) (if b then filter_map (charge_of_write d opening events u.0 x.0 v) (numbers events) else [])
+    write false is = tt
+    write true is = all_given (IsOfKinds events) (charge_of_write d opening events u.0 x.0 v) (gives is) (numbers events)
+due_kinds d opening events (BeginUpdate l) = tt
+due_kinds d opening events (BeginQuery l s) = tt
+due_kinds d opening events (Commit t) = tt
+due_kinds d opening events (Abort t) = tt
+
+charges_kinds_after : (d : ℕ → ℤ → ℤ → ℕ) (opening : List ℤ) (before later : List Event) → AllByRecursion (IsOfKinds (before ++ later)) (charges_after d opening before later)
+charges_kinds_after d opening before [] = tt
+charges_kinds_after d opening before (e ∷ later) =
+    all_append (IsOfKinds (before ++ e ∷ later)) (due d opening before e) (charges_after d opening (before ++ e ∷ []) later)
+    (all_along before (e ∷ later) (due d opening before e) (due_kinds d opening before e))
+    (subst (λ (es : List Event). AllByRecursion (IsOfKinds es) (charges_after d opening (before ++ e ∷ []) later)) (append_assoc before (e ∷ []) later) (charges_kinds_after d opening (before ++ e ∷ []) later))
+
+pub charges_kinds : (d : ℕ → ℤ → ℤ → ℕ) (opening : List ℤ) (events : List Event) → AllByRecursion (IsOfKinds events) (charges d opening events)
+charges_kinds d opening events = charges_kinds_after d opening [] events
+
+-- who is no query imports nothing, who is no update exports nothing
+pub no_import : (events : List Event) (cs : List Charge) → AllByRecursion (IsOfKinds events) cs → (t : ℕ) → is_query events t ≡ false → import_in cs t ≡ 0
+no_import events [] all t isnt = refl
+no_import events (c ∷ cs) all t isnt =
+    sum_by-cons (λ (g : Charge). if g.query == t then g.amount else 0) c cs
+    ∙ rw (ne_eqb c.query t (λ (e : c.query ≡ t). false≢true (sym isnt ∙ (ap (is_query events) (sym e) ∙ all.0.0))), no_import events cs all.1 t isnt) refl
+
+pub no_export : (events : List Event) (cs : List Charge) → AllByRecursion (IsOfKinds events) cs → (t : ℕ) → is_update events t ≡ false → export_in cs t ≡ 0
+no_export events [] all t isnt = refl
+no_export events (c ∷ cs) all t isnt =
+    sum_by-cons (λ (g : Charge). if g.update == t then g.amount else 0) c cs
+    ∙ rw (ne_eqb c.update t (λ (e : c.update ≡ t). false≢true (sym isnt ∙ (ap (is_update events) (sym e) ∙ all.0.1))), no_export events cs all.1 t isnt) refl

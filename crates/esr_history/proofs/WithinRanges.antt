@@ -1,0 +1,182 @@
+-- The counts and ranges of legal histories.
+use Rattle.std.proofs.Common.{◌≡◌, ℕ, zero, suc, ℤ, ◌+◌, ◌<◌, ◌≤◌, ◌^◌, true, false, not, ◌&&◌, ◌==◌, List, [], ◌∷◌, ◌++◌, length, refl, sym, ◌∙◌, ap, subst, arith, inl, inr, filter, Option, Some, None, All, cond, count_by, ◌⊎◌}
+use Rattle.std.specs.Prelude.{unwrap_or, nat_le, is_some, unsigned_abs}
+use Rattle.std.specs.List.{AllByRecursion, cons_option}
+use Rattle.std.specs.Option.{option_map}
+use Rattle.std.proofs.lemmas.Bool.{cases_Bool, true≢false, leb-false, leb-true, not-false, false_from_ne_true, eqb-true}
+use Rattle.std.proofs.lemmas.List.Elements.{All-from_recursion, recursion_from_All}
+use Rattle.std.proofs.lemmas.List.Sums.{sum_by-append, sum_by-cons}
+use Rattle.std.proofs.lemmas.List.{length-append}
+use Rattle.esr_items.specs.Values.{value_at, IsValue, is_value}
+use Rattle.esr_history.specs.declared.event.Event.{Event}
+use Rattle.esr_history.specs.declared.event.Event.TheVariants.{BeginUpdate, BeginQuery, Read, Write, Commit, Abort}
+use Rattle.esr_history.specs.declared.event.Reply.{Reply}
+use Rattle.esr_history.specs.declared.event.Reply.TheVariants.{Refused}
+use Rattle.esr_history.specs.declared.event.Refusal.{Refusal}
+use Rattle.esr_history.specs.declared.event.Refusal.TheVariants.{NoSuchItem, ValueOutOfRange, TooManyTransactions, TooManyReads}
+use Rattle.esr_history.specs.Events.{Beginning, beginning, beginnings, beginning_of, is_query, is_update, is_active, is_refusal, reads_any, all_reads_of, current_value}
+use Rattle.esr_history.specs.Machine.{Distance, Schedule, done, extended, reply_to, reasons, refusal, acceptance, answered, IsLegal, no_item}
+use Rattle.esr_history.specs.Legal.{legal_induction}
+use Rattle.esr_history.specs.Operations.{Operation, operation_by, operations}
+use Rattle.esr_history.specs.Ranges.{IsWithinRanges}
+use Rattle.esr_history.proofs.Lists.{filter_map_push}
+use Rattle.esr_history.proofs.Lawful.{done-refused, done-accepted, none_applies, NoneApplies, not_ended, when_none}
+use Rattle.esr_history.proofs.Orderly.{is_update-push, active_parts}
+use Rattle.esr_history.proofs.Membership.{In, each_in, In-of_filter, In-append_cases}
+use Rattle.esr_history.proofs.Traces.{writes_item, is_among, after_writes}
+use Rattle.esr_history.proofs.Words.{query_not_update, trace, current_trace}
+use Rattle.esr_history.proofs.Reaches.{operations-refused, operations-accepted}
+
+value_at-range : (vs : List ℤ) (x : ℕ) → AllByRecursion IsValue vs → IsValue (value_at vs x)
+value_at-range [] x all = omega arith
+value_at-range (v ∷ vs) zero all = all.0
+value_at-range (v ∷ vs) (suc x) all = value_at-range vs x all.1
+
+after_writes-range : (v : ℤ) (ws : List Operation) → IsValue v → ((o : Operation) → In o ws → IsValue o.value) → IsValue (after_writes v ws)
+after_writes-range v [] first all = first
+after_writes-range v (w ∷ ws) first all = after_writes-range w.value ws (all w (inl refl)) (λ o i. all o (inr i))
+
+-- the counts and ranges, in a form that goes on
+record InRanges (h : Schedule) : Type 0 where
+  begins : length (beginnings (done h)) ≤ 65535
+  reads : (t : ℕ) → is_update (done h) t ≡ false → all_reads_of (done h) t ≤ 1000
+  values : AllByRecursion IsValue h.opening → (o : Operation) → In o (operations h) → IsValue o.value
+  items : (o : Operation) → In o (operations h) → o.item < length h.opening
+
+module _ (d : Distance) (h : Schedule) (was : InRanges h) where
+  current-range : AllByRecursion IsValue h.opening → (x : ℕ) → IsValue (current_value h.opening (done h) x)
+  current-range opened x =
+      rw (current_trace h x)
+      (after_writes-range (value_at h.opening x) (filter (λ w. writes_item x w && not (is_among (trace h).aborts w.txn)) (operations h)) (value_at-range h.opening x opened)
+      (λ o i. was.values opened o (In-of_filter (λ w. writes_item x w && not (is_among (trace h).aborts w.txn)) (operations h) o i).0))
+
+  reads-push : (e : Event) (t : ℕ) → all_reads_of (done h ++ e ∷ []) t ≡ all_reads_of (done h) t + cond (reads_any t e) 1 0
+  reads-push e t =
+      let one : count_by (reads_any t) (e ∷ []) ≡ cond (reads_any t e) 1 0 + 0 = sum_by-cons (λ f. cond (reads_any t f) 1 0) e [] in
+      sum_by-append (λ f. cond (reads_any t f) 1 0) (done h) (e ∷ []) ∙ (ap (λ n. all_reads_of (done h) t + n) one ∙ omega arith)
+
+  -- who is no update after an event was none before
+  no_update_before : (e : Event) (t : ℕ) → is_update (done h ++ e ∷ []) t ≡ false → is_update (done h) t ≡ false
+  no_update_before e t fails = false_from_ne_true (is_update (done h) t) (λ is. true≢false (sym (is_update-push (done h) e t is) ∙ fails))
+
+  -- an event that begins and reads nothing
+  fewer_reads : (e : Event) → ((t : ℕ) → reads_any t e ≡ false) → (t : ℕ) → is_update (done h ++ e ∷ []) t ≡ false → all_reads_of (done h ++ e ∷ []) t ≤ 1000
+  fewer_reads e none t fails =
+      let before : all_reads_of (done h) t ≤ 1000 = was.reads t (no_update_before e t fails) in
+      rw (reads-push e t, none t) (omega arith)
+
+  same_begins : (e : Event) → beginning_of e ≡ None → length (beginnings (done h ++ e ∷ [])) ≤ 65535
+  same_begins e none =
+      let same : length (beginnings (done h ++ e ∷ [])) ≡ length (beginnings (done h)) + 0 = ap length (filter_map_push beginning_of (done h) e ∙ ap (λ o. beginnings (done h) ++ cons_option o []) none) ∙ length-append (beginnings (done h)) [] in
+      let before = was.begins in
+      omega arith
+
+  -- after an accepted event
+  about : (e : Event) (r : Reply) → is_refusal r ≡ false → length (beginnings (done h ++ e ∷ [])) ≤ 65535
+      → ((t : ℕ) → is_update (done h ++ e ∷ []) t ≡ false → all_reads_of (done h ++ e ∷ []) t ≤ 1000)
+      → ((o : Operation) → In o (cons_option (operation_by e r) []) → (AllByRecursion IsValue h.opening → IsValue o.value) × (o.item < length h.opening)) → InRanges (extended h e r)
+  about e r is begins reads new =
+      let events : done (extended h e r) ≡ done h ++ e ∷ [] = done-accepted h e r is in
+      record {
+        begins = rw events begins;
+        reads = λ t fails. rw events (reads t (subst (λ (es : List Event). is_update es t ≡ false) events fails));
+        values = λ opened o i. elim (one o i) [ inl j ↦ was.values opened o j | inr j ↦ (new o j).0 opened ];
+        items = λ o i. elim (one o i) [ inl j ↦ was.items o j | inr j ↦ (new o j).1 ];
+      }
+    where
+      one : (o : Operation) → In o (operations (extended h e r)) → In o (operations h) ⊎ In o (cons_option (operation_by e r) [])
+      one o i = In-append_cases (operations h) (cons_option (operation_by e r) []) o (subst (In o) (operations-accepted h e r is) i)
+
+  begin_in_ranges : (e : Event) (r : Reply) (b : Beginning) → is_refusal r ≡ false → beginning_of e ≡ Some b → operation_by e r ≡ None → ((t : ℕ) → reads_any t e ≡ false) → nat_le 65535 (length (beginnings (done h))) ≡ false → InRanges (extended h e r)
+  begin_in_ranges e r b is begins none no_read room =
+      about e r is more (fewer_reads e no_read) (λ o i. absurd (subst (λ p. In o (cons_option p [])) none i))
+    where
+      more : length (beginnings (done h ++ e ∷ [])) ≤ 65535
+      more =
+          let below : length (beginnings (done h)) < 65535 = leb-false 65535 (length (beginnings (done h))) room in
+          let same : length (beginnings (done h ++ e ∷ [])) ≡ length (beginnings (done h)) + 1 = ap length (filter_map_push beginning_of (done h) e ∙ ap (λ o. beginnings (done h) ++ cons_option o []) begins) ∙ length-append (beginnings (done h)) (b ∷ []) in
+          omega arith
+
+  single : (P : Operation → Type 0) (o : Operation) → P o → (w : Operation) → In w (o ∷ []) → P w
+  single P o p w i = elim i [ inl e ↦ subst P e p | inr none ↦ absurd none ]
+
+  item_below : (x : ℕ) → no_item h x ≡ None → x < length h.opening
+  item_below x none = leb-false (length h.opening) x (when_none (nat_le (length h.opening) x) NoSuchItem none)
+
+  accepted_in_ranges : (e : Event) → NoneApplies (reasons d h e) → InRanges (extended h e (acceptance h e))
+  accepted_in_ranges (BeginUpdate l) none =
+      begin_in_ranges (BeginUpdate l) (acceptance h (BeginUpdate l)) (record { query = false; strict = false; limit = l }) refl refl refl (λ t. refl) (when_none (nat_le 65535 (length (beginnings (done h)))) TooManyTransactions none.1.0)
+  accepted_in_ranges (BeginQuery l s) none =
+      begin_in_ranges (BeginQuery l s) (acceptance h (BeginQuery l s)) (record { query = true; strict = s; limit = l }) refl refl refl (λ t. refl) (when_none (nat_le 65535 (length (beginnings (done h)))) TooManyTransactions none.1.0)
+  accepted_in_ranges (Read t x) none =
+      about (Read t x) (acceptance h (Read t x)) refl (same_begins (Read t x) refl) reads
+      (single (λ o. (AllByRecursion IsValue h.opening → IsValue o.value) × (o.item < length h.opening)) (record { txn = t.0; item = x.0; writes = false; value = current_value h.opening (done h) x.0 }) (λ opened. current-range opened x.0, item_below x.0 none.1.1.0))
+    where
+      act : is_active (done h) t.0 ≡ true
+      act = not_ended h t.0 none.1.0
+
+      room : is_query (done h) t.0 ≡ true → all_reads_of (done h) t.0 < 1000
+      room query = leb-false 1000 (all_reads_of (done h) t.0) (sym (ap (λ b. b && nat_le 1000 (all_reads_of (done h) t.0)) query) ∙ when_none (is_query (done h) t.0 && nat_le 1000 (all_reads_of (done h) t.0)) TooManyReads none.1.1.1.0)
+
+      reads : (u : ℕ) → is_update (done h ++ Read t x ∷ []) u ≡ false → all_reads_of (done h ++ Read t x ∷ []) u ≤ 1000
+      reads u fails =
+          let before : is_update (done h) u ≡ false = no_update_before (Read t x) u fails in
+          rw (reads-push (Read t x) u)
+          (elim (cases_Bool (t.0 == u)) [
+            | inl own ↦
+                let below : all_reads_of (done h) u < 1000 = subst (λ w. all_reads_of (done h) w < 1000) (eqb-true t.0 u own) (room (query_from (beginning (done h) t.0) (active_parts (done h) t.0 act).0 (subst (λ w. is_update (done h) w ≡ false) (sym (eqb-true t.0 u own)) before))) in
+                rw own (omega arith)
+            | inr other ↦
+                let low : all_reads_of (done h) u ≤ 1000 = was.reads u before in
+                rw other (omega arith)
+          ])
+        where
+          query_from : (b : Option Beginning) → is_some b ≡ true → unwrap_or (option_map (λ c. not c.query) b) false ≡ false → unwrap_or (option_map (λ c. c.query) b) false ≡ true
+          query_from None some q = absurd (true≢false (sym some))
+          query_from (Some b) some q = not-false b.query q
+  accepted_in_ranges (Write t x v) none =
+      about (Write t x v) (acceptance h (Write t x v)) refl (same_begins (Write t x v) refl) (fewer_reads (Write t x v) (λ u. refl))
+      (single (λ o. (AllByRecursion IsValue h.opening → IsValue o.value) × (o.item < length h.opening)) (record { txn = t.0; item = x.0; writes = true; value = v })
+      (λ _. leb-true (unsigned_abs v) (10 ^ 12) (not-false (is_value v) (when_none (not (is_value v)) ValueOutOfRange none.1.1.1.1.0)), item_below x.0 none.1.1.0))
+  accepted_in_ranges (Commit t) none = about (Commit t) (acceptance h (Commit t)) refl (same_begins (Commit t) refl) (fewer_reads (Commit t) (λ u. refl)) (λ o i. absurd i)
+  accepted_in_ranges (Abort t) none = about (Abort t) (acceptance h (Abort t)) refl (same_begins (Abort t) refl) (fewer_reads (Abort t) (λ u. refl)) (λ o i. absurd i)
+
+  InRanges-extended : (e : Event) (r : Reply) → r ≡ reply_to d h e → InRanges (extended h e r)
+  InRanges-extended e r is = at (refusal d h e) refl
+    where
+      at : (why : Option Refusal) → refusal d h e ≡ why → InRanges (extended h e r)
+      at None none =
+          let answer : r ≡ acceptance h e = is ∙ ap (λ w. answered w (acceptance h e)) none in
+          subst (λ w. InRanges (extended h e w)) (sym answer) (accepted_in_ranges e (none_applies (reasons d h e) none))
+      at (Some why) some =
+          let answer : r ≡ Refused why = is ∙ ap (λ w. answered w (acceptance h e)) some in
+          let events : done (extended h e (Refused why)) ≡ done h = done-refused h e why in
+          let ops : operations (extended h e (Refused why)) ≡ operations h = operations-refused h e why in
+          subst (λ w. InRanges (extended h e w)) (sym answer) (record {
+            begins = rw events was.begins;
+            reads = λ t fails. rw events (was.reads t (subst (λ (es : List Event). is_update es t ≡ false) events fails));
+            values = λ opened o i. was.values opened o (subst (In o) ops i);
+            items = λ o i. was.items o (subst (In o) ops i);
+          })
+
+legal_in_ranges : (d : Distance) (h : Schedule) → IsLegal d h → InRanges h
+legal_in_ranges d h legal =
+    legal_induction d InRanges (λ g e r is was. InRanges-extended d g was e r is) h
+    (record { begins = omega arith; reads = λ t is. omega arith; values = λ opened o i. absurd i; items = λ o i. absurd i }) legal
+
+pub legal_begins : (d : Distance) (h : Schedule) → IsLegal d h → length (beginnings (done h)) ≤ 65535
+legal_begins d h legal = (legal_in_ranges d h legal).begins
+
+pub legal_items : (d : Distance) (h : Schedule) → IsLegal d h → (o : Operation) → In o (operations h) → o.item < length h.opening
+legal_items d h legal = (legal_in_ranges d h legal).items
+
+-- the counts and ranges of a legal history
+pub legal_within_ranges : (d : Distance) (h : Schedule) → All IsValue h.opening → IsLegal d h → IsWithinRanges h
+legal_within_ranges d h opened legal =
+    let r : InRanges h = legal_in_ranges d h legal in
+    record {
+      begins = r.begins;
+      reads = λ q query. r.reads q (query_not_update (done h) q query);
+      values = All-from_recursion (λ (o : Operation). IsValue o.value) (operations h) (each_in (λ (o : Operation). IsValue o.value) (operations h) (r.values (recursion_from_All IsValue h.opening opened)));
+      items = All-from_recursion (λ (o : Operation). o.item < length h.opening) (operations h) (each_in (λ (o : Operation). o.item < length h.opening) (operations h) r.items);
+    }

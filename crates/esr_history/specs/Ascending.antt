@@ -1,0 +1,25 @@
+-- Lists whose elements have a number each, in ascending order.
+use Rattle.std.specs.Prelude.{◌≡◌, ℕ, ◌<◌, ◌≤◌, List, [], ◌∷◌, length, ◌==◌, nat_lt, if◌then◌else◌, slice_index_or, ⊤}
+use Rattle.std.specs.List.{AllByRecursion}
+
+-- each number is below those after it, so none comes twice
+abbrev pub IsAscendingBy : {X : Type 0} → (X → ℕ) → List X → Type 0
+IsAscendingBy key [] = ⊤
+IsAscendingBy key (x ∷ xs) = AllByRecursion (λ y. key x < key y) xs × IsAscendingBy key xs
+
+-- the element of number t changed, or a new one put where it belongs
+abbrev pub placed : {X : Type 0} → (X → ℕ) → ℕ → X → (X → X) → List X → List X
+placed key t new change [] = new ∷ []
+placed key t new change (x ∷ xs) =
+    if key x == t then change x ∷ xs else (if nat_lt t (key x) then new ∷ x ∷ xs else x ∷ placed key t new change xs)
+
+-- the element at place i has number t
+pub record IsPlaceOf {X : Type 0} (key : X → ℕ) (xs : List X) (t i : ℕ) : Type 0 where
+  pub in_range : i < length xs
+  pub has_number : (d : X) → key (slice_index_or xs i d) ≡ t
+
+-- no element has number t, and one would go at place i
+pub record IsGapFor {X : Type 0} (key : X → ℕ) (xs : List X) (t i : ℕ) : Type 0 where
+  pub in_range : i ≤ length xs
+  pub smaller_before : (j : ℕ) (d : X) → j < i → key (slice_index_or xs j d) < t
+  pub greater_after : (j : ℕ) (d : X) → i ≤ j → j < length xs → t < key (slice_index_or xs j d)

@@ -1,0 +1,63 @@
+-- What the audit of a committed query rests on: its updates, its reads, and their distances from the values that sets of updates leave.
+use Rattle.std.specs.Prelude.{◌≡◌, ℕ, ℤ, Bool, true, false, not, ◌&&◌, ◌==◌, ◌≤◌, IsTrue, List, [], filter, Contains, sum_by, unwrap_or, if◌then◌else◌}
+use Rattle.std.specs.List.{before_first}
+use Rattle.std.specs.Option.{option_map}
+use Rattle.esr_history.specs.declared.event.Reply.{Reply}
+use Rattle.esr_history.specs.declared.event.Reply.TheVariants.{Begun}
+use Rattle.esr_history.specs.declared.event.Event.{Event}
+use Rattle.esr_history.specs.declared.event.Entry.{Entry}
+use Rattle.esr_history.specs.Events.{beginning, is_query, is_update, is_committed, accepted}
+use Rattle.esr_history.specs.Machine.{Distance, Schedule, done, distance_in, charges_in, import_in}
+use Rattle.esr_history.specs.Operations.{Operation, operations, commit_order}
+use Rattle.esr_history.specs.Serial.{is_before, state}
+
+abbrev pub is_committed_query : Schedule → ℕ → Bool
+is_committed_query h q = is_query (done h) q && is_committed (done h) q
+
+-- the updates that committed before q did, in commit order
+abbrev pub updates_of : Schedule → ℕ → List ℕ
+updates_of h q = filter (is_update (done h)) (before_first (λ t. t == q) (commit_order (done h)))
+
+abbrev pub is_strict : List Event → ℕ → Bool
+is_strict events t = unwrap_or (option_map (λ b. b.strict) (beginning events t)) false
+
+abbrev pub begins : ℕ → Reply → Bool
+begins q (Begun t) = t.0 == q
+begins q _ = false
+
+-- the entries before the begin of q
+abbrev pub before_begin : Schedule → ℕ → List Entry
+before_begin h q = before_first (λ e. begins q e.reply) h.entries
+
+-- of a strict query, those of its updates that committed before it began; of another, none
+abbrev pub must : Schedule → ℕ → List ℕ
+must h q = if is_strict (done h) q then filter (is_committed (accepted (before_begin h q))) (updates_of h q) else []
+
+-- the accepted reads of q
+abbrev pub reads_by : Schedule → ℕ → List Operation
+reads_by h q = filter (λ o. not o.writes && (o.txn == q)) (operations h)
+
+-- the distance of what q read from the values w of the items
+abbrev pub distance_from : Distance → Schedule → ℕ → (ℕ → ℤ) → ℕ
+distance_from d h q w = sum_by (λ o. distance_in d h o.item o.value (w o.item)) (reads_by h q)
+
+-- the members of S among the updates of q, in commit order
+abbrev pub members : Schedule → ℕ → (ℕ → Bool) → List ℕ
+members h q S = filter S (updates_of h q)
+
+-- the distance of what q read from the version that S leaves: its members run in commit order
+abbrev pub cost : Distance → Schedule → ℕ → (ℕ → Bool) → ℕ
+cost d h q S = distance_from d h q (state h (members h q S))
+
+-- With all its updates before it, a committed query is no farther from what it read than the import charged to it.
+abbrev pub ImportBoundsDistance : Distance → Schedule → Type 0
+ImportBoundsDistance d h = (q : ℕ) → IsTrue (is_committed_query h q) → cost d h q (λ _. true) ≤ import_in (charges_in d h) q
+
+-- What the audit of q rests on is the same in two histories: its updates, what it must see, their order, the cost of each set, and the import.
+pub record IsAlike (d : Distance) (h longer : Schedule) (q : ℕ) : Type 0 where
+  pub committed : is_committed_query longer q ≡ is_committed_query h q
+  pub updates : updates_of longer q ≡ updates_of h q
+  pub musts : must longer q ≡ must h q
+  pub order : (u v : ℕ) → Contains (updates_of h q) u → Contains (updates_of h q) v → is_before longer u v ≡ is_before h u v
+  pub costs : (S : ℕ → Bool) → cost d longer q S ≡ cost d h q S
+  pub import : import_in (charges_in d longer) q ≡ import_in (charges_in d h) q

@@ -1,0 +1,13 @@
+use Rattle.std.proofs.Common.{◌≡◌, ◌∙◌, sym, ap, true, false, ℕ, get_or}
+use Rattle.esr_history.specs.declared.event.TxnId.{TxnId}
+use Rattle.esr_ledgers.specs.Books.{would_pass}
+use Rattle.esr_ledgers.proofs.Finds.{find_first, find_none_more}
+use Rattle.esr_ledgers.proofs.ledgers.first_over.Goals as goal
+
+pub returns-then-passes : goal.returns-then-passes
+returns-then-passes c =
+    sym (find_first (λ (b : TxnId × ℕ). would_pass c.args.accounts.now b.0.0 b.1) c.args.charges.now c.loop-charge.charge-index (record { 0 = 0 }, 0) c.loop-charge-test.true c.loop-charge.invariant (sym (c.passes.ensures ∙ ap (λ n. would_pass c.args.accounts.now (get_or c.args.charges.now c.loop-charge.charge-index (record { 0 = 0 }, 0)).0.0 n) c.from.ensures) ∙ c.if-passes.true))
+
+pub loop-charge-preserved : goal.loop-charge-preserved
+loop-charge-preserved c =
+    find_none_more (λ (b : TxnId × ℕ). would_pass c.args.accounts.now b.0.0 b.1) c.args.charges.now c.loop-charge.charge-index (record { 0 = 0 }, 0) c.loop-charge-test.true c.loop-charge.invariant (sym (c.passes.ensures ∙ ap (λ n. would_pass c.args.accounts.now (get_or c.args.charges.now c.loop-charge.charge-index (record { 0 = 0 }, 0)).0.0 n) c.from.ensures) ∙ c.if-passes.false)

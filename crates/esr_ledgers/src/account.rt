@@ -1,0 +1,56 @@
+ghost use Rattle.std.specs.Prelude.{◌≡◌, ◌+◌, ◌<◌, ◌^◌, true, Some, IfOk, IfErr};
+ghost use Rattle.esr_history.specs.Ascending.{IsAscendingBy, IsPlaceOf, IsGapFor};
+ghost use Rattle.esr_ledgers.specs.Books.{number, account_of, is_open, amount_at, raised};
+
+use esr_history::TxnId;
+
+/// What a query has imported, or an update exported, and its limit.
+#[derive(Clone, Copy, PartialEq, Eq, Debug)]
+pub struct Account {
+    pub number: TxnId,
+    pub query: bool,
+    pub limit: u64,
+    pub amount: u64,
+}
+
+/// Where the account of a transaction stands, or where it would go.
+pub fn place_of(accounts: &[Account], t: TxnId) -> Result<usize, usize>
+    requires { IsAscendingBy number accounts.now }
+    ensures found { IfOk result (IsPlaceOf number accounts.now t.0) }
+    ensures absent { IfErr result (IsGapFor number accounts.now t.0) }
+{
+    accounts.binary_search_by_key(&t.0, |a| a.number.0)
+}
+
+/// Where the account of a transaction stands.
+fn index_of(accounts: &[Account], t: TxnId) -> usize
+    requires ascending { IsAscendingBy number accounts.now }
+    requires open { is_open accounts.now t.0 ≡ true }
+    ensures { IsPlaceOf number accounts.now t.0 result }
+{
+    match place_of(accounts, t) {
+        Ok(at) => at,
+        Err(_) => unreachable!(),
+    }
+}
+
+/// The account of a transaction.
+pub fn find_account(accounts: &[Account], t: TxnId) -> Account
+    requires ascending { IsAscendingBy number accounts.now }
+    requires open { is_open accounts.now t.0 ≡ true }
+    ensures { account_of accounts.now t.0 ≡ Some result }
+{
+    accounts[index_of(accounts, t)]
+}
+
+/// Adds an amount to the account of a transaction.
+pub fn raise(accounts: &mut Vec<Account>, t: TxnId, amount: u64)
+    requires ascending { IsAscendingBy number accounts.old.items }
+    requires open { is_open accounts.old.items t.0 ≡ true }
+    requires fits { amount_at accounts.old.items t.0 + amount < 2 ^ 64 }
+    ensures { accounts.new.items ≡ raised t.0 amount accounts.old.items }
+{
+    let at = index_of(accounts, t);
+    let account = &mut accounts[at];
+    account.amount += amount;
+}

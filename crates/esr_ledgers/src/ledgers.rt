@@ -1,0 +1,194 @@
+ghost use Rattle.std.specs.Prelude.{◌≡◌, ℕ, ◌+◌, ◌*◌, ◌<◌, ◌≤◌, ◌^◌, [], true, false, All, OnOk, OnErr, length, nat_lt, find};
+ghost use Rattle.esr_history.specs.Ascending.{IsAscendingBy};
+ghost use Rattle.esr_ledgers.specs.Books.{number, is_open, is_open_query, is_open_update, amount_at, limit_at, new_account, opened, total_of, would_pass, quote_of, imported, charged, AreCharges, imports, exports};
+
+use crate::account::{Account, find_account, place_of, raise};
+use esr_history::{NoMemory, TxnId};
+use std::alloc::Global;
+use std::marker::Model;
+
+/// Whether an update may be charged.
+#[derive(Clone, Copy, PartialEq, Eq, Debug)]
+pub enum Quote {
+    /// No limit would be passed.
+    Fits,
+    /// The import of this query would pass its limit. It is the first such of the list.
+    Import(TxnId),
+    /// The export of this update would pass its limit.
+    Export(TxnId),
+}
+
+/// The imports of queries and the exports of updates. No limit is ever passed, and as much is
+/// imported as is exported, all together.
+#[derive(Drop)]
+pub struct Ledgers {
+    accounts: Vec<Account>,
+    total: u128,
+}
+
+impl Model for Ledgers {
+    ghost use Rattle.std.specs.Prelude.{List};
+    ghost use Rattle.esr_ledgers.specs.declared.account.Account.{Account};
+    ghost use Rattle.esr_ledgers.specs.Books.{AreBooks};
+
+    ghost Value = { List Account };
+
+    ghost view = { λ l. l.accounts.items };
+
+    ghost invariant = { λ l. AreBooks l.accounts.items l.total };
+}
+
+/// The sum of some charges.
+fn total_charge(charges: &[(TxnId, u64)]) -> u128
+    ensures sum { result ≡ total_of charges.now }
+    ensures most { result < 2 ^ 127 }
+{
+    let mut total: u128 = 0;
+    for charge in charges {
+        total += u128::from(charge.1);
+    }
+    total
+}
+
+/// Whether one more amount would pass the limit of a transaction.
+fn passes(accounts: &[Account], t: TxnId, amount: u128) -> bool
+    requires ascending { IsAscendingBy number accounts.now }
+    requires open { is_open accounts.now t.0 ≡ true }
+    requires most { amount < 2 ^ 127 }
+    ensures { result ≡ would_pass accounts.now t.0 amount }
+{
+    let account = find_account(accounts, t);
+    u128::from(account.amount) + amount > u128::from(account.limit)
+}
+
+/// The first query whose limit would be passed.
+fn first_over(accounts: &[Account], charges: &[(TxnId, u64)]) -> Option<(TxnId, u64)>
+    requires ascending { IsAscendingBy number accounts.now }
+    requires queries { All (λ c. is_open accounts.now c.0.0 ≡ true) charges.now }
+    ensures { result ≡ find (λ c. would_pass accounts.now c.0.0 c.1) charges.now }
+{
+    for charge in charges {
+        if passes(accounts, charge.0, u128::from(charge.1)) {
+            return Some(*charge);
+        }
+    }
+    None
+}
+
+/// Adds each amount to the account of its query.
+fn import_each(accounts: &mut Vec<Account>, charges: &[(TxnId, u64)])
+    requires ascending { IsAscendingBy number accounts.old.items }
+    requires queries { All (λ c. is_open accounts.old.items c.0.0 ≡ true) charges.now }
+    requires listed { IsAscendingBy (λ c. c.0.0) charges.now }
+    requires fits { All (λ c. amount_at accounts.old.items c.0.0 + c.1 < 2 ^ 64) charges.now }
+    ensures items { accounts.new.items ≡ imported accounts.old.items charges.now }
+    ensures ascending { IsAscendingBy number accounts.new.items }
+{
+    for charge in charges {
+        raise(accounts, charge.0, charge.1);
+    }
+}
+
+impl Ledgers {
+    /// Ledgers with no account.
+    pub fn new(alloc: Global) -> Ledgers
+        ensures { result ≡ [] }
+    {
+        Ledgers {
+            accounts: Vec::new(alloc),
+            total: 0,
+        }
+    }
+
+    /// Opens the account of a query, which may import up to this limit.
+    pub fn open_query(&mut self, q: TxnId, limit: u64) -> Result<(), NoMemory>
+        requires { is_open self.old q.0 ≡ false }
+        ensures ok { OnOk result (self.new ≡ opened self.old (new_account true q limit)) }
+        ensures err { OnErr result (self.new ≡ self.old) }
+    {
+        self.open(q, true, limit)
+    }
+
+    /// Opens the account of an update, which may export up to this limit.
+    pub fn open_update(&mut self, u: TxnId, limit: u64) -> Result<(), NoMemory>
+        requires { is_open self.old u.0 ≡ false }
+        ensures ok { OnOk result (self.new ≡ opened self.old (new_account false u limit)) }
+        ensures err { OnErr result (self.new ≡ self.old) }
+    {
+        self.open(u, false, limit)
+    }
+
+    fn open(&mut self, number: TxnId, query: bool, limit: u64) -> Result<(), NoMemory>
+        requires { is_open self.old number.0 ≡ false }
+        ensures ok { OnOk result (self.new ≡ opened self.old (new_account query number limit)) }
+        ensures err { OnErr result (self.new ≡ self.old) }
+    {
+        let at = match place_of(&self.accounts, number) {
+            Ok(_) => unreachable!(),
+            Err(at) => at,
+        };
+        let account = Account {
+            number,
+            query,
+            limit,
+            amount: 0,
+        };
+        if self.accounts.insert(at, account).is_err() {
+            return Err(NoMemory);
+        }
+        Ok(())
+    }
+
+    /// Whether the charges of an update fit all limits.
+    pub fn quote(&self, u: TxnId, charges: &[(TxnId, u64)]) -> Quote
+        requires { AreCharges self.now u charges.now }
+        ensures { result ≡ quote_of self.now u charges.now }
+    {
+        if let Some((q, _)) = first_over(&self.accounts, charges) {
+            return Quote::Import(q);
+        }
+        if passes(&self.accounts, u, total_charge(charges)) {
+            Quote::Export(u)
+        } else {
+            Quote::Fits
+        }
+    }
+
+    /// Adds each amount to the import of its query, and their sum to the export of the update.
+    pub fn charge(&mut self, u: TxnId, charges: &[(TxnId, u64)])
+        requires charges { AreCharges self.old u charges.now }
+        requires fits { quote_of self.old u charges.now ≡ Quote.Fits }
+        ensures { self.new ≡ charged self.old u charges.now }
+    {
+        let total = total_charge(charges);
+        import_each(&mut self.accounts, charges);
+        raise(&mut self.accounts, u, total as u64);
+        self.total += total;
+    }
+
+    /// What a query has imported.
+    pub fn import(&self, q: TxnId) -> u64
+        requires { is_open_query self.now q.0 ≡ true }
+        ensures { result ≡ amount_at self.now q.0 }
+    {
+        find_account(&self.accounts, q).amount
+    }
+
+    /// What an update has exported.
+    pub fn export(&self, u: TxnId) -> u64
+        requires { is_open_update self.now u.0 ≡ true }
+        ensures { result ≡ amount_at self.now u.0 }
+    {
+        find_account(&self.accounts, u).amount
+    }
+
+    /// What all queries have imported, and all updates exported.
+    pub fn totals(&self) -> (u128, u128)
+        ensures import { result.0 ≡ imports self.now }
+        ensures export { result.1 ≡ exports self.now }
+        ensures agree { imports self.now ≡ exports self.now }
+        ensures limits { All (λ a. a.amount ≤ a.limit) self.now }
+    {
+        (self.total, self.total)
+    }
+}

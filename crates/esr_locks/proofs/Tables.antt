@@ -1,0 +1,309 @@
+-- What one more lock and a release do to the rows and the lists of a table.
+use Rattle.std.proofs.Common.{◌≡◌, ℕ, ◌+◌, ◌<◌, ◌≤◌, List, [], ◌∷◌, ◌++◌, length, Bool, true, false, not, ◌&&◌, ◌||◌, ◌==◌, refl, sym, ◌∙◌, ap, subst, arith, inl, inr, ◌⊎◌, Option, None, Some, if◌then◌else◌, map, get_or, set, get_or-set_same, get_or-set_other, zero, suc, min, take}
+use Rattle.std.proofs.Math.ListN.{length-set}
+use Rattle.std.specs.Prelude.{All, unwrap_or, filter, slice_index}
+use Rattle.std.specs.List.{list_any, range_with_len}
+use Rattle.std.specs.Option.{option_map}
+use Rattle.std.proofs.lemmas.Bool.{cases_Bool, cases_eq, eq-eqb, eqb-true, ne_eqb, false≢true, or_cases, or_left, or_right, or_parts}
+use Rattle.std.proofs.lemmas.List.{map-set, map-append, get_or-map, ext_get_or, length-map, take_more}
+use Rattle.std.proofs.lemmas.List.Elements.{All-nil, All-push}
+use Rattle.std.proofs.lemmas.List.FromFn.{length-range_with_len, get_or-map-range_with_len, map-range_with_len_more}
+use Rattle.esr_items.specs.declared.metric.ItemId.{ItemId}
+use Rattle.esr_history.specs.ItemLocks.{ItemLocks}
+use Rattle.esr_history.proofs.Ascending.{any_placed}
+use Rattle.esr_history.proofs.Lists.{any_push}
+use Rattle.esr_locks.specs.Rows.{RowOf, HeldOf, nothing_held, empty_row, row_at, held_at, IsTable}
+use Rattle.esr_locks.specs.Tables.{no_locks, locks_at, is_writer, is_reader, is_query, has_lock, with_reader, with_query_read, released, lists_item}
+
+-- the locks at an item, by the rows
+pub locks_at-rows : (rows : List RowOf) (x : ℕ) → x < length rows → locks_at (map (λ r. r.locks) rows) x ≡ (row_at rows x).locks
+locks_at-rows rows x l = get_or-map (λ (r : RowOf). r.locks) rows x empty_row no_locks l
+
+-- a row changed is one item's locks changed
+pub set_row : (rows : List RowOf) (x : ℕ) (row new : RowOf) (f : ItemLocks → ItemLocks) → x < length rows → row ≡ get_or rows x row → new.locks ≡ f row.locks
+    → map (λ r. r.locks) (set rows x new) ≡ set (map (λ r. r.locks) rows) x (f (locks_at (map (λ r. r.locks) rows) x))
+set_row rows x row new f l is new_is =
+    map-set (λ (r : RowOf). r.locks) rows x new
+    ∙ ap (set (map (λ r. r.locks) rows) x) (new_is ∙ ap f (ap (λ (r : RowOf). r.locks) is ∙ sym (get_or-map (λ (r : RowOf). r.locks) rows x row no_locks l)))
+
+-- who holds a lock after one more held one before, or is who took it
+pub reader_more : (t u : ℕ) (l : ItemLocks) → has_lock (with_reader t l) u ≡ true → (has_lock l u ≡ true) ⊎ (t ≡ u)
+reader_more t u l is = at (is_writer l u) (is_reader l u) (is_query l u) (t == u) refl (sym (ap (λ b. is_writer l u || (b || is_query l u)) (any_placed (λ v. v) t t (λ v. v) refl (λ v. refl) u l.readers)) ∙ is)
+  where
+    at : (w r q e : Bool) → (t == u) ≡ e → (w || ((r || e) || q)) ≡ true → ((w || (r || q)) ≡ true) ⊎ (t ≡ u)
+    at true r q e is_e h = inl refl
+    at false true q e is_e h = inl refl
+    at false false true e is_e h = inl refl
+    at false false false true is_e h = inr (eqb-true t u is_e)
+    at false false false false is_e h = absurd (false≢true h)
+
+pub query_more : (t u : ℕ) (l : ItemLocks) → has_lock (with_query_read t l) u ≡ true → (has_lock l u ≡ true) ⊎ (t ≡ u)
+query_more t u l is = at (is_writer l u) (is_reader l u) (is_query l u) (t == u) refl (sym (ap (λ b. is_writer l u || (is_reader l u || b)) (any_placed (λ (r : ℕ × ℕ). r.0) t (t, 1) (λ (r : ℕ × ℕ). (r.0, r.1 + 1)) refl (λ r. refl) u l.queries)) ∙ is)
+  where
+    at : (w r q e : Bool) → (t == u) ≡ e → (w || (r || (q || e))) ≡ true → ((w || (r || q)) ≡ true) ⊎ (t ≡ u)
+    at true r q e is_e h = inl refl
+    at false true q e is_e h = inl refl
+    at false false true e is_e h = inl refl
+    at false false false true is_e h = inr (eqb-true t u is_e)
+    at false false false false is_e h = absurd (false≢true h)
+
+pub reader_has : (t : ℕ) (l : ItemLocks) → is_reader l t ≡ true → has_lock l t ≡ true
+reader_has t l is = or_right (is_writer l t) (is_reader l t || is_query l t) (or_left (is_reader l t) (is_query l t) is)
+
+pub query_has : (t : ℕ) (l : ItemLocks) → is_query l t ≡ true → has_lock l t ≡ true
+query_has t l is = or_right (is_writer l t) (is_reader l t || is_query l t) (or_right (is_reader l t) (is_query l t) is)
+
+pub get_or_any : {X : Type 0} (xs : List X) (k : ℕ) (d e : X) → k < length xs → get_or xs k d ≡ get_or xs k e
+get_or_any [] k d e l = absurd (omega arith)
+get_or_any (x ∷ xs) zero d e l = refl
+get_or_any (x ∷ xs) (suc k) d e l = get_or_any xs k d e (omega arith)
+
+-- the row that was read is that at the place
+pub read_row : (rows : List RowOf) (x : ℕ) (row : RowOf) → x < length rows → row ≡ get_or rows x row → row ≡ row_at rows x
+read_row rows x row l is = is ∙ get_or_any rows x row empty_row l
+
+pub read_list : (held : List HeldOf) (t : ℕ) (list : HeldOf) → t < length held → list ≡ get_or held t list → list ≡ held_at held t
+read_list held t list l is = is ∙ get_or_any held t list nothing_held l
+
+module _ (rows : List RowOf) (held : List HeldOf) (tab : IsTable rows held) (t x : ℕ) (inside : x < length rows) (row new : RowOf) (is : row ≡ get_or rows x row) where
+  lock_there : (more : (u : ℕ) → has_lock new.locks u ≡ true → (has_lock row.locks u ≡ true) ⊎ (t ≡ u)) → (u y : ℕ) → y < length (set rows x new) → has_lock (row_at (set rows x new) y).locks u ≡ true → (lists_item (held_at held u).items y ≡ true) ⊎ ((t ≡ u) × (x ≡ y))
+  lock_there more u y l has =
+      elim (cases_eq y x) [
+        | inl e ↦
+            let there : has_lock new.locks u ≡ true = ap (λ (r : RowOf). has_lock r.locks u) (sym (get_or-set_same rows x new empty_row inside) ∙ ap (row_at (set rows x new)) (sym e)) ∙ has in
+            elim (more u there) [
+              | inl before ↦ inl (ap (lists_item (held_at held u).items) e ∙ tab.listed u x inside (ap (λ (r : RowOf). has_lock r.locks u) (sym (read_row rows x row inside is)) ∙ before))
+              | inr same ↦ inr (same, sym e)
+            ]
+        | inr ne ↦ inl (tab.listed u y (rw length-set at l) (ap (λ (r : RowOf). has_lock r.locks u) (sym (get_or-set_other rows x y new empty_row ne)) ∙ has))
+      ]
+
+  -- the item is added to the list of who took the lock
+  pub IsTable-push : (list : HeldOf) → ((u : ℕ) → has_lock new.locks u ≡ true → (has_lock row.locks u ≡ true) ⊎ (t ≡ u)) → t < length held → (id : ItemId) → id.0 ≡ x → list.items ≡ (held_at held t).items ++ id ∷ []
+      → IsTable (set rows x new) (set held t list)
+  IsTable-push list more in_held id id_is list_is = record {
+    within = λ u. elim (cases_eq u t) [
+      | inl e ↦
+          let inside_new : All (λ (i : ItemId). i.0 < length (set rows x new)) ((held_at held t).items ++ id ∷ []) =
+          All-push (λ (i : ItemId). i.0 < length (set rows x new)) (held_at held t).items id (rw length-set (tab.within t)) (rw length-set (rw id_is inside)) in
+          let at_t : (held_at (set held t list) u).items ≡ (held_at held t).items ++ id ∷ [] = ap (λ v. (held_at (set held t list) v).items) e ∙ (ap (λ (h : HeldOf). h.items) (get_or-set_same held t list nothing_held in_held) ∙ list_is) in
+          subst (λ (is' : List ItemId). All (λ (i : ItemId). i.0 < length (set rows x new)) is') (sym at_t) inside_new
+      | inr ne ↦
+          subst (λ (is' : List ItemId). All (λ (i : ItemId). i.0 < length (set rows x new)) is') (sym (ap (λ (h : HeldOf). h.items) (get_or-set_other held t u list nothing_held ne))) (rw length-set (tab.within u))
+    ];
+    listed = λ u y l has.
+        elim (lock_there more u y l has) [
+          | inl before ↦ keeps u y before
+          | inr now ↦ ap (λ v. lists_item (held_at (set held t list) v).items y) (sym now.0) ∙ (ap (λ (is' : List ItemId). lists_item is' y) (at_t) ∙ (any_push (λ (i : ItemId). i.0 == y) (held_at held t).items id ∙ or_right (lists_item (held_at held t).items y) (id.0 == y) (eq-eqb id.0 y (id_is ∙ now.1))))
+        ];
+  }
+    where
+      at_t : (held_at (set held t list) t).items ≡ (held_at held t).items ++ id ∷ []
+      at_t = ap (λ (h : HeldOf). h.items) (get_or-set_same held t list nothing_held in_held) ∙ list_is
+
+      keeps : (u y : ℕ) → lists_item (held_at held u).items y ≡ true → lists_item (held_at (set held t list) u).items y ≡ true
+      keeps u y before =
+          elim (cases_eq u t) [
+            | inl e ↦ ap (λ v. lists_item (held_at (set held t list) v).items y) e ∙ (ap (λ (is' : List ItemId). lists_item is' y) at_t ∙ (any_push (λ (i : ItemId). i.0 == y) (held_at held t).items id ∙ or_left (lists_item (held_at held t).items y) (id.0 == y) (ap (λ v. lists_item (held_at held v).items y) (sym e) ∙ before)))
+            | inr ne ↦ ap (λ (h : HeldOf). lists_item h.items y) (get_or-set_other held t u list nothing_held ne) ∙ before
+          ]
+
+  -- who took the lock had one there
+  pub IsTable-again : ((u : ℕ) → has_lock new.locks u ≡ true → (has_lock row.locks u ≡ true) ⊎ (t ≡ u)) → has_lock row.locks t ≡ true → IsTable (set rows x new) held
+  IsTable-again more had = record {
+    within = λ u. rw length-set (tab.within u);
+    listed = λ u y l has.
+        elim (lock_there more u y l has) [
+          | inl before ↦ before
+          | inr now ↦ subst (λ v. lists_item (held_at held v).items y ≡ true) now.0 (subst (λ z. lists_item (held_at held t).items z ≡ true) now.1 (tab.listed t x inside (ap (λ (r : RowOf). has_lock r.locks t) (sym (read_row rows x row inside is)) ∙ had)))
+        ];
+  }
+
+-- a release changes nothing where the transaction has no lock
+list_any_none : {X : Type 0} (p : X → Bool) (xs : List X) → list_any p xs ≡ false → filter (λ x. not (p x)) xs ≡ xs
+list_any_none p [] none = refl
+list_any_none p (x ∷ xs) none =
+    let parts : (p x ≡ false) × (list_any p xs ≡ false) = or_parts (p x) (list_any p xs) none in
+    rw parts.0 (ap (λ ys. x ∷ ys) (list_any_none p xs parts.1))
+
+pub released_none : (t : ℕ) (l : ItemLocks) → has_lock l t ≡ false → released t l ≡ l
+released_none t l none =
+    let a : (is_writer l t ≡ false) × ((is_reader l t || is_query l t) ≡ false) = or_parts (is_writer l t) (is_reader l t || is_query l t) none in
+    let b : (is_reader l t ≡ false) × (is_query l t ≡ false) = or_parts (is_reader l t) (is_query l t) a.1 in
+    rw (a.0, list_any_none (λ u. u == t) l.readers b.0, list_any_none (λ (r : ℕ × ℕ). r.0 == t) l.queries b.1) refl
+
+any_filter : {X : Type 0} (p q : X → Bool) (xs : List X) → list_any p (filter q xs) ≡ true → list_any p xs ≡ true
+any_filter p q [] is = absurd (false≢true is)
+any_filter p q (x ∷ xs) is =
+    elim (cases_Bool (q x)) [
+      | inl passes ↦ elim (or_cases (p x) (list_any p (filter q xs)) (rw passes at is)) [
+        | inl here ↦ or_left (p x) (list_any p xs) here
+        | inr later ↦ or_right (p x) (list_any p xs) (any_filter p q xs later)
+      ]
+      | inr fails ↦ or_right (p x) (list_any p xs) (any_filter p q xs (rw fails at is))
+    ]
+
+none_left : {X : Type 0} (p : X → Bool) (xs : List X) → list_any p (filter (λ x. not (p x)) xs) ≡ false
+none_left p [] = refl
+none_left p (x ∷ xs) =
+    elim (cases_Bool (p x)) [
+      | inl passes ↦ rw passes (none_left p xs)
+      | inr fails ↦ rw (fails, fails) (none_left p xs)
+    ]
+
+-- after its release a transaction has no lock, and no other has more than before
+pub released_gone : (t : ℕ) (l : ItemLocks) → has_lock (released t l) t ≡ false
+released_gone t l = rw (writer_gone l.writer, none_left (λ u. u == t) l.readers, none_left (λ (r : ℕ × ℕ). r.0 == t) l.queries) refl
+  where
+    writer_gone : (w : Option ℕ) → unwrap_or (option_map (λ u. u == t) (if unwrap_or (option_map (λ u. u == t) w) false then None else w)) false ≡ false
+    writer_gone None = refl
+    writer_gone (Some u) =
+        elim (cases_Bool (u == t)) [
+          | inl is ↦ rw is refl
+          | inr isnt ↦ rw (isnt, isnt) refl
+        ]
+
+pub released_less : (t u : ℕ) (l : ItemLocks) → has_lock (released t l) u ≡ true → has_lock l u ≡ true
+released_less t u l is =
+    elim (or_cases (is_writer (released t l) u) (is_reader (released t l) u || is_query (released t l) u) is) [
+      | inl w ↦ or_left (is_writer l u) (is_reader l u || is_query l u) (writer_less l.writer w)
+      | inr rest ↦ or_right (is_writer l u) (is_reader l u || is_query l u) (elim (or_cases (is_reader (released t l) u) (is_query (released t l) u) rest) [
+        | inl r ↦ or_left (is_reader l u) (is_query l u) (any_filter (λ v. v == u) (λ v. not (v == t)) l.readers r)
+        | inr q ↦ or_right (is_reader l u) (is_query l u) (any_filter (λ (v : ℕ × ℕ). v.0 == u) (λ (v : ℕ × ℕ). not (v.0 == t)) l.queries q)
+      ])
+    ]
+  where
+    writer_less : (w : Option ℕ) → unwrap_or (option_map (λ v. v == u) (if unwrap_or (option_map (λ v. v == t) w) false then None else w)) false ≡ true → unwrap_or (option_map (λ v. v == u) w) false ≡ true
+    writer_less None h = absurd (false≢true h)
+    writer_less (Some v) h =
+        elim (cases_Bool (v == t)) [
+          | inl it ↦ absurd (false≢true (rw it at h))
+          | inr other ↦ rw other at h
+        ]
+
+module _ (rows : List RowOf) (held : List HeldOf) (tab : IsTable rows held) (t : ℕ) (rows_new : List RowOf) (held_new : List HeldOf)
+    (len : length rows_new ≡ length rows)
+    (locks : (x : ℕ) → x < length rows → (row_at rows_new x).locks ≡ (if lists_item (held_at held t).items x then released t (row_at rows x).locks else (row_at rows x).locks))
+    (left : (u : ℕ) → (held_at held_new u).items ≡ (if t == u then [] else (held_at held u).items)) where
+  every : (x : ℕ) → x < length rows → (row_at rows_new x).locks ≡ released t (row_at rows x).locks
+  every x l = locks x l ∙ elim (cases_Bool (lists_item (held_at held t).items x)) [
+    | inl listed ↦ rw listed refl
+    | inr not_listed ↦ rw not_listed (sym (released_none t (row_at rows x).locks (elim (cases_Bool (has_lock (row_at rows x).locks t)) [
+      | inl has ↦ absurd (false≢true (sym not_listed ∙ tab.listed t x l has))
+      | inr none ↦ none
+    ])))
+  ]
+
+  pub released_all : map (λ r. r.locks) rows_new ≡ map (released t) (map (λ r. r.locks) rows)
+  released_all =
+      ext_get_or no_locks (map (λ r. r.locks) rows_new) (map (released t) (map (λ r. r.locks) rows))
+      (length-map rows_new (λ (r : RowOf). r.locks) ∙ (len ∙ sym (length-map (map (λ (r : RowOf). r.locks) rows) (released t) ∙ length-map rows (λ (r : RowOf). r.locks))))
+      (λ x l.
+      let l_new : x < length rows_new = simp length-map at l in
+      let l_old : x < length rows = rw (← len) l_new in
+      locks_at-rows rows_new x l_new ∙ (every x l_old ∙ (ap (released t) (sym (locks_at-rows rows x l_old)) ∙ sym (get_or-map (released t) (map (λ r. r.locks) rows) x no_locks no_locks (simp length-map l_old)))))
+
+  pub IsTable-released : IsTable rows_new held_new
+  IsTable-released = record {
+    within = λ u. elim (cases_Bool (t == u)) [
+      | inl same ↦ subst (λ (is : List ItemId). All (λ (i : ItemId). i.0 < length rows_new) is) {x = []} (sym (left u ∙ rw same refl)) (All-nil (λ (i : ItemId). i.0 < length rows_new))
+      | inr other ↦ subst (λ (is : List ItemId). All (λ (i : ItemId). i.0 < length rows_new) is) {x = (held_at held u).items} (sym (left u ∙ rw other refl)) (rw len (tab.within u))
+    ];
+    listed = λ u x l has.
+        let l_old : x < length rows = rw (← len) l in
+        let there : has_lock (released t (row_at rows x).locks) u ≡ true = ap (λ (g : ItemLocks). has_lock g u) (sym (every x l_old)) ∙ has in
+        elim (cases_Bool (t == u)) [
+          | inl same ↦ absurd (false≢true (sym (released_gone t (row_at rows x).locks) ∙ (ap (has_lock (released t (row_at rows x).locks)) (eqb-true t u same) ∙ there)))
+          | inr other ↦ ap (λ (is : List ItemId). lists_item is x) (left u ∙ rw other refl) ∙ tab.listed u x l_old (released_less t u (row_at rows x).locks there)
+        ];
+  }
+
+-- a row whose locks are the same
+pub set_same_row : (rows : List RowOf) (x : ℕ) (row new : RowOf) → row ≡ get_or rows x row → new.locks ≡ row.locks → map (λ r. r.locks) (set rows x new) ≡ map (λ r. r.locks) rows
+set_same_row [] x row new is same = refl
+set_same_row (r ∷ rs) zero row new is same = ap (λ (l : ItemLocks). l ∷ map (λ (q : RowOf). q.locks) rs) (same ∙ ap (λ (q : RowOf). q.locks) is)
+set_same_row (r ∷ rs) (suc x) row new is same = ap (λ ls. r.locks ∷ ls) (set_same_row rs x row new is same)
+
+-- who has room for one more item has a list
+pub has_list : (held : List HeldOf) (t : ℕ) → 0 < slice_index (map (λ h. h.room) held) t → t < length held
+has_list [] zero l = absurd (omega arith)
+has_list [] (suc t) l = absurd (omega arith)
+has_list (h ∷ held) zero l = omega arith
+has_list (h ∷ held) (suc t) l = let m : t < length held = has_list held t l in omega arith
+
+pub room_of_row : (rows : List RowOf) (x : ℕ) (new : RowOf) → x < length rows → slice_index (map (λ r. r.room) (set rows x new)) x ≡ new.room
+room_of_row [] x new l = absurd (omega arith)
+room_of_row (r ∷ rs) zero new l = refl
+room_of_row (r ∷ rs) (suc x) new l = room_of_row rs x new (omega arith)
+
+pub room_of_list : (held : List HeldOf) (t : ℕ) (new : HeldOf) → t < length held → slice_index (map (λ h. h.room) (set held t new)) t ≡ new.room
+room_of_list [] t new l = absurd (omega arith)
+room_of_list (h ∷ hs) zero new l = refl
+room_of_list (h ∷ hs) (suc t) new l = room_of_list hs t new (omega arith)
+
+-- what the lists say of the locks
+pub table_within : (rows : List RowOf) (held : List HeldOf) → IsTable rows held → (t : ℕ) → All (λ (i : ItemId). i.0 < length (map (λ (r : RowOf). r.locks) rows)) (held_at held t).items
+table_within rows held tab t = rw length-map (tab.within t)
+
+pub table_listed : (rows : List RowOf) (held : List HeldOf) → IsTable rows held → (t x : ℕ) → x < length (map (λ (r : RowOf). r.locks) rows)
+    → has_lock (locks_at (map (λ (r : RowOf). r.locks) rows) x) t ≡ true → lists_item (held_at held t).items x ≡ true
+table_listed rows held tab t x l has =
+    let inside : x < length rows = rw length-map at l in
+    tab.listed t x inside (ap (λ (g : ItemLocks). has_lock g t) (sym (locks_at-rows rows x inside)) ∙ has)
+
+pub past_lists : (held : List HeldOf) (t : ℕ) → length held ≤ t → (held_at held t).items ≡ []
+past_lists [] zero l = refl
+past_lists [] (suc t) l = refl
+past_lists (h ∷ held) zero l = absurd (omega arith)
+past_lists (h ∷ held) (suc t) l = past_lists held t (omega arith)
+
+-- rows with no locks
+pub IsTable-empty : (rows : List RowOf) (n : ℕ) → map (λ r. r.locks) rows ≡ map (λ x. no_locks) (range_with_len 0 n) → IsTable rows []
+IsTable-empty rows n is = record {
+  within = λ t. subst (λ (ids : List ItemId). All (λ (i : ItemId). i.0 < length rows) ids) {x = []} (sym (past_lists [] t (omega arith))) (All-nil (λ (i : ItemId). i.0 < length rows));
+  listed = λ t x l has.
+      let m : x < n = omega (arith, length-map rows (λ (r : RowOf). r.locks), ap length is, length-map (range_with_len 0 n) (λ (y : ℕ). no_locks), length-range_with_len 0 n) in
+      absurd (false≢true (ap (λ (g : ItemLocks). has_lock g t) (sym (sym (locks_at-rows rows x l) ∙ (ap (λ (ls : List ItemLocks). locks_at ls x) is ∙ get_or-map-range_with_len (λ y. no_locks) 0 n x x no_locks m (omega arith)))) ∙ has));
+}
+
+pub empty_more : (rows : List RowOf) (new : RowOf) (n : ℕ) → map (λ r. r.locks) rows ≡ map (λ x. no_locks) (range_with_len 0 n) → new.locks ≡ no_locks
+    → map (λ r. r.locks) (rows ++ new ∷ []) ≡ map (λ x. no_locks) (range_with_len 0 (n + 1))
+empty_more rows new n is none =
+    map-append (λ (r : RowOf). r.locks) rows (new ∷ [])
+    ∙ (ap (λ (ls : List ItemLocks). ls ++ new.locks ∷ []) is
+    ∙ (ap (λ (l : ItemLocks). map (λ (x : ℕ). no_locks) (range_with_len 0 n) ++ l ∷ []) none
+    ∙ sym (map-range_with_len_more (λ (x : ℕ). no_locks) 0 n n (omega arith))))
+
+-- one more item of a list released
+pub release_more : (rows before : List RowOf) (items : List ItemId) (k t : ℕ) (id : ItemId) (row new : RowOf)
+    → k < length items → id ≡ get_or items k id → id.0 < length rows → row ≡ get_or rows id.0 row → new.locks ≡ released t row.locks
+    → length rows ≡ length before
+    → ((y : ℕ) → y < length before → (row_at rows y).locks ≡ (if lists_item (take k items) y then released t (row_at before y).locks else (row_at before y).locks))
+    → (y : ℕ) → y < length before → (row_at (set rows id.0 new) y).locks ≡ (if lists_item (take (k + 1) items) y then released t (row_at before y).locks else (row_at before y).locks)
+release_more rows before items k t id row new in_items id_is in_rows row_is new_is len so_far y l =
+    elim (cases_eq y id.0) [
+      | inl e ↦
+          let here : (row_at rows id.0).locks ≡ (if lists_item (take k items) id.0 then released t (row_at before id.0).locks else (row_at before id.0).locks) = so_far id.0 (rw (← e) l) in
+          ap (λ z. (row_at (set rows id.0 new) z).locks) e
+          ∙ (ap (λ (r : RowOf). r.locks) (get_or-set_same rows id.0 new empty_row in_rows)
+          ∙ (new_is
+          ∙ (ap (λ (r : RowOf). released t r.locks) (read_row rows id.0 row in_rows row_is)
+          ∙ (ap (released t) here
+          ∙ (once (lists_item (take k items) id.0) (row_at before id.0).locks
+          ∙ (ap (λ z. released t (row_at before z).locks) (sym e)
+          ∙ ap (λ b. if b then released t (row_at before y).locks else (row_at before y).locks) (sym (longer y ∙ or_right (lists_item (take k items) y) (id.0 == y) (eq-eqb id.0 y (sym e))))))))))
+      | inr ne ↦
+          ap (λ (r : RowOf). r.locks) (get_or-set_other rows id.0 y new empty_row ne)
+          ∙ (so_far y l ∙ ap (λ b. if b then released t (row_at before y).locks else (row_at before y).locks) (sym (longer y ∙ (ap (λ b. lists_item (take k items) y || b) (ne_eqb id.0 y (λ (f : id.0 ≡ y). ne (sym f))) ∙ or_none (lists_item (take k items) y)))))
+    ]
+  where
+    or_none : (b : Bool) → (b || false) ≡ b
+    or_none true = refl
+    or_none false = refl
+
+    longer : (z : ℕ) → lists_item (take (k + 1) items) z ≡ (lists_item (take k items) z || (id.0 == z))
+    longer z = ap (λ is. lists_item is z) (take_more items k id in_items ∙ ap (λ i. take k items ++ i ∷ []) (sym id_is)) ∙ any_push (λ (i : ItemId). i.0 == z) (take k items) id
+
+    once : (b : Bool) (l : ItemLocks) → released t (if b then released t l else l) ≡ released t l
+    once true l = released_none t (released t l) (released_gone t l)
+    once false l = refl

@@ -1,0 +1,34 @@
+use Rattle.std.proofs.Common.{◌≡◌, ◌∙◌, sym, ap, subst, refl, not, List, ℕ, map, ◌==◌, ◌≤◌, Bool, true, false, Option, None, Some, if◌then◌else◌}
+use Rattle.std.specs.Prelude.{filter, unwrap_or}
+use Rattle.std.specs.Option.{option_map}
+use Rattle.esr_history.specs.declared.event.TxnId.{TxnId}
+use Rattle.esr_history.proofs.Ascending.{filter_ascends, all_filter, map-others}
+use Rattle.esr_locks.specs.Rows.{RowOf, reads_of}
+use Rattle.esr_locks.specs.Tables.{released}
+use Rattle.esr_locks.proofs.row.Row.release.Goals as goal
+
+pub invariant_of-self : goal.invariant_of-self
+invariant_of-self c = (
+  rw c.drop_reader.ensures (filter_ascends (λ u. u.0) (λ u. not (u.0 == c.args.t.0)) c.self.inside.readers.items c.self.invariant.0),
+  rw c.drop_query.ensures (filter_ascends (λ r. r.query.0) (λ r. not (r.query.0 == c.args.t.0)) c.self.inside.queries.items c.self.invariant.1),
+  rw c.drop_query.ensures (all_filter (λ r. r.query.0) (λ r. not (r.query.0 == c.args.t.0)) (λ r. r.count ≤ 1000) c.self.inside.queries.items c.self.invariant.2),
+)
+
+other_writer : (w : Option TxnId) (t : ℕ) → option_map (λ u. u.0) (if unwrap_or (option_map (λ u. u.0 == t) w) false then None else w) ≡ (if unwrap_or (option_map (λ u. u == t) (option_map (λ u. u.0) w)) false then None else option_map (λ u. u.0) w)
+other_writer None t = refl
+other_writer (Some u) t = at (u.0 == t)
+  where
+    at : (b : Bool) → option_map (λ v. v.0) (if b then None else Some u) ≡ (if b then None else Some u.0)
+    at true = refl
+    at false = refl
+
+pub returns : goal.returns
+returns c =
+    subst (λ (v : RowOf). record { writer = option_map (λ u. u.0) c.other_than-self-inside.result; readers = map (λ u. u.0) c.drop_reader.new.readers.items; queries = map reads_of c.drop_query.new.queries.items } ≡ released c.args.t.0 v.locks) c.self.view_is
+    (let w : option_map (λ u. u.0) c.other_than-self-inside.result ≡ (if unwrap_or (option_map (λ u. u == c.args.t.0) (option_map (λ u. u.0) c.self.inside.writer)) false then None else option_map (λ u. u.0) c.self.inside.writer) =
+    ap (option_map (λ (u : TxnId). u.0)) c.other_than-self-inside.ensures ∙ other_writer c.self.inside.writer c.args.t.0 in
+    let r : map (λ u. u.0) c.drop_reader.new.readers.items ≡ filter (λ u. not (u == c.args.t.0)) (map (λ u. u.0) c.self.inside.readers.items) =
+    rw c.drop_reader.ensures (map-others (λ u. u.0) (λ u. u) (λ u. u.0) (λ u. refl) c.args.t.0 c.self.inside.readers.items) in
+    let q : map reads_of c.drop_query.new.queries.items ≡ filter (λ (p : ℕ × ℕ). not (p.0 == c.args.t.0)) (map reads_of c.self.inside.queries.items) =
+    rw c.drop_query.ensures (map-others (λ r. r.query.0) (λ (p : ℕ × ℕ). p.0) reads_of (λ r. refl) c.args.t.0 c.self.inside.queries.items) in
+    rw (w, r, q) refl)

@@ -1,0 +1,7 @@
+use Rattle.std.proofs.Common.{subst, sym, List}
+use Rattle.esr_locks.specs.Rows.{RowOf, HeldOf, IsTable}
+use Rattle.esr_locks.proofs.Tables.{IsTable-empty}
+use Rattle.esr_locks.proofs.table.LockTable.new.Goals as goal
+
+pub invariant_of-result : goal.invariant_of-result
+invariant_of-result c = rw c.new.ensures.items (IsTable-empty c.in-Ok.rows.items c.args.items c.in-Ok.ensures)

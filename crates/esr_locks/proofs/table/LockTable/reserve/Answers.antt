@@ -1,0 +1,36 @@
+use Rattle.std.proofs.Common.{◌≡◌, ℕ, ◌<◌, ◌∙◌, sym, ap, subst, length, map, set, arith, rules, List, min}
+use Rattle.std.specs.Prelude.{slice_index}
+use Rattle.std.proofs.lemmas.List.{length-map}
+use Rattle.std.proofs.lemmas.Grind.{common_steps}
+use Rattle.esr_history.specs.ItemLocks.{ItemLocks}
+use Rattle.esr_locks.specs.Rows.{RowOf, HeldOf}
+use Rattle.esr_locks.specs.Tables.{Table}
+use Rattle.esr_locks.proofs.Tables.{set_same_row, room_of_row, room_of_list}
+use Rattle.esr_locks.proofs.table.LockTable.reserve.Goals as goal
+use Rattle.esr_locks.proofs.table.LockTable.reserve.Goals.{After-reserve}
+
+same : (c : After-reserve) → map (λ (r : RowOf). r.locks) (set c.self.inside.rows.items c.args.x.0 c.reserve.new.self) ≡ c.args.self.now.locks
+same c = set_same_row c.self.inside.rows.items c.args.x.0 c.index_mut.result.now c.reserve.new.self c.index_mut.ensures.value c.reserve.ensures.locks ∙ ap (λ (v : Table). v.locks) c.self.view_is
+
+pub returns-then-is_err-clause-locks : goal.returns-then-is_err-clause-locks
+returns-then-is_err-clause-locks c = same (goal.at.returns-then-is_err-clause-locks c).After-reserve
+
+pub returns-then-is_err-2-clause-locks : goal.returns-then-is_err-2-clause-locks
+returns-then-is_err-2-clause-locks c = same (goal.at.returns-then-is_err-2-clause-locks c).After-reserve
+
+pub returns-then-is_err-3-clause-locks : goal.returns-then-is_err-3-clause-locks
+returns-then-is_err-3-clause-locks c = same (goal.at.returns-then-is_err-3-clause-locks c).After-reserve
+
+pub returns-clause-locks : goal.returns-clause-locks
+returns-clause-locks c = same (goal.at.returns-clause-locks c).After-reserve
+
+pub returns-clause-ok : goal.returns-clause-ok
+returns-clause-ok c =
+    let inside : c.args.x.0 < length c.self.inside.rows.items = rw (← length-map c.self.inside.rows.items (λ (r : RowOf). r.locks)) (subst (λ (v : Table). c.args.x.0 < length v.locks) (sym c.self.view_is) c.requires) in
+    let in_lists : c.args.t.0 < length c.make_lists.new.held.items = search rules in
+    let row : 0 < c.reserve.new.self.room = search rules in
+    let list : 0 < c.reserve-2.new.self.room = search rules in
+    let a = room_of_row c.self.inside.rows.items c.args.x.0 c.reserve.new.self inside in
+    let b = room_of_list c.make_lists.new.held.items c.args.t.0 c.reserve-2.new.self in_lists in
+    let both : 0 < min (slice_index (map (λ (r : RowOf). r.room) (set c.self.inside.rows.items c.args.x.0 c.reserve.new.self)) c.args.x.0) (slice_index (map (λ (h : HeldOf). h.room) (set c.make_lists.new.held.items c.args.t.0 c.reserve-2.new.self)) c.args.t.0) = rw (a, b) (omega arith) in
+    both

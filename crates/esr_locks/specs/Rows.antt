@@ -1,0 +1,45 @@
+-- The locks on one item, as a row of the table.
+use Rattle.std.specs.Prelude.{◌≡◌, ℕ, ◌+◌, ◌<◌, List, [], length, true, All, slice_index_or}
+use Rattle.esr_items.specs.declared.metric.ItemId.{ItemId}
+use Rattle.esr_history.specs.declared.event.TxnId.{TxnId}
+use Rattle.esr_history.specs.ItemLocks.{ItemLocks}
+use Rattle.esr_locks.specs.declared.lists.QueryReads.{QueryReads}
+use Rattle.esr_locks.specs.Tables.{no_locks, has_lock, lists_item}
+
+-- what a row is to contracts: the locks, and for how many more there is room
+pub record RowOf : Type 0 where
+  pub locks : ItemLocks
+  pub room : ℕ
+
+-- a query with its count of reads
+abbrev pub reads_of : QueryReads → ℕ × ℕ
+reads_of r = (r.query.0, r.count)
+
+-- a query's first read, and one more
+abbrev pub first_reads : TxnId → QueryReads
+first_reads q = record { query = q; count = 1 }
+
+abbrev pub more_reads : QueryReads → QueryReads
+more_reads r = record r { count = r.count + 1 }
+
+-- what the items that a transaction has locked are to contracts: the items, and for how many more there is room
+pub record HeldOf : Type 0 where
+  pub items : List ItemId
+  pub room : ℕ
+
+abbrev pub nothing_held : HeldOf
+nothing_held = record { items = []; room = 0 }
+
+abbrev pub empty_row : RowOf
+empty_row = record { locks = no_locks; room = 0 }
+
+abbrev pub row_at : List RowOf → ℕ → RowOf
+row_at rows x = slice_index_or rows x empty_row
+
+abbrev pub held_at : List HeldOf → ℕ → HeldOf
+held_at held t = slice_index_or held t nothing_held
+
+-- the items listed for a transaction are those on which it holds a lock, and perhaps more
+pub record IsTable (rows : List RowOf) (held : List HeldOf) : Type 0 where
+  pub within : (t : ℕ) → All (λ i. i.0 < length rows) (held_at held t).items
+  pub listed : (t x : ℕ) → x < length rows → has_lock (row_at rows x).locks t ≡ true → lists_item (held_at held t).items x ≡ true

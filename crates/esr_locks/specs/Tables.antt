@@ -1,0 +1,70 @@
+-- The locks on items: who holds them, and what one more lock and a release change.
+use Rattle.std.specs.Prelude.{◌≡◌, ℕ, ◌+◌, ◌<◌, List, [], ◌∷◌, Bool, true, false, not, ◌&&◌, ◌||◌, ◌==◌, Option, None, Some, MatchOption, unwrap_or, filter, slice_index_or, slice_index, min, if◌then◌else◌}
+use Rattle.std.specs.List.{list_any}
+use Rattle.std.specs.Option.{option_map}
+use Rattle.esr_items.specs.declared.metric.ItemId.{ItemId}
+use Rattle.esr_history.specs.ItemLocks.{ItemLocks}
+use Rattle.esr_history.specs.Ascending.{placed}
+
+-- what a lock table is to contracts: the locks on each item, for how many more locks there is room on each item, and for how many more items in the list of each transaction
+pub record Table : Type 0 where
+  pub locks : List ItemLocks
+  pub item_rooms : List ℕ
+  pub list_rooms : List ℕ
+
+-- for how many more locks of transaction t on item x there is room
+abbrev pub room_for : Table → ℕ → ℕ → ℕ
+room_for table t x = min (slice_index table.item_rooms x) (slice_index table.list_rooms t)
+
+-- an item that nobody has locked
+abbrev pub no_locks : ItemLocks
+no_locks = record { writer = None; readers = []; queries = [] }
+
+abbrev pub locks_at : List ItemLocks → ℕ → ItemLocks
+locks_at locks x = slice_index_or locks x no_locks
+
+-- whether transaction t has written the item, has read it as an update, or as a query
+abbrev pub is_writer : ItemLocks → ℕ → Bool
+is_writer l t = unwrap_or (option_map (λ u. u == t) l.writer) false
+
+abbrev pub is_reader : ItemLocks → ℕ → Bool
+is_reader l t = list_any (λ u. u == t) l.readers
+
+abbrev pub is_query : ItemLocks → ℕ → Bool
+is_query l t = list_any (λ r. r.0 == t) l.queries
+
+abbrev pub has_lock : ItemLocks → ℕ → Bool
+has_lock l t = is_writer l t || (is_reader l t || is_query l t)
+
+-- whether update u keeps transaction t, as an update, from reading the item, and from writing it
+abbrev pub keeps_from_reading : ItemLocks → ℕ → ℕ → Bool
+keeps_from_reading l t u = not (u == t) && is_writer l u
+
+abbrev pub keeps_from_writing : ItemLocks → ℕ → ℕ → Bool
+keeps_from_writing l t u = not (u == t) && (is_reader l u || is_writer l u)
+
+-- the smallest number that passes the test, if one does
+abbrev pub IsLeast : (ℕ → Bool) → Option ℕ → Type 0
+IsLeast p r = MatchOption r ((u : ℕ) → p u ≡ false) (λ u. (p u ≡ true) × ((v : ℕ) → v < u → p v ≡ false))
+
+-- the locks with one more: a read by an update, a write, a read by a query
+abbrev pub with_reader : ℕ → ItemLocks → ItemLocks
+with_reader t l = record l { readers = placed (λ u. u) t t (λ u. u) l.readers }
+
+abbrev pub with_writer : ℕ → ItemLocks → ItemLocks
+with_writer t l = record l { writer = Some t }
+
+abbrev pub with_query_read : ℕ → ItemLocks → ItemLocks
+with_query_read q l = record l { queries = placed (λ r. r.0) q (q, 1) (λ r. (r.0, r.1 + 1)) l.queries }
+
+-- the locks where transaction t holds none any more
+abbrev pub released : ℕ → ItemLocks → ItemLocks
+released t l = record {
+  writer = if is_writer l t then None else l.writer;
+  readers = filter (λ u. not (u == t)) l.readers;
+  queries = filter (λ r. not (r.0 == t)) l.queries;
+}
+
+-- whether an item is among those listed
+abbrev pub lists_item : List ItemId → ℕ → Bool
+lists_item items x = list_any (λ i. i.0 == x) items

@@ -1,0 +1,152 @@
+ghost use Rattle.std.specs.Prelude.{◌≡◌, ℕ, ◌<◌, ◌≤◌, ◌==◌, Bool, false, ◌||◌, map, not, All, OnOk, unwrap_or, None, if◌then◌else◌};
+ghost use Rattle.std.specs.Option.{option_map};
+ghost use Rattle.esr_locks.specs.Rows.{RowOf, reads_of};
+ghost use Rattle.esr_locks.specs.Tables.{no_locks, is_reader, is_writer, is_query, keeps_from_reading, keeps_from_writing, IsLeast, with_reader, with_writer, with_query_read, released};
+
+use crate::lists::{QueryReads, add_reader, count_read, drop_query, drop_reader, other_reader};
+use esr_history::TxnId;
+use std::alloc::{AllocError, Global};
+use std::marker::Model;
+
+/// The locks on one item. Updates that have read it and queries that have read it stand in the
+/// order of their numbers.
+#[derive(Drop)]
+pub struct Row {
+    writer: Option<TxnId>,
+    readers: Vec<TxnId>,
+    queries: Vec<QueryReads>,
+}
+
+impl Model for Row {
+    ghost use Rattle.std.specs.Prelude.{map, min, ◌-◌, ◌≤◌, length, vec_capacity};
+    ghost use Rattle.std.specs.List.{AllByRecursion};
+    ghost use Rattle.std.specs.Option.{option_map};
+    ghost use Rattle.esr_history.specs.Ascending.{IsAscendingBy};
+    ghost use Rattle.esr_locks.specs.Rows.{RowOf, reads_of};
+
+    ghost Value = { RowOf };
+
+    ghost view = { λ r. record {
+      locks = record { writer = option_map (λ u. u.0) r.writer; readers = map (λ u. u.0) r.readers.items; queries = map reads_of r.queries.items };
+      room = min (vec_capacity r.readers - length r.readers.items) (vec_capacity r.queries - length r.queries.items);
+    } };
+
+    ghost invariant = { λ r. IsAscendingBy (λ u. u.0) r.readers.items × IsAscendingBy (λ q. q.query.0) r.queries.items × AllByRecursion (λ q. q.count ≤ 1000) r.queries.items };
+}
+
+/// Whether a transaction is the one that there is.
+fn is_it(writer: Option<TxnId>, t: TxnId) -> bool
+    ensures { result ≡ unwrap_or (option_map (λ u. u.0 == t.0) writer) false }
+{
+    match writer {
+        Some(u) => u.0 == t.0,
+        None => false,
+    }
+}
+
+/// The transaction that there is, where it is another than `t`.
+fn other_than(writer: Option<TxnId>, t: TxnId) -> Option<TxnId>
+    ensures { result ≡ (if unwrap_or (option_map (λ u. u.0 == t.0) writer) false then None else writer) }
+{
+    if is_it(writer, t) { None } else { writer }
+}
+
+/// The smaller of two smallest numbers.
+fn smaller_of(a: Option<TxnId>, b: Option<TxnId>) -> Option<TxnId>
+    ensures { (p q : ℕ → Bool) → IsLeast p (option_map (λ u. u.0) a) → IsLeast q (option_map (λ u. u.0) b) → IsLeast (λ u. p u || q u) (option_map (λ u. u.0) result) }
+{
+    match (a, b) {
+        (None, other) => other,
+        (one, None) => one,
+        (Some(u), Some(v)) => Some(if u.0 <= v.0 { u } else { v }),
+    }
+}
+
+impl Row {
+    /// A row with no locks.
+    pub fn new(alloc: Global) -> Row
+        ensures { result.locks ≡ no_locks }
+    {
+        Row {
+            writer: None,
+            readers: Vec::new(alloc),
+            queries: Vec::new(alloc),
+        }
+    }
+
+    /// The update that has written the item.
+    pub fn writer(&self) -> Option<TxnId>
+        ensures { option_map (λ u. u.0) result ≡ self.now.locks.writer }
+    {
+        self.writer
+    }
+
+    /// The queries that have read the item, with their counts.
+    pub fn queries(&self) -> &[QueryReads]
+        ensures reads { map reads_of result.now ≡ self.now.locks.queries }
+        ensures most { All (λ r. r.count ≤ 1000) result.now }
+    {
+        &self.queries
+    }
+
+    /// The writer, where it is another than `t`.
+    pub fn other_writer(&self, t: TxnId) -> Option<TxnId>
+        ensures { IsLeast (keeps_from_reading self.now.locks t.0) (option_map (λ u. u.0) result) }
+    {
+        other_than(self.writer, t)
+    }
+
+    /// The smallest update other than `t` that has read or written the item.
+    pub fn other_update(&self, t: TxnId) -> Option<TxnId>
+        ensures { IsLeast (keeps_from_writing self.now.locks t.0) (option_map (λ u. u.0) result) }
+    {
+        smaller_of(other_reader(&self.readers, t), self.other_writer(t))
+    }
+
+    /// Makes room for one more lock.
+    pub fn reserve(&mut self) -> Result<(), AllocError>
+        ensures locks { self.new.locks ≡ self.old.locks }
+        ensures ok { OnOk result (0 < self.new.room) }
+    {
+        self.readers.reserve(1)?;
+        self.queries.reserve(1)
+    }
+
+    /// Adds a read by an update, and answers whether the update had not read the item.
+    pub fn add_reader(&mut self, t: TxnId) -> bool
+        requires { 0 < self.old.room }
+        ensures locks { self.new.locks ≡ with_reader t.0 self.old.locks }
+        ensures fresh { result ≡ not (is_reader self.old.locks t.0) }
+    {
+        add_reader(&mut self.readers, t)
+    }
+
+    /// Adds a write, and answers whether the update had not written the item.
+    pub fn add_writer(&mut self, t: TxnId) -> bool
+        ensures locks { self.new.locks ≡ with_writer t.0 self.old.locks }
+        ensures fresh { result ≡ not (is_writer self.old.locks t.0) }
+    {
+        let fresh = !is_it(self.writer, t);
+        self.writer = Some(t);
+        fresh
+    }
+
+    /// Adds a read by a query, and answers whether the query had not read the item.
+    pub fn add_query_read(&mut self, q: TxnId) -> bool
+        requires room { 0 < self.old.room }
+        requires few { All (λ r. r.0 ≡ q.0 → r.1 < 1000) self.old.locks.queries }
+        ensures locks { self.new.locks ≡ with_query_read q.0 self.old.locks }
+        ensures fresh { result ≡ not (is_query self.old.locks q.0) }
+    {
+        count_read(&mut self.queries, q)
+    }
+
+    /// Drops the locks of a transaction.
+    pub fn release(&mut self, t: TxnId)
+        ensures { self.new.locks ≡ released t.0 self.old.locks }
+    {
+        self.writer = other_than(self.writer, t);
+        drop_reader(&mut self.readers, t);
+        drop_query(&mut self.queries, t);
+    }
+}

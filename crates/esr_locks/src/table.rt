@@ -1,0 +1,209 @@
+ghost use Rattle.std.specs.Prelude.{◌≡◌, ℕ, ◌+◌, ◌-◌, ◌*◌, ◌^◌, ◌<◌, ◌≤◌, ◌==◌, [], ◌∷◌, ◌++◌, length, map, All, IfOk, OnOk, slice_set, true, if◌then◌else◌};
+ghost use Rattle.std.specs.List.{range_with_len};
+ghost use Rattle.std.specs.Option.{option_map};
+ghost use Rattle.esr_locks.specs.Rows.{reads_of, row_at, held_at};
+ghost use Rattle.esr_locks.specs.Tables.{no_locks, locks_at, room_for, has_lock, lists_item, keeps_from_reading, keeps_from_writing, IsLeast, with_reader, with_writer, with_query_read, released};
+
+use crate::held::Held;
+use crate::lists::QueryReads;
+use crate::row::Row;
+use esr_history::{NoMemory, TxnId};
+use esr_items::ItemId;
+use std::alloc::{AllocError, Global};
+use std::marker::Model;
+use std::mem;
+
+/// The locks on each item, by two-phase locking: a transaction holds its locks until they are
+/// released together. Updates read and write, queries read.
+///
+/// Beside the locks of each item stand the items of each transaction, so that no call looks at
+/// locks that it does not speak of. Memory goes with the count of items, the locks held and the
+/// largest number of a transaction.
+#[derive(Drop)]
+pub struct LockTable {
+    rows: Vec<Row>,
+    held: Vec<Held>,
+    alloc: Global,
+}
+
+impl Model for LockTable {
+    ghost use Rattle.std.specs.Prelude.{map};
+    ghost use Rattle.esr_locks.specs.Tables.{Table};
+    ghost use Rattle.esr_locks.specs.Rows.{IsTable};
+
+    ghost Value = { Table };
+
+    ghost view = { λ t. record { locks = map (λ r. r.locks) t.rows.items; item_rooms = map (λ r. r.room) t.rows.items; list_rooms = map (λ h. h.room) t.held.items } };
+
+    ghost invariant = { λ t. IsTable t.rows.items t.held.items };
+}
+
+/// Rows with no locks.
+fn empty_rows(alloc: Global, items: u32) -> Result<Vec<Row>, AllocError>
+    ensures { IfOk result (λ rows. map (λ r. r.locks) rows.items ≡ map (λ x. no_locks) (range_with_len 0 items)) }
+{
+    let mut rows = Vec::new(alloc);
+    for x in 0..items {
+        rows.push(Row::new(alloc))?;
+    }
+    Ok(rows)
+}
+
+/// Gives each transaction up to `t` a list of items.
+fn make_lists(held: &mut Vec<Held>, alloc: Global, t: TxnId) -> Result<(), AllocError>
+    ensures items { (u : ℕ) → (held_at held.new.items u).items ≡ (held_at held.old.items u).items }
+    ensures ok { OnOk result (t.0 < length held.new.items) }
+{
+    while held.len() <= t.0 as usize {
+        held.push(Held::new(alloc))?;
+    }
+    Ok(())
+}
+
+/// Takes out the list of a transaction.
+fn take_list(held: &mut Vec<Held>, alloc: Global, t: TxnId) -> Held
+    ensures taken { result.items ≡ (held_at held.old.items t.0).items }
+    ensures left { (u : ℕ) → (held_at held.new.items u).items ≡ (if t.0 == u then [] else (held_at held.old.items u).items) }
+{
+    let at = t.0 as usize;
+    if at < held.len() {
+        mem::replace(&mut held[at], Held::new(alloc))
+    } else {
+        Held::new(alloc)
+    }
+}
+
+/// Drops the locks of a transaction on some items.
+fn release_each(rows: &mut Vec<Row>, items: &[ItemId], t: TxnId)
+    requires { All (λ i. i.0 < length rows.old.items) items.now }
+    ensures len { length rows.new.items ≡ length rows.old.items }
+    ensures locks { (x : ℕ) → x < length rows.old.items → (row_at rows.new.items x).locks ≡ (if lists_item items.now x then released t.0 (row_at rows.old.items x).locks else (row_at rows.old.items x).locks) }
+{
+    for x in items {
+        rows[x.0 as usize].release(t);
+    }
+}
+
+impl LockTable {
+    /// A table of this many items, on which nobody holds a lock.
+    pub fn new(alloc: Global, items: u32) -> Result<LockTable, NoMemory>
+        ensures { IfOk result (λ t. t.locks ≡ map (λ x. no_locks) (range_with_len 0 items)) }
+    {
+        match empty_rows(alloc, items) {
+            Ok(rows) => Ok(LockTable {
+                rows,
+                held: Vec::new(alloc),
+                alloc,
+            }),
+            Err(_) => Err(NoMemory),
+        }
+    }
+
+    /// The update that keeps transaction `t`, as an update, from reading the item: another that
+    /// has written it.
+    pub fn may_read_update(&self, t: TxnId, x: ItemId) -> Option<TxnId>
+        requires { x.0 < length self.now.locks }
+        ensures { IsLeast (keeps_from_reading (locks_at self.now.locks x.0) t.0) (option_map (λ u. u.0) result) }
+    {
+        self.rows[x.0 as usize].other_writer(t)
+    }
+
+    /// The smallest update that keeps transaction `t` from writing the item: another that has read
+    /// or written it.
+    pub fn may_write(&self, t: TxnId, x: ItemId) -> Option<TxnId>
+        requires { x.0 < length self.now.locks }
+        ensures { IsLeast (keeps_from_writing (locks_at self.now.locks x.0) t.0) (option_map (λ u. u.0) result) }
+    {
+        self.rows[x.0 as usize].other_update(t)
+    }
+
+    /// The update that has written the item.
+    pub fn write_holder(&self, x: ItemId) -> Option<TxnId>
+        requires { x.0 < length self.now.locks }
+        ensures { option_map (λ u. u.0) result ≡ (locks_at self.now.locks x.0).writer }
+    {
+        self.rows[x.0 as usize].writer()
+    }
+
+    /// The queries that have read the item, ascending, each with its count of reads.
+    pub fn query_reads(&self, x: ItemId) -> &[QueryReads]
+        requires { x.0 < length self.now.locks }
+        ensures reads { map reads_of result.now ≡ (locks_at self.now.locks x.0).queries }
+        ensures most { All (λ r. r.count ≤ 1000) result.now }
+    {
+        self.rows[x.0 as usize].queries()
+    }
+
+    /// The items on which a transaction holds a lock. An item may stand twice.
+    pub fn items_of(&self, t: TxnId) -> &[ItemId]
+        ensures within { All (λ i. i.0 < length self.now.locks) result.now }
+        ensures listed { (x : ℕ) → x < length self.now.locks → has_lock (locks_at self.now.locks x) t.0 ≡ true → lists_item result.now x ≡ true }
+    {
+        let at = t.0 as usize;
+        if at < self.held.len() {
+            self.held[at].items()
+        } else {
+            &[]
+        }
+    }
+
+    /// Makes room for one more lock of a transaction on an item.
+    pub fn reserve(&mut self, t: TxnId, x: ItemId) -> Result<(), NoMemory>
+        requires { x.0 < length self.old.locks }
+        ensures locks { self.new.locks ≡ self.old.locks }
+        ensures ok { OnOk result (0 < room_for self.new t.0 x.0) }
+    {
+        if self.rows[x.0 as usize].reserve().is_err() {
+            return Err(NoMemory);
+        }
+        if make_lists(&mut self.held, self.alloc, t).is_err() {
+            return Err(NoMemory);
+        }
+        if self.held[t.0 as usize].reserve().is_err() {
+            return Err(NoMemory);
+        }
+        Ok(())
+    }
+
+    /// Adds the lock of an update that has read the item.
+    pub fn add_read_update(&mut self, t: TxnId, x: ItemId)
+        requires item { x.0 < length self.old.locks }
+        requires room { 0 < room_for self.old t.0 x.0 }
+        ensures { self.new.locks ≡ slice_set self.old.locks x.0 (with_reader t.0 (locks_at self.old.locks x.0)) }
+    {
+        if self.rows[x.0 as usize].add_reader(t) {
+            self.held[t.0 as usize].push(x);
+        }
+    }
+
+    /// Adds the lock of an update that has written the item.
+    pub fn add_write(&mut self, t: TxnId, x: ItemId)
+        requires item { x.0 < length self.old.locks }
+        requires room { 0 < room_for self.old t.0 x.0 }
+        ensures { self.new.locks ≡ slice_set self.old.locks x.0 (with_writer t.0 (locks_at self.old.locks x.0)) }
+    {
+        if self.rows[x.0 as usize].add_writer(t) {
+            self.held[t.0 as usize].push(x);
+        }
+    }
+
+    /// Adds the lock of a query that has read the item, or counts one more read.
+    pub fn add_read_query(&mut self, q: TxnId, x: ItemId)
+        requires item { x.0 < length self.old.locks }
+        requires room { 0 < room_for self.old q.0 x.0 }
+        requires few { All (λ r. r.0 ≡ q.0 → r.1 < 1000) (locks_at self.old.locks x.0).queries }
+        ensures { self.new.locks ≡ slice_set self.old.locks x.0 (with_query_read q.0 (locks_at self.old.locks x.0)) }
+    {
+        if self.rows[x.0 as usize].add_query_read(q) {
+            self.held[q.0 as usize].push(x);
+        }
+    }
+
+    /// Drops all locks of a transaction.
+    pub fn release(&mut self, t: TxnId)
+        ensures { self.new.locks ≡ map (released t.0) self.old.locks }
+    {
+        let held = take_list(&mut self.held, self.alloc, t);
+        release_each(&mut self.rows, held.items(), t);
+    }
+}

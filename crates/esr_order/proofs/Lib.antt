@@ -1,0 +1,14 @@
+pub mod Writers
+pub mod Placed
+pub mod Ordered
+pub mod Entries
+pub mod Listings
+pub mod Rows
+pub mod Tables
+pub mod LastSteps
+pub mod ChainSteps
+pub mod Found
+pub mod Placing
+pub mod Early
+pub mod Complete
+pub mod Gathered

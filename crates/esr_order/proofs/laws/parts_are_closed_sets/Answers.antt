@@ -1,0 +1,5 @@
+use Rattle.esr_order.proofs.Ordered.{law_of_placements}
+use Rattle.esr_order.proofs.laws.parts_are_closed_sets.Goals as goal
+
+pub returns : goal.returns
+returns c = law_of_placements

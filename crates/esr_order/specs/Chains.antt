@@ -1,0 +1,48 @@
+-- The versions of an item that the updates of a query leave.
+use Rattle.std.specs.Prelude.{ℕ, ℤ, List, [], ◌∷◌, ◌&&◌, ◌==◌, Option, None, Some, is_some, filter, map, length, slice_index_or}
+use Rattle.std.specs.List.{filter_map, range_with_len, last_or}
+use Rattle.esr_history.specs.Machine.{Schedule}
+use Rattle.esr_history.specs.Serial.{values_by}
+use Rattle.esr_history.specs.Queries.{updates_of}
+use Rattle.esr_order.specs.declared.scan.Step.{Step}
+use Rattle.esr_order.specs.declared.chains.Links.{Links}
+
+-- the updates that wrote an item, by their positions in commit order, and the values that they wrote last
+pub record Chain : Type 0 where
+  pub writers : List ℕ
+  pub values : List ℤ
+
+-- the chain of those of the first n positions that have a last value
+abbrev pub chain_from : (ℕ → Option ℤ) → ℕ → Chain
+chain_from last n = record { writers = filter (λ i. is_some (last i)) (range_with_len 0 n); values = filter_map last (range_with_len 0 n) }
+
+-- a chain that has a writer
+abbrev pub if_written : List ℕ → Chain → Option Chain
+if_written [] c = None
+if_written (w ∷ ws) c = Some c
+
+abbrev pub some_chain : Chain → Option Chain
+some_chain c = if_written c.writers c
+
+-- the last of some values, if there is one
+abbrev pub last_of : List ℤ → Option ℤ
+last_of vs = last_or None vs
+
+-- the update of q at a position in commit order
+abbrev pub update_at : Schedule → ℕ → ℕ → ℕ
+update_at h q i = slice_index_or (updates_of h q) i 0
+
+-- the last value that it wrote to item x, if it wrote it
+abbrev pub last_written : Schedule → ℕ → ℕ → ℕ → Option ℤ
+last_written h q x i = last_of (values_by h x (update_at h q i))
+
+-- the updates of q that wrote item x, if there is one
+abbrev pub chain_of : Schedule → ℕ → ℕ → Option Chain
+chain_of h q x = some_chain (chain_from (last_written h q x) (length (updates_of h q)))
+
+-- the same of the steps of updates
+abbrev pub last_step : List Step → ℕ → ℕ → Option ℤ
+last_step steps x i = last_of (map (λ s. s.value) (filter (λ s. s.place == i) (filter (λ s. s.writes && (s.item == x)) steps)))
+
+abbrev pub seen_links : Links → Chain
+seen_links l = record { writers = l.writers.items; values = l.values.items }

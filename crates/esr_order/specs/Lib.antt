@@ -1,0 +1,7 @@
+pub mod Placements
+pub mod Statements
+pub mod Scans
+pub mod Listing
+pub mod Chains
+pub mod Orders
+pub mod Worked

@@ -1,0 +1,45 @@
+-- What an order tells of a query.
+use Rattle.std.specs.Prelude.{◌≡◌, ◌↔◌, ◌<◌, ◌≤◌, ◌+◌, ℕ, Bool, IsTrue, List, Option, None, Some, All, AllPairs, Contains, length, map, slice_get, slice_index_or}
+use Rattle.esr_history.specs.declared.event.TxnId.{TxnId}
+use Rattle.esr_history.specs.Machine.{Schedule}
+use Rattle.esr_history.specs.Serial.{is_before, IsSerialOrder}
+use Rattle.esr_history.specs.Queries.{updates_of, must}
+use Rattle.esr_order.specs.Placements.{IsClosed}
+use Rattle.esr_order.specs.Chains.{Chain, some_chain, update_at, chain_of}
+use Rattle.esr_order.specs.Listing.{IsBelow}
+
+-- what an order is to contracts
+pub record Ordered : Type 0 where
+  pub commits : List TxnId
+  pub before : List (ℕ × ℕ)
+  pub must : List ℕ
+  pub chains : List Chain
+
+abbrev pub written_chain : Option Chain → Option Chain
+written_chain None = None
+written_chain (Some c) = some_chain c
+
+-- the chain of item x, if an update wrote it
+abbrev pub chain_at : Ordered → ℕ → Option Chain
+chain_at o x = written_chain (slice_get o.chains x)
+
+-- as the order has it, S has what q must see, and with an update all that are before it
+pub record IsClosedIn (h : Schedule) (q : ℕ) (o : Ordered) (S : ℕ → Bool) : Type 0 where
+  pub downward : All (λ p. IsTrue (S (update_at h q p.1)) → IsTrue (S (update_at h q p.0))) o.before
+  pub holds_must : All (λ i. IsTrue (S (update_at h q i))) o.must
+
+-- The updates that committed before q did, and what is needed of their conflict order and their versions. Updates are given by their positions in commit order.
+pub record IsOrderOf (h : Schedule) (q : ℕ) (o : Ordered) : Type 0 where
+  pub commits : map (λ t. t.0) o.commits ≡ updates_of h q
+  pub serial : IsSerialOrder h (updates_of h q) (updates_of h q)
+  pub few : length o.commits ≤ 65535
+  -- pairs of the conflict order, from a lower to a higher position, by which the same sets are closed
+  pub ascending : AllPairs IsBelow o.before
+  pub pairs : All (λ p. (p.0 < p.1) × (p.1 < length o.commits) × IsTrue (is_before h (update_at h q p.0) (update_at h q p.1))) o.before
+  pub closed : (S : ℕ → Bool) → IsClosedIn h q o S ↔ IsClosed h q S
+  pub rising : AllPairs (λ i j. i < j) o.must
+  pub within : All (λ i. i < length o.commits) o.must
+  pub musts : map (update_at h q) o.must ≡ must h q
+  -- all that wrote an item, in commit order, each a pair with the next
+  pub chains : (x : ℕ) → chain_at o x ≡ chain_of h q x
+  pub neighbours : (x i : ℕ) (c : Chain) → chain_at o x ≡ Some c → i + 1 < length c.writers → Contains o.before (slice_index_or c.writers i 0, slice_index_or c.writers (i + 1) 0)

@@ -1,0 +1,24 @@
+-- The laws of placements and closed sets.
+use Rattle.std.specs.Prelude.{◌≡◌, ◌↔◌, ℕ, Bool, IsTrue, List, take}
+use Rattle.esr_history.specs.declared.event.Entry.{Entry}
+use Rattle.esr_history.specs.Events.{is_committed}
+use Rattle.esr_history.specs.Machine.{Distance, Schedule, done, IsLegal}
+use Rattle.esr_history.specs.Legal.{along}
+use Rattle.esr_history.specs.Serial.{state}
+use Rattle.esr_history.specs.Queries.{members, cost, IsAlike}
+use Rattle.esr_order.specs.Placements.{is_among, IsPlacement, IsLeastDistance, IsClosed, IsLeastSet}
+
+-- The closed sets of q are the parts before the positions of its placements, the serial state is the version that the set leaves,
+-- and so the least distance of a placement is the least cost of a closed set.
+pub record ClosedSetsAreParts (d : Distance) (h : Schedule) (q : ℕ) : Type 0 where
+  pub part_is_closed : (order : List ℕ) (k : ℕ) → IsPlacement h q order k → IsClosed h q (is_among (take k order))
+  pub part_leaves : (order : List ℕ) (k : ℕ) → IsPlacement h q order k → (x : ℕ) → state h (take k order) x ≡ state h (members h q (is_among (take k order))) x
+  pub closed_is_part : (S : ℕ → Bool) → IsClosed h q S → (order : List ℕ) × (k : ℕ) × IsPlacement h q order k × (take k order ≡ members h q S)
+  pub least : (n : ℕ) → IsLeastDistance d h q n ↔ ((S : ℕ → Bool) × IsLeastSet d h q S × (cost d h q S ≡ n))
+
+abbrev pub LawOfPlacements : Type 0
+LawOfPlacements = (d : Distance) (h : Schedule) (q : ℕ) → IsLegal d h → ClosedSetsAreParts d h q
+
+-- What the audit of a committed query rests on is the same in every longer legal history.
+abbrev pub LawOfLongerHistories : Type 0
+LawOfLongerHistories = (d : Distance) (h : Schedule) (rest : List Entry) (q : ℕ) → IsLegal d (along h rest) → IsTrue (is_committed (done h) q) → IsAlike d h (along h rest) q

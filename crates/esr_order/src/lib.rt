@@ -1,0 +1,12 @@
+//! The conflict order among the updates that a query could have seen, and the placements of queries.
+#![tactic(auto)]
+
+mod chains;
+mod laws;
+mod order;
+mod pairs;
+mod scan;
+
+pub use chains::Links;
+pub use laws::{longer_histories_agree, parts_are_closed_sets};
+pub use order::{Order, OrderError};
