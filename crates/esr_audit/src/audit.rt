@@ -13,17 +13,15 @@ ghost use Rattle.esr_order.specs.Orders.{IsOrderOf};
 ghost use Rattle.esr_ledgers.specs.Books.{amount_at, is_open};
 ghost use Rattle.esr_audit.specs.Findings.{IsAnswer, IsShown};
 
-use std::alloc::{AllocError, Global};
-
+use crate::finding::{AuditError, Finding};
+use crate::problem::problem_of;
 use esr_cert::{Certificate, Problem};
 use esr_core::ledgers_of;
 use esr_flow::{Network, solve};
 use esr_history::{History, NoMemory, TxnId};
 use esr_items::Metric;
 use esr_order::Order;
-
-use crate::finding::{AuditError, Finding};
-use crate::problem::problem_of;
+use std::alloc::{AllocError, Global};
 
 /// The update at a position.
 fn update_at(updates: &[TxnId], i: u32) -> Option<TxnId>
@@ -36,7 +34,9 @@ fn update_at(updates: &[TxnId], i: u32) -> Option<TxnId>
 fn updates_at(alloc: Global, updates: &[TxnId], set: &[u32]) -> Result<Vec<TxnId>, AllocError>
     ensures { IfOk result (λ v. v.items ≡ filter_map (slice_get updates.now) set.now) }
 {
-    set.iter().filter_map(|i| update_at(updates, *i)).collect(alloc)
+    set.iter()
+        .filter_map(|i| update_at(updates, *i))
+        .collect(alloc)
 }
 
 /// A certificate of the problem, with its smallest closed set of least cost.
@@ -84,7 +84,11 @@ fn find<M: Metric>(
 /// # Errors
 /// `NotACommittedQuery` exactly where the transaction is no query, or has not committed.
 /// `NoMemory` where memory was refused.
-pub fn audit_query<M: Metric>(alloc: Global, history: &History<M>, q: TxnId) -> Result<Finding, AuditError>
+pub fn audit_query<M: Metric>(
+    alloc: Global,
+    history: &History<M>,
+    q: TxnId,
+) -> Result<Finding, AuditError>
     ensures query { IfOk result (λ f. f.query ≡ q) }
     ensures answer { IfOk result (λ f. IsAnswer M.distance_by history.now.schedule q.0 f.distance f.import (map (λ t. t.0) f.before.items)) }
     ensures shown { IfOk result (λ f. IsShown M.distance_by history.now.schedule q.0 f.distance (map (λ t. t.0) f.before.items) f.problem (certificate_of f.certificate)) }

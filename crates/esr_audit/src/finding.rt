@@ -1,10 +1,9 @@
 //! What audits find.
 
-use std::alloc::AllocError;
-
 use esr_cert::{Certificate, Problem};
 use esr_history::{NoMemory, TxnId};
 use esr_order::OrderError;
+use std::alloc::AllocError;
 
 /// What an audit finds of a committed query.
 ///

@@ -6,9 +6,8 @@ ghost use Rattle.esr_history.specs.Operations.{answer};
 ghost use Rattle.esr_order.specs.Scans.{scanned};
 ghost use Rattle.esr_audit.specs.Reads.{read_at};
 
-use std::alloc::{AllocError, Global};
-
 use esr_history::{Entry, Event, Log, Reply, TxnId};
+use std::alloc::{AllocError, Global};
 
 /// A value that was read of an item.
 #[derive(Clone, Copy)]
@@ -42,7 +41,10 @@ fn reading_in(entry: Entry, q: TxnId) -> Option<Reading>
     match entry.event {
         Event::Read { txn, item } => {
             if txn.0 == q.0 {
-                Some(Reading { item: item.0, value: answered(entry.reply) })
+                Some(Reading {
+                    item: item.0,
+                    value: answered(entry.reply),
+                })
             } else {
                 None
             }
@@ -55,5 +57,8 @@ fn reading_in(entry: Entry, q: TxnId) -> Option<Reading>
 pub fn readings(alloc: Global, log: &Log, q: TxnId) -> Result<Vec<Reading>, AllocError>
     ensures { IfOk result (λ v. v.items ≡ filter_map (read_at q.0) (scanned log.now.entries)) }
 {
-    (0..log.len()).filter_map(|i| log.get(i)).filter_map(|entry| reading_in(entry, q)).collect(alloc)
+    (0..log.len())
+        .filter_map(|i| log.get(i))
+        .filter_map(|entry| reading_in(entry, q))
+        .collect(alloc)
 }
