@@ -26,6 +26,15 @@ pub struct Finding {
     pub certificate: Certificate,
 }
 
+/// What the audit of a history finds.
+#[derive(Drop)]
+pub struct Book {
+    /// The committed updates, in the order of their commits, which is a serial order of them.
+    pub order: Vec<TxnId>,
+    /// What is found of each committed query, in the order of their commits.
+    pub findings: Vec<Finding>,
+}
+
 /// Why an audit gives no answer.
 #[derive(Clone, Copy, PartialEq, Eq, Debug)]
 pub enum AuditError {
