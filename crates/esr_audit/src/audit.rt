@@ -120,7 +120,12 @@ fn updates_among(alloc: Global, ledgers: &Ledgers, txns: &[TxnId]) -> Result<Vec
 }
 
 /// What is found of a committed query.
-fn find_committed<M: Metric>(alloc: Global, history: &History<M>, q: TxnId, import: u64) -> Result<Finding, AuditError>
+fn find_committed<M: Metric>(
+    alloc: Global,
+    history: &History<M>,
+    q: TxnId,
+    import: u64,
+) -> Result<Finding, AuditError>
     requires committed { IsTrue (is_committed_query history.now.schedule q.0) }
     requires import { import ≡ import_in (charges_in M.distance_by history.now.schedule) q.0 }
     ensures query { IfOk result (λ f. f.query ≡ q) }
@@ -132,7 +137,12 @@ fn find_committed<M: Metric>(alloc: Global, history: &History<M>, q: TxnId, impo
 }
 
 /// What is found of each query among transactions that committed.
-fn findings_of<M: Metric>(alloc: Global, history: &History<M>, ledgers: &Ledgers, txns: &[TxnId]) -> Result<Vec<Finding>, AuditError>
+fn findings_of<M: Metric>(
+    alloc: Global,
+    history: &History<M>,
+    ledgers: &Ledgers,
+    txns: &[TxnId],
+) -> Result<Vec<Finding>, AuditError>
     requires open { All (λ t. is_open ledgers.now t.0 ≡ true) txns.now }
     requires queries { All (λ t. is_open_query ledgers.now t.0 ≡ true → IsTrue (is_committed_query history.now.schedule t.0)) txns.now }
     requires imports { All (λ t. is_open_query ledgers.now t.0 ≡ true → amount_at ledgers.now t.0 ≡ import_in (charges_in M.distance_by history.now.schedule) t.0) txns.now }

@@ -18,16 +18,18 @@ loop-t-preserved g c =
     let query_at : TxnId → _ = λ (t : TxnId). is_open_query c.args.ledgers.now t.0 in
     elim c.if-is_query.branch [
       | then-is_query+in_ok-finding+in-Ok w ↦
-          let new : c.if-is_query.findings.items ≡ c.loop-t.findings.items ++ w.in_ok-finding.finding ∷ [] = ap (λ v. v.items) w.findings-is ∙ w.in-Ok.ensures.items in
-          (ap (map (λ (f : Finding). f.query)) new
-            ∙ map-append (λ (f : Finding). f.query) c.loop-t.findings.items (w.in_ok-finding.finding ∷ [])
-            ∙ ap (λ qs. qs ++ w.in_ok-finding.finding.query ∷ []) c.loop-t.invariant.0
-            ∙ ap (λ q. filter query_at (take c.loop-t.t-index c.args.txns.now) ++ q ∷ []) w.in_ok-finding.ensures.query
-            ∙ sym (take_passing query_at c.args.txns.now c.loop-t.t-index (record { 0 = 0 }) c.loop-t-test.true (sym c.is_query.ensures ∙ w.if-is_query.true)),
-           subst (All (IsFinding g.M.Metric.distance_by c.args.history.now.schedule)) (sym new)
-             (All-push (IsFinding g.M.Metric.distance_by c.args.history.now.schedule) c.loop-t.findings.items w.in_ok-finding.finding c.loop-t.invariant.1 w.in_ok-finding.ensures.finding))
+          let new : c.if-is_query.findings.items ≡ c.loop-t.findings.items ++ w.in_ok-finding.finding ∷ [] = ap (λ v. v.items) w.findings-is ∙ w.in-Ok.ensures.items in (
+            ap (map (λ (f : Finding). f.query)) new
+                ∙ map-append (λ (f : Finding). f.query) c.loop-t.findings.items (w.in_ok-finding.finding ∷ [])
+                ∙ ap (λ qs. qs ++ w.in_ok-finding.finding.query ∷ []) c.loop-t.invariant.0
+                ∙ ap (λ q. filter query_at (take c.loop-t.t-index c.args.txns.now) ++ q ∷ []) w.in_ok-finding.ensures.query
+                ∙ sym (take_passing query_at c.args.txns.now c.loop-t.t-index (record { 0 = 0 }) c.loop-t-test.true (sym c.is_query.ensures ∙ w.if-is_query.true)),
+            subst (All (IsFinding g.M.Metric.distance_by c.args.history.now.schedule)) (sym new)
+                (All-push (IsFinding g.M.Metric.distance_by c.args.history.now.schedule) c.loop-t.findings.items w.in_ok-finding.finding c.loop-t.invariant.1 w.in_ok-finding.ensures.finding),
+          )
       | else-is_query w ↦
-          let same = ap (λ v. v.items) w.findings-is in
-          (ap (map (λ (f : Finding). f.query)) same ∙ c.loop-t.invariant.0 ∙ sym (take_failing query_at c.args.txns.now c.loop-t.t-index (record { 0 = 0 }) c.loop-t-test.true (sym c.is_query.ensures ∙ w.if-is_query.false)),
-           subst (All (IsFinding g.M.Metric.distance_by c.args.history.now.schedule)) (sym same) c.loop-t.invariant.1)
+          let same = ap (λ v. v.items) w.findings-is in (
+            ap (map (λ (f : Finding). f.query)) same ∙ c.loop-t.invariant.0 ∙ sym (take_failing query_at c.args.txns.now c.loop-t.t-index (record { 0 = 0 }) c.loop-t-test.true (sym c.is_query.ensures ∙ w.if-is_query.false)),
+            subst (All (IsFinding g.M.Metric.distance_by c.args.history.now.schedule)) (sym same) c.loop-t.invariant.1,
+          )
     ]
