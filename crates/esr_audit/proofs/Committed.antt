@@ -1,11 +1,11 @@
 -- The transactions that committed in a history, and their accounts.
-use Rattle.std.proofs.Common.{◌≡◌, ℕ, ◌+◌, take, get_or, append-nil, ◌<◌, ◌==◌, if◌then◌else◌, Bool, true, false, not, ◌&&◌, List, [], ◌∷◌, ◌++◌, length, filter, map, get_or, refl, sym, ap, ◌∙◌, subst, arith, inl, inr, Option, Some, None, All}
+use Rattle.std.proofs.Common.{◌≡◌, ℕ, ◌+◌, take, get_or, append-nil, ◌<◌, ◌==◌, if◌then◌else◌, Bool, true, false, not, List, [], ◌∷◌, ◌++◌, length, filter, map, get_or, refl, sym, ap, ◌∙◌, inl, inr, Option, Some, None, All}
 use Rattle.std.specs.Prelude.{IsTrue, is_some, unwrap_or}
-use Rattle.std.specs.List.{filter_map, cons_option, list_any, AllByRecursion}
+use Rattle.std.specs.List.{filter_map, list_any}
 use Rattle.std.specs.Option.{option_map}
 use Rattle.std.proofs.lemmas.Bool.{and_from, or_left, or_right, eq-eqb}
 use Rattle.std.proofs.lemmas.List.{take_more}
-use Rattle.std.proofs.lemmas.List.Elements.{All-from_recursion, recursion_from_All, filter-append}
+use Rattle.std.proofs.lemmas.List.Elements.{All-from_recursion, filter-append}
 use Rattle.esr_history.specs.declared.event.TxnId.{TxnId}
 use Rattle.esr_history.specs.declared.event.Event.{Event}
 use Rattle.esr_history.specs.declared.event.Event.TheVariants.{BeginUpdate, BeginQuery, Read, Write, Commit, Abort}
@@ -13,10 +13,10 @@ use Rattle.esr_history.specs.declared.event.Entry.{Entry}
 use Rattle.esr_history.specs.Events.{Beginning, beginning, is_begun, is_query, is_update, is_committed, commits}
 use Rattle.esr_history.specs.Machine.{Distance, Schedule, done, charges_in, import_in, IsLegal}
 use Rattle.esr_history.specs.Operations.{committer, commit_order}
-use Rattle.esr_history.specs.Orderly.{IsOrderly, names}
+use Rattle.esr_history.specs.Orderly.{names}
 use Rattle.esr_history.specs.Queries.{is_committed_query}
 use Rattle.esr_history.specs.Serial.{committed_updates}
-use Rattle.esr_history.proofs.Membership.{In, each_in, each_at, any-from_In, In-any, filter_agree_in}
+use Rattle.esr_history.proofs.Membership.{In, each_in, any-from_In, In-any, filter_agree_in}
 use Rattle.esr_history.proofs.Lawful.{legal_orderly}
 use Rattle.esr_history.proofs.Words.{committed_among}
 use Rattle.esr_order.specs.Placements.{is_among}

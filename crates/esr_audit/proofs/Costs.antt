@@ -1,8 +1,7 @@
 -- The costs of the sets of a problem are those of the query that it stands for.
-use Rattle.std.proofs.Common.{◌≡◌, ℕ, zero, suc, ℤ, ◌+◌, ◌*◌, ◌<◌, ◌≤◌, Bool, true, false, cond, ◌&&◌, ◌||◌, eqb, List, [], ◌∷◌, ◌++◌, length, take, filter, map, get_or, sum_by, refl, sym, ap, ◌∙◌, subst, inl, inr, arith, zero-add, add-zero}
-use Rattle.std.specs.Prelude.{All}
+use Rattle.std.proofs.Common.{◌≡◌, ℕ, zero, suc, ℤ, ◌+◌, ◌<◌, ◌≤◌, Bool, true, false, cond, ◌||◌, eqb, List, [], ◌∷◌, length, filter, map, get_or, sum_by, refl, sym, ap, ◌∙◌, subst, inl, inr, arith}
 use Rattle.std.specs.List.{list_any, range_with_len, AllByRecursion}
-use Rattle.std.proofs.lemmas.Bool.{cases_eq, cases_Bool, eq-eqb, ne_eqb, eqb-true, true≢false}
+use Rattle.std.proofs.lemmas.Bool.{cases_eq, eq-eqb, ne_eqb}
 use Rattle.std.proofs.lemmas.List.Sums.{sum_by-cons}
 use Rattle.std.proofs.lemmas.List.Elements.{recursion_from_All}
 use Rattle.std.proofs.lemmas.List.FromFn.{get_or-map-range_with_len}
@@ -10,8 +9,7 @@ use Rattle.esr_history.specs.Machine.{Distance, Schedule, distance_in}
 use Rattle.esr_history.specs.Operations.{Operation}
 use Rattle.esr_history.specs.Serial.{state}
 use Rattle.esr_history.specs.Queries.{updates_of, reads_by, distance_from, members, cost}
-use Rattle.esr_history.proofs.Membership.{In, each_in, each_at, In-of_filter, In-any}
-use Rattle.esr_order.specs.Placements.{is_among}
+use Rattle.esr_history.proofs.Membership.{In, each_in, each_at}
 use Rattle.esr_cert.specs.Problem as problems
 use Rattle.esr_cert.specs.Problem.{Chain, Problem, version, chain_cost}
 use Rattle.esr_audit.specs.Problems.{passes_at, places, items_read, has_written, writers_of, read_distance, version_cost, chain_for, StandsFor}

@@ -1,29 +1,27 @@
 -- A solved problem of a query gives the audit's answer.
-use Rattle.std.proofs.Common.{◌≡◌, ℕ, zero, suc, [], ◌∷◌, map, Option, Some, None, ◌+◌, ◌<◌, ◌≤◌, Bool, true, not, eqb, ◌&&◌, List, length, filter, refl, sym, ap, ◌∙◌, subst, arith, Contains}
+use Rattle.std.proofs.Common.{◌≡◌, ℕ, zero, suc, [], ◌∷◌, map, Option, Some, None, ◌<◌, true, not, eqb, ◌&&◌, List, length, refl, sym, ap, ◌∙◌, arith}
 use Rattle.std.specs.Prelude.{All, IsTrue}
 use Rattle.std.specs.Option.{option_map}
 use Rattle.esr_history.specs.declared.event.TxnId.{TxnId}
-use Rattle.std.specs.List.{cons_option, filter_map, slice_get, list_all, AllByRecursion}
+use Rattle.std.specs.List.{cons_option, filter_map, slice_get, AllByRecursion}
 use Rattle.std.proofs.lemmas.Bool.{and_parts}
 use Rattle.std.proofs.lemmas.List.Elements.{recursion_from_All}
 use Rattle.esr_items.specs.Values.{IsValue}
 use Rattle.esr_history.specs.Machine.{Distance, Schedule, IsLegal, charges_in, import_in}
 use Rattle.esr_history.specs.Operations.{Operation, operations}
-use Rattle.esr_history.specs.Queries.{is_committed_query, updates_of, reads_by, members, cost, ImportBoundsDistance}
-use Rattle.esr_history.specs.Ranges.{IsWithinRanges}
-use Rattle.esr_history.proofs.Membership.{In, each_in, each_at, Each-filter}
+use Rattle.esr_history.specs.Queries.{is_committed_query, updates_of, reads_by, cost, ImportBoundsDistance}
+use Rattle.esr_history.proofs.Membership.{Each-filter}
 use Rattle.esr_history.proofs.WithinRanges.{legal_within_ranges}
-use Rattle.esr_order.specs.Placements.{is_among, IsClosed, IsLeastSet, IsSmallestLeastSet, IsLeastDistance}
+use Rattle.esr_order.specs.Placements.{is_among, IsClosed, IsSmallestLeastSet}
 use Rattle.esr_order.specs.Statements.{ClosedSetsAreParts}
 use Rattle.esr_order.proofs.Ordered.{law_of_placements}
-use Rattle.esr_cert.specs.Problem as problems
-use Rattle.esr_cert.specs.Problem.{Problem, size, is_sound, has_shape, in_set, is_distinct, IsSmallestLeast}
+use Rattle.esr_cert.specs.Problem.{Problem, size, is_sound, in_set, is_distinct, IsSmallestLeast}
 use Rattle.esr_cert.specs.Certificate.{Certificate, Certifies}
 use Rattle.esr_cert.proofs.Sound.{IsProblem, facts, shape_facts}
 use Rattle.esr_cert.proofs.Certified.{IsFaultless, faultless, cost_is}
 use Rattle.esr_flow.proofs.SolveLaws.{smallest_same, same_cost}
 use Rattle.esr_audit.specs.Problems.{passes_at, StandsFor}
-use Rattle.esr_audit.specs.Findings.{IsAnswer, IsShown}
+use Rattle.esr_audit.specs.Findings.{IsAnswer}
 use Rattle.esr_audit.proofs.Costs.{cost_stands}
 use Rattle.esr_audit.proofs.Smallest.{known_at, smallest_stands}
 use Rattle.esr_audit.proofs.Positions.{passes_as_set, before_members}

@@ -1,7 +1,7 @@
 -- The problem that is made for a query is the one gathered from an order, which is sound.
-use Rattle.std.proofs.Common.{Option, Some, None, cond, not, ◌≡◌, ◌≤◌, ◌^◌, ◌*◌, ℕ, ℤ, suc, Bool, true, List, length, map, take, refl, sym, ap, ◌∙◌, subst, All}
+use Rattle.std.proofs.Common.{Some, None, cond, not, ◌≡◌, ◌≤◌, ◌^◌, ◌*◌, ℕ, ℤ, suc, true, List, length, map, take, sym, ap, ◌∙◌, subst, All}
 use Rattle.std.specs.Prelude.{IsTrue}
-use Rattle.std.specs.List.{range_with_len, AllByRecursion}
+use Rattle.std.specs.List.{range_with_len}
 use Rattle.std.proofs.lemmas.List.Elements.{All-from_recursion}
 use Rattle.esr_items.specs.Values.{IsValue}
 use Rattle.esr_history.specs.declared.event.TxnId.{TxnId}
@@ -19,10 +19,10 @@ use Rattle.esr_cert.specs.declared.problem.BundleFault.{BundleFault}
 use Rattle.esr_cert.specs.declared.problem.BundleFault.TheVariants.{Shape, Range}
 use Rattle.std.proofs.lemmas.Bool.{and_parts}
 use Rattle.esr_audit.specs.declared.reads.Reading.{Reading}
-use Rattle.esr_audit.specs.Problems.{writers_of, StandsFor}
+use Rattle.esr_audit.specs.Problems.{writers_of}
 use Rattle.esr_audit.specs.Reads.{gathered, items_in, values_in}
 use Rattle.esr_audit.proofs.Versions.{reading_of, versions_are}
-use Rattle.esr_audit.proofs.Standing.{problem_from, stands}
+use Rattle.esr_audit.proofs.Standing.{problem_from}
 use Rattle.esr_audit.proofs.Within.{state_in_range, sound, each_mapped}
 use Rattle.esr_audit.proofs.Readings as readings
 

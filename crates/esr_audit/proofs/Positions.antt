@@ -1,20 +1,13 @@
 -- A set of positions as a list, and the transactions at them.
-use Rattle.std.proofs.Common.{◌≡◌, ℕ, zero, suc, ◌+◌, ◌<◌, ◌≤◌, Bool, true, false, cond, not, ◌&&◌, ◌||◌, eqb, List, [], ◌∷◌, ◌++◌, length, filter, refl, sym, ap, ◌∙◌, subst, inl, inr, arith, Option, Some, None}
+use Rattle.std.proofs.Common.{◌≡◌, ℕ, zero, suc, ◌+◌, ◌<◌, ◌≤◌, Bool, true, false, cond, not, ◌||◌, eqb, List, [], ◌∷◌, length, filter, refl, sym, ap, ◌∙◌, inl, inr, arith, Option, Some}
 use Rattle.std.specs.Prelude.{nat_lt}
-use Rattle.std.specs.List.{list_any, list_all, filter_map, cons_option, slice_get, range_with_len, AllByRecursion}
-use Rattle.std.proofs.lemmas.Bool.{cases_eq, cases_Bool, eq-eqb, ne_eqb, eqb-true, true≢false, false≢true, and_parts, and_from, or_left, or_right, or_cases, ltb-true, not-true}
-use Rattle.std.proofs.lemmas.Option.{same_Some, slice_get_within}
-use Rattle.esr_history.specs.Machine.{Distance, Schedule}
-use Rattle.esr_history.specs.Operations.{Operation}
-use Rattle.esr_history.specs.Queries.{updates_of, reads_by, members, cost}
-use Rattle.esr_order.specs.Placements.{is_among, IsSmallestLeastSet}
-use Rattle.esr_cert.specs.Problem as problems
-use Rattle.esr_cert.specs.Problem.{Problem, size, is_closed, in_set, is_ascending, is_distinct, IsSmallestLeast}
-use Rattle.esr_cert.proofs.Sound.{IsProblem}
-use Rattle.esr_flow.proofs.SolveLaws.{smallest_same, same_cost}
-use Rattle.esr_audit.specs.Problems.{passes_at, places, StandsFor}
-use Rattle.esr_audit.proofs.Costs.{cost_stands}
-use Rattle.esr_audit.proofs.Smallest.{passes_here, element, known_at, smallest_stands}
+use Rattle.std.specs.List.{list_all, filter_map, cons_option, slice_get, range_with_len, AllByRecursion}
+use Rattle.std.proofs.lemmas.Bool.{cases_eq, eq-eqb, ne_eqb, true≢false, and_parts, or_left, or_right, ltb-true, not-true}
+use Rattle.std.proofs.lemmas.Option.{same_Some}
+use Rattle.esr_order.specs.Placements.{is_among}
+use Rattle.esr_cert.specs.Problem.{in_set, is_ascending, is_distinct}
+use Rattle.esr_audit.specs.Problems.{passes_at, places}
+use Rattle.esr_audit.proofs.Smallest.{passes_here, element, known_at}
 
 in_set_at : (us : List ℕ) (i u : ℕ) → slice_get us i ≡ Some u → in_set us u ≡ true
 in_set_at [] i u e = absurd (cc)

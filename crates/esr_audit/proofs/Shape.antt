@@ -1,8 +1,8 @@
 -- The problem gathered from an order of a query breaks no rule of shape.
-use Rattle.std.proofs.Common.{◌≡◌, ◌≢◌, ℕ, zero, suc, ◌+◌, ◌<◌, ◌≤◌, Bool, true, false, cond, not, ◌&&◌, ◌||◌, eqb, List, [], ◌∷◌, length, filter, map, refl, sym, ap, ◌∙◌, subst, inl, inr, arith, Option, Some, None, Contains}
-use Rattle.std.specs.Prelude.{All, AllPairs, nat_lt}
-use Rattle.std.specs.List.{list_all, slice_get, slice_index_or, range_with_len, AllByRecursion}
-use Rattle.std.proofs.lemmas.Bool.{cases_Bool, and_from, or_left, or_right, eq-eqb, ne_eqb, lt-ltb}
+use Rattle.std.proofs.Common.{◌≡◌, ◌≢◌, ℕ, zero, suc, ◌+◌, ◌<◌, Bool, true, false, cond, not, ◌&&◌, ◌||◌, eqb, List, [], ◌∷◌, length, filter, map, refl, sym, ap, ◌∙◌, subst, inl, inr, arith, Some, Contains}
+use Rattle.std.specs.Prelude.{nat_lt}
+use Rattle.std.specs.List.{list_all, slice_index_or, range_with_len, AllByRecursion}
+use Rattle.std.proofs.lemmas.Bool.{and_from, or_left, or_right, eq-eqb, ne_eqb, lt-ltb}
 use Rattle.std.proofs.lemmas.List.{length-map}
 use Rattle.std.proofs.lemmas.List.FromFn.{length-range_with_len}
 use Rattle.std.proofs.lemmas.List.Elements.{All-contains}
@@ -15,10 +15,10 @@ use Rattle.std.specs.Prelude.{IsTrue}
 use Rattle.esr_order.specs.Listing.{IsBelow}
 use Rattle.esr_order.specs.Chains as orders
 use Rattle.esr_order.specs.Chains.{update_at, chain_of, chain_from, some_chain, if_written, last_written}
-use Rattle.esr_order.specs.Orders.{Ordered, IsOrderOf, chain_at}
-use Rattle.esr_cert.specs.Problem.{Chain, Problem, in_set, is_ascending, pair_lt, are_pairs_ascending, has_pair, are_linked, is_distinct, chain_has_shape, has_shape}
+use Rattle.esr_order.specs.Orders.{Ordered, IsOrderOf}
+use Rattle.esr_cert.specs.Problem.{Chain, in_set, is_ascending, pair_lt, are_pairs_ascending, has_pair, are_linked, is_distinct, chain_has_shape, has_shape}
 use Rattle.esr_cert.proofs.Sound.{all_from}
-use Rattle.esr_audit.specs.Problems.{places, items_read, has_written, writers_of, passes_at, version_cost, chain_for, StandsFor}
+use Rattle.esr_audit.specs.Problems.{places, items_read, has_written, writers_of, passes_at, version_cost, chain_for}
 use Rattle.esr_audit.proofs.Places.{length-places}
 use Rattle.esr_audit.proofs.Versions.{chain_writers}
 use Rattle.esr_audit.proofs.Standing.{problem_from, stands, must_ascends}

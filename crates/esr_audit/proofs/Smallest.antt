@@ -1,22 +1,21 @@
 -- The smallest least set of a problem is that of the query that it stands for.
-use Rattle.std.proofs.Common.{◌≡◌, ℕ, zero, suc, ◌+◌, ◌<◌, ◌≤◌, Bool, true, false, cond, not, ◌&&◌, ◌||◌, eqb, List, [], ◌∷◌, ◌++◌, length, filter, refl, sym, ap, ◌∙◌, subst, inl, inr, arith, Option, Some, None, Contains}
-use Rattle.std.specs.Prelude.{All, IsTrue}
-use Rattle.std.specs.List.{list_any, list_all, filter_map, cons_option, slice_get, range_with_len, AllByRecursion}
+use Rattle.std.proofs.Common.{◌≡◌, ℕ, zero, suc, ◌<◌, ◌≤◌, Bool, true, false, ◌&&◌, ◌||◌, eqb, List, [], ◌∷◌, length, refl, sym, ap, ◌∙◌, subst, inl, inr, arith, Option, Some, None}
+use Rattle.std.specs.Prelude.{IsTrue}
+use Rattle.std.specs.List.{filter_map, cons_option, slice_get, AllByRecursion}
 use Rattle.std.proofs.Math.Path.{fun_ext}
-use Rattle.std.proofs.lemmas.Bool.{cases_eq, cases_Bool, eq-eqb, ne_eqb, eqb-true, true≢false, false≢true, and_parts, and_from, or_left, or_right, or_cases, lt-ltb, ltb-true, not-true}
-use Rattle.std.proofs.lemmas.Option.{same_Some, slice_get_within}
+use Rattle.std.proofs.lemmas.Bool.{cases_eq, eq-eqb, ne_eqb, eqb-true, false≢true, and_parts, and_from, or_left, or_right, or_cases}
+use Rattle.std.proofs.lemmas.Option.{same_Some}
 use Rattle.std.proofs.lemmas.List.Elements.{All-from_recursion}
 use Rattle.esr_history.specs.Machine.{Distance, Schedule}
 use Rattle.esr_history.specs.Operations.{Operation}
-use Rattle.esr_history.specs.Serial.{is_before}
-use Rattle.esr_history.specs.Queries.{updates_of, must, reads_by, members, cost}
-use Rattle.esr_history.proofs.Membership.{In, each_in, In-from_any, any-from_number, In-of_filter}
+use Rattle.esr_history.specs.Queries.{updates_of, reads_by, cost}
+use Rattle.esr_history.proofs.Membership.{each_in}
 use Rattle.esr_order.specs.Placements.{is_among, IsClosed, IsLeastSet, IsSmallestLeastSet}
 use Rattle.esr_cert.specs.Problem as problems
 use Rattle.esr_cert.specs.Problem.{Problem, size, is_closed, is_sound, in_set, is_ascending, is_distinct, IsSmallestLeast}
 use Rattle.esr_cert.proofs.Sound as sound
 use Rattle.esr_cert.proofs.Sound.{IsProblem, facts}
-use Rattle.esr_audit.specs.Problems.{passes_at, places, StandsFor}
+use Rattle.esr_audit.specs.Problems.{passes_at, StandsFor}
 use Rattle.esr_audit.proofs.Costs.{cost_stands}
 
 -- a member has a place

@@ -1,28 +1,26 @@
 -- The problem gathered from an order of a query stands for the query.
-use Rattle.std.proofs.Common.{◌≡◌, ◌≢◌, ℕ, zero, suc, ℤ, ◌+◌, ◌<◌, ◌≤◌, ◌↔◌, Bool, true, false, cond, not, ◌&&◌, ◌||◌, eqb, List, [], ◌∷◌, ◌++◌, length, filter, map, refl, sym, ap, ◌∙◌, subst, inl, inr, arith, Option, Some, None, Contains}
+use Rattle.std.proofs.Common.{◌≡◌, ◌≢◌, ℕ, zero, suc, ◌+◌, ◌<◌, ◌≤◌, ◌↔◌, Bool, true, ◌&&◌, ◌||◌, eqb, List, [], ◌∷◌, length, filter, map, refl, sym, ap, ◌∙◌, subst, inl, inr, arith, Some, Contains}
 use Rattle.std.specs.Prelude.{All, AllPairs, IsTrue, nat_lt}
-use Rattle.std.specs.List.{list_any, list_all, filter_map, slice_get, slice_index_or, range_with_len, AllByRecursion}
-use Rattle.std.proofs.Math.Path.{fun_ext}
-use Rattle.std.proofs.lemmas.Bool.{cases_eq, cases_Bool, eq-eqb, ne_eqb, eqb-true, true≢false, false≢true, and_parts, and_from, or_left, or_right, lt-ltb, ltb-true}
-use Rattle.std.proofs.lemmas.Option.{get_or_from_slice_get, slice_get-get_or}
+use Rattle.std.specs.List.{list_any, slice_get, AllByRecursion}
+use Rattle.std.proofs.lemmas.Bool.{cases_eq, eq-eqb, ne_eqb, and_from, or_left, or_right, lt-ltb}
+use Rattle.std.proofs.lemmas.Option.{slice_get-get_or}
 use Rattle.std.proofs.lemmas.List.{length-map}
-use Rattle.std.proofs.lemmas.List.Elements.{All-contains, All-contains_itself, All-from_recursion, recursion_from_All}
+use Rattle.std.proofs.lemmas.List.Elements.{All-contains, All-from_recursion, recursion_from_All}
 use Rattle.esr_history.specs.declared.event.TxnId.{TxnId}
 use Rattle.esr_history.specs.Machine.{Distance, Schedule, distance_in}
 use Rattle.esr_history.specs.Operations.{Operation}
 use Rattle.esr_history.specs.Serial.{is_before}
 use Rattle.esr_history.specs.Queries.{updates_of, must, reads_by}
-use Rattle.esr_history.proofs.Membership.{In, Pairs, each_in, each_at, In-from_any, any-from_number, In-Contains, Contains-In, Pairs-from_all, filter_agree_in}
+use Rattle.esr_history.proofs.Membership.{Pairs, each_in, each_at, any-from_number, In-Contains, Contains-In, Pairs-from_all, filter_agree_in}
 use Rattle.esr_order.specs.Placements.{is_among, IsClosed}
 use Rattle.esr_order.specs.Chains.{update_at}
 use Rattle.esr_order.specs.Orders.{Ordered, IsClosedIn, IsOrderOf}
-use Rattle.esr_cert.specs.Problem as problems
 use Rattle.esr_cert.specs.Problem.{Problem, is_closed, in_set, is_ascending}
 use Rattle.esr_cert.proofs.Sound as sound
 use Rattle.esr_audit.specs.declared.reads.Reading.{Reading}
 use Rattle.esr_audit.specs.Problems.{passes_at, places, items_read, has_written, writers_of, chain_for, StandsFor}
 use Rattle.esr_audit.specs.Reads.{gathered, items_in}
-use Rattle.esr_audit.proofs.Smallest.{passes_here, element}
+use Rattle.esr_audit.proofs.Smallest.{passes_here}
 use Rattle.esr_audit.proofs.Positions.{filter_agree, ascending_range}
 use Rattle.esr_audit.proofs.Versions.{reading_of, read_alike, gathered_stands}
 

@@ -1,9 +1,8 @@
 -- The answer of an audit stays in longer histories.
-use Rattle.std.proofs.Common.{◌≡◌, ℕ, ◌≤◌, Bool, true, List, refl, sym, ap, ◌∙◌, subst, arith, filter, Contains}
+use Rattle.std.proofs.Common.{◌≡◌, ℕ, ◌≤◌, Bool, List, sym, ap, ◌∙◌, subst, arith, filter, Contains}
 use Rattle.std.specs.Prelude.{All, IsTrue}
 use Rattle.esr_history.specs.Machine.{Distance, Schedule, IsLegal}
-use Rattle.esr_history.specs.Serial.{is_before}
-use Rattle.esr_history.specs.Queries.{updates_of, must, members, cost, IsAlike}
+use Rattle.esr_history.specs.Queries.{updates_of, cost, IsAlike}
 use Rattle.esr_order.specs.Placements.{is_among, IsClosed, IsLeastSet, IsSmallestLeastSet}
 use Rattle.esr_order.specs.Statements.{ClosedSetsAreParts}
 use Rattle.esr_order.proofs.Ordered.{law_of_placements}

@@ -1,8 +1,7 @@
 -- The versions of an item in an order are the values that its first writers leave.
-use Rattle.std.proofs.Common.{◌≡◌, ℕ, zero, suc, ℤ, ◌+◌, ◌<◌, ◌≤◌, Bool, true, false, ◌||◌, cond, eqb, List, [], ◌∷◌, ◌++◌, length, take, filter, map, flat_map, sum_by, refl, sym, ap, ◌∙◌, subst, inl, inr, arith, Option, Some, None, append-nil}
+use Rattle.std.proofs.Common.{◌≡◌, ℕ, zero, suc, ℤ, ◌+◌, Bool, true, false, ◌||◌, cond, eqb, List, [], ◌∷◌, length, take, filter, map, flat_map, sum_by, refl, sym, ap, ◌∙◌, arith, Option, Some, None, append-nil}
 use Rattle.std.specs.Prelude.{is_some}
 use Rattle.std.specs.List.{list_any, filter_map, cons_option, slice_get, slice_index_or, range_with_len, last_or, AllByRecursion}
-use Rattle.std.proofs.lemmas.Bool.{cases_Bool, true≢false}
 use Rattle.std.proofs.lemmas.List.Sums.{sum_by-cons}
 use Rattle.std.proofs.lemmas.Option.{get_or_from_slice_get}
 use Rattle.esr_items.specs.Values.{value_at}
@@ -12,12 +11,12 @@ use Rattle.esr_history.specs.Operations.{Operation}
 use Rattle.esr_history.specs.Serial.{values_by, state}
 use Rattle.esr_history.specs.Queries.{updates_of, reads_by}
 use Rattle.esr_history.proofs.LastWriter.{last_value-append, last_value-some}
-use Rattle.esr_order.specs.Chains.{Chain, chain_from, some_chain, if_written, last_of, update_at, last_written, chain_of}
+use Rattle.esr_order.specs.Chains.{Chain, chain_from, some_chain, if_written, last_of, last_written, chain_of}
 use Rattle.esr_order.specs.Orders.{Ordered, chain_at}
 use Rattle.esr_cert.specs.Problem as problems
 use Rattle.esr_audit.specs.declared.reads.Reading.{Reading}
-use Rattle.esr_audit.specs.Problems.{passes_at, places, items_read, has_written, writers_of, read_distance, version_cost, chain_for}
-use Rattle.esr_audit.specs.Reads.{values_of, distance_sum, writers_in, values_in, gathered, items_in}
+use Rattle.esr_audit.specs.Problems.{passes_at, places, has_written, writers_of, version_cost, chain_for}
+use Rattle.esr_audit.specs.Reads.{values_of, distance_sum, writers_in, values_in, gathered}
 use Rattle.esr_audit.proofs.Values.{values_none, values_some, writers_leave}
 use Rattle.esr_audit.proofs.Places.{length-places}
 

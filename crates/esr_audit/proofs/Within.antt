@@ -1,9 +1,9 @@
 -- The problem gathered from an order of a query of a legal history is within the ranges of problems.
-use Rattle.std.proofs.Common.{◌≡◌, ℕ, zero, suc, ℤ, pos, ◌+◌, ◌*◌, ◌^◌, ◌<◌, ◌≤◌, max, Bool, true, false, cond, not, ◌&&◌, eqb, List, [], ◌∷◌, ◌++◌, length, filter, map, flat_map, take, sum_by, count_by, refl, sym, ap, ◌∙◌, subst, inl, inr, arith, Option, Some, None, All, Contains}
+use Rattle.std.proofs.Common.{◌≡◌, ℕ, zero, suc, ℤ, ◌+◌, ◌*◌, ◌^◌, ◌<◌, ◌≤◌, Bool, true, false, cond, not, ◌&&◌, eqb, List, [], ◌∷◌, ◌++◌, length, filter, map, flat_map, take, sum_by, count_by, refl, sym, ap, ◌∙◌, subst, inl, inr, arith, Option, Some, None, All, Contains}
 use Rattle.std.specs.Prelude.{IsTrue, nat_lt, nat_le, is_some, unwrap_or, slice_get}
-use Rattle.std.specs.List.{list_all, list_any, filter_map, cons_option, slice_index_or, range_with_len, AllByRecursion, before_first}
+use Rattle.std.specs.List.{list_all, list_any, filter_map, cons_option, range_with_len, AllByRecursion, before_first}
 use Rattle.std.specs.Option.{option_map}
-use Rattle.std.proofs.lemmas.Bool.{cases_Bool, and_parts, and_from, true≢false, lt-ltb, le-leb, eqb-true, eq-eqb}
+use Rattle.std.proofs.lemmas.Bool.{and_from, true≢false, lt-ltb, le-leb, eq-eqb}
 use Rattle.std.proofs.lemmas.List.{length-map}
 use Rattle.std.proofs.lemmas.List.Sums.{sum_by-cons, sum_by-le, sum_by-le-sum_by}
 use Rattle.std.proofs.lemmas.List.Elements.{All-contains, All-from_recursion, recursion_from_All}
@@ -13,20 +13,20 @@ use Rattle.esr_history.specs.declared.event.Event.{Event}
 use Rattle.esr_history.specs.declared.event.Event.TheVariants.{BeginUpdate, BeginQuery, Read, Write, Commit, Abort}
 use Rattle.esr_history.specs.declared.event.Reply.{Reply}
 use Rattle.esr_history.specs.declared.event.Entry.{Entry}
-use Rattle.esr_history.specs.Events.{Beginning, beginning, beginnings, is_query, is_update, is_refusal, reads_any, all_reads_of, last_value}
+use Rattle.esr_history.specs.Events.{Beginning, beginnings, is_query, is_update, is_refusal, reads_any, all_reads_of, last_value}
 use Rattle.esr_history.specs.Machine.{Distance, Schedule, done, distance_in}
 use Rattle.esr_history.specs.Operations.{Operation, operations, operation_by, operation_of, answer, commit_order}
 use Rattle.esr_history.specs.Ranges.{IsWithinRanges}
 use Rattle.esr_history.specs.Serial.{is_before, state, values_by}
 use Rattle.esr_history.specs.Queries.{updates_of, reads_by}
-use Rattle.esr_history.proofs.Membership.{In, each_in, each_at, In-of_filter, In-append_cases, Contains-In, any-from_In}
+use Rattle.esr_history.proofs.Membership.{In, each_in, each_at, In-of_filter, Contains-In, any-from_In}
 use Rattle.esr_history.proofs.Versions.{wrote_by}
 use Rattle.esr_history.proofs.Words.{values_trace}
 use Rattle.esr_order.specs.Chains.{update_at}
 use Rattle.esr_order.specs.Orders.{Ordered, IsOrderOf}
 use Rattle.esr_cert.specs.Problem.{Chain, Problem, size, greatest, chain_is_in_range, is_in_range, is_sound, max_txn, max_item, max_cost}
 use Rattle.esr_cert.proofs.Sound.{all_from}
-use Rattle.esr_audit.specs.Problems.{passes_at, places, items_read, has_written, writers_of, read_distance, version_cost, chain_for}
+use Rattle.esr_audit.specs.Problems.{passes_at, places, items_read, has_written, writers_of, version_cost, chain_for}
 use Rattle.esr_audit.proofs.Costs.{by_item, sum_mapped}
 use Rattle.esr_audit.proofs.Standing.{problem_from}
 use Rattle.esr_audit.proofs.Shape as shape

@@ -1,5 +1,5 @@
 -- The problem that stands for a committed query of a history: what an auditor solves.
-use Rattle.std.specs.Prelude.{◌≡◌, ◌↔◌, ℕ, ℤ, suc, Bool, true, false, ◌&&◌, ◌==◌, List, length, filter, map, take, sum_by, slice_get, All, Option, Some, None, if◌then◌else◌}
+use Rattle.std.specs.Prelude.{◌≡◌, ◌↔◌, ℕ, ℤ, suc, Bool, true, false, ◌&&◌, ◌==◌, List, length, filter, map, take, sum_by, slice_get, All, Some, None, if◌then◌else◌}
 use Rattle.std.specs.List.{list_any, range_with_len}
 use Rattle.esr_history.specs.Events.{writes}
 use Rattle.esr_history.specs.Machine.{Distance, Schedule, done, distance_in}

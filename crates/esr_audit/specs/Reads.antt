@@ -1,6 +1,6 @@
 -- What an auditor gathers: the values that a query read, and their distances from the versions of an item.
-use Rattle.std.specs.Prelude.{◌≡◌, ℕ, ℤ, ◌==◌, List, [], ◌∷◌, Bool, Option, Some, None, filter, map, sum_by, if◌then◌else◌}
-use Rattle.std.specs.List.{filter_map, list_any, range_with_len}
+use Rattle.std.specs.Prelude.{ℕ, ℤ, ◌==◌, List, [], ◌∷◌, Option, Some, None, filter, map, sum_by, if◌then◌else◌}
+use Rattle.std.specs.List.{list_any, range_with_len}
 use Rattle.esr_items.specs.Values.{value_at}
 use Rattle.esr_history.specs.declared.event.Event.{Event}
 use Rattle.esr_history.specs.declared.event.Event.TheVariants.{Read, Commit}
@@ -8,7 +8,6 @@ use Rattle.esr_history.specs.declared.event.TxnId.{TxnId}
 use Rattle.esr_history.specs.declared.event.Reply.{Reply}
 use Rattle.esr_history.specs.declared.event.Entry.{Entry}
 use Rattle.esr_history.specs.Events.{is_refusal}
-use Rattle.esr_history.specs.Machine.{Distance, Schedule}
 use Rattle.esr_history.specs.Operations.{answer}
 use Rattle.esr_order.specs.Chains as orders
 use Rattle.esr_order.specs.Orders.{Ordered, chain_at}

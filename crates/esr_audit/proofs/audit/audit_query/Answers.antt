@@ -1,4 +1,4 @@
-use Rattle.std.proofs.Common.{◌≡◌, ℕ, Bool, true, false, refl, map, inl, inr, Ok, Err, List}
+use Rattle.std.proofs.Common.{◌≡◌, ℕ, true, map, inl, inr, Ok, Err, List}
 use Rattle.std.specs.Prelude.{Result, IfOk}
 use Rattle.std.proofs.lemmas.Bool.{cases_Bool, and_parts}
 use Rattle.esr_history.specs.declared.event.TxnId.{TxnId}

@@ -1,8 +1,7 @@
-use Rattle.std.proofs.Common.{◌≡◌, ◌∙◌, ap, sym, subst, not, filter, map, List, [], ◌∷◌, refl, ℕ, All}
+use Rattle.std.proofs.Common.{◌≡◌, ◌∙◌, ap, map, List, [], ◌∷◌, refl}
 use Rattle.esr_history.specs.declared.event.TxnId.{TxnId}
-use Rattle.esr_history.specs.Machine.{charges_in, import_in, done}
+use Rattle.esr_history.specs.Machine.{done}
 use Rattle.esr_history.specs.Operations.{commit_order}
-use Rattle.esr_ledgers.specs.Books.{is_open, is_open_query, amount_at}
 use Rattle.esr_audit.specs.declared.finding.Finding.{Finding}
 use Rattle.esr_audit.proofs.Committed as committed
 use Rattle.esr_audit.proofs.audit.book_of.Given.{Over}

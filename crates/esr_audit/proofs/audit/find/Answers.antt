@@ -1,4 +1,4 @@
-use Rattle.std.proofs.Common.{◌≡◌, true, ◌∙◌, sym, subst, refl, ap, List, ℕ, map}
+use Rattle.std.proofs.Common.{◌≡◌, ◌∙◌, sym, subst, refl, ap, ℕ, map}
 use Rattle.std.specs.List.{filter_map}
 use Rattle.std.specs.Prelude.{slice_get}
 use Rattle.esr_history.specs.declared.event.TxnId.{TxnId}

@@ -1,6 +1,5 @@
-use Rattle.std.proofs.Common.{◌≡◌, ◌≤◌, ℤ, List, length, arith, ap, ◌∙◌, sym, subst}
+use Rattle.std.proofs.Common.{ℤ, List, length, arith, ap, ◌∙◌, sym, subst}
 use Rattle.std.specs.Prelude.{All}
-use Rattle.std.specs.List.{AllByRecursion}
 use Rattle.std.proofs.lemmas.List.Elements.{All-from_recursion, recursion_from_All}
 use Rattle.esr_items.specs.Values.{IsValue}
 use Rattle.esr_audit.specs.declared.reads.Reading.{Reading}

@@ -1,6 +1,5 @@
-use Rattle.std.proofs.Common.{◌≡◌, ℕ, ◌+◌, ◌∷◌, ◌++◌, [], List, map, length, ap, ◌∙◌, sym, eqb, Bool}
+use Rattle.std.proofs.Common.{ℕ, map, ap, ◌∙◌, sym, eqb, Bool}
 use Rattle.std.specs.List.{list_any}
-use Rattle.esr_cert.specs.declared.problem.Chain.{Chain}
 use Rattle.esr_cert.specs.Problem as spec
 use Rattle.esr_cert.specs.Views.{chain_of as chain_view}
 use Rattle.esr_audit.specs.declared.reads.Reading.{Reading}

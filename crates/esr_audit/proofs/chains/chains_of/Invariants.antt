@@ -1,4 +1,4 @@
-use Rattle.std.proofs.Common.{◌≡◌, map, length}
+use Rattle.std.proofs.Common.{◌≡◌, map}
 use Rattle.esr_cert.specs.Views.{chain_of as chain_view}
 use Rattle.esr_audit.specs.Reads.{gathered, items_in}
 use Rattle.esr_audit.proofs.chains.chains_of.Given as goal

@@ -1,4 +1,4 @@
-use Rattle.std.proofs.Common.{◌≡◌, ◌++◌, ◌∷◌, take, map}
+use Rattle.std.proofs.Common.{◌≡◌, ◌∷◌, take, map}
 use Rattle.esr_audit.specs.Reads.{distance_sum}
 use Rattle.esr_audit.proofs.chains.costs_of.Given as goal
 

@@ -1,9 +1,7 @@
-use Rattle.std.proofs.Common.{◌≡◌, ℕ, ℤ, pos, ◌+◌, ◌≤◌, ◌*◌, ◌++◌, ◌∷◌, [], List, take, get_or, arith, ap, ◌∙◌, sym, sum_by, w64, FitsSigned, to_z, of_z}
-use Rattle.std.proofs.lemmas.Int.{to_z-of_z, ints}
+use Rattle.std.proofs.Common.{◌≡◌, ℕ, ℤ, pos, ◌+◌, ◌≤◌, take, get_or, arith, ap, ◌∙◌, sym, sum_by, w64, to_z, of_z}
+use Rattle.std.proofs.lemmas.Int.{to_z-of_z}
 use Rattle.std.proofs.lemmas.List.{take_all}
 use Rattle.std.proofs.lemmas.List.Sums.{sum_by_more}
-use Rattle.esr_items.specs.Values.{IsValue}
-use Rattle.esr_audit.specs.Reads.{distance_sum}
 use Rattle.esr_audit.proofs.Gathered.{value_fits}
 use Rattle.esr_audit.proofs.chains.distance_to.Given.{Over}
 use Rattle.esr_audit.proofs.chains.distance_to.Goals as goal

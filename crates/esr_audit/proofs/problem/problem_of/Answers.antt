@@ -1,13 +1,9 @@
-use Rattle.std.proofs.Common.{◌≡◌, ℕ, true, ap, ◌∙◌, sym, subst, refl, List, map}
-use Rattle.esr_history.specs.Queries.{reads_by}
+use Rattle.std.proofs.Common.{◌≡◌, ℕ, ap, ◌∙◌, sym, subst}
 use Rattle.esr_cert.specs.declared.problem.BundleFault.TheVariants.{Shape, Range, NoMemory}
 use Rattle.esr_cert.specs.Views.{problem_of}
-use Rattle.esr_cert.specs.Problem.{Problem, is_sound}
-use Rattle.esr_cert.specs.Faults.{problem_fault}
-use Rattle.esr_audit.specs.declared.reads.Reading.{Reading}
+use Rattle.esr_cert.specs.Problem.{is_sound}
 use Rattle.esr_audit.specs.Problems.{StandsFor}
-use Rattle.esr_audit.proofs.Versions.{reading_of}
-use Rattle.esr_audit.proofs.Standing.{problem_from, stands}
+use Rattle.esr_audit.proofs.Standing.{stands}
 use Rattle.esr_audit.proofs.Readings.{readings_are}
 use Rattle.esr_audit.proofs.Posed as posed
 use Rattle.esr_audit.proofs.problem.problem_of.Goals as goal
