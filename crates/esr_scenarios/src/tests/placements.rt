@@ -103,10 +103,10 @@ fn is_after(operations: &[Operation], u: u32, v: u32) -> bool {
 
 /// Whether no update of the order has an update behind it that has to come before it.
 fn keeps_conflicts(operations: &[Operation], order: &[u32]) -> bool {
-    order
+    order.iter().enumerate().all(|(i, late)| order
         .iter()
-        .enumerate()
-        .all(|(i, late)| order.iter().take(i).all(|early| !is_after(operations, *early, *late)))
+        .take(i)
+        .all(|early| !is_after(operations, *early, *late)))
 }
 
 /// What a transaction leaves in an item, if it wrote it.
@@ -154,9 +154,20 @@ fn least_in(operations: &[Operation], order: &[u32]) -> (u64, usize) {
 
 /// The least distance of all placements, with how many updates are before the position in
 /// those that have the fewest.
-fn least(alloc: Global, operations: &[Operation], updates: &[u32]) -> Result<(u64, usize), AllocError> {
+fn least(
+    alloc: Global,
+    operations: &[Operation],
+    updates: &[u32],
+) -> Result<(u64, usize), AllocError> {
     let mut least = (u64::MAX, 0);
-    for list in [[2, 3, 4], [2, 4, 3], [3, 2, 4], [3, 4, 2], [4, 2, 3], [4, 3, 2]] {
+    for list in [
+        [2, 3, 4],
+        [2, 4, 3],
+        [3, 2, 4],
+        [3, 4, 2],
+        [4, 2, 3],
+        [4, 3, 2],
+    ] {
         let mut order = Vec::new(alloc);
         for u in list {
             if updates.contains(&u) {
