@@ -37,8 +37,8 @@ once P f k a (suc n) low high t =
           let here : P a ≡ true = subst (λ j. P j ≡ true) e t in
           ap (λ b. sum_by (λ x. cond (eqb k x) (f x) 0) (cond b (a ∷ filter P (range_with_len (a + 1) n)) (filter P (range_with_len (a + 1) n)))) here
           ∙ (let c : cond (eqb k a) (f a) 0 ≡ f a = ap (λ b. cond b (f a) 0) (eq-eqb k a e) in
-             let g : f a ≡ f k = ap f (sym e) in
-             omega (arith, sum_by-cons (λ x. cond (eqb k x) (f x) 0) a (filter P (range_with_len (a + 1) n)), c, g, past P f k (a + 1) n (omega arith)))
+          let g : f a ≡ f k = ap f (sym e) in
+          omega (arith, sum_by-cons (λ x. cond (eqb k x) (f x) 0) a (filter P (range_with_len (a + 1) n)), c, g, past P f k (a + 1) n (omega arith)))
       | inr ne ↦ at (P a) (once P f k (a + 1) n (omega arith) (omega arith) t) ne
     ]
   where
@@ -70,19 +70,19 @@ pub by_item : (g : ℕ → Operation → ℕ) (P : ℕ → Bool) (n : ℕ) (os :
 by_item g P n [] a = sum_zero (filter P (range_with_len 0 n))
 by_item g P n (o ∷ os) a =
     sum_same (λ x. sum_by (λ (o : Operation). cond (eqb o.item x) (g x o) 0) (o ∷ os)) (λ x. cond (eqb o.item x) (g x o) 0 + sum_by (λ (o : Operation). cond (eqb o.item x) (g x o) 0) os) (filter P (range_with_len 0 n))
-      (each_in (λ x. sum_by (λ (o : Operation). cond (eqb o.item x) (g x o) 0) (o ∷ os) ≡ cond (eqb o.item x) (g x o) 0 + sum_by (λ (o : Operation). cond (eqb o.item x) (g x o) 0) os) (filter P (range_with_len 0 n)) (λ x i. sum_by-cons (λ (o : Operation). cond (eqb o.item x) (g x o) 0) o os))
+    (each_in (λ x. sum_by (λ (o : Operation). cond (eqb o.item x) (g x o) 0) (o ∷ os) ≡ cond (eqb o.item x) (g x o) 0 + sum_by (λ (o : Operation). cond (eqb o.item x) (g x o) 0) os) (filter P (range_with_len 0 n)) (λ x i. sum_by-cons (λ (o : Operation). cond (eqb o.item x) (g x o) 0) o os))
     ∙ sum_of_sums (λ x. cond (eqb o.item x) (g x o) 0) (λ x. sum_by (λ (o : Operation). cond (eqb o.item x) (g x o) 0) os) (filter P (range_with_len 0 n))
     ∙ (let first : sum_by (λ x. cond (eqb o.item x) (g x o) 0) (filter P (range_with_len 0 n)) ≡ g o.item o = once P (λ x. g x o) o.item 0 n (omega arith) (omega (arith, (a.0).1)) (a.0).0 in
-       let rest = by_item g P n os a.1 in
-       omega (arith, first, rest, sum_by-cons (λ (o : Operation). g o.item o) o os))
+    let rest = by_item g P n os a.1 in
+    omega (arith, first, rest, sum_by-cons (λ (o : Operation). g o.item o) o os))
 
 -- Where the items that q read are below the count of items, the distance of its reads is the sum over these items.
 pub distance_by_item : (d : Distance) (h : Schedule) (q : ℕ) (w : ℕ → ℤ) → AllByRecursion (λ (o : Operation). o.item < length h.opening) (reads_by h q)
     → sum_by (λ x. read_distance d h q x (w x)) (items_read h q) ≡ distance_from d h q w
 distance_by_item d h q w inside =
     by_item (λ x (o : Operation). distance_in d h x o.value (w x)) (λ x. list_any (λ (o : Operation). eqb o.item x) (reads_by h q)) (length h.opening) (reads_by h q)
-      (each_in (λ (o : Operation). (list_any (λ (p : Operation). eqb p.item o.item) (reads_by h q) ≡ true) × (o.item < length h.opening)) (reads_by h q)
-        (λ o i. (read_here (reads_by h q) o i, each_at (λ (o : Operation). o.item < length h.opening) (reads_by h q) o inside i)))
+    (each_in (λ (o : Operation). (list_any (λ (p : Operation). eqb p.item o.item) (reads_by h q) ≡ true) × (o.item < length h.opening)) (reads_by h q)
+    (λ o i. (read_here (reads_by h q) o i, each_at (λ (o : Operation). o.item < length h.opening) (reads_by h q) o inside i)))
   where
     read_here : (os : List Operation) (o : Operation) → In o os → list_any (λ (p : Operation). eqb p.item o.item) os ≡ true
     read_here [] o i = absurd i
@@ -107,6 +107,6 @@ module _ (d : Distance) (h : Schedule) (q : ℕ) (p : Problem) (stands : StandsF
       ap (sum_by (chain_cost (passes_at p.updates S))) stands.chains
       ∙ sum_mapped (chain_cost (passes_at p.updates S)) (chain_for d h q p.updates) (items_read h q)
       ∙ sum_same (λ x. chain_cost (passes_at p.updates S) (chain_for d h q p.updates x)) (λ x. read_distance d h q x (state h (members h q S) x)) (items_read h q)
-          (each_in (λ x. chain_cost (passes_at p.updates S) (chain_for d h q p.updates x) ≡ read_distance d h q x (state h (members h q S) x)) (items_read h q)
-            (λ x i. chain_is S x (each_at (λ x. filter (has_written h x) p.updates ≡ writers_of h q x) (items_read h q) x (recursion_from_All (λ x. filter (has_written h x) p.updates ≡ writers_of h q x) (items_read h q) stands.writers) i)))
+      (each_in (λ x. chain_cost (passes_at p.updates S) (chain_for d h q p.updates x) ≡ read_distance d h q x (state h (members h q S) x)) (items_read h q)
+      (λ x i. chain_is S x (each_at (λ x. filter (has_written h x) p.updates ≡ writers_of h q x) (items_read h q) x (recursion_from_All (λ x. filter (has_written h x) p.updates ≡ writers_of h q x) (items_read h q) stands.writers) i)))
       ∙ distance_by_item d h q (state h (members h q S)) inside

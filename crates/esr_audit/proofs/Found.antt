@@ -44,9 +44,9 @@ module _ (d : Distance) (h : Schedule) (q : ℕ) (opened : All IsValue h.opening
       let inside : AllByRecursion (λ (o : Operation). o.item < length h.opening) (reads_by h q) = reads_inside d h q opened legal in
       let same : (u : ℕ) → u < size p → in_set c.set u ≡ passes_at p.updates (is_among before) u = λ u l. sym (passes_as_set p.updates dist c.set f.ascending f.known u l) in
       let smallest : IsSmallestLeastSet d h q (is_among before) =
-        smallest_stands d h q p stands ok inside (is_among before) (known_at p.updates c.set) (smallest_same p ok (in_set c.set) (passes_at p.updates (is_among before)) same s) in
+      smallest_stands d h q p stands ok inside (is_among before) (known_at p.updates c.set) (smallest_same p ok (in_set c.set) (passes_at p.updates (is_among before)) same s) in
       let costs : c.worth ≡ cost d h q (is_among before) =
-        cost_is p c f ∙ same_cost p ok (in_set c.set) (passes_at p.updates (is_among before)) same ∙ cost_stands d h q p stands inside (is_among before) in
+      cost_is p c f ∙ same_cost p ok (in_set c.set) (passes_at p.updates (is_among before)) same ∙ cost_stands d h q p stands inside (is_among before) in
       let all_closed : IsClosed h q (λ u. true) = record { downward = λ u v cu cv b t. refl; holds_must = λ u m. refl } in
       let parts : ClosedSetsAreParts d h q = law_of_placements d h q legal in
       record {

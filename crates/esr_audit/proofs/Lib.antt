@@ -12,3 +12,4 @@ pub mod Shape
 pub mod Within
 pub mod Readings
 pub mod Posed
+pub mod Committed

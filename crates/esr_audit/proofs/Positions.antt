@@ -42,9 +42,9 @@ among_at us dist (j ∷ set) known i u e =
     ap (λ (o : Option ℕ). is_among (cons_option o (filter_map (slice_get us) set)) u) here.1
     ∙ ap (λ b. eqb here.0 u || b) (among_at us dist set both.1 i u e)
     ∙ ap (λ b. b || in_set set i) (elim (cases_eq here.0 u) [
-        | inl s ↦ eq-eqb here.0 u s ∙ sym (eq-eqb j i (same_place us j i u dist (here.1 ∙ ap Some s) e))
-        | inr ne ↦ ne_eqb here.0 u ne ∙ sym (ne_eqb j i (λ (k : j ≡ i). ne (same_Some here.0 u (sym here.1 ∙ ap (slice_get us) k ∙ e))))
-      ])
+      | inl s ↦ eq-eqb here.0 u s ∙ sym (eq-eqb j i (same_place us j i u dist (here.1 ∙ ap Some s) e))
+      | inr ne ↦ ne_eqb here.0 u ne ∙ sym (ne_eqb j i (λ (k : j ≡ i). ne (same_Some here.0 u (sym here.1 ∙ ap (slice_get us) k ∙ e))))
+    ])
 
 -- ---- ascending lists of positions
 
@@ -95,7 +95,7 @@ ascending_range (s ∷ set) a (suc n) up l =
       | inr ne ↦
           whole ((omega arith, omega arith), beyond set more l.1 (let m : a < s = omega arith in m))
           ∙ sym (ap (λ c. cond c (a ∷ filter (in_set (s ∷ set)) (range_with_len (a + 1) n)) (filter (in_set (s ∷ set)) (range_with_len (a + 1) n)))
-              (ap (λ b. b || in_set set a) (ne_eqb s a ne) ∙ not_in set s a more (omega arith)))
+          (ap (λ b. b || in_set set a) (ne_eqb s a ne) ∙ not_in set s a more (omega arith)))
     ]
   where
     later : (ys : List ℕ) → AllByRecursion (λ y. s < y) ys → AllByRecursion (λ x. (a ≤ x) × (x < a + suc n)) ys → s ≡ a → AllByRecursion (λ x. (a + 1 ≤ x) × (x < (a + 1) + n)) ys
@@ -155,8 +155,8 @@ module _ (us : List ℕ) (dist : is_distinct us ≡ true) (set : List ℕ) (up :
   pub before_members : (all : List ℕ) → us ≡ filter (is_among us) all → filter_map (slice_get us) set ≡ filter (is_among (filter_map (slice_get us) set)) all
   before_members all part =
       ap (filter_map (slice_get us)) (
-        ascending_range set 0 (length us) up (from_tests (length us) set known)
-        ∙ filter_agree (in_set set) (passes_at us (is_among there)) 0 (length us) (λ i low high. sym (passes_as_set i (omega arith))))
+      ascending_range set 0 (length us) up (from_tests (length us) set known)
+      ∙ filter_agree (in_set set) (passes_at us (is_among there)) 0 (length us) (λ i low high. sym (passes_as_set i (omega arith))))
       ∙ places_give us (is_among there)
       ∙ ap (filter (is_among there)) part
       ∙ filter_within (is_among there) (is_among us) (known_at us set) all

@@ -74,9 +74,9 @@ module _ (d : Distance) (h : Schedule) (q : ℕ) (p : Problem) (stands : StandsF
 
   pub smallest_stands : (S : ℕ → Bool) → ((u : ℕ) → S u ≡ true → is_among p.updates u ≡ true) → IsSmallestLeast p (passes_at p.updates S) → IsSmallestLeastSet d h q S
   smallest_stands S known s = record {
-      least = record { closed = closed; none_less = λ T c. none_less T c };
-      smallest = λ T t. All-from_recursion (λ u. IsTrue (S u) → IsTrue (T u)) (updates_of h q) (each_in (λ u. IsTrue (S u) → IsTrue (T u)) (updates_of h q) (λ u i su. contained T t u su));
-    }
+    least = record { closed = closed; none_less = λ T c. none_less T c };
+    smallest = λ T t. All-from_recursion (λ u. IsTrue (S u) → IsTrue (T u)) (updates_of h q) (each_in (λ u. IsTrue (S u) → IsTrue (T u)) (updates_of h q) (λ u i su. contained T t u su));
+  }
     where
       closed : IsClosed h q S
       closed = subst (IsClosed h q) (within_updates S known) ((stands.closed S).0 s.closed)

@@ -107,10 +107,10 @@ module _ (d : Distance) (h : Schedule) (q : ℕ) (o : Ordered) (good : IsOrderOf
   must_places =
       ascending_range o.must 0 (length (updates_of h q)) must_ascends (from_zero (length (updates_of h q)) o.must must_inside)
       ∙ filter_agree (in_set o.must) (passes_at (updates_of h q) (is_among (must h q))) 0 (length (updates_of h q)) (λ i low high.
-          let l : i < length (updates_of h q) = omega arith in
-          sym (passes_here (updates_of h q) (is_among (must h q)) i (update_at h q i) (there i l)
-            ∙ ap (λ ms. is_among ms (update_at h q i)) (sym good.musts)
-            ∙ must_there o.must must_inside i l))
+      let l : i < length (updates_of h q) = omega arith in
+      sym (passes_here (updates_of h q) (is_among (must h q)) i (update_at h q i) (there i l)
+      ∙ ap (λ ms. is_among ms (update_at h q i)) (sym good.musts)
+      ∙ must_there o.must must_inside i l))
 
   items_same : items_in (map reading_of (reads_by h q)) (length h.opening) ≡ items_read h q
   items_same = filter_agree (λ x. list_any (λ (r : Reading). eqb r.item x) (map reading_of (reads_by h q))) (λ x. list_any (λ (p : Operation). eqb p.item x) (reads_by h q)) 0 (length h.opening) (λ x low high. read_alike (reads_by h q) x)
@@ -139,7 +139,7 @@ module _ (d : Distance) (h : Schedule) (q : ℕ) (o : Ordered) (good : IsOrderOf
       let f : sound.IsClosed (problem_from d h q o) (passes_at (updates_of h q) S) = sound.closed_facts (problem_from d h q o) (passes_at (updates_of h q) S) c in
       record {
         downward = each_contained o.before (λ p. IsTrue (is_among (updates_of h q) (update_at h q p.1) && S (update_at h q p.1)) → IsTrue (is_among (updates_of h q) (update_at h q p.0) && S (update_at h q p.0)))
-          (λ p i t. let l = pair_inside p.0 p.1 i in sym (place_passes S p.0 l.0) ∙ f.before p.0 p.1 i (place_passes S p.1 l.1 ∙ t));
+            (λ p i t. let l = pair_inside p.0 p.1 i in sym (place_passes S p.0 l.0) ∙ f.before p.0 p.1 i (place_passes S p.1 l.1 ∙ t));
         holds_must = each_contained o.must (λ i. IsTrue (is_among (updates_of h q) (update_at h q i) && S (update_at h q i))) (λ i c. sym (place_passes S i (must_is_inside i c)) ∙ f.must i c);
       }
     where

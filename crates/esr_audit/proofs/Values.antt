@@ -48,12 +48,12 @@ version_leaves w S (u ∷ ws) v a =
           ∙ last_value-append v (w u) (flat_map w (take (version S ws) ws))
           ∙ rest
           ∙ elim (cases_Bool (S u)) [
-              | inl t ↦ sym (last_value-append v (w u) (flat_map w (filter S ws))) ∙ sym (ap (λ b. last_value v (flat_map w (cond b (u ∷ filter S ws) (filter S ws)))) t)
-              | inr f ↦
-                  let later : list_any S ws ≡ true = elim (or_cases (S u) (list_any S ws) some) [ inl t ↦ absurd (true≢false (sym t ∙ f)) | inr r ↦ r ] in
-                  last_value-some (flat_map w (filter S ws)) (last_value v (w u)) v (some_value w S ws a.1 later)
-                  ∙ sym (ap (λ b. last_value v (flat_map w (cond b (u ∷ filter S ws) (filter S ws)))) f)
-            ]
+            | inl t ↦ sym (last_value-append v (w u) (flat_map w (filter S ws))) ∙ sym (ap (λ b. last_value v (flat_map w (cond b (u ∷ filter S ws) (filter S ws)))) t)
+            | inr f ↦
+                let later : list_any S ws ≡ true = elim (or_cases (S u) (list_any S ws) some) [ inl t ↦ absurd (true≢false (sym t ∙ f)) | inr r ↦ r ] in
+                last_value-some (flat_map w (filter S ws)) (last_value v (w u)) v (some_value w S ws a.1 later)
+                ∙ sym (ap (λ b. last_value v (flat_map w (cond b (u ∷ filter S ws) (filter S ws)))) f)
+          ]
       | inr none ↦
           ap (λ b. last_value v (flat_map w (take (cond b (suc (version S ws)) 0) (u ∷ ws)))) none
           ∙ sym (ap (λ xs. last_value v (flat_map w xs)) (none_pass S (u ∷ ws) none))

@@ -57,9 +57,9 @@ after_each w o [] a all = refl
 after_each w o (u ∷ ws) a all =
     ap (λ v. v ∷ map (λ j. last_value o (flat_map w (take (suc j) (u ∷ ws)))) (range_with_len 1 (length ws))) (ap (last_value o) (append-nil (w u)))
     ∙ ap (λ vs. last_value o (w u) ∷ vs) (shifted (λ j. last_value o (flat_map w (take (suc j) (u ∷ ws)))) 0 (length ws)
-      ∙ mapped (range_with_len 0 (length ws))
-      ∙ after_each w (last_value o (w u)) ws a all.1
-      ∙ fresh ws all.1)
+    ∙ mapped (range_with_len 0 (length ws))
+    ∙ after_each w (last_value o (w u)) ws a all.1
+    ∙ fresh ws all.1)
   where
     shifted : {Y : Type 0} (f : ℕ → Y) (a n : ℕ) → map f (range_with_len (a + 1) n) ≡ map (λ j. f (j + 1)) (range_with_len a n)
     shifted f a zero = refl
@@ -167,7 +167,7 @@ pub versions_are : (h : Schedule) (q : ℕ) (o : Ordered) (x : ℕ) → chain_at
 versions_are h q o x is =
     let c : Chain = chain_from (last_written h q x) (length (updates_of h q)) in
     let equal : length c.values ≡ length c.writers =
-      ap length (chain_values h q x) ∙ length_mapped (λ j. state h (take (suc j) (writers_of h q x)) x) 0 (length (writers_of h q x)) ∙ sym (ap length (chain_writers h q x) ∙ length-places (updates_of h q) (has_written h x)) in
+    ap length (chain_values h q x) ∙ length_mapped (λ j. state h (take (suc j) (writers_of h q x)) x) 0 (length (writers_of h q x)) ∙ sym (ap length (chain_writers h q x) ∙ length-places (updates_of h q) (has_written h x)) in
     ap values_in is ∙ written_values c equal ∙ chain_values h q x
   where
     length_mapped : {Y : Type 0} (f : ℕ → Y) (a n : ℕ) → length (map f (range_with_len a n)) ≡ n
@@ -183,10 +183,10 @@ gathered_stands d h q o x is =
     let values : values_in (chain_at o x) ≡ map (λ j. state h (take (suc j) (writers_of h q x)) x) (range_with_len 0 (length (writers_of h q x))) = versions_are h q o x is in
     let D : ℤ → ℕ = distance_sum (distance_in d h) x (values_of (map reading_of (reads_by h q)) x) in
     let costs : map D (value_at h.opening x ∷ values_in (chain_at o x)) ≡ map (version_cost d h q x) (range_with_len 0 (suc (length (writers_of h q x)))) =
-      ap (λ vs. map D (value_at h.opening x ∷ vs)) values
-      ∙ ap (map D) (versions_from (λ j. state h (take j (writers_of h q x)) x) (length (writers_of h q x)))
-      ∙ mapped_twice D (λ j. state h (take j (writers_of h q x)) x) (range_with_len 0 (suc (length (writers_of h q x))))
-      ∙ same_list (λ j. D (state h (take j (writers_of h q x)) x)) (version_cost d h q x) (range_with_len 0 (suc (length (writers_of h q x)))) (λ j. sum_of_reads (distance_in d h) x (state h (take j (writers_of h q x)) x) (reads_by h q)) in
+    ap (λ vs. map D (value_at h.opening x ∷ vs)) values
+    ∙ ap (map D) (versions_from (λ j. state h (take j (writers_of h q x)) x) (length (writers_of h q x)))
+    ∙ mapped_twice D (λ j. state h (take j (writers_of h q x)) x) (range_with_len 0 (suc (length (writers_of h q x))))
+    ∙ same_list (λ j. D (state h (take j (writers_of h q x)) x)) (version_cost d h q x) (range_with_len 0 (suc (length (writers_of h q x)))) (λ j. sum_of_reads (distance_in d h) x (state h (take j (writers_of h q x)) x) (reads_by h q)) in
     let with_writers : List ℕ → problems.Chain = λ ws. record { item = x; writers = ws; costs = map D (value_at h.opening x ∷ values_in (chain_at o x)) } in
     let with_costs : List ℕ → problems.Chain = λ cs. record { item = x; writers = places (updates_of h q) (has_written h x); costs = cs } in
     ap with_writers writers ∙ ap with_costs costs

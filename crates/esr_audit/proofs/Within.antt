@@ -94,9 +94,10 @@ module _ (h : Schedule) (range : IsWithinRanges h) (opened : All IsValue h.openi
   -- what a query read are values of items that there are
   pub reads_in_range : (q : ℕ) → AllByRecursion (λ (o : Operation). IsValue o.value × (o.item < length h.opening)) (reads_by h q)
   reads_in_range q = each_in (λ (o : Operation). IsValue o.value × (o.item < length h.opening)) (reads_by h q) (λ o i.
-      let j = (In-of_filter (λ (o : Operation). not o.writes && eqb o.txn q) (operations h) o i).0 in
-      (each_at (λ (o : Operation). IsValue o.value) (operations h) o (recursion_from_All (λ (o : Operation). IsValue o.value) (operations h) range.values) j,
-       each_at (λ (o : Operation). o.item < length h.opening) (operations h) o (recursion_from_All (λ (o : Operation). o.item < length h.opening) (operations h) range.items) j))
+      let j = (In-of_filter (λ (o : Operation). not o.writes && eqb o.txn q) (operations h) o i).0 in (
+        each_at (λ (o : Operation). IsValue o.value) (operations h) o (recursion_from_All (λ (o : Operation). IsValue o.value) (operations h) range.values) j,
+        each_at (λ (o : Operation). o.item < length h.opening) (operations h) o (recursion_from_All (λ (o : Operation). o.item < length h.opening) (operations h) range.items) j,
+      ))
 
   -- the number of an update
   number_in_range : (u : ℕ) → is_update (done h) u ≡ true → (0 < u) × (u ≤ 65535)
@@ -182,8 +183,8 @@ module _ (d : Distance) (h : Schedule) (q : ℕ) (range : IsWithinRanges h) (ope
         and_from (nat_le x max_item) (list_all (λ w. nat_lt w (size p)) (places (updates_of h q) (has_written h x)))
         (le-leb x max_item (omega arith))
         (all_from (λ w. nat_lt w (size p)) (places (updates_of h q) (has_written h x)) (λ w c.
-          let k = below (passes_at (updates_of h q) (has_written h x)) 0 (length (updates_of h q)) w (Contains-In (places (updates_of h q) (has_written h x)) w c) in
-          lt-ltb w (size p) (omega (arith, k, ap length good.commits))))
+        let k = below (passes_at (updates_of h q) (has_written h x)) 0 (length (updates_of h q)) w (Contains-In (places (updates_of h q) (has_written h x)) w c) in
+        lt-ltb w (size p) (omega (arith, k, ap length good.commits))))
       where
         in_row : (a n x : ℕ) → In x (range_with_len a n) → x < a + n
         in_row a zero x i = absurd i

@@ -1,13 +1,17 @@
 -- What an audit finds of a committed query.
-use Rattle.std.specs.Prelude.{◌≡◌, ◌≤◌, ℕ, List, filter}
+use Rattle.std.specs.Prelude.{◌≡◌, ◌≤◌, ℕ, List, filter, map}
 use Rattle.std.specs.List.{filter_map, slice_get}
-use Rattle.esr_history.specs.Machine.{Distance, Schedule, charges_in, import_in}
+use Rattle.esr_history.specs.Events.{is_query}
+use Rattle.esr_history.specs.Machine.{Distance, Schedule, done, charges_in, import_in}
+use Rattle.esr_history.specs.Operations.{commit_order}
 use Rattle.esr_history.specs.Queries.{members, cost}
 use Rattle.esr_order.specs.Placements.{is_among, IsLeastDistance, IsSmallestLeastSet}
 use Rattle.esr_cert.specs.Problem.{Problem}
 use Rattle.esr_cert.specs.Certificate.{Certificate, Certifies}
 use Rattle.esr_order.specs.declared.order.OrderError.{OrderError}
 use Rattle.esr_order.specs.declared.order.OrderError.TheVariants.{NotACommittedQuery, NoMemory}
+use Rattle.esr_cert.specs.Views.{certificate_of}
+use Rattle.esr_audit.specs.declared.finding.Finding.{Finding}
 use Rattle.esr_audit.specs.declared.finding.AuditError.{AuditError}
 use Rattle.esr_audit.specs.declared.finding.AuditError.TheVariants as refusals
 use Rattle.esr_audit.specs.Problems.{StandsFor}
@@ -33,3 +37,12 @@ pub record IsShown (d : Distance) (h : Schedule) (q distance : ℕ) (before : Li
   pub certified : Certifies problem certificate
   pub set_is : before ≡ filter_map (slice_get problem.updates) certificate.set
   pub worth_is : certificate.worth ≡ distance
+
+-- what is found of a query
+pub record IsFinding (d : Distance) (h : Schedule) (f : Finding) : Type 0 where
+  pub answer : IsAnswer d h f.query.0 f.distance f.import (map (λ t. t.0) f.before.items)
+  pub shown : IsShown d h f.query.0 f.distance (map (λ t. t.0) f.before.items) f.problem (certificate_of f.certificate)
+
+-- the committed queries, in commit order
+abbrev pub committed_queries : Schedule → List ℕ
+committed_queries h = filter (is_query (done h)) (commit_order (done h))

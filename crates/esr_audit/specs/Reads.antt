@@ -3,7 +3,8 @@ use Rattle.std.specs.Prelude.{◌≡◌, ℕ, ℤ, ◌==◌, List, [], ◌∷◌
 use Rattle.std.specs.List.{filter_map, list_any, range_with_len}
 use Rattle.esr_items.specs.Values.{value_at}
 use Rattle.esr_history.specs.declared.event.Event.{Event}
-use Rattle.esr_history.specs.declared.event.Event.TheVariants.{Read}
+use Rattle.esr_history.specs.declared.event.Event.TheVariants.{Read, Commit}
+use Rattle.esr_history.specs.declared.event.TxnId.{TxnId}
 use Rattle.esr_history.specs.declared.event.Reply.{Reply}
 use Rattle.esr_history.specs.declared.event.Entry.{Entry}
 use Rattle.esr_history.specs.Events.{is_refusal}
@@ -49,3 +50,11 @@ gathered d opening order readings x = record {
 -- the items below n that were read
 abbrev pub items_in : List Reading → ℕ → List ℕ
 items_in readings n = filter (λ x. list_any (λ r. r.item == x) readings) (range_with_len 0 n)
+
+abbrev pub commit_by : Event → Option TxnId
+commit_by (Commit t) = Some t
+commit_by _ = None
+
+-- the transaction that commits in an entry, if that is accepted
+abbrev pub commit_in : Entry → Option TxnId
+commit_in e = if is_refusal e.reply then None else commit_by e.event

@@ -1,29 +1,30 @@
 //! Audits: what is found of the committed queries of a history.
-ghost use Rattle.std.specs.Prelude.{◌≡◌, ◌↔◌, false, List, map, IfOk, IfErr, IsErrOf, IsTrue, ◌≤◌, length};
+ghost use Rattle.std.specs.Prelude.{◌≡◌, ◌↔◌, true, false, not, List, filter, map, All, IfOk, IfErr, IsErrOf, IsTrue};
 ghost use Rattle.std.specs.List.{filter_map, slice_get};
 ghost use Rattle.esr_history.specs.declared.event.Entry.{Entry};
-ghost use Rattle.esr_history.specs.Events.{is_query};
 ghost use Rattle.esr_history.specs.Legal.{along};
-ghost use Rattle.esr_history.specs.Machine.{IsLegal, charges_in, import_in, done};
+ghost use Rattle.esr_history.specs.Machine.{IsLegal, charges_in, import_in};
 ghost use Rattle.esr_history.specs.Queries.{is_committed_query};
+ghost use Rattle.esr_history.specs.Serial.{IsSerializable, committed_updates};
+ghost use Rattle.esr_history.specs.Totals.{IsWithinLimits};
 ghost use Rattle.esr_cert.specs.Certificate.{Certifies};
 ghost use Rattle.esr_cert.specs.Problem.{in_set, IsSmallestLeast};
 ghost use Rattle.esr_cert.specs.Views.{certificate_of};
 ghost use Rattle.esr_order.specs.Orders.{IsOrderOf};
-ghost use Rattle.esr_ledgers.specs.Books.{amount_at, is_open};
-ghost use Rattle.esr_audit.specs.Findings.{IsAnswer, IsShown};
+ghost use Rattle.esr_ledgers.specs.Books.{amount_at, is_open, is_open_query};
+ghost use Rattle.esr_audit.specs.Findings.{IsAnswer, IsShown, IsFinding, committed_queries};
 
-use std::alloc::{AllocError, Global};
-
+use crate::finding::{AuditError, Book, Finding};
+use crate::problem::problem_of;
+use crate::reads::committed;
 use esr_cert::{Certificate, Problem};
 use esr_core::ledgers_of;
 use esr_flow::{Network, solve};
 use esr_history::{History, NoMemory, TxnId};
 use esr_items::Metric;
+use esr_ledgers::Ledgers;
 use esr_order::Order;
-
-use crate::finding::{AuditError, Finding};
-use crate::problem::problem_of;
+use std::alloc::{AllocError, Global};
 
 /// The update at a position.
 fn update_at(updates: &[TxnId], i: u32) -> Option<TxnId>
@@ -36,7 +37,9 @@ fn update_at(updates: &[TxnId], i: u32) -> Option<TxnId>
 fn updates_at(alloc: Global, updates: &[TxnId], set: &[u32]) -> Result<Vec<TxnId>, AllocError>
     ensures { IfOk result (λ v. v.items ≡ filter_map (slice_get updates.now) set.now) }
 {
-    set.iter().filter_map(|i| update_at(updates, *i)).collect(alloc)
+    set.iter()
+        .filter_map(|i| update_at(updates, *i))
+        .collect(alloc)
 }
 
 /// A certificate of the problem, with its smallest closed set of least cost.
@@ -84,7 +87,11 @@ fn find<M: Metric>(
 /// # Errors
 /// `NotACommittedQuery` exactly where the transaction is no query, or has not committed.
 /// `NoMemory` where memory was refused.
-pub fn audit_query<M: Metric>(alloc: Global, history: &History<M>, q: TxnId) -> Result<Finding, AuditError>
+pub fn audit_query<M: Metric>(
+    alloc: Global,
+    history: &History<M>,
+    q: TxnId,
+) -> Result<Finding, AuditError>
     ensures query { IfOk result (λ f. f.query ≡ q) }
     ensures answer { IfOk result (λ f. IsAnswer M.distance_by history.now.schedule q.0 f.distance f.import (map (λ t. t.0) f.before.items)) }
     ensures shown { IfOk result (λ f. IsShown M.distance_by history.now.schedule q.0 f.distance (map (λ t. t.0) f.before.items) f.problem (certificate_of f.certificate)) }
@@ -96,4 +103,100 @@ pub fn audit_query<M: Metric>(alloc: Global, history: &History<M>, q: TxnId) -> 
     let order = Order::of(alloc, history, q)?;
     let ledgers = ledgers_of(alloc, history)?;
     find(alloc, history, &order, q, ledgers.amount(q))
+}
+
+/// The updates among transactions.
+fn updates_among(alloc: Global, ledgers: &Ledgers, txns: &[TxnId]) -> Result<Vec<TxnId>, AllocError>
+    requires { All (λ t. is_open ledgers.now t.0 ≡ true) txns.now }
+    ensures { IfOk result (λ v. v.items ≡ filter (λ t. not (is_open_query ledgers.now t.0)) txns.now) }
+{
+    let mut updates = Vec::new(alloc);
+    for t in txns {
+        if !ledgers.is_query(*t) {
+            updates.push(*t)?;
+        }
+    }
+    Ok(updates)
+}
+
+/// What is found of a committed query.
+fn find_committed<M: Metric>(
+    alloc: Global,
+    history: &History<M>,
+    q: TxnId,
+    import: u64,
+) -> Result<Finding, AuditError>
+    requires committed { IsTrue (is_committed_query history.now.schedule q.0) }
+    requires import { import ≡ import_in (charges_in M.distance_by history.now.schedule) q.0 }
+    ensures query { IfOk result (λ f. f.query ≡ q) }
+    ensures finding { IfOk result (IsFinding M.distance_by history.now.schedule) }
+    ensures err { IfErr result (λ e. e ≡ AuditError.NoMemory) }
+{
+    let order = Order::of(alloc, history, q)?;
+    find(alloc, history, &order, q, import)
+}
+
+/// What is found of each query among transactions that committed.
+fn findings_of<M: Metric>(
+    alloc: Global,
+    history: &History<M>,
+    ledgers: &Ledgers,
+    txns: &[TxnId],
+) -> Result<Vec<Finding>, AuditError>
+    requires open { All (λ t. is_open ledgers.now t.0 ≡ true) txns.now }
+    requires queries { All (λ t. is_open_query ledgers.now t.0 ≡ true → IsTrue (is_committed_query history.now.schedule t.0)) txns.now }
+    requires imports { All (λ t. is_open_query ledgers.now t.0 ≡ true → amount_at ledgers.now t.0 ≡ import_in (charges_in M.distance_by history.now.schedule) t.0) txns.now }
+    ensures queries { IfOk result (λ v. map (λ f. f.query) v.items ≡ filter (λ t. is_open_query ledgers.now t.0) txns.now) }
+    ensures findings { IfOk result (λ v. All (IsFinding M.distance_by history.now.schedule) v.items) }
+    ensures err { IfErr result (λ e. e ≡ AuditError.NoMemory) }
+{
+    let mut findings = Vec::new(alloc);
+    for t in txns {
+        if ledgers.is_query(*t) {
+            let finding = find_committed(alloc, history, *t, ledgers.amount(*t))?;
+            match findings.push(finding) {
+                Ok(()) => {}
+                Err(_) => return Err(AuditError::NoMemory),
+            }
+        }
+    }
+    Ok(findings)
+}
+
+/// The committed updates of a history, and what is found of its committed queries.
+fn book_of<M: Metric>(alloc: Global, history: &History<M>) -> Result<Book, AuditError>
+    ensures order { IfOk result (λ b. map (λ t. t.0) b.order.items ≡ committed_updates history.now.schedule) }
+    ensures queries { IfOk result (λ b. map (λ f. f.query.0) b.findings.items ≡ committed_queries history.now.schedule) }
+    ensures findings { IfOk result (λ b. All (IsFinding M.distance_by history.now.schedule) b.findings.items) }
+    ensures err { IfErr result (λ e. e ≡ AuditError.NoMemory) }
+{
+    let log = history.log();
+    let ledgers = ledgers_of(alloc, history)?;
+    let txns = committed(alloc, log)?;
+    let order = updates_among(alloc, &ledgers, &txns)?;
+    let findings = findings_of(alloc, history, &ledgers, &txns)?;
+    Ok(Book { order, findings })
+}
+
+/// The audit of a history: a serial order of its committed updates, and what is found of each
+/// committed query.
+///
+/// Each reply of the history is the machine's; its committed updates are conflict-serializable,
+/// in the order of their commits; no import and no export has passed its limit; and of each
+/// committed query there is the least distance of what it read from any serial placement, shown
+/// by a closed set and a flow of equal worth, and at most the import charged.
+///
+/// # Errors
+/// `NoMemory` where memory was refused.
+pub fn audit_history<M: Metric>(alloc: Global, history: &History<M>) -> Result<Book, AuditError>
+    ensures legal { IsLegal M.distance_by history.now.schedule }
+    ensures serializable { IsSerializable history.now.schedule }
+    ensures limits { IsWithinLimits M.distance_by history.now.schedule }
+    ensures order { IfOk result (λ b. map (λ t. t.0) b.order.items ≡ committed_updates history.now.schedule) }
+    ensures queries { IfOk result (λ b. map (λ f. f.query.0) b.findings.items ≡ committed_queries history.now.schedule) }
+    ensures findings { IfOk result (λ b. All (IsFinding M.distance_by history.now.schedule) b.findings.items) }
+    ensures err { IfErr result (λ e. e ≡ AuditError.NoMemory) }
+{
+    let _legal = history.log();
+    book_of(alloc, history)
 }

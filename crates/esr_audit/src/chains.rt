@@ -9,20 +9,22 @@ ghost use Rattle.std.specs.Option.{option_map};
 ghost use Rattle.esr_order.specs.Chains.{seen_links};
 ghost use Rattle.esr_audit.specs.Reads.{values_of, distance_sum, writers_in, values_in, gathered, items_in};
 
-use std::alloc::{AllocError, Global};
-
+use crate::reads::Reading;
 use esr_cert::Chain;
 use esr_history::History;
 use esr_items::{ItemId, Metric};
 use esr_order::{Links, Order};
-
-use crate::reads::Reading;
+use std::alloc::{AllocError, Global};
 
 /// The values that were read of an item.
 fn values_read(alloc: Global, readings: &[Reading], item: u32) -> Result<Vec<i64>, AllocError>
     ensures { IfOk result (λ v. v.items ≡ values_of readings.now item) }
 {
-    readings.iter().filter(|r| r.item == item).map(|r| r.value).collect(alloc)
+    readings
+        .iter()
+        .filter(|r| r.item == item)
+        .map(|r| r.value)
+        .collect(alloc)
 }
 
 /// Whether the item was read.
@@ -96,9 +98,20 @@ fn chain_of<M: Metric>(
 {
     let values = values_read(alloc, readings, x.0)?;
     let (writers, versions) = writers_and_values(order.chain(x));
-    let costs = costs_of(alloc, history.metric(), x, &values, history.opening(x), versions)?;
+    let costs = costs_of(
+        alloc,
+        history.metric(),
+        x,
+        &values,
+        history.opening(x),
+        versions,
+    )?;
     let writers = writers.to_vec(alloc)?;
-    Ok(Chain { item: x, writers, costs })
+    Ok(Chain {
+        item: x,
+        writers,
+        costs,
+    })
 }
 
 /// The chains of the items that were read, ascending.

@@ -1,10 +1,9 @@
 //! What audits find.
 
-use std::alloc::AllocError;
-
 use esr_cert::{Certificate, Problem};
 use esr_history::{NoMemory, TxnId};
 use esr_order::OrderError;
+use std::alloc::AllocError;
 
 /// What an audit finds of a committed query.
 ///
@@ -25,6 +24,15 @@ pub struct Finding {
     pub problem: Problem,
     /// A closed set and a flow whose equal worth shows it.
     pub certificate: Certificate,
+}
+
+/// What the audit of a history finds.
+#[derive(Drop)]
+pub struct Book {
+    /// The committed updates, in the order of their commits, which is a serial order of them.
+    pub order: Vec<TxnId>,
+    /// What is found of each committed query, in the order of their commits.
+    pub findings: Vec<Finding>,
 }
 
 /// Why an audit gives no answer.

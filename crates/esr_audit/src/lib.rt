@@ -8,5 +8,5 @@ mod finding;
 mod problem;
 mod reads;
 
-pub use audit::audit_query;
-pub use finding::{AuditError, Finding};
+pub use audit::{audit_history, audit_query};
+pub use finding::{AuditError, Book, Finding};

@@ -5,16 +5,14 @@ ghost use Rattle.esr_history.specs.Machine.{done};
 ghost use Rattle.esr_order.specs.Orders.{IsOrderOf};
 ghost use Rattle.esr_audit.specs.Problems.{StandsFor};
 
-use std::alloc::{AllocError, Global};
-
+use crate::chains::chains_of;
+use crate::finding::AuditError;
+use crate::reads::readings;
 use esr_cert::{BundleFault, Problem};
 use esr_history::{History, TxnId};
 use esr_items::Metric;
 use esr_order::Order;
-
-use crate::chains::chains_of;
-use crate::finding::AuditError;
-use crate::reads::readings;
+use std::alloc::{AllocError, Global};
 
 /// The problem of a query, from an order of it.
 pub fn problem_of<M: Metric>(

@@ -8,12 +8,12 @@ use Rattle.esr_items.specs.Values.{opened}
 use Rattle.esr_items.specs.declared.store.Versions.{Versions}
 use Rattle.esr_history.specs.declared.event.Event.{Event}
 use Rattle.esr_history.specs.declared.event.Entry.{Entry}
-use Rattle.esr_history.specs.Events.{Beginning, beginnings, beginning, numbers, is_query}
+use Rattle.esr_history.specs.Events.{Beginning, beginnings, beginning, numbers, is_begun, is_query}
 use Rattle.esr_history.specs.Machine.{Distance, Schedule, done, extended, blank, reply_to, charges, import_in, export_in, IsLegal, IsLegalAfter}
 use Rattle.esr_history.specs.Legal.{along}
 use Rattle.esr_history.proofs.Ranges.{find_in_range}
 use Rattle.esr_ledgers.specs.declared.account.Account.{Account}
-use Rattle.esr_ledgers.specs.Books.{number, account_of, is_open, amount_at}
+use Rattle.esr_ledgers.specs.Books.{number, account_of, is_open, is_open_query, amount_at}
 use Rattle.esr_core.specs.Tied.{entry_of, books_of}
 
 -- the history up to an entry
@@ -30,14 +30,16 @@ module _ (d : Distance) (h : Schedule) where
       → (e.reply ≡ reply_to d (record h { entries = past ++ take i es }) e.event) × (take (i + 1) es ≡ take i es ++ e ∷ [])
   after past [] i e legal at = let b : None ≡ Some e = at in absurd (cc)
   after past (x ∷ es) zero e legal at =
-      let s : x ≡ e = (let b : Some x ≡ Some e = at in cc) in
-      (subst (λ (n : Entry). n.reply ≡ reply_to d (record h { entries = past ++ [] }) n.event) s
-        (subst (λ (ps : List Entry). x.reply ≡ reply_to d (record h { entries = ps }) x.event) (sym (append-nil past)) legal.0),
-       ap (λ (n : Entry). n ∷ []) s)
+      let s : x ≡ e = (let b : Some x ≡ Some e = at in cc) in (
+        subst (λ (n : Entry). n.reply ≡ reply_to d (record h { entries = past ++ [] }) n.event) s
+            (subst (λ (ps : List Entry). x.reply ≡ reply_to d (record h { entries = ps }) x.event) (sym (append-nil past)) legal.0),
+        ap (λ (n : Entry). n ∷ []) s,
+      )
   after past (x ∷ es) (suc i) e legal at =
-      let rest = after (past ++ x ∷ []) es i e legal.1 at in
-      (subst (λ (ps : List Entry). e.reply ≡ reply_to d (record h { entries = ps }) e.event) (append_assoc past (x ∷ []) (take i es)) rest.0,
-       (let n : suc i + 1 ≡ suc (i + 1) = omega arith in ap (λ k. take k (x ∷ es)) n ∙ ap (λ ns. x ∷ ns) rest.1))
+      let rest = after (past ++ x ∷ []) es i e legal.1 at in (
+        subst (λ (ps : List Entry). e.reply ≡ reply_to d (record h { entries = ps }) e.event) (append_assoc past (x ∷ []) (take i es)) rest.0,
+        (let n : suc i + 1 ≡ suc (i + 1) = omega arith in ap (λ k. take k (x ∷ es)) n ∙ ap (λ ns. x ∷ ns) rest.1),
+      )
 
   pub next : IsLegal d h → (i : ℕ) (e : Entry) → slice_get h.entries i ≡ Some e → IsNext d h i e
   next legal i e at =
@@ -52,32 +54,38 @@ opened_where (b ∷ bs) q a e = pick (number b == q) refl (opened_where bs q a)
     pick true t later = ap (λ c. c || is_open bs q) t
     pick false t later = ap (λ c. c || is_open bs q) t ∙ later (sym (ap (λ c. if c then Some b else account_of bs q) t) ∙ e)
 
--- a query has an account, with its import
-module _ (d : ℕ → ℤ → ℤ → ℕ) (opening : List ℤ) (events : List Event) (q : ℕ) (is : is_query events q ≡ true) where
-  placed : (1 ≤ q) × (q < 1 + length (beginnings events))
-  placed = at q is
+-- a transaction has an account, which tells whether it is a query, and of a query its import
+module _ (d : ℕ → ℤ → ℤ → ℕ) (opening : List ℤ) (events : List Event) (t : ℕ) (is : is_begun events t ≡ true) where
+  placed : (1 ≤ t) × (t < 1 + length (beginnings events))
+  placed = at t is
     where
-      some : (b : Option Beginning) → unwrap_or (option_map (λ c. c.query) b) false ≡ true → is_some b ≡ true
-      some None e = e
-      some (Some b) e = refl
-
       below : (bs : List Beginning) (k : ℕ) → is_some (slice_get bs k) ≡ true → k < length bs
       below [] k e = absurd (true≢false (sym e))
       below (b ∷ bs) zero e = omega arith
       below (b ∷ bs) (suc k) e = let l = below bs k e in omega arith
 
-      at : (q : ℕ) → is_query events q ≡ true → (1 ≤ q) × (q < 1 + length (beginnings events))
+      at : (t : ℕ) → is_begun events t ≡ true → (1 ≤ t) × (t < 1 + length (beginnings events))
       at zero e = absurd (true≢false (sym e))
-      at (suc k) e = let l = below (beginnings events) k (some (slice_get (beginnings events) k) e) in (omega arith, omega arith)
+      at (suc k) e = let l = below (beginnings events) k e in (omega arith, omega arith)
 
-  found : account_of (books_of d opening events) q ≡ Some (entry_of d opening events q)
-  found = find_in_range number (entry_of d opening events) (λ u. refl) q 1 (length (beginnings events)) placed.0 placed.1
+  found : account_of (books_of d opening events) t ≡ Some (entry_of d opening events t)
+  found = find_in_range number (entry_of d opening events) (λ u. refl) t 1 (length (beginnings events)) placed.0 placed.1
 
-  pub account_open : is_open (books_of d opening events) q ≡ true
-  account_open = opened_where (books_of d opening events) q (entry_of d opening events q) found
+  pub account_open : is_open (books_of d opening events) t ≡ true
+  account_open = opened_where (books_of d opening events) t (entry_of d opening events t) found
 
-  pub account_amount : amount_at (books_of d opening events) q ≡ import_in (charges d opening events) q
-  account_amount = ap (λ (a : Option Account). unwrap_or (option_map (λ b. b.amount) a) 0) found ∙ ap (λ b. if b then import_in (charges d opening events) q else export_in (charges d opening events) q) is
+  pub account_query : is_open_query (books_of d opening events) t ≡ is_query events t
+  account_query = ap (λ (a : Option Account). unwrap_or (option_map (λ b. b.query) a) false) found
+
+  pub account_amount : is_query events t ≡ true → amount_at (books_of d opening events) t ≡ import_in (charges d opening events) t
+  account_amount query = ap (λ (a : Option Account). unwrap_or (option_map (λ b. b.amount) a) 0) found ∙ ap (λ b. if b then import_in (charges d opening events) t else export_in (charges d opening events) t) query
+
+pub query_begun : (events : List Event) (t : ℕ) → is_query events t ≡ true → is_begun events t ≡ true
+query_begun events t is = at (beginning events t) is
+  where
+    at : (b : Option Beginning) → unwrap_or (option_map (λ c. c.query) b) false ≡ true → is_some b ≡ true
+    at None e = e
+    at (Some b) e = refl
 
 pub opened_values : (vs : List ℤ) → map (λ (w : Versions). w.committed) (map opened vs) ≡ vs
 opened_values [] = refl

@@ -1,9 +1,9 @@
 //! A history run again.
 ghost use Rattle.std.specs.Prelude.{◌≡◌, ℕ, ◌≤◌, true, length, map, All, IfOk};
 ghost use Rattle.esr_items.specs.Values.{IsValue, opened};
-ghost use Rattle.esr_history.specs.Events.{is_query};
+ghost use Rattle.esr_history.specs.Events.{is_begun, is_query};
 ghost use Rattle.esr_history.specs.Machine.{done, charges_in, import_in};
-ghost use Rattle.esr_ledgers.specs.Books.{amount_at, is_open};
+ghost use Rattle.esr_ledgers.specs.Books.{amount_at, is_open, is_open_query};
 
 use crate::state::State;
 use esr_history::{History, NoMemory};
@@ -39,9 +39,10 @@ fn opening_items<M: Metric>(alloc: Global, history: &History<M>) -> Result<Store
 }
 
 /// The ledgers at the end of a history, in time that grows with its entries: its events are
-/// answered again. They tell what each of its queries was charged.
+/// answered again. They tell which of its transactions are queries, and what each was charged.
 pub fn ledgers_of<M: Metric>(alloc: Global, history: &History<M>) -> Result<Ledgers, NoMemory>
-    ensures open { IfOk result (λ l. (q : ℕ) → is_query (done history.now.schedule) q ≡ true → is_open l q ≡ true) }
+    ensures open { IfOk result (λ l. (t : ℕ) → is_begun (done history.now.schedule) t ≡ true → is_open l t ≡ true) }
+    ensures query { IfOk result (λ l. (t : ℕ) → is_begun (done history.now.schedule) t ≡ true → is_open_query l t ≡ is_query (done history.now.schedule) t) }
     ensures import { IfOk result (λ l. (q : ℕ) → is_query (done history.now.schedule) q ≡ true → amount_at l q ≡ import_in (charges_in M.distance_by history.now.schedule) q) }
 {
     let log = history.log();

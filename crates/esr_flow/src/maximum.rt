@@ -114,7 +114,11 @@ fn run_phase(
         augmentations += 1;
         rewind(graph, &mut next, &path);
         match walk(alloc, graph, flow, labels, &mut next)? {
-            None => return Ok(Progress { augmentations, phases: before.phases + 1, worth }),
+            None => return Ok(Progress {
+                augmentations,
+                phases: before.phases + 1,
+                worth,
+            }),
             Some(found) => path = found,
         }
     }

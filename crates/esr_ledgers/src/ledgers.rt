@@ -139,6 +139,14 @@ impl Ledgers {
         Ok(())
     }
 
+    /// Whether an account is a query's.
+    pub fn is_query(&self, t: TxnId) -> bool
+        requires { is_open self.now t.0 ≡ true }
+        ensures { result ≡ is_open_query self.now t.0 }
+    {
+        find_account(&self.accounts, t).query
+    }
+
     /// What has been charged to the account of a transaction: the import of a query, the export
     /// of an update.
     pub fn amount(&self, t: TxnId) -> u64

@@ -1,4 +1,4 @@
-ghost use Rattle.std.specs.Prelude.{◌≡◌, ℕ, ◌+◌, ◌-◌, ◌*◌, ◌^◌, ◌<◌, ◌≤◌, ◌==◌, [], ◌∷◌, ◌++◌, length, map, All, IfOk, OnOk, slice_set, true, if◌then◌else◌};
+ghost use Rattle.std.specs.Prelude.{◌≡◌, ℕ, ◌+◌, ◌-◌, ◌*◌, ◌^◌, ◌<◌, ◌≤◌, ◌==◌, [], ◌∷◌, ◌++◌, length, map, All, IfOk, OnOk, OnErr, slice_set, true, if◌then◌else◌};
 ghost use Rattle.std.specs.List.{range_with_len};
 ghost use Rattle.std.specs.Option.{option_map};
 ghost use Rattle.esr_locks.specs.Rows.{reads_of, row_at, held_at};
@@ -53,6 +53,8 @@ fn empty_rows(alloc: Global, items: u32) -> Result<Vec<Row>, AllocError>
 fn make_lists(held: &mut Vec<Held>, alloc: Global, t: TxnId) -> Result<(), AllocError>
     ensures items { (u : ℕ) → (held_at held.new.items u).items ≡ (held_at held.old.items u).items }
     ensures ok { OnOk result (t.0 < length held.new.items) }
+    ensures full { OnErr result (length held.old.items ≤ t.0) }
+    ensures there { t.0 < length held.old.items → held.new.items ≡ held.old.items }
 {
     while held.len() <= t.0 as usize {
         held.push(Held::new(alloc))?;
@@ -147,11 +149,13 @@ impl LockTable {
         }
     }
 
-    /// Makes room for one more lock of a transaction on an item.
+    /// Makes room for one more lock of a transaction on an item. It fails only where there is none
+    /// yet, and then the locks are as before.
     pub fn reserve(&mut self, t: TxnId, x: ItemId) -> Result<(), NoMemory>
         requires { x.0 < length self.old.locks }
         ensures locks { self.new.locks ≡ self.old.locks }
         ensures ok { OnOk result (0 < room_for self.new t.0 x.0) }
+        ensures full { OnErr result (room_for self.old t.0 x.0 ≡ 0) }
     {
         if self.rows[x.0 as usize].reserve().is_err() {
             return Err(NoMemory);

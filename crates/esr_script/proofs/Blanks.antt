@@ -1,10 +1,8 @@
 -- Words between blanks, and names.
-use Rattle.std.proofs.Common.{◌≡◌, ℕ, suc, ◌+◌, ◌-◌, ◌<◌, ◌≤◌, ◌^◌, List, [], ◌∷◌, ◌⊎◌, inl, inr, Bool, true, false, cond, ◌&&◌, ◌||◌, length, take, drop, refl, sym, ◌∙◌, ap, arith, nat_eq, nat_le, Some, None, ltb-false, ltb-true, length-drop, decimal, IsUtf8, get_or, zero, eqb-true, leb-true, Result, Ok}
+use Rattle.std.proofs.Common.{◌≡◌, ℕ, suc, ◌+◌, ◌-◌, ◌<◌, ◌≤◌, List, [], ◌∷◌, ◌⊎◌, inl, inr, Bool, true, false, cond, ◌&&◌, ◌||◌, length, take, drop, refl, sym, ◌∙◌, ap, arith, nat_eq, nat_le, Some, None, ltb-false, ltb-true, length-drop, IsUtf8, get_or, zero, eqb-true, leb-true}
 use Rattle.std.proofs.Math.Seq.{take-length}
 use Rattle.std.proofs.lemmas.List.Splits.{slice_split_first}
-use Rattle.std.proofs.lemmas.Fmt.{IsAscii-decimal, parse-decimal}
 use Rattle.std.proofs.lemmas.Str.{IsUtf8-from_ascii}
-use Rattle.std.specs.Str.Parse.{ParsesUnsigned}
 use Rattle.std.specs.List.{position, position_or_len, before_first, after_first, onto_first, list_all}
 use Rattle.esr_script.specs.Command.{is_letter, is_name_byte, is_name, is_between}
 use Rattle.esr_script.specs.Reading.{words_of, is_blank, one_of, totals_of}
@@ -44,12 +42,6 @@ at_blank bytes place e =
     rw all (split ∙ ap (λ n. take n bytes ∷ words_of (drop (n + 1) bytes)) found.1)
 
 -- ---- text
-
-pub decimal_utf8 : (word : List ℕ) (n : ℕ) → n < 10 ^ 19 → word ≡ decimal n → IsUtf8 word
-decimal_utf8 word n small is = rw is (IsUtf8-from_ascii (decimal n) (IsAscii-decimal n (omega arith)))
-
-pub parses : {E : Type 0} (word : List ℕ) (n : ℕ) (r : Result ℕ E) → ParsesUnsigned 64 10 word r → n < 10 ^ 19 → word ≡ decimal n → r ≡ Ok n
-parses word n r h small is = parse-decimal 64 n word r (omega arith) (omega arith) is h
 
 and_left : (a b : Bool) → (a && b) ≡ true → a ≡ true
 and_left true b e = refl

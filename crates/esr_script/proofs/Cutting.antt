@@ -20,9 +20,6 @@ lines-feed b bs e = rw e refl
 lines-other : (b : ℕ) (bs : List ℕ) → nat_eq b 10 ≡ false → lines (b ∷ bs) ≡ onto_first b (lines bs)
 lines-other b bs e = rw e refl
 
-whole-feed : (b : ℕ) (bs : List ℕ) → nat_eq b 10 ≡ true → whole_lines (b ∷ bs) ≡ [] ∷ whole_lines bs
-whole-feed b bs e = rw e refl
-
 whole-other : (b : ℕ) (bs : List ℕ) → nat_eq b 10 ≡ false → whole_lines (b ∷ bs) ≡ onto_first_whole b (whole_lines bs)
 whole-other b bs e = rw e refl
 

@@ -6,16 +6,11 @@ use Rattle.esr_script.specs.declared.fault.RunFault.{RunFault}
 use Rattle.esr_script.specs.declared.fault.RunFault.TheVariants as fault
 use Rattle.esr_script.specs.declared.pending.Next.{Next}
 use Rattle.esr_script.specs.declared.pending.Next.TheVariants as next
-use Rattle.esr_script.specs.Text.{State, start, answer, outcome, max_lines, max_line_bytes}
+use Rattle.esr_script.specs.Text.{State, answer, outcome, max_lines, max_line_bytes}
 use Rattle.esr_script.specs.Run.{IsRunBy}
 use Rattle.esr_script.specs.Parts.{line_len, IsNext, Standing, IsHeldRun, is_read_fault, is_write_fault}
 use Rattle.esr_script.proofs.Prefix.{line_len-le}
-use Rattle.esr_script.proofs.Steps.{begun, advance, all_read, step_line, text_begins, at_memory, at_long, at_many, at_fault_line, at_done, at_last, at_fault_last, at_read}
-
-pub standing_at_start : (input : List ℕ) (left : Option (List ℕ)) (bytes : List ℕ) (s : State) (out : List ℕ)
-    → left ≡ Some input → bytes ≡ [] → s ≡ start → out ≡ [] → Standing input left bytes 0 s ([] ++ out)
-standing_at_start input left bytes s out known none is nothing =
-    rw (none, is, nothing) (let begin : Standing input left [] 0 start [] = record { rest = input; known = known; progress = begun input } in begin)
+use Rattle.esr_script.proofs.Steps.{advance, all_read, step_line, text_begins, at_memory, at_long, at_many, at_fault_line, at_last, at_fault_last, at_read}
 
 -- bytes stand ahead where it need not be read on
 pub has_bytes : (found : Next) (bytes : List ℕ) → IsNext found bytes → (found ≡ next.More → ⊥) → 0 < length bytes
@@ -87,9 +82,6 @@ module _ (input : List ℕ) (left : Option (List ℕ)) (bytes : List ℕ) (n : �
 
   -- at the end of the input
   module _ (end : IsAtEnd left) (plain : line_len bytes ≡ length bytes) (short : length bytes ≤ max_line_bytes) where
-    pub held_done : bytes ≡ [] → IsHeldRun input left out (Ok tt) sent
-    held_done none = (text, (all_read input left bytes n s (sent ++ out) here end, at_done input left bytes n s (sent ++ out) here end none))
-
     held_line_last : 0 < length bytes → n ≢ max_lines → (s' : State) (t grown : List ℕ) → answer s bytes ≡ Ok (s', t) → grown ≡ out ++ t → IsHeldRun input left grown (Ok tt) sent
     held_line_last some few s' t grown is grew =
         let all = at_last input left bytes n s (sent ++ out) here end plain some short few s' t is in

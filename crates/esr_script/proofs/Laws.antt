@@ -1,5 +1,5 @@
 -- Numbers and words, and what is read from them.
-use Rattle.std.proofs.Common.{◌≡◌, ℕ, zero, suc, ◌<◌, ◌≤◌, ◌^◌, ℤ, pos, negsuc, nat_abs, List, [], ◌∷◌, inl, inr, Bool, true, false, cond, ◌&&◌, length, refl, sym, ◌∙◌, ap, arith, rules, nat_lt, nat_eq, Some, None, Option, option_map, option_and_then, decimal, lt-ltb, ltb-true, eqb-true}
+use Rattle.std.proofs.Common.{◌≡◌, ℕ, zero, suc, ◌<◌, ◌≤◌, ◌^◌, ℤ, pos, negsuc, nat_abs, List, [], ◌∷◌, ◌++◌, ◌+◌, ◌*◌, ◌-◌, inl, inr, IfSome, IfNone, Bool, true, false, cond, ◌&&◌, length, take, get_or, refl, sym, ◌∙◌, ap, arith, rules, nat_lt, nat_eq, Some, None, Option, option_map, option_and_then, decimal, lt-ltb, ltb-true, eqb-true}
 use Rattle.std.specs.List.{AllByRecursion, join_with_byte}
 use Rattle.std.specs.Str.{bytes_eq, all_ascii_digits}
 use Rattle.std.specs.Char.{is_ascii_digit}
@@ -8,7 +8,9 @@ use Rattle.std.proofs.lemmas.Bool.{ne_eqb}
 use Rattle.std.proofs.lemmas.List.Splits.{slice_split_at, slice_split_none}
 use Rattle.std.proofs.lemmas.Slice.Eq.{bytes_eq-Decides}
 use Rattle.std.proofs.lemmas.Str.Parse.{IsNumeralModel, numerals_by_fold}
-use Rattle.std.proofs.lemmas.Fmt.{digits_value-decimal, digits_decimal, decimal_nonempty}
+use Rattle.std.proofs.lemmas.Fmt.{digits_value-decimal, digits_decimal, decimal_nonempty, decimal-digits_value, first_decimal, length-decimal-le}
+use Rattle.std.proofs.lemmas.List.{take_more, take_all}
+use Rattle.std.proofs.Math.Nat.{pow-succ', pow-le-pow_right}
 use Rattle.esr_script.specs.Command.{IsPlainWord, IsInt, IsLimit}
 use Rattle.esr_script.specs.Reading.{words_of, is_blank, number_below, value_from, int_of, limit_of, minus}
 use Rattle.esr_script.proofs.Cutting.{which}
@@ -31,10 +33,57 @@ split_join w [] plain rest = slice_split_none is_blank w plain
 split_join w (v ∷ vs) plain rest =
     slice_split_at is_blank w 32 (join_with_byte 32 (v ∷ vs)) plain refl ∙ ap (λ l. w ∷ l) (split_join v vs rest.0 rest.1)
 
+-- ---- tests of two parts
+
+pub left : (a b : Bool) → (a && b) ≡ true → (a ≡ true) × (b ≡ true)
+left true b e = (refl, e)
+left false b e = cc
+
 -- ---- numbers
 
 own : IsNumeralModel (λ ds. all_ascii_digits ds ≡ true) (value_from 0)
 own = numerals_by_fold _ (search rules) value_from (search rules)
+
+value-push : (n : ℕ) (cs : List ℕ) (c : ℕ) → value_from n (cs ++ c ∷ []) ≡ 10 * value_from n cs + (c - 48)
+value-push n [] c = refl
+value-push n (x ∷ xs) c = value-push (10 * n + (x - 48)) xs c
+
+digits-push : (cs : List ℕ) (c : ℕ) → all_ascii_digits cs ≡ true → is_ascii_digit c ≡ true → all_ascii_digits (cs ++ c ∷ []) ≡ true
+digits-push [] c h e = rw e refl
+digits-push (x ∷ xs) c h e =
+    let parts = left (is_ascii_digit x) (all_ascii_digits xs) h in
+    rw parts.0 (digits-push xs c parts.1 e)
+
+digit_at : (cs : List ℕ) (i d : ℕ) → all_ascii_digits cs ≡ true → i < length cs → is_ascii_digit (get_or cs i d) ≡ true
+digit_at [] i d h within = absurd (omega (arith, within))
+digit_at (c ∷ cs) zero d h within = (left (is_ascii_digit c) (all_ascii_digits cs) h).0
+digit_at (c ∷ cs) (suc i) d h within = digit_at cs i d (left (is_ascii_digit c) (all_ascii_digits cs) h).1 (omega (arith, within))
+
+ten_times : (i : ℕ) → 10 ^ (i + 1) ≡ 10 * 10 ^ i
+ten_times i = ap (λ k. 10 ^ k) (omega arith) ∙ pow-succ' 10 i
+
+-- the value of the first digits
+pub record IsValueOf (cs : List ℕ) (i value : ℕ) : Type 0 where
+  pub value_is : value ≡ value_from 0 (take i cs)
+  pub small : value < 10 ^ i
+  pub digits : all_ascii_digits (take i cs) ≡ true
+
+-- a digit more
+pub one_digit : (cs : List ℕ) (i d value c : ℕ) → IsValueOf cs i value → i < length cs → c ≡ get_or cs i d → is_ascii_digit c ≡ true → c ≤ 57 → IsValueOf cs (i + 1) (10 * value + (c - 48))
+one_digit cs i d value c so_far within is digit high =
+    let more : take (i + 1) cs ≡ take i cs ++ c ∷ [] = take_more cs i d within ∙ ap (λ b. take i cs ++ b ∷ []) (sym is) in
+    record {
+      value_is = ap (λ v. 10 * v + (c - 48)) so_far.value_is ∙ sym (value-push 0 (take i cs) c) ∙ ap (value_from 0) (sym more);
+      small = omega (arith, so_far.small, ten_times i, high);
+      digits = rw more (digits-push (take i cs) c so_far.digits digit);
+    }
+
+-- a byte that is no digit
+pub no_digit : (cs : List ℕ) (i d : ℕ) → i < length cs → is_ascii_digit (get_or cs i d) ≡ false → all_ascii_digits cs ≡ false
+no_digit cs i d within other = elim (which (all_ascii_digits cs)) [
+  | inl t ↦ let digit = digit_at cs i d t within in cc
+  | inr f ↦ f
+]
 
 -- a spelled number is read
 pub number_again : (bound n : ℕ) → bound ≤ 10 ^ 19 → n < bound → number_below bound (decimal n) ≡ Some n
@@ -47,10 +96,6 @@ number_again bound n fits small =
 chosen : (v : Bool) (n m : ℕ) → cond v (Some n) None ≡ Some m → (v ≡ true) × (n ≡ m)
 chosen true n m e = (refl, cc)
 chosen false n m e = cc
-
-pub left : (a b : Bool) → (a && b) ≡ true → (a ≡ true) × (b ≡ true)
-left true b e = (refl, e)
-left false b e = cc
 
 -- what is read as a number is its spelling
 pub number_found : (bound : ℕ) (text : List ℕ) (n : ℕ) → number_below bound text ≡ Some n → (n < bound) × (text ≡ decimal n)
@@ -106,14 +151,48 @@ none_unless : {A : Type 0} (o : Option A) → ((a : A) → o ≡ Some a → ⊥)
 none_unless None h = refl
 none_unless (Some a) h = absurd (h a refl)
 
-pub int_none : (text : List ℕ) → ((v : ℤ) → IsInt v → text ≡ signed_decimal v → ⊥) → None ≡ int_of text
-int_none text h = none_unless (int_of text) (λ v e. let found = int_found text v e in h v found.0 found.1)
-
-pub int_some : (text : List ℕ) (v : ℤ) → IsInt v → text ≡ signed_decimal v → Some v ≡ int_of text
-int_some text v small is = rw is (sym (int_again v small))
-
 pub limit_none : (text : List ℕ) → ((n : ℕ) → IsLimit n → text ≡ decimal n → ⊥) → None ≡ limit_of text
 limit_none text h = none_unless (limit_of text) (λ n e. let found = number_found (10 ^ 19) text n e in h n found.0 found.1)
 
 pub limit_some : (text : List ℕ) (n : ℕ) → IsLimit n → text ≡ decimal n → Some n ≡ limit_of text
 limit_some text n small is = rw is (sym (number_again (10 ^ 19) n (omega arith) small))
+
+-- ---- digits of a limit
+
+-- so few digits fit
+pub fits : (i value : ℕ) → value < 10 ^ i → i ≤ 18 → 10 * value + 9 < 10 ^ 19
+fits i value small few =
+    let most : 10 ^ i ≤ 10 ^ 18 = pow-le-pow_right (omega arith) few in
+    omega (arith, small, most)
+
+-- after the last digit
+pub all_read : (cs : List ℕ) (i value : ℕ) → IsValueOf cs i value → length cs ≤ i → i ≤ length cs → length cs ≤ 19 → (value ≡ value_from 0 cs) × (value < 10 ^ 19) × (all_ascii_digits cs ≡ true)
+all_read cs i value so_far end within few =
+    let whole : take i cs ≡ cs = take_all i cs end in
+    let fewer : i ≤ 19 = omega (arith, within, few) in
+    let most : 10 ^ i ≤ 10 ^ 19 = pow-le-pow_right (omega arith) fewer in
+    (so_far.value_is ∙ ap (value_from 0) whole, omega (arith, so_far.small, most), ap all_ascii_digits (sym whole) ∙ so_far.digits)
+
+pub too_long : (word : List ℕ) → 19 < length word → None ≡ limit_of word
+too_long word long = limit_none word (λ n small is. omega (arith, long, ap length is, length-decimal-le 19 n (omega arith) small (omega arith)))
+
+pub empty_word : (word : List ℕ) → length word ≡ 0 → None ≡ limit_of word
+empty_word word none = limit_none word (λ n small is. omega (arith, none, ap length is, decimal_nonempty n (omega arith)))
+
+pub zero_alone : (word : List ℕ) → length word ≡ 1 → get_or word 0 0 ≡ 48 → Some 0 ≡ limit_of word
+zero_alone [] one first = absurd (omega (arith, one))
+zero_alone (c ∷ []) one first = limit_some (c ∷ []) 0 (omega arith) (ap (λ b. b ∷ []) first ∙ sym (decimal-digits_value own (48 ∷ []) refl (omega arith) (λ e. refl) (omega arith)))
+zero_alone (c ∷ d ∷ cs) one first = absurd (omega (arith, one))
+
+pub zero_in_front : (word : List ℕ) → 1 < length word → get_or word 0 0 ≡ 48 → None ≡ limit_of word
+zero_in_front word long first = limit_none word (λ n small is. refuted n small is)
+  where
+    refuted : (n : ℕ) → n < 10 ^ 19 → word ≡ decimal n → ⊥
+    refuted zero small is = omega (arith, long, ap length is, length-decimal-le 1 0 (omega arith) (omega arith) (omega arith))
+    refuted (suc m) small is = omega (arith, first, ap (λ w. get_or w 0 0) is, first_decimal (suc m) (omega arith) (omega arith))
+
+pub by_digits : (word : List ℕ) (r : Option ℕ) → IfSome r (λ n. (n ≡ value_from 0 word) × (n < 10 ^ 19) × (all_ascii_digits word ≡ true)) → IfNone r (all_ascii_digits word ≡ false)
+    → 0 < length word → (get_or word 0 0 ≡ 48 → ⊥) → r ≡ limit_of word
+by_digits word None found other some first = limit_none word (λ n small is. let digits : all_ascii_digits word ≡ true = rw is (all_digits n small) in cc)
+by_digits word (Some n) found other some first =
+    limit_some word n found.1 (sym (ap decimal found.0 ∙ decimal-digits_value own word found.2 some (λ e. absurd (first e)) (omega (arith, found.0, found.1))))

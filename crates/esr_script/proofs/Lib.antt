@@ -1,7 +1,6 @@
 pub mod Cutting
 pub mod Prefix
 pub mod Blanks
-pub mod Ints
 pub mod Laws
 pub mod Steps
 pub mod Held

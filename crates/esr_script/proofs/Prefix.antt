@@ -1,5 +1,5 @@
 -- Where no byte is a line feed, the count of bytes before the first is the length.
-use Rattle.std.proofs.Common.{◌≡◌, ℕ, ◌≤◌, List, [], ◌∷◌, ◌++◌, append-nil, inl, inr, Bool, true, false, length, refl, ◌∙◌, ap, arith, nat_eq, nat_lt, Some, None, ltb-false, cond}
+use Rattle.std.proofs.Common.{◌≡◌, ℕ, ◌≤◌, List, [], ◌∷◌, ◌++◌, append-nil, inl, inr, Bool, true, false, length, refl, ◌∙◌, arith, nat_eq, nat_lt, Some, None, ltb-false, cond}
 use Rattle.std.specs.List.{position}
 use Rattle.esr_script.specs.Parts.{line_len}
 use Rattle.esr_script.proofs.Cutting.{which}
@@ -19,13 +19,6 @@ pub none_is_length : (bytes : List ℕ) → position (λ b. nat_eq b 10) bytes �
 none_is_length bytes e =
     let out : nat_lt (line_len bytes) (length bytes) ≡ false = chosen _ _ e in
     omega (arith, ltb-false (line_len bytes) (length bytes) out, line_len-le bytes)
-
--- no line feed stands in bytes of which the search came to the end
-pub plain_from : (bytes ahead : List ℕ) (n : ℕ) → n ≡ line_len bytes → bytes ≡ ahead → length bytes ≤ n → (n ≡ length ahead) × (line_len ahead ≡ length ahead)
-plain_from bytes ahead n is e all = (
-  omega (arith, is, all, line_len-le bytes, ap length e),
-  omega (arith, is, all, line_len-le bytes, ap length e, ap line_len e),
-)
 
 pub same_bytes : (before after more : List ℕ) (n : ℕ) → length more ≡ n → n ≡ 0 → after ≡ before ++ more → after ≡ before
 same_bytes before after [] n size none e = e ∙ append-nil before

@@ -1,13 +1,14 @@
 //! The words of a line, and what each may be.
 
-ghost use Rattle.std.specs.Prelude.{◌≡◌, ◌∷◌, Option, option_map, nat_eq};
+ghost use Rattle.std.specs.Prelude.{◌≡◌, ◌∷◌, ◌<◌, ◌≤◌, ◌^◌, Option, option_map, nat_eq, length, IfSome, IfNone, true, false};
+ghost use Rattle.std.specs.Str.{all_ascii_digits};
 ghost use Rattle.std.specs.List.{position, list_all};
 ghost use Rattle.esr_script.specs.Command.{is_letter, is_name_byte, is_name};
-ghost use Rattle.esr_script.specs.Reading.{is_blank, words_of, words_after, name_of, limit_of, int_of, one_of, two_of, three_of};
+ghost use Rattle.esr_script.specs.Reading.{value_from, number_below, is_blank, words_of, words_after, name_of, limit_of, int_of, one_of, two_of, three_of};
 
 use std::str::from_utf8;
 
-const LIMIT_END: u64 = 10_000_000_000_000_000_000;
+/// One above the largest number of 18 digits.
 
 const INT_END: u64 = 1_000_000_000_000_000_000;
 
@@ -95,44 +96,58 @@ pub fn name(word: &[u8]) -> Option<&str>
     }
 }
 
-/// The limit of which the word is the decimal form.
+/// The value of up to 19 digits.
+fn digits_value(digits: &[u8]) -> Option<u64>
+    requires { length digits.now ≤ 19 }
+    ensures found { IfSome result (λ n. (n ≡ value_from 0 digits.now) × (n < 10 ^ 19) × (all_ascii_digits digits.now ≡ true)) }
+    ensures none { IfNone result (all_ascii_digits digits.now ≡ false) }
+{
+    let mut value: u64 = 0;
+    for digit in digits {
+        if !digit.is_ascii_digit() {
+            return None;
+        }
+        value = 10 * value + u64::from(*digit - b'0');
+    }
+    Some(value)
+}
+
+/// The limit of which the word is the decimal form: digits with no zero in front of others.
 pub fn limit(word: &[u8]) -> Option<u64>
     ensures { result ≡ limit_of word.now }
 {
-    let Ok(text) = from_utf8(word) else {
-        return None;
-    };
-    let Ok(number) = text.parse::<u64>() else {
-        return None;
-    };
-    let mut digits = itoa::Buffer::new();
-    if digits.format(number) != text {
+    if word.len() > 19 {
         return None;
     }
-    if number < LIMIT_END {
-        Some(number)
-    } else {
-        None
+    match word.first() {
+        None => None,
+        Some(b'0') => { if word.len() == 1 { Some(0) } else { None } }
+        Some(_) => digits_value(word),
     }
+}
+
+/// The number of up to 18 digits of which the word is the decimal form.
+fn magnitude(word: &[u8]) -> Option<u64>
+    ensures { result ≡ number_below (10 ^ 18) word.now }
+{
+    let number = limit(word)?;
+    if number < INT_END { Some(number) } else { None }
 }
 
 /// The whole number of which the word is the decimal form.
 pub fn int(word: &[u8]) -> Option<i64>
     ensures { result ≡ int_of word.now }
 {
-    let Ok(text) = from_utf8(word) else {
-        return None;
-    };
-    let Ok(number) = text.parse::<i64>() else {
-        return None;
-    };
-    let mut digits = itoa::Buffer::new();
-    if digits.format(number) != text {
-        return None;
-    }
-    if number.unsigned_abs() < INT_END {
-        Some(number)
-    } else {
-        None
+    match word.split_first() {
+        None => None,
+        Some((b'-', digits)) => {
+            let number = magnitude(digits)?;
+            if number == 0 {
+                None
+            } else {
+                Some(-(number as i64))
+            }
+        }
+        Some(_) => Some(magnitude(word)? as i64),
     }
 }

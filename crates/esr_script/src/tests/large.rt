@@ -63,11 +63,9 @@ fn there_are_at_most_two_million_lines(rt: HostRuntime) -> Result<(), Fail> {
 fn at_most_4096_items_are_declared(rt: HostRuntime) -> Result<(), Fail> {
     let alloc = rt.alloc();
     let mut script = Vec::new(alloc);
-    let mut digits = itoa::Buffer::new();
     for x in 0..4097u32 {
-        script.extend_from_slice(b"item x")?;
-        script.extend_from_slice(digits.format(x).as_bytes())?;
-        script.extend_from_slice(b" 0\n")?;
+        let line = format!(in alloc; "item x{x} 0\n")?;
+        script.extend_from_slice(line.as_bytes())?;
     }
     script.extend_from_slice(b"begin u update 0\nread u x4095\nread u x4096\n")?;
     let (ended, text) = ran(alloc, script.as_slice())?;

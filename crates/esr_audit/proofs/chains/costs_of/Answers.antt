@@ -11,7 +11,7 @@ loop-version-preserved g c =
     let v : ℤ = get_or c.args.versions.now c.loop-version.version-index (pos 0) in
     let read : to_z w64 (of_z w64 v) ≡ v = to_z-of_z w64 v (value_fits v (c.requires.versions c.loop-version.version-index (pos 0) c.loop-version-test.true)) in
     cost_step D (to_z w64 (of_z w64 c.args.opening)) c.args.versions.now c.loop-version.costs.items c.push-in-loop-version.new.self.items c.distance_to-in-loop-version.result c.loop-version.version-index
-      c.in_ok-push-2.ensures.items c.loop-version.invariant c.loop-version-test.true (c.distance_to-in-loop-version.ensures ∙ ap D read)
+    c.in_ok-push-2.ensures.items c.loop-version.invariant c.loop-version-test.true (c.distance_to-in-loop-version.ensures ∙ ap D read)
 
 pub returns : goal.returns
 returns g c =

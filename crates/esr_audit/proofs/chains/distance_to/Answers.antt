@@ -8,9 +8,6 @@ use Rattle.esr_audit.proofs.Gathered.{value_fits}
 use Rattle.esr_audit.proofs.chains.distance_to.Given.{Over}
 use Rattle.esr_audit.proofs.chains.distance_to.Goals as goal
 
-
-
-
 told : (g : Over) (c : goal.After-distance-sum g) → c.distance-sum.result ≡ g.M.Metric.distance_by (g.M.Metric.weights c.args.metric.now) c.args.x.0 (get_or c.args.values.now c.loop-value.value-index (pos 0)) c.args.version
 told g c =
     let v : ℤ = get_or c.args.values.now c.loop-value.value-index (pos 0) in

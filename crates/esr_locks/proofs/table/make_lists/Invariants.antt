@@ -1,9 +1,13 @@
-use Rattle.std.proofs.Common.{◌≡◌, ℕ, ◌+◌, ◌-◌, vec_len}
+use Rattle.std.proofs.Common.{◌≡◌, ℕ, ◌+◌, ◌-◌, vec_len, length, ◌<◌, ◌≤◌}
 use Rattle.esr_locks.specs.Rows.{held_at}
 use Rattle.esr_locks.proofs.table.make_lists.Given as goal
 
 abbrev pub invariant-loop-alloc : goal.invariant-loop-alloc
-invariant-loop-alloc l = (u : ℕ) → (held_at l.held.items u).items ≡ (held_at l.initial.held.items u).items
+invariant-loop-alloc l = record {
+  items : (u : ℕ) → (held_at l.held.items u).items ≡ (held_at l.initial.held.items u).items;
+  there : l.t.0 < length l.initial.held.items → l.held.items ≡ l.initial.held.items;
+  longer : length l.initial.held.items ≤ length l.held.items;
+}
 
 abbrev pub decreases-loop-alloc : goal.decreases-loop-alloc
 decreases-loop-alloc l = l.t.0 + 1 - vec_len l.held

@@ -1,29 +1,23 @@
-use Rattle.std.proofs.Common.{rules, ◌≡◌, sym, ◌∙◌, ap, arith, decimal, Ok}
-use Rattle.std.proofs.lemmas.Slice.Eq.{bytes_eq-Decides}
-use Rattle.esr_script.proofs.Blanks.{decimal_utf8, parses}
-use Rattle.esr_script.proofs.Laws.{limit_none, limit_some}
+use Rattle.std.proofs.Common.{sym, ◌∙◌, arith}
+use Rattle.std.proofs.lemmas.Option.{get_or_from_slice_get}
+use Rattle.esr_script.proofs.Laws.{too_long, empty_word, zero_alone, zero_in_front, by_digits}
 use Rattle.esr_script.proofs.words.limit.Goals as goal
 
-pub returns-in_default : goal.returns-in_default
-returns-in_default c = limit_none c.args.word.now (λ n small is. c.in_default.ensures.cases.0 (decimal_utf8 _ n small is))
+pub returns-then-word-gt19 : goal.returns-then-word-gt19
+returns-then-word-gt19 c = too_long c.args.word.now c.if-word-gt19.true
 
-pub returns-in_default-parse : goal.returns-in_default-parse
-returns-in_default-parse c = limit_none c.args.word.now (λ n small is. c.in_default-parse.not-Ok n (parses _ n _ c.parse.ensures.value.0 small (c.in-Ok.ensures.cases.0 ∙ is)))
+pub returns-in-None : goal.returns-in-None
+returns-in-None c = empty_word c.args.word.now (omega (arith, c.in-None.ensures.item.3))
 
-pub returns-then-ne : goal.returns-then-ne
-returns-then-ne c = limit_none c.args.word.now (λ n small is.
-    let read : c.parse.result ≡ Ok n = parses _ n _ c.parse.ensures.value.0 small (c.in-Ok.ensures.cases.0 ∙ is) in
-    let same : c.in-Ok-parse.number ≡ n = cc in
-    let shown : c.format.result.now ≡ c.in-Ok.text.now = c.format.ensures.text ∙ ap decimal same ∙ sym is ∙ sym c.in-Ok.ensures.cases.0 in
-    let equal = (bytes_eq-Decides c.format.result.now c.in-Ok.text.now).1 shown in
-    let differ = rw equal at c.if-ne.ensures in
-    cc)
+pub returns-then-word-eq1 : goal.returns-then-word-eq1
+returns-then-word-eq1 c =
+    zero_alone c.args.word.now c.if-word-eq1.true (get_or_from_slice_get c.args.word.now 0 _ 0 (sym c.in-Some-eq48.ensures.value) ∙ c.in-Some-eq48.field-0-test)
 
-pub returns-else-number-lt-LIMIT_END : goal.returns-else-number-lt-LIMIT_END
-returns-else-number-lt-LIMIT_END c = limit_none c.args.word.now (λ n small is.
-    let read : c.parse.result ≡ Ok n = parses _ n _ c.parse.ensures.value.0 small (c.in-Ok.ensures.cases.0 ∙ is) in
-    let same : c.in-Ok-parse.number ≡ n = cc in
-    omega (arith, same, small, c.if-number-lt-LIMIT_END.false))
+pub returns-else-word-eq1 : goal.returns-else-word-eq1
+returns-else-word-eq1 c =
+    zero_in_front c.args.word.now (omega (arith, c.if-word-eq1.false, c.in-Some-eq48.ensures.item.3)) (get_or_from_slice_get c.args.word.now 0 _ 0 (sym c.in-Some-eq48.ensures.value) ∙ c.in-Some-eq48.field-0-test)
 
-pub returns-then-number-lt-LIMIT_END : goal.returns-then-number-lt-LIMIT_END
-returns-then-number-lt-LIMIT_END c = limit_some c.args.word.now c.in-Ok-parse.number c.if-number-lt-LIMIT_END.true (search rules)
+pub returns-in-Some : goal.returns-in-Some
+returns-in-Some c =
+    by_digits c.args.word.now c.digits_value.result c.digits_value.ensures.found c.digits_value.ensures.none (omega (arith, c.in-Some.ensures.item.3))
+    (λ e. c.in-Some.field-0-test.1 (sym (get_or_from_slice_get c.args.word.now 0 _ 0 (sym c.in-Some.ensures.value)) ∙ e))

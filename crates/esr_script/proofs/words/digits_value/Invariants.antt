@@ -1,0 +1,5 @@
+use Rattle.esr_script.proofs.Laws.{IsValueOf}
+use Rattle.esr_script.proofs.words.digits_value.Given as goal
+
+abbrev pub invariant-loop-digit : goal.invariant-loop-digit
+invariant-loop-digit l = IsValueOf l.digits l.digit-index l.value
