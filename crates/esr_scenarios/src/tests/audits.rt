@@ -1,7 +1,7 @@
 //! Audits of the worked histories.
 
 use super::{commit, play, query, read, update, write};
-use esr_audit::{AuditError, Finding, audit_query};
+use esr_audit::{AuditError, Book, Finding, audit_history, audit_query};
 use esr_cert::check;
 use esr_core::Machine;
 use esr_history::{Event, TxnId};
@@ -29,7 +29,24 @@ pub(super) fn audit_of(alloc: Global, m: &Machine<Plain>, q: u32) -> Result<Find
     }
 }
 
-/// Whether the audit of a query finds these, with a certificate that passes the check.
+/// The audit of the whole history, asked for once more where memory is refused.
+fn book_of(alloc: Global, m: &Machine<Plain>) -> Result<Book, AuditError> {
+    match audit_history(alloc, m.history()) {
+        Err(AuditError::NoMemory) => audit_history(alloc, m.history()),
+        answered => answered,
+    }
+}
+
+/// Whether these were found, with a certificate that passes the check.
+fn has(found: &Finding, q: u32, distance: u64, import: u64, before: &[TxnId]) -> bool {
+    found.query == TxnId(q)
+        && found.distance == distance
+        && found.import == import
+        && found.before.as_slice() == before
+        && check(&found.problem, &found.certificate) == Ok(())
+}
+
+/// Whether the audit of a query finds these.
 fn finds(
     alloc: Global,
     m: &Machine<Plain>,
@@ -39,13 +56,7 @@ fn finds(
     before: &[TxnId],
 ) -> bool {
     match audit_of(alloc, m, q) {
-        Ok(found) => {
-            found.query == TxnId(q)
-                && found.distance == distance
-                && found.import == import
-                && found.before.as_slice() == before
-                && check(&found.problem, &found.certificate) == Ok(())
-        }
+        Ok(found) => has(&found, q, distance, import, before),
         Err(_) => false,
     }
 }
@@ -136,6 +147,10 @@ fn two_updates_over_a_report(rt: HostRuntime) {
     for t in [0, 2, 4] {
         assert!(rt; is_refused(alloc, &m, t), "for {t}");
     }
+    let book = book_of(alloc, &m).expect(&rt, "a book");
+    assert!(rt; book.order.as_slice() == &[TxnId(2), TxnId(3)][..]);
+    assert!(rt; book.findings.len() == 1);
+    assert!(rt; has(&book.findings[0], 1, 1, 19, &[TxnId(2), TxnId(3)]));
 }
 
 #[test]
