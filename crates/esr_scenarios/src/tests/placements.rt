@@ -191,11 +191,12 @@ fn draw(m: &mut Machine<Plain>, seed: u64) {
     }
 }
 
-/// Whether the audit of a small history finds what the list of its placements tells.
-fn agrees(alloc: Global, seed: u64) -> Result<bool, Fail> {
+/// The least distance of the query of a small history, and how many updates are before the
+/// position: as the audit finds them, and as the list of all placements tells.
+fn audited_and_listed(alloc: Global, seed: u64) -> Result<((u64, usize), (u64, usize)), Fail> {
     let begins = [query(1000), update(1000), update(1000), update(1000)];
     let Some(mut m) = played(alloc, &[0, 0], &begins) else {
-        return Ok(false);
+        return Err(Fail::new("no history"));
     };
     draw(&mut m, seed);
     let operations = operations_in(alloc, m.log())?;
@@ -204,13 +205,23 @@ fn agrees(alloc: Global, seed: u64) -> Result<bool, Fail> {
         let _ = accepts(&mut m, commit(t));
     }
     let found = audit_of(alloc, &m, 1)?;
-    Ok((found.distance, found.before.len()) == least(alloc, &operations, &updates)?)
+    let listed = least(alloc, &operations, &updates)?;
+    Ok(((found.distance, found.before.len()), listed))
 }
 
 #[test]
 fn least_of_all_placements(rt: HostRuntime) -> Result<(), Fail> {
+    let mut far = [0u32; 4];
     for seed in 0..300u64 {
-        assert!(rt; agrees(rt.alloc(), seed)?, "history {seed}");
+        let (found, listed) = audited_and_listed(rt.alloc(), seed)?;
+        assert_eq!(rt; found, listed, "history {seed}");
+        if found.0 > 0 && found.1 < 4 {
+            far[found.1] = far[found.1].saturating_add(1);
+        }
     }
+    assert!(rt;
+        far.iter().all(|n| *n > 0),
+        "some count of updates before is never far"
+    );
     Ok(())
 }
