@@ -1,4 +1,4 @@
-//! Worked histories, played by the machine and ordered for their queries.
+//! Worked histories, played by the machine, ordered for their queries and audited.
 #![tactic(auto)]
 
 #[cfg(test)]

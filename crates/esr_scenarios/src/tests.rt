@@ -1,3 +1,6 @@
+mod audits;
+mod placements;
+
 use esr_core::{Machine, StepError};
 use esr_history::{Event, Reply, TxnId};
 use esr_items::{ItemId, Plain, Store};
