@@ -13,3 +13,4 @@ pub mod Early
 pub mod Complete
 pub mod Gathered
 pub mod Meets
+pub mod Least

@@ -1,4 +1,5 @@
 pub mod Placements
+pub mod Least
 pub mod Statements
 pub mod Scans
 pub mod Listing

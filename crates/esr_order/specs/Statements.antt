@@ -6,7 +6,8 @@ use Rattle.esr_history.specs.Machine.{Distance, Schedule, done, IsLegal}
 use Rattle.esr_history.specs.Legal.{along}
 use Rattle.esr_history.specs.Serial.{state}
 use Rattle.esr_history.specs.Queries.{members, cost, IsAlike}
-use Rattle.esr_order.specs.Placements.{is_among, IsPlacement, IsLeastDistance, IsClosed, IsLeastSet}
+use Rattle.esr_order.specs.Placements.{is_among, IsPlacement, IsLeastDistance, IsClosed, IsLeastSet, IsSmallestLeastSet}
+use Rattle.esr_order.specs.Least.{least_set, least_cost}
 
 -- The closed sets of q are the parts before the positions of its placements, the serial state is the version that the set leaves,
 -- and so the least distance of a placement is the least cost of a closed set.
@@ -26,3 +27,7 @@ LawOfLongerHistories = (d : Distance) (h : Schedule) (rest : List Entry) (q : �
 -- The meet of two closed sets of least cost is one, so that the smallest is the meet of them all.
 abbrev pub LawOfLeastSets : Type 0
 LawOfLeastSets = (d : Distance) (h : Schedule) (q : ℕ) (S T : ℕ → Bool) → IsLeastSet d h q S → IsLeastSet d h q T → IsLeastSet d h q (λ u. S u && T u)
+
+-- The smallest closed set of least cost is the one that is found by listing all closed sets.
+abbrev pub LawOfListedSets : Type 0
+LawOfListedSets = (d : Distance) (h : Schedule) (q : ℕ) (S : ℕ → Bool) → IsSmallestLeastSet d h q S → (members h q S ≡ least_set d h q) × (cost d h q S ≡ least_cost d h q)

@@ -4,6 +4,7 @@ use Rattle.esr_history.specs.Worked.{plain}
 use Rattle.esr_history.specs.WorkedOrder.{order_through_a_third_item, two_updates_over_a_report, strict_report}
 use Rattle.esr_order.specs.Placements.{placement_distance}
 use Rattle.esr_order.specs.Chains.{chain_of}
+use Rattle.esr_order.specs.Least.{least_set, least_cost}
 
 -- before both updates, between them, and after both
 third_item_placed : map (placement_distance plain order_through_a_third_item 1 (2 ∷ 3 ∷ [])) (0 ∷ 1 ∷ 2 ∷ []) ≡ 2 ∷ 8 ∷ 6 ∷ []
@@ -23,3 +24,17 @@ third_item_chains = refl
 
 two_updates_chain : chain_of two_updates_over_a_report 1 0 ≡ Some (record { writers = 0 ∷ 1 ∷ []; values = pos 10 ∷ pos 1 ∷ [] })
 two_updates_chain = refl
+
+-- the smallest closed set of least cost, and its cost
+third_item_least : least_set plain order_through_a_third_item 1 ≡ []
+third_item_least = refl
+
+two_updates_least : least_set plain two_updates_over_a_report 1 ≡ 2 ∷ 3 ∷ []
+two_updates_least = refl
+
+two_updates_cost : least_cost plain two_updates_over_a_report 1 ≡ 1
+two_updates_cost = refl
+
+-- a strict query has the update that it must have seen
+strict_least : least_set plain (strict_report true) 2 ≡ 1 ∷ []
+strict_least = refl

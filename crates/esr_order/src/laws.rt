@@ -1,4 +1,4 @@
-ghost use Rattle.esr_order.specs.Statements.{LawOfLeastSets, LawOfLongerHistories, LawOfPlacements};
+ghost use Rattle.esr_order.specs.Statements.{LawOfLeastSets, LawOfListedSets, LawOfLongerHistories, LawOfPlacements};
 
 /// The closed sets of a query's updates are the parts before its placements, so that
 /// the least distance of a placement is the least cost of a closed set.
@@ -15,4 +15,9 @@ pub fn longer_histories_agree()
 /// is contained in all.
 pub fn least_sets_meet()
     ensures { LawOfLeastSets }
+{}
+
+/// The smallest of them is the one that is found by listing all closed sets.
+pub fn least_sets_are_listed()
+    ensures { LawOfListedSets }
 {}

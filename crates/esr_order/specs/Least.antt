@@ -1,0 +1,38 @@
+-- The smallest closed set of least cost, found by listing all closed sets of a query's updates.
+use Rattle.std.specs.Prelude.{ℕ, ◌++◌, Bool, not, ◌&&◌, ◌||◌, nat_le, List, [], ◌∷◌, filter, map}
+use Rattle.std.specs.List.{list_all}
+use Rattle.esr_history.specs.Machine.{Distance, Schedule}
+use Rattle.esr_history.specs.Serial.{is_before}
+use Rattle.esr_history.specs.Queries.{updates_of, must, cost}
+use Rattle.esr_order.specs.Placements.{is_among}
+
+-- what is left of a list where some of its members are dropped
+abbrev pub parts : List ℕ → List (List ℕ)
+parts [] = [] ∷ []
+parts (u ∷ us) = map (λ part. u ∷ part) (parts us) ++ parts us
+
+-- whether a part has, with each member, all updates of q that are before it, and what q must see
+abbrev pub is_closed_part : Schedule → ℕ → List ℕ → Bool
+is_closed_part h q part =
+    list_all (λ v. list_all (λ u. not (is_before h u v) || is_among part u) (updates_of h q)) part
+    && list_all (is_among part) (must h q)
+
+-- the closed sets of q's updates
+abbrev pub closed_parts : Schedule → ℕ → List (List ℕ)
+closed_parts h q = filter (is_closed_part h q) (parts (updates_of h q))
+
+-- whether no closed set costs less
+abbrev pub is_least_part : Distance → Schedule → ℕ → List ℕ → Bool
+is_least_part d h q part = list_all (λ other. nat_le (cost d h q (is_among part)) (cost d h q (is_among other))) (closed_parts h q)
+
+-- the closed sets of least cost
+abbrev pub least_parts : Distance → Schedule → ℕ → List (List ℕ)
+least_parts d h q = filter (is_least_part d h q) (closed_parts h q)
+
+-- what all of them have, in commit order
+abbrev pub least_set : Distance → Schedule → ℕ → List ℕ
+least_set d h q = filter (λ u. list_all (λ part. is_among part u) (least_parts d h q)) (updates_of h q)
+
+-- and what that costs
+abbrev pub least_cost : Distance → Schedule → ℕ → ℕ
+least_cost d h q = cost d h q (is_among (least_set d h q))
