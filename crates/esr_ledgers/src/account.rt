@@ -22,12 +22,17 @@ pub fn place_of(accounts: &[Account], t: TxnId) -> Result<usize, usize>
     accounts.binary_search_by_key(&t.0, |a| a.number.0)
 }
 
-/// Where the account of a transaction stands.
+/// Where the account of a transaction stands. Accounts are opened for 1, 2, 3 and so on, so
+/// it is looked for first where it then stands.
 fn index_of(accounts: &[Account], t: TxnId) -> usize
     requires ascending { IsAscendingBy number accounts.now }
     requires open { is_open accounts.now t.0 ≡ true }
     ensures { IsPlaceOf number accounts.now t.0 result }
 {
+    let dense = (t.0 as usize).saturating_sub(1);
+    if dense < accounts.len() && accounts[dense].number == t {
+        return dense;
+    }
     match place_of(accounts, t) {
         Ok(at) => at,
         Err(_) => unreachable!(),
