@@ -6,5 +6,6 @@ pub mod Steps
 pub mod Held
 pub mod Spelling
 pub mod Asks
+pub mod Audits
 pub mod Buffers
 pub mod Opens

@@ -8,11 +8,13 @@ use Rattle.esr_history.specs.declared.event.Event.{Event}
 use Rattle.esr_history.specs.declared.event.Event.TheVariants as event
 use Rattle.esr_history.specs.declared.event.Reply.{Reply}
 use Rattle.esr_history.specs.declared.event.Reply.TheVariants as reply
-use Rattle.esr_history.specs.Machine.{Schedule, Distance, reply_to, extended}
+use Rattle.esr_history.specs.Machine.{Schedule, Distance, reply_to, extended, charges_in, import_in}
+use Rattle.esr_history.specs.Queries.{is_committed_query}
 use Rattle.esr_history.specs.Totals.{all_imports, all_exports}
-use Rattle.esr_report.specs.declared.lines.LineError.TheVariants.{NotACommand, ItemsAreClosed, NameInUse, ValueOutOfRange, TooManyItems}
+use Rattle.esr_order.specs.Least.{least_set, least_cost}
+use Rattle.esr_report.specs.declared.lines.LineError.TheVariants.{NotACommand, ItemsAreClosed, NameInUse, ValueOutOfRange, TooManyItems, NotACommittedQuery}
 use Rattle.esr_report.specs.Names.{position_of, is_bound}
-use Rattle.esr_report.specs.Lines.{Named, item_line, reply_line, totals_line, error_line}
+use Rattle.esr_report.specs.Lines.{Named, item_line, reply_line, totals_line, audit_line, error_line}
 use Rattle.esr_script.specs.declared.fault.RunFault.{RunFault}
 use Rattle.esr_script.specs.declared.fault.RunFault.TheVariants as fault
 use Rattle.esr_script.specs.Lines.{lines}
@@ -84,6 +86,13 @@ declare s name value =
     else if not (is_value value) then (s, error_line ValueOutOfRange)
     else if length s.items == max_items then (s, error_line TooManyItems)
     else (record s { items = s.items ++ name ∷ []; history = record s.history { opening = s.history.opening ++ value ∷ [] } }, item_line name value)
+
+-- the line of what the audit of a transaction finds: its least distance, its import, and the smallest least set
+abbrev pub audit : State → List ℕ → List ℕ
+audit s name =
+    let h = s.history in let q = (transaction_called s name).0 in
+    if is_committed_query h q then audit_line s.transactions name (least_cost plain h q) (import_in (charges_in plain h) q) (least_set plain h q)
+    else error_line NotACommittedQuery
 
 -- the state after a command, and its line
 abbrev pub obey : State → Command → Result (State × List ℕ) RunFault

@@ -26,8 +26,8 @@ unfolding digits
 lines_at_fault = refl
 
 report_beside_a_writer : IsWholeText
-    (outcome (codes "item a 100\nbegin u update 50\nbegin q query 10\nwrite u a 107\nread q a\ncommit u\ncommit q\ntotals\n"))
-    (codes "item a 100\nbegun u 1\nbegun q 2\nwrote u a 107\nq a 107\ncommitted u\ncommitted q\ntotals import 7 export 7 entries 6\n")
+    (outcome (codes "item a 100\nbegin u update 50\nbegin q query 10\nwrite u a 107\nread q a\ncommit u\ncommit q\naudit q\ntotals\n"))
+    (codes "item a 100\nbegun u 1\nbegun q 2\nwrote u a 107\nq a 107\ncommitted u\ncommitted q\naudit q distance 0 import 7 before u\ntotals import 7 export 7 entries 6\n")
 unfolding digits
 report_beside_a_writer = refl
 
@@ -36,3 +36,9 @@ export_limit_over_queries : IsWholeText
     (codes "item a 0\nbegun q 1\nbegun r 2\nbegun u 3\nbegun v 4\nq a 0\nq a 0\nr a 0\nblocked 11 export u\nwrote v a 5\ntotals import 15 export 15 entries 9\n")
 unfolding digits
 export_limit_over_queries = refl
+
+two_updates_over_a_report : IsWholeText
+    (outcome (codes "item a 0\nitem b 0\nbegin q query 100\nbegin u1 update 100\nbegin u2 update 100\nread q a\nwrite u1 a 10\naudit q\ncommit u1\nwrite u2 a 1\nwrite u2 b 8\ncommit u2\nread q b\ncommit q\naudit q\n"))
+    (codes "item a 0\nitem b 0\nbegun q 1\nbegun u1 2\nbegun u2 3\nq a 0\nwrote u1 a 10\nerror 6 not a committed query\ncommitted u1\nwrote u2 a 1\nwrote u2 b 8\ncommitted u2\nq b 8\ncommitted q\naudit q distance 1 import 19 before u1,u2\n")
+unfolding digits
+two_updates_over_a_report = refl

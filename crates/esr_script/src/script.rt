@@ -11,9 +11,10 @@ ghost use Rattle.esr_script.specs.View.{view};
 use crate::fault::RunFault;
 use crate::parse::{Line, Parsed, parse_line};
 use crate::stage::Stage;
+use esr_audit::AuditError;
 use esr_history::{Event, Reply, TxnId};
 use esr_items::{ItemId, LARGEST_VALUE, MOST_ITEMS};
-use esr_report::{LineError, Names, Subject, error_line, item_line, reply_line, totals_line};
+use esr_report::{LineError, Names, Subject, audit_line, error_line, item_line, reply_line, totals_line};
 use std::alloc::{AllocError, Global};
 use std::marker::Model;
 
@@ -202,6 +203,30 @@ impl Script {
         self.stage.close(self.alloc)?;
         let totals = self.stage.totals();
         said(totals_line(out, totals.import, totals.export, totals.entries))
+    }
+
+    /// Audits a transaction.
+    fn audit(&mut self, txn: &str, out: &mut Vec<u8>) -> Result<(), RunFault>
+        ensures ok { OnOk result ((text : List ℕ) × (obey self.old (command.audit txn.now) ≡ Ok (self.new, text)) × (out.new.items ≡ out.old.items ++ text)) }
+        ensures err { OnErr result (out.new.items ≡ out.old.items) }
+        ensures faults { IfErr result (λ e. e ≡ RunFault.NoMemory) }
+    {
+        self.stage.close(self.alloc)?;
+        let q = self.transaction(txn);
+        match self.stage.audit(self.alloc, q) {
+            Ok(found) => said(audit_line(
+                out,
+                &self.transactions,
+                txn,
+                found.distance,
+                found.import,
+                &found.before,
+            )),
+            Err(AuditError::NotACommittedQuery) => {
+                said(error_line(out, LineError::NotACommittedQuery))
+            }
+            Err(AuditError::NoMemory) => Err(RunFault::NoMemory),
+        }
     }
 
     /// Obeys a command.

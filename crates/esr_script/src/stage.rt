@@ -1,13 +1,16 @@
 //! The items before the machine is made, and the machine.
 
-ghost use Rattle.std.specs.Prelude.{◌≡◌, ◌≢◌, ◌⊎◌, true, length, IfOk, OnOk, OnErr, IfErr};
+ghost use Rattle.std.specs.Prelude.{◌≡◌, ◌≢◌, ◌⊎◌, ◌↔◌, true, false, length, map, IfOk, OnOk, OnErr, IfErr, IsErrOf};
 ghost use Rattle.esr_history.specs.Machine.{reply_to, extended};
 ghost use Rattle.esr_history.specs.Totals.{all_imports, all_exports};
+ghost use Rattle.esr_history.specs.Queries.{is_committed_query};
+ghost use Rattle.esr_audit.specs.Findings.{IsAnswer};
 ghost use Rattle.esr_script.specs.Text.{plain};
 
 use crate::fault::RunFault;
+use esr_audit::{AuditError, Finding, audit_query};
 use esr_core::{Machine, StepError, Totals};
-use esr_history::{Event, Reply};
+use esr_history::{Event, Reply, TxnId};
 use esr_items::{Plain, Store};
 use std::alloc::Global;
 use std::mem;
@@ -76,6 +79,18 @@ impl Stage {
                 export: 0,
                 entries: 0,
             },
+        }
+    }
+
+    /// What the audit of a transaction finds.
+    pub fn audit(&self, alloc: Global, q: TxnId) -> Result<Finding, AuditError>
+        requires { is_running self.now ≡ true }
+        ensures answer { IfOk result (λ f. IsAnswer plain (history_of self.now) q.0 f.distance f.import (map (λ t. t.0) f.before.items)) }
+        ensures refused { IsErrOf result AuditError.NotACommittedQuery ↔ (is_committed_query (history_of self.now) q.0 ≡ false) }
+    {
+        match self {
+            Stage::Running(machine) => audit_query(alloc, machine.history(), q),
+            Stage::Open(_) => Err(AuditError::NoMemory),
         }
     }
 }

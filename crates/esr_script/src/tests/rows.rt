@@ -9,7 +9,7 @@ pub struct Row {
     pub ended: Result<(), RunFault>,
 }
 
-pub const ROWS: [Row; 25] = [
+pub const ROWS: [Row; 32] = [
     Row {
         name: "empty_input",
         script: "",
@@ -127,31 +127,73 @@ pub const ROWS: [Row; 25] = [
     Row {
         name: "report_beside_a_writer",
         script: "item a 100\nbegin u update 50\nbegin q query 10\nwrite u a 107\nread q a\ncommit u\ncommit q\naudit q\ntotals\n",
-        text: "item a 100\nbegun u 1\nbegun q 2\nwrote u a 107\nq a 107\ncommitted u\ncommitted q\nerror 1 not a command\ntotals import 7 export 7 entries 6\n",
+        text: "item a 100\nbegun u 1\nbegun q 2\nwrote u a 107\nq a 107\ncommitted u\ncommitted q\naudit q distance 0 import 7 before u\ntotals import 7 export 7 entries 6\n",
         ended: Ok(()),
     },
     Row {
         name: "aborted_write_was_read",
         script: "item a 100\nbegin u update 50\nbegin q query 10\nwrite u a 107\nread q a\nabort u\ncommit q\naudit q\ntotals\n",
-        text: "item a 100\nbegun u 1\nbegun q 2\nwrote u a 107\nq a 107\naborted u\ncommitted q\nerror 1 not a command\ntotals import 7 export 7 entries 6\n",
+        text: "item a 100\nbegun u 1\nbegun q 2\nwrote u a 107\nq a 107\naborted u\ncommitted q\naudit q distance 7 import 7 before -\ntotals import 7 export 7 entries 6\n",
         ended: Ok(()),
     },
     Row {
         name: "values_at_the_edge",
         script: "item a -1000000000000\nbegin q query 2000000000000\nbegin u update 2000000000000\nread q a\nwrite u a 1000000000001\nwrite u a 1000000000000\ncommit u\ncommit q\naudit q\ntotals\n",
-        text: "item a -1000000000000\nbegun q 1\nbegun u 2\nq a -1000000000000\nrefused 5 value out of range\nwrote u a 1000000000000\ncommitted u\ncommitted q\nerror 1 not a command\ntotals import 2000000000000 export 2000000000000 entries 7\n",
+        text: "item a -1000000000000\nbegun q 1\nbegun u 2\nq a -1000000000000\nrefused 5 value out of range\nwrote u a 1000000000000\ncommitted u\ncommitted q\naudit q distance 0 import 2000000000000 before -\ntotals import 2000000000000 export 2000000000000 entries 7\n",
         ended: Ok(()),
     },
     Row {
         name: "values_at_the_edge_of_the_import",
         script: "item a -1000000000000\nbegin q query 1999999999999\nbegin u update 2000000000000\nread q a\nwrite u a 1000000000001\nwrite u a 1000000000000\ncommit u\ncommit q\naudit q\ntotals\n",
-        text: "item a -1000000000000\nbegun q 1\nbegun u 2\nq a -1000000000000\nrefused 5 value out of range\nblocked 10 import q\ncommitted u\ncommitted q\nerror 1 not a command\ntotals import 0 export 0 entries 7\n",
+        text: "item a -1000000000000\nbegun q 1\nbegun u 2\nq a -1000000000000\nrefused 5 value out of range\nblocked 10 import q\ncommitted u\ncommitted q\naudit q distance 0 import 0 before -\ntotals import 0 export 0 entries 7\n",
         ended: Ok(()),
     },
     Row {
         name: "values_at_the_edge_of_the_export",
         script: "item a -1000000000000\nbegin q query 2000000000000\nbegin u update 1999999999999\nread q a\nwrite u a 1000000000001\nwrite u a 1000000000000\ncommit u\ncommit q\naudit q\ntotals\n",
-        text: "item a -1000000000000\nbegun q 1\nbegun u 2\nq a -1000000000000\nrefused 5 value out of range\nblocked 11 export u\ncommitted u\ncommitted q\nerror 1 not a command\ntotals import 0 export 0 entries 7\n",
+        text: "item a -1000000000000\nbegun q 1\nbegun u 2\nq a -1000000000000\nrefused 5 value out of range\nblocked 11 export u\ncommitted u\ncommitted q\naudit q distance 0 import 0 before -\ntotals import 0 export 0 entries 7\n",
+        ended: Ok(()),
+    },
+    Row {
+        name: "nearer_before_the_update",
+        script: "item x 0\nitem y 0\nbegin q query 5\nbegin u update 5\nread q y\nwrite u x 3\nwrite u y 5\ncommit u\nread q x\ncommit q\naudit q\n",
+        text: "item x 0\nitem y 0\nbegun q 1\nbegun u 2\nq y 0\nwrote u x 3\nwrote u y 5\ncommitted u\nq x 3\ncommitted q\naudit q distance 3 import 5 before -\n",
+        ended: Ok(()),
+    },
+    Row {
+        name: "smaller_of_two_sets",
+        script: "item a 0\nbegin q query 9\nbegin u update 4\nread q a\nwrite u a 4\ncommit u\nread q a\ncommit q\naudit q\n",
+        text: "item a 0\nbegun q 1\nbegun u 2\nq a 0\nwrote u a 4\ncommitted u\nq a 4\ncommitted q\naudit q distance 4 import 4 before -\n",
+        ended: Ok(()),
+    },
+    Row {
+        name: "two_updates_over_a_report",
+        script: "item a 0\nitem b 0\nbegin q query 100\nbegin u1 update 100\nbegin u2 update 100\nread q a\nwrite u1 a 10\ncommit u1\nwrite u2 a 1\nwrite u2 b 8\ncommit u2\nread q b\ncommit q\naudit q\n",
+        text: "item a 0\nitem b 0\nbegun q 1\nbegun u1 2\nbegun u2 3\nq a 0\nwrote u1 a 10\ncommitted u1\nwrote u2 a 1\nwrote u2 b 8\ncommitted u2\nq b 8\ncommitted q\naudit q distance 1 import 19 before u1,u2\n",
+        ended: Ok(()),
+    },
+    Row {
+        name: "order_through_a_third_item",
+        script: "item a 0\nitem b 0\nitem c 0\nbegin q query 9\nbegin u1 update 9\nbegin u2 update 9\nread q a\nwrite u1 a 6\nwrite u1 c 1\ncommit u1\nread u2 c\nwrite u2 b 2\ncommit u2\nread q b\ncommit q\naudit q\n",
+        text: "item a 0\nitem b 0\nitem c 0\nbegun q 1\nbegun u1 2\nbegun u2 3\nq a 0\nwrote u1 a 6\nwrote u1 c 1\ncommitted u1\nu2 c 1\nwrote u2 b 2\ncommitted u2\nq b 2\ncommitted q\naudit q distance 2 import 6 before -\n",
+        ended: Ok(()),
+    },
+    Row {
+        name: "queries_that_read_little",
+        script: "item a 7\nbegin q query 0\ncommit q\naudit q\nbegin r query 0\nread r a\ncommit r\naudit r\naudit a\n",
+        text: "item a 7\nbegun q 1\ncommitted q\naudit q distance 0 import 0 before -\nbegun r 2\nr a 7\ncommitted r\naudit r distance 0 import 0 before -\nerror 6 not a committed query\n",
+        ended: Ok(()),
+    },
+    Row {
+        name: "no_audit_before_a_commit",
+        script: "item a 0\nbegin q query 0\naudit q\nabort q\naudit q\n",
+        text: "item a 0\nbegun q 1\nerror 6 not a committed query\naborted q\nerror 6 not a committed query\n",
+        ended: Ok(()),
+    },
+    Row {
+        name: "audits_close_the_items",
+        script: "item a 0\naudit q\nitem b 0\naudit\naudit q r\nbegin u update 0\ncommit u\naudit u\n",
+        text: "item a 0\nerror 6 not a committed query\nerror 2 items are closed\nerror 1 not a command\nerror 1 not a command\nbegun u 1\ncommitted u\nerror 6 not a committed query\n",
         ended: Ok(()),
     },
     Row {
