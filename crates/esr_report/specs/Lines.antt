@@ -1,5 +1,5 @@
 -- The lines of a report.
-use Rattle.std.specs.Prelude.{◌≡◌, ℕ, ℤ, List, [], ◌∷◌, ◌++◌, codes, decimal}
+use Rattle.std.specs.Prelude.{◌≡◌, ℕ, ℤ, List, [], ◌∷◌, ◌++◌, map, codes, decimal}
 use Rattle.std.specs.List.{join_with_byte}
 use Rattle.std.specs.Fmt.{signed_decimal}
 use Rattle.esr_history.specs.declared.event.Reply.{Reply}
@@ -73,6 +73,19 @@ abbrev pub totals_line : ℕ → ℕ → ℕ → List ℕ
 totals_line imports exports entries =
     line (codes "totals import" ∷ decimal imports ∷ codes "export" ∷ decimal exports ∷ codes "entries" ∷ decimal entries ∷ [])
 
+-- the names of transactions, parted by commas; a minus where there is none
+abbrev pub listed : (names : List (List ℕ)) (txns : List ℕ) → List ℕ
+listed names [] = codes "-"
+listed names (txn ∷ txns) = join_with_byte 44 (map (name_of_transaction names) (txn ∷ txns))
+
+-- what the audit of a query found: its distance, what it imported, and the updates before its position
+abbrev pub audit_words : (names : List (List ℕ)) (name : List ℕ) (distance import : ℕ) (before : List ℕ) → List (List ℕ)
+audit_words names name distance import before =
+    codes "audit" ∷ name ∷ codes "distance" ∷ decimal distance ∷ codes "import" ∷ decimal import ∷ codes "before" ∷ listed names before ∷ []
+
+abbrev pub audit_line : (names : List (List ℕ)) (name : List ℕ) (distance import : ℕ) (before : List ℕ) → List ℕ
+audit_line names name distance import before = line (audit_words names name distance import before)
+
 -- what is wrong with a line that makes no event
 abbrev pub error_line : LineError → List ℕ
 error_line error.NotACommand = line (codes "error 1 not a command" ∷ [])
@@ -80,3 +93,4 @@ error_line error.ItemsAreClosed = line (codes "error 2 items are closed" ∷ [])
 error_line error.NameInUse = line (codes "error 3 name in use" ∷ [])
 error_line error.ValueOutOfRange = line (codes "error 4 value out of range" ∷ [])
 error_line error.TooManyItems = line (codes "error 5 too many items" ∷ [])
+error_line error.NotACommittedQuery = line (codes "error 6 not a committed query" ∷ [])

@@ -1,5 +1,6 @@
-ghost use Rattle.std.specs.Prelude.{◌≡◌, ℕ, List, ◌++◌, ◌∷◌, OnOk, OnErr, map};
-ghost use Rattle.esr_report.specs.Lines.{BeginsWith, line, item_line, begun_line, value_line, wrote_line, refusal_line, reply_line, totals_line, error_line};
+ghost use Rattle.std.specs.Prelude.{◌≡◌, ◌≤◌, ℕ, List, [], ◌++◌, ◌∷◌, OnOk, OnErr, IsOk, map, take, length};
+ghost use Rattle.std.specs.List.{join_with_byte};
+ghost use Rattle.esr_report.specs.Lines.{BeginsWith, line, item_line, begun_line, value_line, wrote_line, refusal_line, reply_line, totals_line, listed, audit_words, audit_line, error_line};
 ghost use Rattle.esr_report.specs.Subjects.{named_by};
 ghost use Rattle.esr_report.specs.Names.{name_of_transaction};
 
@@ -15,6 +16,7 @@ pub enum LineError {
     NameInUse,
     ValueOutOfRange,
     TooManyItems,
+    NotACommittedQuery,
 }
 
 /// What an event names, for the line that answers it: a transaction, an item and
@@ -26,9 +28,9 @@ pub struct Subject<'a> {
     pub value: i64,
 }
 
-/// Appends words parted by blanks, and a line feed.
+/// Appends words parted by blanks.
 fn push_words(out: &mut Vec<u8>, first: &str, rest: &[&str]) -> Result<(), AllocError>
-    ensures ok { OnOk result (out.new.items ≡ out.old.items ++ line (first.now ∷ map (λ word. word.now) rest.now)) }
+    ensures ok { OnOk result (out.new.items ≡ out.old.items ++ join_with_byte 32 (first.now ∷ map (λ word. word.now) rest.now)) }
     ensures kept { BeginsWith out.new.items out.old.items }
 {
     out.extend_from_slice(first.as_bytes())?;
@@ -36,21 +38,35 @@ fn push_words(out: &mut Vec<u8>, first: &str, rest: &[&str]) -> Result<(), Alloc
         out.push(b' ')?;
         out.extend_from_slice(word.as_bytes())?;
     }
-    out.push(b'\n')?;
     Ok(())
 }
 
-/// The same, or nothing at all where memory is refused.
+/// Ends a line that begins at the mark, or takes it away where memory was refused.
+fn end_line(
+    out: &mut Vec<u8>,
+    mark: usize,
+    appended: Result<(), AllocError>,
+) -> Result<(), AllocError>
+    requires { mark ≤ length out.old.items }
+    ensures whole { OnOk result (IsOk appended) }
+    ensures ok { OnOk result (out.new.items ≡ out.old.items ++ 10 ∷ []) }
+    ensures err { OnErr result (out.new.items ≡ take mark out.old.items) }
+{
+    if appended.is_ok() && out.push(b'\n').is_ok() {
+        return Ok(());
+    }
+    out.truncate(mark);
+    Err(AllocError)
+}
+
+/// Appends a line of words parted by blanks.
 fn push_line(out: &mut Vec<u8>, first: &str, rest: &[&str]) -> Result<(), AllocError>
     ensures ok { OnOk result (out.new.items ≡ out.old.items ++ line (first.now ∷ map (λ word. word.now) rest.now)) }
     ensures err { OnErr result (out.new.items ≡ out.old.items) }
 {
     let mark = out.len();
-    let pushed = push_words(out, first, rest);
-    if pushed.is_err() {
-        out.truncate(mark);
-    }
-    pushed
+    let words = push_words(out, first, rest);
+    end_line(out, mark, words)
 }
 
 /// Appends the line of a declared item.
@@ -176,6 +192,69 @@ pub fn totals_line(
     push_line(out, "totals import", &words)
 }
 
+/// Appends the names of transactions parted by commas, or a minus where there is none.
+fn push_names(out: &mut Vec<u8>, names: &Names, txns: &[TxnId]) -> Result<(), AllocError>
+    ensures ok { OnOk result (out.new.items ≡ out.old.items ++ listed names.now (map (λ t. t.0) txns.now)) }
+    ensures kept { BeginsWith out.new.items out.old.items }
+{
+    let Some((first, rest)) = txns.split_first() else {
+        out.push(b'-')?;
+        return Ok(());
+    };
+    out.extend_from_slice(name_of_transaction(names, *first).as_bytes())?;
+    for txn in rest {
+        out.push(b',')?;
+        out.extend_from_slice(name_of_transaction(names, *txn).as_bytes())?;
+    }
+    Ok(())
+}
+
+/// Appends what stands in the line of an audit.
+fn push_audit(
+    out: &mut Vec<u8>,
+    names: &Names,
+    txn: &str,
+    distance: u64,
+    import: u64,
+    before: &[TxnId],
+) -> Result<(), AllocError>
+    ensures ok { OnOk result (out.new.items ≡ out.old.items ++ join_with_byte 32 (audit_words names.now txn.now distance import (map (λ t. t.0) before.now))) }
+    ensures kept { BeginsWith out.new.items out.old.items }
+{
+    let mut distance_digits = itoa::Buffer::new();
+    let mut import_digits = itoa::Buffer::new();
+    let words = [
+        txn,
+        "distance",
+        distance_digits.format(distance),
+        "import",
+        import_digits.format(import),
+        "before",
+    ];
+    push_words(out, "audit", &words)?;
+    out.push(b' ')?;
+    push_names(out, names, before)
+}
+
+/// Appends the line of what the audit of a query found: its distance, what it
+/// imported, and the updates before its position. The names are those of the
+/// transactions, in the order of their numbers.
+pub fn audit_line(
+    out: &mut Vec<u8>,
+    names: &Names,
+    txn: &str,
+    distance: u64,
+    import: u64,
+    before: &[TxnId],
+) -> Result<(), AllocError>
+    ensures ok { OnOk result (out.new.items ≡ out.old.items ++ audit_line names.now txn.now distance import (map (λ t. t.0) before.now)) }
+    ensures err { OnErr result (out.new.items ≡ out.old.items) }
+{
+    let mark = out.len();
+    let words = push_audit(out, names, txn, distance, import, before);
+    end_line(out, mark, words)
+}
+
 /// Appends the line of what is wrong with a line that makes no event.
 pub fn error_line(out: &mut Vec<u8>, error: LineError) -> Result<(), AllocError>
     ensures ok { OnOk result (out.new.items ≡ out.old.items ++ error_line error) }
@@ -187,5 +266,6 @@ pub fn error_line(out: &mut Vec<u8>, error: LineError) -> Result<(), AllocError>
         LineError::NameInUse => push_line(out, "error 3 name in use", &[]),
         LineError::ValueOutOfRange => push_line(out, "error 4 value out of range", &[]),
         LineError::TooManyItems => push_line(out, "error 5 too many items", &[]),
+        LineError::NotACommittedQuery => push_line(out, "error 6 not a committed query", &[]),
     }
 }
