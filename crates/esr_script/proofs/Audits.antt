@@ -1,27 +1,79 @@
--- What an audit found is what its line says.
-use Rattle.std.proofs.Common.{◌≡◌, ℕ, List, filter, refl, sym, ◌∙◌, ap, ap2, false, true}
+-- What an audit finds is what its line says.
+use Rattle.std.proofs.Common.{◌≡◌, ℕ, List, ◌++◌, Result, Ok, Err, IfOk, OnOk, map, refl, sym, ◌∙◌, ap, subst, Bool, true, false, if◌then◌else◌}
+use Rattle.std.specs.Prelude.{◌↔◌, IsErrOf, IsOk}
+use Rattle.esr_history.specs.declared.event.TxnId.{TxnId}
 use Rattle.esr_history.specs.Machine.{Distance, Schedule, charges_in, import_in}
-use Rattle.esr_history.specs.Queries.{is_committed_query, members, cost}
+use Rattle.esr_history.specs.Queries.{is_committed_query}
 use Rattle.esr_order.specs.Placements.{is_among}
 use Rattle.esr_order.specs.Least.{least_set, least_cost}
 use Rattle.esr_order.proofs.Least.{law_of_listed_sets}
+use Rattle.esr_audit.specs.declared.finding.Finding.{Finding}
+use Rattle.esr_audit.specs.declared.finding.AuditError.{AuditError}
+use Rattle.esr_audit.specs.declared.finding.AuditError.TheVariants.{NotACommittedQuery}
 use Rattle.esr_audit.specs.Findings.{IsAnswer}
 use Rattle.esr_report.specs.Lines.{audit_line, error_line}
-use Rattle.esr_report.specs.declared.lines.LineError.TheVariants.{NotACommittedQuery}
-use Rattle.esr_script.specs.Text.{State, plain, transaction_called, audit}
+use Rattle.esr_report.specs.declared.lines.LineError.TheVariants as errors
+use Rattle.esr_script.specs.declared.fault.RunFault.{RunFault}
+use Rattle.esr_script.specs.Text.{State, plain, transaction_called, audit_text}
 
--- the audit's answer is the listed set, with its cost and the import
-module _ (d : Distance) (h : Schedule) (q distance import : ℕ) (before : List ℕ) (a : IsAnswer d h q distance import before) where
-  pub before_is : before ≡ least_set d h q
-  before_is = a.in_order ∙ (law_of_listed_sets d h q (is_among before) a.smallest).0
+module _ (d : Distance) (h : Schedule) (q : ℕ) where
+  abbrev pub Answers : Finding → Type 0
+  Answers f = IsAnswer d h q f.distance f.import (map (λ t. t.0) f.before.items)
 
-  pub distance_is : distance ≡ least_cost d h q
-  distance_is = a.distance_is ∙ (law_of_listed_sets d h q (is_among before) a.smallest).1
+  pub distance_is : (r : Result Finding AuditError) → IfOk r Answers → IfOk r (λ f. f.distance ≡ least_cost d h q)
+  distance_is (Ok f) a = a.distance_is ∙ (law_of_listed_sets d h q (is_among (map (λ t. t.0) f.before.items)) a.smallest).1
+  distance_is (Err e) a = tt
 
-pub found_line : (s : State) (name : List ℕ) (distance import : ℕ) (before : List ℕ) → is_committed_query s.history (transaction_called s name).0 ≡ true
-    → IsAnswer plain s.history (transaction_called s name).0 distance import before → audit s name ≡ audit_line s.transactions name distance import before
-found_line s name distance import before committed a =
-    rw (before_is plain s.history (transaction_called s name).0 distance import before a, distance_is plain s.history (transaction_called s name).0 distance import before a, a.import_is, committed) refl
+  pub import_is : (r : Result Finding AuditError) → IfOk r Answers → IfOk r (λ f. f.import ≡ import_in (charges_in d h) q)
+  import_is (Ok f) a = a.import_is
+  import_is (Err e) a = tt
 
-pub refused_line : (s : State) (name : List ℕ) → is_committed_query s.history (transaction_called s name).0 ≡ false → audit s name ≡ error_line NotACommittedQuery
-refused_line s name other = rw other refl
+  pub before_is : (r : Result Finding AuditError) → IfOk r Answers → IfOk r (λ f. map (λ t. t.0) f.before.items ≡ least_set d h q)
+  before_is (Ok f) a = a.in_order ∙ (law_of_listed_sets d h q (is_among (map (λ t. t.0) f.before.items)) a.smallest).0
+  before_is (Err e) a = tt
+
+  pub committed : (r : Result Finding AuditError) → IsErrOf r NotACommittedQuery ↔ (is_committed_query h q ≡ false) → IfOk r (λ f. is_committed_query h q ≡ true)
+  committed (Ok f) refused = at (is_committed_query h q) refused.1
+    where
+      at : (b : Bool) → (b ≡ false → IsErrOf (Ok f) NotACommittedQuery) → b ≡ true
+      at true k = refl
+      at false k = let none : Ok f ≡ Err NotACommittedQuery = k refl in cc
+  committed (Err e) refused = tt
+
+abbrev pub answered : State → List ℕ → Result (State × List ℕ) RunFault
+answered s text = Ok (s, text)
+
+-- the line of what was found is the audit's text
+pub said_so : {E : Type 0} (r : Result (Unit {0}) RunFault) (p : Result (Unit {0}) E) (items names : List (List ℕ)) (was running : Bool) (h0 h : Schedule) (s : State)
+    (name : List ℕ) (q : TxnId) (distance import : ℕ) (before out grown : List ℕ)
+    → record { items = items; transactions = names; closed = was; history = h0 } ≡ s → (running ≡ true) × (h ≡ h0)
+    → q ≡ transaction_called (record { items = items; transactions = names; closed = running; history = h }) name
+    → is_committed_query h q.0 ≡ true → distance ≡ least_cost plain h q.0 → import ≡ import_in (charges_in plain h) q.0 → before ≡ least_set plain h q.0
+    → IsOk r ↔ IsOk p → OnOk p (grown ≡ out ++ audit_line names name distance import before)
+    → OnOk r ((text : List ℕ) × (answered (record s { closed = true }) (audit_text s name) ≡ answered (record { items = items; transactions = names; closed = running; history = h }) text) × (grown ≡ out ++ text))
+said_so {E} r p items names was running h0 h s name q distance import before out grown seen closed called shown d i b said line =
+    subst (λ s. OnOk r ((text : List ℕ) × (answered (record s { closed = true }) (audit_text s name) ≡ answered (record { items = items; transactions = names; closed = running; history = h }) text) × (grown ≡ out ++ text))) seen
+    (subst (λ k. OnOk r ((text : List ℕ) × (answered (record { items = items; transactions = names; closed = true; history = k }) (audit_text (record { items = items; transactions = names; closed = was; history = k }) name) ≡ answered (record { items = items; transactions = names; closed = running; history = h }) text) × (grown ≡ out ++ text))) closed.1
+    (ended r p said line))
+  where
+    state : Bool → State
+    state c = record { items = items; transactions = names; closed = c; history = h }
+
+    whole : ℕ → List ℕ
+    whole n =
+        if is_committed_query h n then audit_line names name (least_cost plain h n) (import_in (charges_in plain h) n) (least_set plain h n)
+        else error_line errors.NotACommittedQuery
+
+    text : audit_text (state was) name ≡ audit_line names name distance import before
+    text =
+        ap whole (sym (ap (λ (t : TxnId). t.0) called))
+        ∙ ap (λ (c : Bool). if c then audit_line names name (least_cost plain h q.0) (import_in (charges_in plain h) q.0) (least_set plain h q.0) else error_line errors.NotACommittedQuery) shown
+        ∙ ap (λ n. audit_line names name n (import_in (charges_in plain h) q.0) (least_set plain h q.0)) (sym d)
+        ∙ ap (λ n. audit_line names name distance n (least_set plain h q.0)) (sym i)
+        ∙ ap (λ us. audit_line names name distance import us) (sym b)
+
+    ended : (r : Result (Unit {0}) RunFault) (p : Result (Unit {0}) E) → IsOk r ↔ IsOk p → OnOk p (grown ≡ out ++ audit_line names name distance import before)
+        → OnOk r ((text : List ℕ) × (answered (state true) (audit_text (state was) name) ≡ answered (state running) text) × (grown ≡ out ++ text))
+    ended (Err e) p said line = tt
+    ended (Ok u) (Err e) said line = let none : false ≡ true = said.0 refl in cc
+    ended (Ok u) (Ok v) said line = (audit_text (state was) name, ap (λ c. answered (state c) (audit_text (state was) name)) (sym closed.0), line ∙ ap (λ l. out ++ l) (sym text))

@@ -18,7 +18,7 @@ use Rattle.esr_report.specs.Lines.{Named, item_line, reply_line, totals_line, au
 use Rattle.esr_script.specs.declared.fault.RunFault.{RunFault}
 use Rattle.esr_script.specs.declared.fault.RunFault.TheVariants as fault
 use Rattle.esr_script.specs.Lines.{lines}
-use Rattle.esr_script.specs.Command.{Command, item, begin_update, begin_query, read, write, commit, abort, totals, is_skipped}
+use Rattle.esr_script.specs.Command.{Command, item, begin_update, begin_query, read, write, commit, abort, audit, totals, is_skipped}
 use Rattle.esr_script.specs.Reading.{reading}
 
 abbrev pub max_lines : ℕ
@@ -88,8 +88,8 @@ declare s name value =
     else (record s { items = s.items ++ name ∷ []; history = record s.history { opening = s.history.opening ++ value ∷ [] } }, item_line name value)
 
 -- the line of what the audit of a transaction finds: its least distance, its import, and the smallest least set
-abbrev pub audit : State → List ℕ → List ℕ
-audit s name =
+abbrev pub audit_text : State → List ℕ → List ℕ
+audit_text s name =
     let h = s.history in let q = (transaction_called s name).0 in
     if is_committed_query h q then audit_line s.transactions name (least_cost plain h q) (import_in (charges_in plain h) q) (least_set plain h q)
     else error_line NotACommittedQuery
@@ -103,6 +103,7 @@ obey s (read txn x) = ask s (record { txn = txn; item = x; value = pos 0 }) (eve
 obey s (write txn x value) = ask s (record { txn = txn; item = x; value = value }) (event.Write (transaction_called s txn) (item_called s x) value)
 obey s (commit txn) = ask s (record { txn = txn; item = []; value = pos 0 }) (event.Commit (transaction_called s txn))
 obey s (abort txn) = ask s (record { txn = txn; item = []; value = pos 0 }) (event.Abort (transaction_called s txn))
+obey s (audit txn) = Ok (record s { closed = true }, audit_text s txn)
 obey s totals = Ok (record s { closed = true }, totals_line (all_imports plain s.history) (all_exports plain s.history) (length s.history.entries))
 
 -- the state after a line, and its answer

@@ -213,20 +213,21 @@ impl Script {
     {
         self.stage.close(self.alloc)?;
         let q = self.transaction(txn);
-        match self.stage.audit(self.alloc, q) {
-            Ok(found) => said(audit_line(
-                out,
-                &self.transactions,
-                txn,
-                found.distance,
-                found.import,
-                &found.before,
-            )),
+        let found = match self.stage.audit(self.alloc, q) {
+            Ok(found) => found,
             Err(AuditError::NotACommittedQuery) => {
-                said(error_line(out, LineError::NotACommittedQuery))
+                return said(error_line(out, LineError::NotACommittedQuery));
             }
-            Err(AuditError::NoMemory) => Err(RunFault::NoMemory),
-        }
+            Err(AuditError::NoMemory) => return Err(RunFault::NoMemory),
+        };
+        said(audit_line(
+            out,
+            &self.transactions,
+            txn,
+            found.distance,
+            found.import,
+            &found.before,
+        ))
     }
 
     /// Obeys a command.
@@ -254,6 +255,7 @@ impl Script {
             Line::Write { txn, item, value } => self.write(txn, item, value, out),
             Line::Commit { txn } => self.commit(txn, out),
             Line::Abort { txn } => self.abort(txn, out),
+            Line::Audit { txn } => self.audit(txn, out),
             Line::Totals => self.totals(out),
         }
     }

@@ -1,10 +1,10 @@
 //! The items before the machine is made, and the machine.
 
-ghost use Rattle.std.specs.Prelude.{◌≡◌, ◌≢◌, ◌⊎◌, ◌↔◌, true, false, length, map, IfOk, OnOk, OnErr, IfErr, IsErrOf};
-ghost use Rattle.esr_history.specs.Machine.{reply_to, extended};
+ghost use Rattle.std.specs.Prelude.{◌≡◌, ◌≢◌, ◌⊎◌, true, false, length, map, IfOk, OnOk, OnErr, IfErr, IsErrOf};
+ghost use Rattle.esr_history.specs.Machine.{reply_to, extended, charges_in, import_in};
 ghost use Rattle.esr_history.specs.Totals.{all_imports, all_exports};
 ghost use Rattle.esr_history.specs.Queries.{is_committed_query};
-ghost use Rattle.esr_audit.specs.Findings.{IsAnswer};
+ghost use Rattle.esr_order.specs.Least.{least_set, least_cost};
 ghost use Rattle.esr_script.specs.Text.{plain};
 
 use crate::fault::RunFault;
@@ -83,10 +83,14 @@ impl Stage {
     }
 
     /// What the audit of a transaction finds.
+    #[tactic(auto, using(crate::proofs::Audits::distance_is, crate::proofs::Audits::import_is, crate::proofs::Audits::before_is, crate::proofs::Audits::committed))]
     pub fn audit(&self, alloc: Global, q: TxnId) -> Result<Finding, AuditError>
         requires { is_running self.now ≡ true }
-        ensures answer { IfOk result (λ f. IsAnswer plain (history_of self.now) q.0 f.distance f.import (map (λ t. t.0) f.before.items)) }
-        ensures refused { IsErrOf result AuditError.NotACommittedQuery ↔ (is_committed_query (history_of self.now) q.0 ≡ false) }
+        ensures distance { IfOk result (λ f. f.distance ≡ least_cost plain (history_of self.now) q.0) }
+        ensures import { IfOk result (λ f. f.import ≡ import_in (charges_in plain (history_of self.now)) q.0) }
+        ensures before { IfOk result (λ f. map (λ t. t.0) f.before.items ≡ least_set plain (history_of self.now) q.0) }
+        ensures committed { IfOk result (λ f. is_committed_query (history_of self.now) q.0 ≡ true) }
+        ensures refused { IsErrOf result AuditError.NotACommittedQuery → is_committed_query (history_of self.now) q.0 ≡ false }
     {
         match self {
             Stage::Running(machine) => audit_query(alloc, machine.history(), q),
