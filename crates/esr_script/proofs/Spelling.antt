@@ -7,8 +7,8 @@ use Rattle.std.specs.Fmt.{signed_decimal}
 use Rattle.std.proofs.lemmas.List.Elements.{All-nil, All-cons}
 use Rattle.std.proofs.lemmas.List.Splits.{join_with_byte-slice_split}
 use Rattle.std.proofs.lemmas.Slice.Eq.{bytes_eq-Decides}
-use Rattle.esr_script.specs.Command.{Command, item, begin_update, begin_query, read, write, commit, abort, totals, words, is_letter, is_name_byte, is_name, IsName, IsLimit, IsCommand, is_skipped, Spells, IsPlainWord}
-use Rattle.esr_script.specs.Reading.{words_of, name_of, limit_of, int_of, one_of, two_of, three_of, both, item_of, begin_of, read_of, write_of, ended_of, totals_of, command_of, command_by, reading}
+use Rattle.esr_script.specs.Command.{Command, item, begin_update, begin_query, read, write, commit, abort, audit, totals, words, is_letter, is_name_byte, is_name, IsName, IsLimit, IsCommand, is_skipped, Spells, IsPlainWord}
+use Rattle.esr_script.specs.Reading.{words_of, name_of, limit_of, int_of, one_of, two_of, three_of, both, item_of, begin_of, read_of, write_of, one_name_of, totals_of, command_of, command_by, reading}
 use Rattle.esr_script.proofs.Cutting.{which}
 use Rattle.esr_script.proofs.Laws.{and_then_some, map_some, split_join, number_again, number_found, all_digits, int_again, int_found, left}
 
@@ -78,6 +78,7 @@ spelled line (write t x v) h =
     (word t h.0.0, (word x h.0.1, (plain_int v h.0.2, tt))) (rw (named t h.0.0, named x h.0.1, int_again v h.0.2) refl)
 spelled line (commit t) h = found line (codes "commit") (t ∷ []) (commit t) h.1 (plain_text (codes "commit") refl) (word t h.0, tt) (rw (named t h.0) refl)
 spelled line (abort t) h = found line (codes "abort") (t ∷ []) (abort t) h.1 (plain_text (codes "abort") refl) (word t h.0, tt) (rw (named t h.0) refl)
+spelled line (audit t) h = found line (codes "audit") (t ∷ []) (audit t) h.1 (plain_text (codes "audit") refl) (word t h.0, tt) (rw (named t h.0) refl)
 spelled line totals h = found line (codes "totals") [] totals h.1 (plain_text (codes "totals") refl) tt refl
 
 -- ---- what is read is spelled
@@ -176,23 +177,29 @@ totals_found : (ws : List (List ℕ)) (c : Command) → totals_of ws ≡ Some c 
 totals_found [] c e = let same : totals ≡ c = cc in subst (Behind (codes "totals") []) same (tt, refl)
 totals_found (w ∷ ws) c e = cc
 
-ended_found : (ws : List (List ℕ)) (t : List ℕ) → ended_of ws ≡ Some t → IsName t × (ws ≡ t ∷ [])
-ended_found ws t e =
+one_name_found : (ws : List (List ℕ)) (t : List ℕ) → one_name_of ws ≡ Some t → IsName t × (ws ≡ t ∷ [])
+one_name_found ws t e =
     let p = and_then_some name_of (one_of ws) t e in
     let n = name_found p.0 t p.2 in
     (n.0, one_found ws p.0 p.1 ∙ ap (λ w. w ∷ []) n.1)
 
-commit_found : (ws : List (List ℕ)) (c : Command) → option_map commit (ended_of ws) ≡ Some c → Behind (codes "commit") ws c
+commit_found : (ws : List (List ℕ)) (c : Command) → option_map commit (one_name_of ws) ≡ Some c → Behind (codes "commit") ws c
 commit_found ws c e =
-    let m = map_some commit (ended_of ws) c e in
-    let t = ended_found ws m.0 m.1 in
+    let m = map_some commit (one_name_of ws) c e in
+    let t = one_name_found ws m.0 m.1 in
     subst (Behind (codes "commit") ws) m.2 (t.0, ap (λ l. codes "commit" ∷ l) t.1)
 
-abort_found : (ws : List (List ℕ)) (c : Command) → option_map abort (ended_of ws) ≡ Some c → Behind (codes "abort") ws c
+abort_found : (ws : List (List ℕ)) (c : Command) → option_map abort (one_name_of ws) ≡ Some c → Behind (codes "abort") ws c
 abort_found ws c e =
-    let m = map_some abort (ended_of ws) c e in
-    let t = ended_found ws m.0 m.1 in
+    let m = map_some abort (one_name_of ws) c e in
+    let t = one_name_found ws m.0 m.1 in
     subst (Behind (codes "abort") ws) m.2 (t.0, ap (λ l. codes "abort" ∷ l) t.1)
+
+audit_found : (ws : List (List ℕ)) (c : Command) → option_map audit (one_name_of ws) ≡ Some c → Behind (codes "audit") ws c
+audit_found ws c e =
+    let m = map_some audit (one_name_of ws) c e in
+    let t = one_name_found ws m.0 m.1 in
+    subst (Behind (codes "audit") ws) m.2 (t.0, ap (λ l. codes "audit" ∷ l) t.1)
 
 -- one of two, by the first word
 choose : (k word : List ℕ) (ws : List (List ℕ)) (a b : Option Command) (c : Command) → cond (bytes_eq k word) a b ≡ Some c
@@ -210,7 +217,8 @@ behind k ws c e =
     choose k (codes "begin") ws _ _ c e (begin_found ws c) (λ e.
     choose k (codes "commit") ws _ _ c e (commit_found ws c) (λ e.
     choose k (codes "abort") ws _ _ c e (abort_found ws c) (λ e.
-    choose k (codes "item") ws _ _ c e (item_found ws c) (λ e. cc)))))))
+    choose k (codes "audit") ws _ _ c e (audit_found ws c) (λ e.
+    choose k (codes "item") ws _ _ c e (item_found ws c) (λ e. cc))))))))
 
 by_words : (ws : List (List ℕ)) (c : Command) → command_by ws ≡ Some c → IsCommand c × (ws ≡ words c)
 by_words [] c e = cc
@@ -230,4 +238,5 @@ not_skipped line (read t x) h = ap is_skipped h.1
 not_skipped line (write t x v) h = ap is_skipped h.1
 not_skipped line (commit t) h = ap is_skipped h.1
 not_skipped line (abort t) h = ap is_skipped h.1
+not_skipped line (audit t) h = ap is_skipped h.1
 not_skipped line totals h = ap is_skipped h.1

@@ -12,6 +12,7 @@ pub data Command : Type 0 where
   write : (txn item : List ℕ) (value : ℤ) → Command
   commit : (txn : List ℕ) → Command
   abort : (txn : List ℕ) → Command
+  audit : (txn : List ℕ) → Command
   totals : Command
 
 -- the words of a command
@@ -23,6 +24,7 @@ words (read t x) = codes "read" ∷ t ∷ x ∷ []
 words (write t x v) = codes "write" ∷ t ∷ x ∷ signed_decimal v ∷ []
 words (commit t) = codes "commit" ∷ t ∷ []
 words (abort t) = codes "abort" ∷ t ∷ []
+words (audit t) = codes "audit" ∷ t ∷ []
 words totals = codes "totals" ∷ []
 
 -- its words, parted by single blanks
@@ -63,6 +65,7 @@ IsCommand (read t x) = IsName t × IsName x
 IsCommand (write t x v) = IsName t × IsName x × IsInt v
 IsCommand (commit t) = IsName t
 IsCommand (abort t) = IsName t
+IsCommand (audit t) = IsName t
 IsCommand totals = Unit {0}
 
 -- an empty line and a comment

@@ -3,7 +3,7 @@ use Rattle.std.specs.Prelude.{ℕ, ◌+◌, ◌-◌, ◌*◌, ◌^◌, ℤ, pos,
 use Rattle.std.specs.List.{slice_split}
 use Rattle.std.specs.Borrow.{Bor}
 use Rattle.std.specs.Str.{bytes_eq}
-use Rattle.esr_script.specs.Command.{Command, item, begin_update, begin_query, read, write, commit, abort, totals, is_name}
+use Rattle.esr_script.specs.Command.{Command, item, begin_update, begin_query, read, write, commit, abort, audit, totals, is_name}
 
 abbrev pub is_blank : ℕ → Bool
 is_blank b = nat_eq b 32
@@ -74,8 +74,8 @@ read_of ws = option_and_then (λ p. both read (name_of p.0) (name_of p.1)) (two_
 abbrev pub write_of : List (List ℕ) → Option Command
 write_of ws = option_and_then (λ p. option_and_then (λ t. both (write t) (name_of p.1) (int_of p.2)) (name_of p.0)) (three_of ws)
 
-abbrev pub ended_of : List (List ℕ) → Option (List ℕ)
-ended_of ws = option_and_then name_of (one_of ws)
+abbrev pub one_name_of : List (List ℕ) → Option (List ℕ)
+one_name_of ws = option_and_then name_of (one_of ws)
 
 abbrev pub totals_of : List (List ℕ) → Option Command
 totals_of [] = Some totals
@@ -87,8 +87,9 @@ command_of word ws =
     else if bytes_eq word (codes "read") then read_of ws
     else if bytes_eq word (codes "write") then write_of ws
     else if bytes_eq word (codes "begin") then begin_of ws
-    else if bytes_eq word (codes "commit") then option_map commit (ended_of ws)
-    else if bytes_eq word (codes "abort") then option_map abort (ended_of ws)
+    else if bytes_eq word (codes "commit") then option_map commit (one_name_of ws)
+    else if bytes_eq word (codes "abort") then option_map abort (one_name_of ws)
+    else if bytes_eq word (codes "audit") then option_map audit (one_name_of ws)
     else if bytes_eq word (codes "item") then item_of ws
     else None
 

@@ -10,13 +10,13 @@ use Rattle.esr_history.specs.declared.event.Reply.{Reply}
 use Rattle.esr_history.specs.declared.event.Reply.TheVariants as reply
 use Rattle.esr_history.specs.Machine.{Schedule, Distance, reply_to, extended}
 use Rattle.esr_history.specs.Totals.{all_imports, all_exports}
-use Rattle.esr_report.specs.declared.lines.LineError.TheVariants.{NotACommand, ItemsAreClosed, NameInUse, ValueOutOfRange, TooManyItems}
+use Rattle.esr_report.specs.declared.lines.LineError.TheVariants.{NotACommand, ItemsAreClosed, NameInUse, ValueOutOfRange, TooManyItems, NotACommittedQuery}
 use Rattle.esr_report.specs.Names.{position_of, is_bound}
 use Rattle.esr_report.specs.Lines.{Named, item_line, reply_line, totals_line, error_line}
 use Rattle.esr_script.specs.declared.fault.RunFault.{RunFault}
 use Rattle.esr_script.specs.declared.fault.RunFault.TheVariants as fault
 use Rattle.esr_script.specs.Lines.{lines}
-use Rattle.esr_script.specs.Command.{Command, item, begin_update, begin_query, read, write, commit, abort, totals, is_skipped}
+use Rattle.esr_script.specs.Command.{Command, item, begin_update, begin_query, read, write, commit, abort, audit, totals, is_skipped}
 use Rattle.esr_script.specs.Reading.{reading}
 
 abbrev pub max_lines : ℕ
@@ -94,6 +94,7 @@ obey s (read txn x) = ask s (record { txn = txn; item = x; value = pos 0 }) (eve
 obey s (write txn x value) = ask s (record { txn = txn; item = x; value = value }) (event.Write (transaction_called s txn) (item_called s x) value)
 obey s (commit txn) = ask s (record { txn = txn; item = []; value = pos 0 }) (event.Commit (transaction_called s txn))
 obey s (abort txn) = ask s (record { txn = txn; item = []; value = pos 0 }) (event.Abort (transaction_called s txn))
+obey s (audit txn) = Ok (record s { closed = true }, error_line NotACommittedQuery)
 obey s totals = Ok (record s { closed = true }, totals_line (all_imports plain s.history) (all_exports plain s.history) (length s.history.entries))
 
 -- the state after a line, and its answer

@@ -4,7 +4,7 @@ use Rattle.esr_script.specs.declared.parse.Line.{Line}
 use Rattle.esr_script.specs.declared.parse.Line.TheVariants as line
 use Rattle.esr_script.specs.declared.parse.Parsed.{Parsed}
 use Rattle.esr_script.specs.declared.parse.Parsed.TheVariants as parsed
-use Rattle.esr_script.specs.Command.{Command, item, begin_update, begin_query, read, write, commit, abort, totals, is_skipped}
+use Rattle.esr_script.specs.Command.{Command, item, begin_update, begin_query, read, write, commit, abort, audit, totals, is_skipped}
 use Rattle.esr_script.specs.Reading.{reading}
 
 abbrev pub view : Line → Command
@@ -15,6 +15,7 @@ view (line.Read txn x) = read txn.now x.now
 view (line.Write txn x value) = write txn.now x.now value
 view (line.Commit txn) = commit txn.now
 view (line.Abort txn) = abort txn.now
+view (line.Audit txn) = audit txn.now
 view line.Totals = totals
 
 -- the command that was found, if one was

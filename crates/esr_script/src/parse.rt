@@ -2,7 +2,7 @@
 
 ghost use Rattle.std.specs.Prelude.{◌≡◌, ◌↔◌, Option, Some, option_map, IsTrue};
 ghost use Rattle.esr_script.specs.Command.{Command, is_skipped, Spells};
-ghost use Rattle.esr_script.specs.Reading.{words_of, words_after, totals_of, item_of, begin_of, read_of, write_of, ended_of, command_by, reading};
+ghost use Rattle.esr_script.specs.Reading.{words_of, words_after, totals_of, item_of, begin_of, read_of, write_of, one_name_of, command_by, reading};
 ghost use Rattle.esr_script.specs.View.{view, command_in, IsReadingOf};
 
 use crate::words::{cut_word, int, limit, name, one_word, three_words, two_words};
@@ -42,6 +42,10 @@ pub enum Line<'a> {
     },
     /// `abort NAME`
     Abort {
+        txn: &'a str,
+    },
+    /// `audit NAME`
+    Audit {
         txn: &'a str,
     },
     /// `totals`
@@ -113,9 +117,9 @@ fn write(words: &[u8]) -> Option<Line<'_>>
     Some(Line::Write { txn, item, value })
 }
 
-/// The transaction that a commit or an abort ends.
-fn ended(words: &[u8]) -> Option<&str>
-    ensures { option_map (λ t. t.now) result ≡ ended_of (words_of words.now) }
+/// The name, where it is the only word.
+fn one_name(words: &[u8]) -> Option<&str>
+    ensures { option_map (λ t. t.now) result ≡ one_name_of (words_of words.now) }
 {
     name(one_word(words)?)
 }
@@ -145,11 +149,14 @@ fn command(line: &[u8]) -> Option<Line<'_>>
     } else if word == b"begin".as_slice() {
         begin(words)
     } else if word == b"commit".as_slice() {
-        let txn = ended(words)?;
+        let txn = one_name(words)?;
         Some(Line::Commit { txn })
     } else if word == b"abort".as_slice() {
-        let txn = ended(words)?;
+        let txn = one_name(words)?;
         Some(Line::Abort { txn })
+    } else if word == b"audit".as_slice() {
+        let txn = one_name(words)?;
+        Some(Line::Audit { txn })
     } else if word == b"item".as_slice() {
         item(words)
     } else {

@@ -193,6 +193,17 @@ impl Script {
         self.ask(alone(txn), event, out)
     }
 
+    /// Audits a query.
+    fn audit(&mut self, txn: &str, out: &mut Vec<u8>) -> Result<(), RunFault>
+        ensures ok { OnOk result ((text : List ℕ) × (obey self.old (command.audit txn.now) ≡ Ok (self.new, text)) × (out.new.items ≡ out.old.items ++ text)) }
+        ensures err { OnErr result (out.new.items ≡ out.old.items) }
+        ensures faults { IfErr result (λ e. e ≡ RunFault.NoMemory) }
+    {
+        let _ = txn;
+        self.stage.close(self.alloc)?;
+        said(error_line(out, LineError::NotACommittedQuery))
+    }
+
     /// Sums the charges so far.
     fn totals(&mut self, out: &mut Vec<u8>) -> Result<(), RunFault>
         ensures ok { OnOk result ((text : List ℕ) × (obey self.old command.totals ≡ Ok (self.new, text)) × (out.new.items ≡ out.old.items ++ text)) }
@@ -229,6 +240,7 @@ impl Script {
             Line::Write { txn, item, value } => self.write(txn, item, value, out),
             Line::Commit { txn } => self.commit(txn, out),
             Line::Abort { txn } => self.abort(txn, out),
+            Line::Audit { txn } => self.audit(txn, out),
             Line::Totals => self.totals(out),
         }
     }
