@@ -14,7 +14,9 @@ use crate::stage::Stage;
 use esr_audit::AuditError;
 use esr_history::{Event, Reply, TxnId};
 use esr_items::{ItemId, LARGEST_VALUE, MOST_ITEMS};
-use esr_report::{LineError, Names, Subject, audit_line, error_line, item_line, reply_line, totals_line};
+use esr_report::{
+    LineError, Names, Subject, audit_line, error_line, item_line, reply_line, totals_line,
+};
 use std::alloc::{AllocError, Global};
 use std::marker::Model;
 
@@ -205,7 +207,7 @@ impl Script {
         said(totals_line(out, totals.import, totals.export, totals.entries))
     }
 
-    /// Audits a transaction.
+    /// Audits a query.
     fn audit(&mut self, txn: &str, out: &mut Vec<u8>) -> Result<(), RunFault>
         ensures ok { OnOk result ((text : List ℕ) × (obey self.old (command.audit txn.now) ≡ Ok (self.new, text)) × (out.new.items ≡ out.old.items ++ text)) }
         ensures err { OnErr result (out.new.items ≡ out.old.items) }
