@@ -1,7 +1,7 @@
 -- What is listed as the smallest closed set of least cost is that set.
-use Rattle.std.proofs.Common.{◌≡◌, ℕ, ◌≤◌, Bool, true, false, not, cond, ◌&&◌, ◌||◌, ◌⊎◌, List, [], ◌∷◌, refl, sym, ◌∙◌, ap, subst, inl, inr, ⊎_elim, arith, filter, map, Contains}
-use Rattle.std.specs.Prelude.{nat_le, All, IsTrue, if◌then◌else◌}
-use Rattle.std.specs.List.{list_all, AllByRecursion}
+use Rattle.std.proofs.Common.{◌≡◌, ℕ, ◌≤◌, Bool, true, false, not, ◌||◌, List, [], ◌∷◌, refl, sym, ◌∙◌, ap, subst, inl, inr, ⊎_elim, filter, map, Contains}
+use Rattle.std.specs.Prelude.{nat_le, IsTrue, if◌then◌else◌}
+use Rattle.std.specs.List.{list_all}
 use Rattle.std.proofs.lemmas.Bool.{true≢false, cond_both, cases_Bool, and_parts, and_from, or_cases, or_left, or_right, not-true, not_from_false, false_from_ne_true, le-leb, leb-true}
 use Rattle.std.proofs.lemmas.List.Elements.{recursion_from_All}
 use Rattle.esr_history.specs.Machine.{Distance, Schedule, done}
@@ -10,7 +10,7 @@ use Rattle.esr_history.specs.Serial.{is_before, state}
 use Rattle.esr_history.specs.Queries.{updates_of, must, is_strict, before_begin, distance_from, members, cost}
 use Rattle.esr_history.proofs.Membership.{In, In-Contains, Contains-In, In-append_cases, In-append_left, In-append_right, In-filter, In-of_filter, In-from_any, any-from_number, each_at, filter_agree_in}
 use Rattle.esr_order.specs.Placements.{is_among, IsClosed, IsLeastSet, IsSmallestLeastSet}
-use Rattle.esr_order.specs.Least.{parts, is_closed_part, closed_parts, is_least_part, least_parts, least_set, least_cost}
+use Rattle.esr_order.specs.Least.{parts, is_closed_part, closed_parts, is_least_part, least_parts, least_set}
 use Rattle.esr_order.specs.Statements.{LawOfListedSets}
 
 all_at : {X : Type 0} (p : X → Bool) (xs : List X) (x : X) → list_all p xs ≡ true → In x xs → p x ≡ true
@@ -59,7 +59,7 @@ among_part S us u i =
 -- ---- the closed sets of a query
 
 module _ (h : Schedule) (q : ℕ) where
-  must_in : (u : ℕ) → Contains (must h q) u → In u (updates_of h q)
+  pub must_in : (u : ℕ) → Contains (must h q) u → In u (updates_of h q)
   must_in u = at (is_strict (done h) q)
     where
       early : List ℕ

@@ -1,19 +1,19 @@
 -- The closed sets are the parts of placements, for updates whose commit order keeps the conflict order.
-use Rattle.std.proofs.Common.{◌≡◌, ℕ, ◌≤◌, Bool, true, false, not, List, [], ◌++◌, length, take, drop, sym, ◌∙◌, ap, subst, ⊎_elim, arith, Contains, filter, if◌then◌else◌}
+use Rattle.std.proofs.Common.{◌≡◌, ℕ, ◌≤◌, Bool, true, false, not, List, ◌++◌, length, take, drop, sym, ◌∙◌, ap, subst, ⊎_elim, arith, Contains}
 use Rattle.std.proofs.Math.Path.{fun_ext}
 use Rattle.std.proofs.Math.Seq.{take-append_seam}
 use Rattle.std.proofs.lemmas.List.{take-append-drop, length-append}
 use Rattle.std.proofs.lemmas.Bool.{true≢false, cases_Bool, not-true, not_from_false, false_from_ne_true}
 use Rattle.esr_items.specs.Values.{value_at}
-use Rattle.esr_history.specs.Machine.{Distance, Schedule, done}
-use Rattle.esr_history.specs.Events.{is_committed, accepted}
+use Rattle.esr_history.specs.Machine.{Distance, Schedule}
 use Rattle.esr_history.specs.Serial.{is_before, values_by, state}
-use Rattle.esr_history.specs.Queries.{updates_of, is_strict, before_begin, must, distance_from, members, cost}
+use Rattle.esr_history.specs.Queries.{updates_of, distance_from, members, cost}
 use Rattle.esr_history.proofs.Membership.{In, Pairs, In-Contains, Contains-In, Pairs-from_all, All-from_pairs, In-append_cases, In-append_left, In-append_right, In-filter, In-of_filter, Pairs-filter, Pairs-append, Pairs-left, Pairs-across, In-from_any, any-from_number}
 use Rattle.esr_history.proofs.LastWriter.{same_left}
 use Rattle.esr_order.specs.Placements.{is_among, IsPlacement, IsClosed, placement_distance}
 use Rattle.esr_order.specs.Statements.{ClosedSetsAreParts}
 use Rattle.esr_order.proofs.Writers.{writers_in_order}
+use Rattle.esr_order.proofs.Least.{must_in}
 
 -- whose commit order keeps the conflict order
 pub record InOrder (h : Schedule) (q : ℕ) : Type 0 where
@@ -100,21 +100,11 @@ module _ (h : Schedule) (q : ℕ) (good : InOrder h q) where
     };
     within = bound S;
     holds_must = λ u m. subst (λ l. Contains l u) (sym (split_front S)) (In-Contains (members h q S) u
-        (In-filter S (updates_of h q) u (must_in u m) (c.holds_must u m)));
+        (In-filter S (updates_of h q) u (must_in h q u m) (c.holds_must u m)));
   }
     where
       bound : (S : ℕ → Bool) → length (members h q S) ≤ length (split_order S)
       bound S = omega (arith, length-append (members h q S) (members h q (λ u. not (S u))))
-
-      must_in : (u : ℕ) → Contains (must h q) u → In u (updates_of h q)
-      must_in u = at (is_strict (done h) q)
-        where
-          early : List ℕ
-          early = filter (is_committed (accepted (before_begin h q))) (updates_of h q)
-
-          at : (b : Bool) → Contains (if b then early else []) u → In u (updates_of h q)
-          at true m = (In-of_filter (is_committed (accepted (before_begin h q))) (updates_of h q) u (Contains-In early u m)).0
-          at false m = absurd (Contains-In [] u m)
 
   pub closed_cost : (d : Distance) (S : ℕ → Bool) →
       placement_distance d h q (split_order S) (length (members h q S)) ≡ cost d h q S
