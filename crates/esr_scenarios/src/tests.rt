@@ -44,14 +44,17 @@ fn opened(alloc: Global, items: usize) -> Option<Machine<Plain>> {
     Machine::new(alloc, store, Plain).ok()
 }
 
-/// Steps the machine, once more where memory is refused, and tells whether the event
-/// was accepted.
-fn accepts(m: &mut Machine<Plain>, event: Event) -> bool {
-    let reply = match m.step(event) {
+/// The answer to an event, which is given once more where memory is refused.
+fn answer(m: &mut Machine<Plain>, event: Event) -> Result<Reply, StepError> {
+    match m.step(event) {
         Err(StepError::NoMemory) => m.step(event),
         answered => answered,
-    };
-    match reply {
+    }
+}
+
+/// Steps the machine, and tells whether the event was accepted.
+fn accepts(m: &mut Machine<Plain>, event: Event) -> bool {
+    match answer(m, event) {
         Ok(Reply::Refused(_)) => false,
         Ok(_) => true,
         Err(_) => false,

@@ -1,10 +1,10 @@
 //! Audits of the worked histories.
 
-use super::{commit, play, query, read, update, write};
+use super::{answer, commit, play, query, read, update, write};
 use esr_audit::{AuditError, Book, Finding, audit_history, audit_query};
 use esr_cert::check;
-use esr_core::Machine;
-use esr_history::{Event, TxnId};
+use esr_core::{Machine, Totals};
+use esr_history::{Event, Refusal, Reply, TxnId};
 use esr_items::{Plain, Store};
 use std::alloc::Global;
 
@@ -172,6 +172,30 @@ fn order_through_a_third_item(rt: HostRuntime) {
     ];
     let m = played(alloc, &[0, 0, 0], &events).expect(&rt, "a history");
     assert!(rt; finds(alloc, &m, 1, 2, 6, &[]));
+}
+
+#[test]
+fn values_at_the_edge(rt: HostRuntime) {
+    let alloc = rt.alloc();
+    let edge = 1_000_000_000_000;
+    let begins = [
+        query(2_000_000_000_000),
+        update(2_000_000_000_000),
+        read(1, 0),
+    ];
+    let mut m = played(alloc, &[-edge], &begins).expect(&rt, "a history");
+    let past = answer(&mut m, write(2, 0, 1_000_000_000_001));
+    assert!(rt; past == Ok(Reply::Refused(Refusal::ValueOutOfRange)));
+    assert!(rt; play(&mut m, &[write(2, 0, edge), commit(2), commit(1)]));
+    assert!(rt; finds(alloc, &m, 1, 0, 2_000_000_000_000, &[]));
+    assert!(rt;
+        m.totals()
+            == Totals {
+                import: 2_000_000_000_000,
+                export: 2_000_000_000_000,
+                entries: 7
+            }
+    );
 }
 
 #[test]
