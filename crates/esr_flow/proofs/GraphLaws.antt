@@ -8,8 +8,7 @@ use Rattle.esr_cert.proofs.Sound.{IsProblem}
 use Rattle.esr_cert.proofs.Least.{is_network}
 use Rattle.esr_flow.specs.declared.step.Step.{Step}
 use Rattle.esr_flow.specs.declared.graph.Graph.{Graph}
-use Rattle.esr_flow.specs.Residual.{arc_of}
-use Rattle.esr_flow.specs.Graph.{net_of, IsGraph, HasSteps, Lists, IsLaid, span_at}
+use Rattle.esr_flow.specs.Graph.{net_of, IsGraph, HasSteps, Lists, IsLaid}
 use Rattle.esr_flow.proofs.RowsLaws.{lists_from}
 
 pub ends_of : (p : Problem) → IsProblem p → (arcs : List Arc) (n : ℕ) → arcs ≡ (network p).arcs → n ≡ size p → (i : ℕ) (d : Arc) → i < length arcs → ((get_or arcs i d).from < n + 2) × ((get_or arcs i d).to < n + 2)

@@ -8,7 +8,7 @@ use Rattle.esr_flow.specs.declared.step.Step.{Step}
 use Rattle.esr_flow.specs.declared.step.Step.TheVariants.{Along, Against}
 use Rattle.esr_flow.specs.declared.graph.Entry.{Entry}
 use Rattle.esr_flow.specs.declared.graph.Span.{Span}
-use Rattle.esr_flow.specs.Residual.{arc_of, start, finish}
+use Rattle.esr_flow.specs.Residual.{arc_of, start}
 use Rattle.esr_flow.specs.Graph.{Lists, IsEntry, HasSteps, IsLaid, entry_of, row_in, span_at, same_step, has_step}
 
 -- a row stays where entries are added behind it

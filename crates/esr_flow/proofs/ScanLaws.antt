@@ -1,5 +1,5 @@
 -- A scan of the steps from one visit.
-use Rattle.std.proofs.Common.{suc, ◌≡◌, ◌≢◌, ℕ, ◌+◌, ◌-◌, ◌<◌, ◌≤◌, Bool, true, false, ◌⊎◌, List, [], ◌∷◌, ◌++◌, length, get_or, set, Contains, refl, sym, ap, ◌∙◌, subst, inl, inr, arith, true≢false, get_or-set_other}
+use Rattle.std.proofs.Common.{suc, ◌≡◌, ◌≢◌, ℕ, ◌+◌, ◌-◌, ◌<◌, ◌≤◌, Bool, true, false, ◌⊎◌, List, [], ◌∷◌, ◌++◌, length, get_or, set, refl, sym, ap, ◌∙◌, subst, inl, inr, arith, true≢false, get_or-set_other}
 use Rattle.std.proofs.lemmas.Bool.{cases_eq, eqb-true, or_cases}
 use Rattle.std.proofs.lemmas.List.{get_or_append_left, get_or_push, length_push, get_or_default}
 use Rattle.esr_cert.specs.declared.network.Arc.{Arc}
@@ -8,7 +8,7 @@ use Rattle.esr_flow.specs.declared.step.Step.TheVariants.{Along, Against}
 use Rattle.esr_flow.specs.declared.graph.Entry.{Entry}
 use Rattle.esr_flow.specs.declared.search.Visit.{Visit}
 use Rattle.esr_cert.specs.Flow.{within}
-use Rattle.esr_flow.specs.Residual.{arc_of, start, finish, room, IsResidual}
+use Rattle.esr_flow.specs.Residual.{arc_of, finish, room, IsResidual}
 use Rattle.esr_cert.specs.Network.{Network, IsNetwork}
 use Rattle.esr_flow.specs.Graph.{IsEntry, Lists, same_step, has_step}
 use Rattle.esr_flow.specs.Search.{visit_at, is_marked, Leads, Searched, FoundSink}

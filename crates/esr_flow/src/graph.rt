@@ -3,7 +3,7 @@ ghost use Rattle.std.specs.Prelude.{◌≡◌, ℕ, ◌+◌, ◌<◌, ◌≤◌,
 ghost use Rattle.std.specs.declared.alloc.Global.{Global};
 ghost use Rattle.esr_flow.specs.declared.step.Step.{Step};
 ghost use Rattle.esr_cert.specs.Flow.{within};
-ghost use Rattle.esr_flow.specs.Residual.{room, arc_of, start, finish};
+ghost use Rattle.esr_flow.specs.Residual.{room, arc_of, finish};
 
 use crate::step::Step;
 use esr_cert::Arc;
@@ -83,16 +83,5 @@ pub fn finish_of(arcs: &[Arc], step: Step) -> usize
     match step {
         Step::Along(i) => arcs[i].to,
         Step::Against(i) => arcs[i].from,
-    }
-}
-
-/// The node that a step starts at.
-pub fn start_of(arcs: &[Arc], step: Step) -> usize
-    requires { arc_of step < length arcs.now }
-    ensures { result ≡ start arcs.now step }
-{
-    match step {
-        Step::Along(i) => arcs[i].from,
-        Step::Against(i) => arcs[i].to,
     }
 }

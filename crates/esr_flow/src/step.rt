@@ -6,3 +6,18 @@ pub enum Step {
     Along(usize),
     Against(usize),
 }
+
+impl Step {
+    ghost use Rattle.std.specs.Prelude.{◌≡◌};
+    ghost use Rattle.esr_flow.specs.Residual.{opposite};
+
+    /// The step back over the same arc.
+    pub fn opposite(self) -> Step
+        ensures { result ≡ opposite self }
+    {
+        match self {
+            Step::Along(i) => Step::Against(i),
+            Step::Against(i) => Step::Along(i),
+        }
+    }
+}
