@@ -9,7 +9,17 @@ pub enum Step {
 
 impl Step {
     ghost use Rattle.std.specs.Prelude.{◌≡◌};
-    ghost use Rattle.esr_flow.specs.Residual.{opposite};
+    ghost use Rattle.esr_flow.specs.Residual.{arc_of, opposite};
+
+    /// The number of the step's arc.
+    pub fn arc(self) -> usize
+        ensures { result ≡ arc_of self }
+    {
+        match self {
+            Step::Along(i) => i,
+            Step::Against(i) => i,
+        }
+    }
 
     /// The step back over the same arc.
     pub fn opposite(self) -> Step

@@ -4,11 +4,11 @@ ghost use Rattle.esr_flow.specs.declared.step.Step.{Step};
 ghost use Rattle.esr_cert.specs.Network.{Network, IsNetwork};
 ghost use Rattle.esr_cert.specs.Flow.{within};
 ghost use Rattle.esr_flow.specs.Residual.{room, arc_of, start, finish, opposite, IsPath};
-ghost use Rattle.esr_flow.specs.Graph.{net_of, IsGraph, Lists, entry_at};
+ghost use Rattle.esr_flow.specs.Graph.{net_of, IsGraph, AreEntries, Lists, entry_at};
 ghost use Rattle.esr_flow.specs.Search.{Guides, IsGuided, label_at};
 ghost use Rattle.esr_flow.specs.Maximum.{InArcs};
 
-use crate::graph::{Entry, Graph, finish_of, has_room};
+use crate::graph::{Entry, Graph, entry_of, finish_of};
 use crate::step::Step;
 use std::alloc::{AllocError, Global};
 
@@ -24,7 +24,7 @@ fn next_back(
 ) -> usize
     requires graph { IsGraph graph.now }
     requires node { at < graph.now.nodes }
-    requires row { Lists graph.now.arcs.items at row.now }
+    requires row { Lists graph.now.arcs.items flow.now at row.now }
     requires flow { length flow.now ≡ length graph.now.arcs.items }
     requires labels { length labels.now ≡ graph.now.nodes }
     ensures later { from ≤ result }
@@ -35,7 +35,7 @@ fn next_back(
     for i in from..row.len() {
         let entry = row[i];
         if label < labels[entry.to] {
-            if has_room(&graph.arcs, flow, entry.step.opposite()) {
+            if entry_of(&graph.arcs, flow, entry.step.opposite()).has_room() {
                 return i;
             }
         }
@@ -48,11 +48,13 @@ pub fn walk(
     alloc: Global,
     graph: &Graph,
     flow: &[u64],
+    entries: &[Entry],
     labels: &[usize],
     next: &mut [usize],
 ) -> Result<Option<Vec<Step>>, AllocError>
     requires graph { IsGraph graph.now }
     requires flow { length flow.now ≡ length graph.now.arcs.items }
+    requires entries { AreEntries graph.now flow.now entries.now }
     requires guides { Guides (net_of graph.now) flow.now labels.now }
     requires next { length next.old ≡ graph.now.nodes }
     ensures { IfOk result (λ found. IfSome found (λ path. IsGuided (net_of graph.now) flow.now labels.now path.items)) }
@@ -60,7 +62,7 @@ pub fn walk(
     let mut path = Vec::new(alloc);
     let mut at = graph.sink;
     while at != graph.source {
-        let row = graph.row(at);
+        let row = graph.row(entries, at);
         let i = next_back(graph, flow, labels, at, row, next[at]);
         if i < row.len() {
             next[at] = i + 1;

@@ -8,13 +8,19 @@ use Rattle.esr_flow.specs.declared.graph.Entry.{Entry}
 use Rattle.esr_flow.specs.Residual.{room, arc_of, start, finish, opposite}
 use Rattle.esr_flow.specs.Graph.{net_of, Lists, IsEntry, entry_at, span_at}
 use Rattle.esr_flow.specs.Search.{label_at, IsGuided}
+use Rattle.esr_flow.proofs.EntriesLaws.{row_lists}
 use Rattle.esr_flow.proofs.WalkLaws.{Walk, walk_push, walk_pop, walk_end, popped_in, opposite_arc, opposite_start, opposite_finish, untried, untried_less, untried_same}
 use Rattle.esr_flow.proofs.walk.walk.Goals as goal
+
+pub next_back-i-requires-clause-row : goal.next_back-i-requires-clause-row
+next_back-i-requires-clause-row c =
+    subst (Lists c.args.graph.now.arcs.items c.args.flow.now c.loop-at.at) (sym c.row-row.ensures)
+    (row_lists c.args.graph.now c.requires.graph c.args.flow.now c.args.entries.now c.requires.entries c.loop-at.at c.loop-at.invariant.0.node)
 
 pub loop-at-smaller-then-i-row : goal.loop-at-smaller-then-i-row
 loop-at-smaller-then-i-row c =
     let span = span_at c.args.graph.now.spans.items c.loop-at.at in
-    let long : length c.row-row.result.now ≤ span.end - span.begin = omega (arith, ap length c.row-row.ensures, length-take (span.end - span.begin) (drop span.begin c.args.graph.now.entries.items)) in
+    let long : length c.row-row.result.now ≤ span.end - span.begin = omega (arith, ap length c.row-row.ensures, length-take (span.end - span.begin) (drop span.begin c.args.entries.now)) in
     let less : suc (untried c.args.graph.now.spans.items (set c.loop-at.next c.loop-at.at (c.next_back-i.result + 1))) ≤ untried c.args.graph.now.spans.items c.loop-at.next =
     untried_less c.args.graph.now.spans.items c.loop-at.next c.loop-at.at c.next_back-i.result (omega (arith, c.requires.graph.count, c.loop-at.invariant.0.node)) (omega (arith, c.loop-at.invariant.1, c.loop-at.invariant.0.node)) c.next_back-i.ensures.later (omega (arith, long, c.if-i-row.true)) in
     omega (arith, less, length_push c.loop-at.path.items c.opposite.result, ap length c.in_ok-push.ensures.items)
@@ -27,8 +33,8 @@ loop-at-preserved-then-i-row c =
     let labels : List ℕ = c.args.labels.now in
     let e : Entry = entry_at c.row-row.result.now c.next_back-i.result in
     let s : Step = opposite e.step in
-    let row : Lists arcs c.loop-at.at c.row-row.result.now = subst (Lists arcs c.loop-at.at) (sym c.row-row.ensures) (c.requires.graph.lists c.loop-at.at c.loop-at.invariant.0.node) in
-    let at : IsEntry arcs c.loop-at.at e = row.entries c.next_back-i.result (entry_at [] 0) c.if-i-row.true in
+    let row : Lists arcs flow c.loop-at.at c.row-row.result.now = subst (Lists arcs flow c.loop-at.at) (sym c.row-row.ensures) (row_lists c.args.graph.now c.requires.graph flow c.args.entries.now c.requires.entries c.loop-at.at c.loop-at.invariant.0.node) in
+    let at : IsEntry arcs flow c.loop-at.at e = row.entries c.next_back-i.result c.if-i-row.true in
     let in_arcs : arc_of s < length arcs = omega (arith, at.in_arcs, opposite_arc e.step) in
     let has_room : within 1 (room arcs flow s) ≡ true = c.next_back-i.ensures.room c.if-i-row.true in
     let ends : finish arcs s ≡ c.loop-at.at = opposite_finish arcs e.step ∙ at.starts in
