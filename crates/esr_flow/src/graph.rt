@@ -76,7 +76,7 @@ impl Graph {
         requires flow { length flow.now ≡ length self.now.arcs.items }
         ensures { IfOk result (λ entries. AreEntries self.now flow.now entries.items) }
     {
-        let mut entries = Vec::new(alloc);
+        let mut entries = Vec::with_capacity(alloc, self.steps.len())?;
         for step in &self.steps {
             entries.push(entry_of(&self.arcs, flow, *step))?;
         }

@@ -119,7 +119,7 @@ pub fn search(
 {
     let mut marks = vec![in alloc; false; graph.nodes]?;
     marks[graph.source] = true;
-    let mut visits = Vec::new(alloc);
+    let mut visits = Vec::with_capacity(alloc, graph.nodes)?;
     visits.push(Visit {
         node: graph.source,
         level: 0,

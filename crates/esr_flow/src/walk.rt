@@ -59,7 +59,7 @@ pub fn walk(
     requires next { length next.old ≡ graph.now.nodes }
     ensures { IfOk result (λ found. IfSome found (λ path. IsGuided (net_of graph.now) flow.now labels.now path.items)) }
 {
-    let mut path = Vec::new(alloc);
+    let mut path = Vec::with_capacity(alloc, labels[graph.source])?;
     let mut at = graph.sink;
     while at != graph.source {
         let row = graph.row(entries, at);

@@ -14,7 +14,7 @@ loop-head-init c =
     let net : Network = net_of c.args.graph.now in
     let marks : c.in_ok-marks.marks.items ≡ replicate c.args.graph.now.nodes false = c.in_ok-marks.ensures.items_if_clones_equal (λ y e. e) in
     let visits : c.push.new.self.items ≡ record { node = c.args.graph.now.source; level = 0; step = Along 0; parent = 0 } ∷ [] =
-    c.in_ok-push.ensures.items ∙ ap (λ vs. vs ++ record { node = c.args.graph.now.source; level = 0; step = Along 0; parent = 0 } ∷ []) c.new-visits.ensures.items in (
+    c.in_ok-push.ensures.items ∙ ap (λ vs. vs ++ record { node = c.args.graph.now.source; level = 0; step = Along 0; parent = 0 } ∷ []) c.in_ok-visits.ensures.items in (
       subst (λ vs. Searched net c.args.flow.now vs (set c.in_ok-marks.marks.items c.args.graph.now.source true) 0) (sym visits)
           (subst (λ ms. Searched net c.args.flow.now (record { node = c.args.graph.now.source; level = 0; step = Along 0; parent = 0 } ∷ []) (set ms c.args.graph.now.source true) 0) (sym marks)
           (begin net c.args.flow.now c.requires.graph.is_network)),
