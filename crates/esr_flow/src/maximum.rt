@@ -99,7 +99,7 @@ pub struct Progress {
     pub worth: u64,
 }
 
-/// Augments along a first path and along each that a walk down the labels finds after it.
+/// Augments along a first path and along each that a walk finds after it.
 fn run_phase(
     alloc: Global,
     graph: &Graph,
