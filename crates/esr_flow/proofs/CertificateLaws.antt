@@ -1,21 +1,21 @@
 -- The certificate of a greatest flow.
-use Rattle.std.proofs.Common.{◌≡◌, ℕ, ◌+◌, ◌-◌, ◌*◌, ◌<◌, ◌≤◌, Bool, true, false, ◌&&◌, List, [], ◌∷◌, ◌++◌, length, get_or, take, drop, map, flat_map, sum_by, Contains, Vec, Global, Option, Some, None, refl, sym, ap, ◌∙◌, subst, arith, eq-eqb, le-leb, append-nil, length-append, length-take, length-drop, take-add, take-append-drop}
+use Rattle.std.proofs.Common.{◌≡◌, ℕ, ◌+◌, ◌-◌, ◌*◌, ◌≤◌, Bool, true, false, List, [], ◌∷◌, ◌++◌, length, take, drop, map, flat_map, sum_by, Contains, Vec, Global, Some, refl, sym, ap, ◌∙◌, subst, arith, eq-eqb, le-leb, append-nil, length-append, length-take, length-drop, take-add, take-append-drop}
 use Rattle.std.specs.Prelude.{◌==◌, nat_lt}
 use Rattle.std.specs.List.{concat, list_all}
-use Rattle.std.proofs.lemmas.Bool.{and_parts, and_from, eqb-true}
+use Rattle.std.proofs.lemmas.Bool.{and_parts, and_from}
 use Rattle.std.proofs.lemmas.List.{length-map, map-append, take_rest}
 use Rattle.std.proofs.lemmas.List.Folds.{concat-append}
 use Rattle.std.proofs.lemmas.List.Sums.{sum_by-cons, sum_by-append}
 use Rattle.esr_cert.specs.declared.network.Arc.{Arc}
 use Rattle.esr_cert.specs.declared.problem.Chain as code
-use Rattle.esr_cert.specs.Problem.{Chain, Problem, size, in_set, is_ascending, is_closed, cost, IsSmallestLeast}
+use Rattle.esr_cert.specs.Problem.{Chain, Problem, size, in_set, is_ascending, cost, IsSmallestLeast}
 use Rattle.esr_cert.specs.Network.{links, chain_links, chain_arcs, back_arcs, must_arcs, back_arc, must_arc, network}
-use Rattle.esr_cert.specs.Flow.{are_within, is_conserved, IsFlow, worth}
-use Rattle.esr_cert.specs.Certificate.{Certificate, amounts, are_rows_matched, is_within, is_tight, Certifies}
+use Rattle.esr_cert.specs.Flow.{are_within, IsFlow, worth}
+use Rattle.esr_cert.specs.Certificate.{Certificate, amounts, are_rows_matched, Certifies}
 use Rattle.esr_cert.specs.Views.{chain_of, rows_of}
 use Rattle.esr_cert.proofs.Sound.{here, there, IsChain, IsProblem}
 use Rattle.esr_cert.proofs.Flows.{within_from, conserved_from}
-use Rattle.esr_cert.proofs.Certified.{IsFaultless, certifies_from}
+use Rattle.esr_cert.proofs.Certified.{certifies_from}
 use Rattle.esr_flow.specs.Augmentation.{IsReach}
 use Rattle.esr_flow.specs.Search.{is_marked}
 use Rattle.esr_flow.specs.Certificate.{positions}

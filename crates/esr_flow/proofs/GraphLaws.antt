@@ -1,16 +1,14 @@
 -- The graph of a problem.
-use Rattle.std.proofs.Common.{zero, suc, refl, [], ◌∷◌, ◌≡◌, ℕ, ◌+◌, ◌<◌, List, length, get_or, Vec, Global, sym, ap, ◌∙◌, subst, arith, Some}
+use Rattle.std.proofs.Common.{◌≡◌, ℕ, ◌+◌, ◌<◌, List, length, get_or, sym, ap, ◌∙◌, subst, arith, Some}
 use Rattle.std.proofs.lemmas.List.{get_or_default}
 use Rattle.esr_cert.specs.declared.network.Arc.{Arc}
 use Rattle.esr_cert.specs.Problem.{Problem, size}
 use Rattle.esr_cert.specs.Network.{arc_at, Network, IsNetwork, network}
 use Rattle.esr_cert.proofs.Sound.{IsProblem}
 use Rattle.esr_cert.proofs.Least.{is_network}
-use Rattle.esr_flow.specs.declared.step.Step.{Step}
 use Rattle.esr_flow.specs.declared.graph.Graph.{Graph}
-use Rattle.esr_flow.specs.Residual.{arc_of}
-use Rattle.esr_flow.specs.Graph.{net_of, IsGraph, HasSteps, Lists, IsLaid, span_at}
-use Rattle.esr_flow.proofs.RowsLaws.{lists_from}
+use Rattle.esr_flow.specs.Graph.{net_of, IsGraph, ArePlaces}
+use Rattle.esr_flow.proofs.RowsLaws.{Covers}
 
 pub ends_of : (p : Problem) → IsProblem p → (arcs : List Arc) (n : ℕ) → arcs ≡ (network p).arcs → n ≡ size p → (i : ℕ) (d : Arc) → i < length arcs → ((get_or arcs i d).from < n + 2) × ((get_or arcs i d).to < n + 2)
 ends_of p ok arcs n e m i d l =
@@ -27,21 +25,13 @@ net_is p g a b c d =
     let by_sink : ℕ → Network = λ n. record { nodes = size p + 2; arcs = (network p).arcs; source = size p; sink = n } in
     ap by_nodes a ∙ ap by_arcs b ∙ ap by_source c ∙ ap by_sink d
 
-element : {X : Type 0} (xs : List X) (v : ℕ) → v < length xs → (x : X) × (get_or xs v x ≡ x)
-element [] v l = absurd (omega arith)
-element (x ∷ xs) zero l = (x, refl)
-element (x ∷ xs) (suc v) l = element xs v (omega arith)
-
-pub graph_is : (p : Problem) → IsProblem p → (g : Graph) → net_of g ≡ network p → (steps : List (Vec Step Global)) → length steps ≡ g.nodes
-    → ((v : ℕ) (row : Vec Step Global) → v < g.nodes → get_or steps v row ≡ row → HasSteps g.arcs.items v row.items)
-    → IsLaid g.arcs.items steps (length steps) g.spans.items g.entries.items → IsGraph g
-graph_is p ok g e steps count has laid = record {
+pub graph_is : (p : Problem) → IsProblem p → (g : Graph) → net_of g ≡ network p → Covers g.arcs.items g.nodes g.spans.items g.steps.items → ArePlaces g.arcs.items g.steps.items g.places.items → IsGraph g
+graph_is p ok g e covers places = record {
   is_network = subst IsNetwork (sym e) (is_network p ok);
-  count = laid.count ∙ count;
-  ordered = λ v l. laid.ordered v (omega (arith, count));
-  inside = λ v l. laid.inside v (omega (arith, count));
-  lists = λ v l.
-      let r : (row : Vec Step Global) × (get_or steps v row ≡ row) = element steps v (omega (arith, count)) in
-      subst (Lists g.arcs.items v) (sym (laid.rows v r.0 (omega (arith, count)) r.1)) (lists_from g.arcs.items v (r.0).items (has v r.0 l r.1));
+  count = covers.count;
+  ordered = covers.ordered;
+  inside = covers.inside;
+  lists = covers.lists;
+  places = places;
   sink_is_node = omega (arith, ap (λ n. n.sink) e, ap (λ n. n.nodes) e);
 }

@@ -16,6 +16,8 @@ pub mod PhaseLaws
 pub mod StepsLaws
 pub mod BuildLaws
 pub mod RowsLaws
+pub mod PlacesLaws
+pub mod EntriesLaws
 pub mod ArcsLaws
 pub mod GraphLaws
 pub mod CertificateLaws

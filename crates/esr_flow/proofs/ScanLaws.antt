@@ -1,6 +1,6 @@
 -- A scan of the steps from one visit.
-use Rattle.std.proofs.Common.{suc, ◌≡◌, ◌≢◌, ℕ, ◌+◌, ◌-◌, ◌<◌, ◌≤◌, Bool, true, false, ◌⊎◌, List, [], ◌∷◌, ◌++◌, length, get_or, set, Contains, refl, sym, ap, ◌∙◌, subst, inl, inr, arith, true≢false, get_or-set_other}
-use Rattle.std.proofs.lemmas.Bool.{cases_eq, eqb-true, or_cases}
+use Rattle.std.proofs.Common.{◌≡◌, ◌≢◌, ℕ, ◌+◌, ◌-◌, ◌<◌, ◌≤◌, Bool, true, false, ◌⊎◌, List, [], ◌∷◌, ◌++◌, length, get_or, set, refl, sym, ap, ◌∙◌, subst, inl, inr, arith, true≢false, get_or-set_other, None}
+use Rattle.std.proofs.lemmas.Bool.{cases_eq}
 use Rattle.std.proofs.lemmas.List.{get_or_append_left, get_or_push, length_push, get_or_default}
 use Rattle.esr_cert.specs.declared.network.Arc.{Arc}
 use Rattle.esr_flow.specs.declared.step.Step.{Step}
@@ -8,9 +8,9 @@ use Rattle.esr_flow.specs.declared.step.Step.TheVariants.{Along, Against}
 use Rattle.esr_flow.specs.declared.graph.Entry.{Entry}
 use Rattle.esr_flow.specs.declared.search.Visit.{Visit}
 use Rattle.esr_cert.specs.Flow.{within}
-use Rattle.esr_flow.specs.Residual.{arc_of, start, finish, room, IsResidual}
+use Rattle.esr_flow.specs.Residual.{arc_of, start, finish, IsResidual}
 use Rattle.esr_cert.specs.Network.{Network, IsNetwork}
-use Rattle.esr_flow.specs.Graph.{IsEntry, Lists, same_step, has_step}
+use Rattle.esr_flow.specs.Graph.{IsEntry, Lists, entry_of}
 use Rattle.esr_flow.specs.Search.{visit_at, is_marked, Leads, Searched, FoundSink}
 use Rattle.esr_flow.proofs.SearchLaws.{visit_more, next_head, unmarked_far}
 
@@ -18,32 +18,22 @@ use Rattle.esr_flow.proofs.SearchLaws.{visit_more, next_head, unmarked_far}
 pub record Scanning (net : Network) (flow : List ℕ) (row : List Entry) (visits : List Visit) (marks : List Bool) (head level k : ℕ) : Type 0 where
   pub searched : Searched net flow visits marks head
   pub in_visits : head < length visits
-  pub lists : Lists net.arcs (visit_at visits head).node row
+  pub lists : Lists net.arcs flow (visit_at visits head).node row
   pub next_level : level ≡ (visit_at visits head).level + 1
   pub unfound : is_marked marks net.sink ≡ false
   pub row_done : (i : ℕ) (d : Entry) → i < k → i < length row → IsResidual net.arcs flow (get_or row i d).step → Leads net.arcs visits (visit_at visits head).level (get_or row i d).step
 
 abbrev pub none_at : Entry
-none_at = record { to = 0; step = Along 0 }
+none_at = record { to = 0; step = Along 0; room = None }
 
 abbrev pub visit_of : Entry → ℕ → ℕ → Visit
 visit_of e level head = record { node = e.to; level = level; step = e.step; parent = head }
 
--- a step of a row has a place
-same_is : (t s : Step) → same_step t s ≡ true → t ≡ s
-same_is (Along i) (Along j) h = ap (λ n. Along n) (eqb-true i j h)
-same_is (Along i) (Against j) h = cc
-same_is (Against i) (Along j) h = cc
-same_is (Against i) (Against j) h = ap (λ n. Against n) (eqb-true i j h)
-
-place_of : (row : List Entry) (s : Step) → has_step row s ≡ true → (k : ℕ) × (k < length row) × ((get_or row k none_at).step ≡ s)
-place_of [] s h = cc
-place_of (e ∷ row) s h =
-    let rest : has_step row s ≡ true → (k : ℕ) × (k < length row) × ((get_or row k none_at).step ≡ s) = place_of row s in
-    elim (or_cases (same_step e.step s) (has_step row s) h) [
-      | inl q ↦ (0, omega arith, same_is e.step s q)
-      | inr q ↦ let r = rest q in (suc r.0, omega (arith, r.1), r.2)
-    ]
+-- a step of a node has a place in the node's row
+place_of : (arcs : List Arc) (flow : List ℕ) (v : ℕ) (row : List Entry) (s : Step) → Lists arcs flow v row → arc_of s < length arcs → start arcs s ≡ v → (k : ℕ) × (k < length row) × ((get_or row k none_at).step ≡ s)
+place_of arcs flow v row s h l e =
+    let (k, m, q) = h.all s l e in
+    (k, m, ap (λ (x : Entry). x.step) (get_or_default row k none_at (entry_of arcs flow s) m ∙ q))
 
 leads_more : (arcs : List Arc) (visits : List Visit) (x : Visit) (level : ℕ) (s : Step) → Leads arcs visits level s → Leads arcs (visits ++ x ∷ []) level s
 leads_more arcs visits x level s (j, l, e, m) =
@@ -62,29 +52,29 @@ module _ (net : Network) (ok : IsNetwork net) (flow : List ℕ) (row : List Entr
         | inr ne ↦ before i d (omega arith) b
       ]
 
-  entry_in : (e : Entry) → Scanning net flow row visits marks head level k → k < length row → e ≡ get_or row k none_at → IsEntry net.arcs (visit_at visits head).node e
-  entry_in e h l is = subst (IsEntry net.arcs (visit_at visits head).node) (sym is) (h.lists.entries k none_at l)
+  entry_in : (e : Entry) → Scanning net flow row visits marks head level k → k < length row → e ≡ get_or row k none_at → IsEntry net.arcs flow (visit_at visits head).node e
+  entry_in e h l is = subst (IsEntry net.arcs flow (visit_at visits head).node) (sym is) (h.lists.entries k l)
 
   pub entry_marked : (e : Entry) → Scanning net flow row visits marks head level k → k < length row → e ≡ get_or row k none_at → e.to < length marks
-  entry_marked e h l is = let q : IsEntry net.arcs (visit_at visits head).node e = entry_in e h l is in omega (arith, q.leads, finish_in net ok e.step q.in_arcs, h.searched.marks_length)
+  entry_marked e h l is = let q : IsEntry net.arcs flow (visit_at visits head).node e = entry_in e h l is in omega (arith, q.leads, finish_in net ok e.step q.in_arcs, h.searched.marks_length)
 
   -- a step that has no room
-  pub scan_skip : (e : Entry) → Scanning net flow row visits marks head level k → k < length row → e ≡ get_or row k none_at → within 1 (room net.arcs flow e.step) ≡ false → Scanning net flow row visits marks head level (k + 1)
-  scan_skip e h l is f = record {
+  pub scan_skip : (e : Entry) → Scanning net flow row visits marks head level k → k < length row → e ≡ get_or row k none_at → within 1 e.room ≡ false → Scanning net flow row visits marks head level (k + 1)
+  scan_skip e h l is f = let q : IsEntry net.arcs flow (visit_at visits head).node e = entry_in e h l is in record {
     searched = h.searched;
     in_visits = h.in_visits;
     lists = h.lists;
     next_level = h.next_level;
     unfound = h.unfound;
     row_done = at_k (λ t. IsResidual net.arcs flow t.step → Leads net.arcs visits (visit_at visits head).level t.step) e l is
-        (λ r. absurd (true≢false (sym r.1 ∙ f)))
+        (λ r. absurd (true≢false (sym r.1 ∙ ap (within 1) (sym q.left) ∙ f)))
         h.row_done;
   }
 
   -- a step to a node that was visited; the node is in range, so it does not matter what stands past the end
   pub scan_marked : (e : Entry) → Scanning net flow row visits marks head level k → k < length row → e ≡ get_or row k none_at → get_or marks e.to true ≡ true → Scanning net flow row visits marks head level (k + 1)
   scan_marked e h l is m =
-      let q : IsEntry net.arcs (visit_at visits head).node e = entry_in e h l is in
+      let q : IsEntry net.arcs flow (visit_at visits head).node e = entry_in e h l is in
       let t : is_marked marks (finish net.arcs e.step) ≡ true = ap (is_marked marks) (sym q.leads) ∙ get_or_default marks e.to false true (omega (arith, q.leads, finish_in net ok e.step q.in_arcs, h.searched.marks_length)) ∙ m in
       record {
         searched = h.searched;
@@ -99,11 +89,11 @@ module _ (net : Network) (ok : IsNetwork net) (flow : List ℕ) (row : List Entr
             h.row_done;
       }
 
-  searched_more : (e : Entry) → Scanning net flow row visits marks head level k → k < length row → e ≡ get_or row k none_at → within 1 (room net.arcs flow e.step) ≡ true → is_marked marks e.to ≡ false → Searched net flow (visits ++ visit_of e level head ∷ []) (set marks e.to true) head
+  searched_more : (e : Entry) → Scanning net flow row visits marks head level k → k < length row → e ≡ get_or row k none_at → within 1 e.room ≡ true → is_marked marks e.to ≡ false → Searched net flow (visits ++ visit_of e level head ∷ []) (set marks e.to true) head
   searched_more e h l is r f =
-      let q : IsEntry net.arcs (visit_at visits head).node e = entry_in e h l is in
+      let q : IsEntry net.arcs flow (visit_at visits head).node e = entry_in e h l is in
       let more : Searched net flow (visits ++ record { node = finish net.arcs e.step; level = (visit_at visits head).level + 1; step = e.step; parent = head } ∷ []) (set marks (finish net.arcs e.step) true) head =
-      visit_more net flow visits marks head e.step ok h.searched h.in_visits (q.in_arcs, r) q.starts (ap (is_marked marks) (sym q.leads) ∙ f) in
+      visit_more net flow visits marks head e.step ok h.searched h.in_visits (q.in_arcs, ap (within 1) (sym q.left) ∙ r) q.starts (ap (is_marked marks) (sym q.leads) ∙ f) in
       subst (λ n. Searched net flow (visits ++ visit_of e n head ∷ []) (set marks e.to true) head) (sym h.next_level)
       (subst (λ n. Searched net flow (visits ++ record { node = n; level = (visit_at visits head).level + 1; step = e.step; parent = head } ∷ []) (set marks n true) head) (sym q.leads) more)
 
@@ -111,16 +101,16 @@ module _ (net : Network) (ok : IsNetwork net) (flow : List ℕ) (row : List Entr
   same_head e l = get_or_append_left visits (visit_of e level head ∷ []) (record { node = 0; level = 0; step = Along 0; parent = 0 }) head l
 
   -- a step to a node that was not
-  pub scan_visit : (e : Entry) → Scanning net flow row visits marks head level k → k < length row → e ≡ get_or row k none_at → within 1 (room net.arcs flow e.step) ≡ true → is_marked marks e.to ≡ false → e.to ≢ net.sink → Scanning net flow row (visits ++ visit_of e level head ∷ []) (set marks e.to true) head level (k + 1)
+  pub scan_visit : (e : Entry) → Scanning net flow row visits marks head level k → k < length row → e ≡ get_or row k none_at → within 1 e.room ≡ true → is_marked marks e.to ≡ false → e.to ≢ net.sink → Scanning net flow row (visits ++ visit_of e level head ∷ []) (set marks e.to true) head level (k + 1)
   scan_visit e h l is r f ne =
-      let q : IsEntry net.arcs (visit_at visits head).node e = entry_in e h l is in
+      let q : IsEntry net.arcs flow (visit_at visits head).node e = entry_in e h l is in
       let same : visit_at (visits ++ visit_of e level head ∷ []) head ≡ visit_at visits head = same_head e h.in_visits in
       let len : length (visits ++ visit_of e level head ∷ []) ≡ length visits + 1 = length_push visits (visit_of e level head) in
       let new : visit_at (visits ++ visit_of e level head ∷ []) (length visits) ≡ visit_of e level head = get_or_push visits (visit_of e level head) (record { node = 0; level = 0; step = Along 0; parent = 0 }) (length visits) refl in
       record {
         searched = searched_more e h l is r f;
         in_visits = omega (arith, len, h.in_visits);
-        lists = subst (λ x. Lists net.arcs x.node row) (sym same) h.lists;
+        lists = subst (λ x. Lists net.arcs flow x.node row) (sym same) h.lists;
         next_level = omega (arith, h.next_level, ap (λ x. x.level) same);
         unfound = get_or-set_other marks e.to net.sink true false (λ g. ne (sym g)) ∙ h.unfound;
         row_done = subst (λ x. (i : ℕ) (d : Entry) → i < k + 1 → i < length row → IsResidual net.arcs flow (get_or row i d).step → Leads net.arcs (visits ++ visit_of e level head ∷ []) x.level (get_or row i d).step) (sym same)
@@ -130,7 +120,7 @@ module _ (net : Network) (ok : IsNetwork net) (flow : List ℕ) (row : List Entr
       }
 
   -- a step to the sink
-  pub scan_found : (e : Entry) → Scanning net flow row visits marks head level k → k < length row → e ≡ get_or row k none_at → within 1 (room net.arcs flow e.step) ≡ true → is_marked marks e.to ≡ false → e.to ≡ net.sink → FoundSink net flow (visits ++ visit_of e level head ∷ [])
+  pub scan_found : (e : Entry) → Scanning net flow row visits marks head level k → k < length row → e ≡ get_or row k none_at → within 1 e.room ≡ true → is_marked marks e.to ≡ false → e.to ≡ net.sink → FoundSink net flow (visits ++ visit_of e level head ∷ [])
   scan_found e h l is r f at =
       let len : length (visits ++ visit_of e level head ∷ []) - 1 ≡ length visits = omega (arith, length_push visits (visit_of e level head)) in
       let new : visit_at (visits ++ visit_of e level head ∷ []) (length (visits ++ visit_of e level head ∷ []) - 1) ≡ visit_of e level head =
@@ -160,7 +150,7 @@ module _ (net : Network) (ok : IsNetwork net) (flow : List ℕ) (row : List Entr
   pub scan_end : length row ≤ k → Scanning net flow row visits marks head level k → Searched net flow visits marks (head + 1) × (is_marked marks net.sink ≡ false) × (head < length visits)
   scan_end l h = (
     next_head net flow visits marks head h.searched h.in_visits (λ s r q.
-        let c : (i : ℕ) × (i < length row) × ((get_or row i none_at).step ≡ s) = place_of row s (h.lists.all s r.0 q) in
+        let c : (i : ℕ) × (i < length row) × ((get_or row i none_at).step ≡ s) = place_of net.arcs flow (visit_at visits head).node row s h.lists r.0 q in
         subst (λ t. Leads net.arcs visits (visit_at visits head).level t) c.2
         (h.row_done c.0 none_at (omega (arith, c.1)) c.1 (subst (IsResidual net.arcs flow) (sym c.2) r))),
     h.unfound,

@@ -1,13 +1,12 @@
 -- Each path to the sink has a limited arc; sets as tests and as lists.
-use Rattle.std.proofs.Common.{◌≡◌, ◌≢◌, ℕ, zero, suc, ◌+◌, ◌<◌, ◌≤◌, Bool, true, false, not, ◌&&◌, ◌||◌, ◌⊎◌, cond, eqb, List, [], ◌∷◌, ◌++◌, length, get_or, sum_by, Contains, Option, Some, None, refl, sym, ap, ◌∙◌, subst, inl, inr, arith, append-nil, eq-eqb, ne_eqb, true≢false, ltb, lt-ltb}
+use Rattle.std.proofs.Common.{◌≡◌, ◌≢◌, ℕ, zero, suc, ◌+◌, ◌<◌, ◌≤◌, Bool, true, false, not, ◌&&◌, ◌||◌, cond, eqb, List, [], ◌∷◌, ◌++◌, length, get_or, sum_by, Contains, Option, Some, None, refl, sym, ap, ◌∙◌, inl, inr, arith, append-nil, eq-eqb, ne_eqb, true≢false, ltb, lt-ltb}
 use Rattle.std.specs.List.{list_all}
 use Rattle.std.proofs.lemmas.Bool.{cases_eq, cases_Bool, or_left, or_from, and_parts, and_from, ltb-true}
-use Rattle.std.proofs.lemmas.List.{get_or_append_left, get_or_push, length_push}
 use Rattle.std.proofs.lemmas.List.Sums.{sum_by-cons}
 use Rattle.esr_cert.specs.declared.network.Arc.{Arc}
-use Rattle.esr_cert.specs.Problem.{Chain, Problem, size, in_set, is_ascending, is_closed, version, chain_cost, cost, IsSmallestLeast}
+use Rattle.esr_cert.specs.Problem.{Chain, Problem, size, in_set, is_ascending, chain_cost, cost, IsSmallestLeast}
 use Rattle.esr_cert.specs.Network.{arc_at, network}
-use Rattle.esr_cert.specs.Flow.{within, amount_at}
+use Rattle.esr_cert.specs.Flow.{amount_at}
 use Rattle.esr_cert.specs.Cut.{with_source, IsLimited, AreLimited}
 use Rattle.esr_cert.proofs.Sound.{here, there, IsClosed, IsChain, IsProblem, closed_facts, closed_from}
 use Rattle.esr_cert.proofs.Least.{with_the_source, without_sink, limited, version_same}

@@ -23,6 +23,11 @@ abbrev pub finish : List Arc → Step → ℕ
 finish arcs (Along i) = (arc_at arcs i).to
 finish arcs (Against i) = (arc_at arcs i).from
 
+-- the step back over the same arc
+abbrev pub opposite : Step → Step
+opposite (Along i) = Against i
+opposite (Against i) = Along i
+
 -- the residual amount: unused capacity along an arc, the amount that it carries against it
 abbrev pub room : List Arc → List ℕ → Step → Option ℕ
 room arcs flow (Along i) = left_of (arc_at arcs i).capacity (amount_at flow i)

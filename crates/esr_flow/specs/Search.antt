@@ -1,13 +1,13 @@
 -- What a breadth-first search of the residual network has found.
 use Rattle.std.specs.Prelude.{◌≡◌, ℕ, suc, ◌+◌, ◌-◌, ◌<◌, ◌≤◌, Bool, true, false, if◌then◌else◌, List, [], ◌∷◌, length, get_or}
 use Rattle.esr_flow.specs.declared.step.Step.{Step}
-use Rattle.esr_flow.specs.declared.step.Step.TheVariants.{Along, Against}
+use Rattle.esr_flow.specs.declared.step.Step.TheVariants.{Along}
 use Rattle.esr_cert.specs.declared.network.Arc.{Arc}
 use Rattle.esr_flow.specs.declared.search.Visit.{Visit}
 use Rattle.esr_flow.specs.declared.search.Found.{Found}
 use Rattle.esr_flow.specs.declared.search.Found.TheVariants.{Path, Reach}
-use Rattle.esr_cert.specs.Network.{Network, IsNetwork}
-use Rattle.esr_flow.specs.Residual.{arc_of, start, finish, IsResidual, IsPath, Falls}
+use Rattle.esr_cert.specs.Network.{Network}
+use Rattle.esr_flow.specs.Residual.{start, finish, IsResidual, IsPath, Falls}
 use Rattle.esr_flow.specs.Augmentation.{IsReach}
 
 abbrev pub visit_at : List Visit → ℕ → Visit

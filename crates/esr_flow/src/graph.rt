@@ -1,26 +1,47 @@
-//! The arcs of a network, and the steps that start at each node.
-ghost use Rattle.std.specs.Prelude.{◌≡◌, ℕ, ◌+◌, ◌<◌, ◌≤◌, true, if◌then◌else◌, ◌==◌, List, [], ◌∷◌, ◌++◌, length, get_or, map, IfOk, Vec};
+//! The arcs of a network, the steps that start at each node, and entries of steps with their residual amounts.
+ghost use Rattle.std.specs.Prelude.{◌≡◌, ℕ, ◌+◌, ◌<◌, ◌≤◌, true, if◌then◌else◌, ◌==◌, List, [], ◌∷◌, ◌++◌, length, get_or, set, map, IfOk, Vec};
 ghost use Rattle.std.specs.declared.alloc.Global.{Global};
 ghost use Rattle.esr_flow.specs.declared.step.Step.{Step};
 ghost use Rattle.esr_cert.specs.Flow.{within};
 ghost use Rattle.esr_flow.specs.Residual.{room, arc_of, start, finish};
+ghost use Rattle.esr_flow.specs.Graph.{entry_of};
 
 use crate::step::Step;
 use esr_cert::Arc;
 use std::alloc::{AllocError, Global};
 
-/// A step, and the node that it leads to.
+/// A step, the node that it leads to, and its residual amount; none is without limit.
 #[derive(Clone, Copy)]
 pub struct Entry {
     pub to: usize,
     pub step: Step,
+    pub room: Option<u64>,
 }
 
-/// Where the entries of a node lie.
+impl Entry {
+    /// Whether the step has room for one more.
+    pub fn has_room(&self) -> bool
+        ensures { result ≡ within 1 self.now.room }
+    {
+        match self.room {
+            None => true,
+            Some(limit) => 1 <= limit,
+        }
+    }
+}
+
+/// Where the steps of a node lie.
 #[derive(Clone, Copy)]
 pub struct Span {
     pub begin: usize,
     pub end: usize,
+}
+
+/// Where the two steps of an arc lie.
+#[derive(Clone, Copy)]
+pub struct Places {
+    pub along: usize,
+    pub against: usize,
 }
 
 /// The arcs of a network, and for each node the steps that start at it, one after another.
@@ -29,22 +50,52 @@ pub struct Graph {
     pub nodes: usize,
     pub arcs: Vec<Arc>,
     pub spans: Vec<Span>,
-    pub entries: Vec<Entry>,
+    pub steps: Vec<Step>,
+    pub places: Vec<Places>,
     pub source: usize,
     pub sink: usize,
 }
 
 impl Graph {
-    ghost use Rattle.esr_flow.specs.Graph.{IsGraph, row_of};
+    ghost use Rattle.esr_flow.specs.Graph.{IsGraph, AreEntries, row_in, span_at};
 
     /// The entries of a node.
-    pub fn row(&self, v: usize) -> &[Entry]
+    pub fn row<'a>(&self, entries: &'a [Entry], v: usize) -> &'a [Entry]
         requires graph { IsGraph self.now }
+        requires entries { length entries.now ≡ length self.now.steps.items }
         requires node { v < self.now.nodes }
-        ensures { result.now ≡ row_of self.now v }
+        ensures { result.now ≡ row_in entries.now (span_at self.now.spans.items v) }
     {
         let span = self.spans[v];
-        &self.entries[span.begin..span.end]
+        &entries[span.begin..span.end]
+    }
+
+    /// The entries of all steps, with the residual amounts of a flow.
+    pub fn entries(&self, alloc: Global, flow: &[u64]) -> Result<Vec<Entry>, AllocError>
+        requires graph { IsGraph self.now }
+        requires flow { length flow.now ≡ length self.now.arcs.items }
+        ensures { IfOk result (λ entries. AreEntries self.now flow.now entries.items) }
+    {
+        let mut entries = Vec::with_capacity(alloc, self.steps.len())?;
+        for step in &self.steps {
+            entries.push(entry_of(&self.arcs, flow, *step))?;
+        }
+        Ok(entries)
+    }
+
+    /// Sets the amount on an arc, and with it the residual amounts of the arc's two steps.
+    pub fn set_amount(&self, flow: &mut [u64], entries: &mut [Entry], arc: usize, amount: u64)
+        requires graph { IsGraph self.now }
+        requires arc { arc < length self.now.arcs.items }
+        requires flow { length flow.old ≡ length self.now.arcs.items }
+        requires entries { AreEntries self.now flow.old entries.old }
+        ensures flow { flow.new ≡ set flow.old arc amount }
+        ensures entries { AreEntries self.now flow.new entries.new }
+    {
+        flow[arc] = amount;
+        let places = self.places[arc];
+        entries[places.along] = entry_of(&self.arcs, flow, Step::Along(arc));
+        entries[places.against] = entry_of(&self.arcs, flow, Step::Against(arc));
     }
 }
 
@@ -63,15 +114,16 @@ pub fn room_of(arcs: &[Arc], flow: &[u64], step: Step) -> Option<u64>
     }
 }
 
-/// Whether a step has room for one more.
-pub fn has_room(arcs: &[Arc], flow: &[u64], step: Step) -> bool
+/// The entry of a step.
+pub fn entry_of(arcs: &[Arc], flow: &[u64], step: Step) -> Entry
     requires arc { arc_of step < length arcs.now }
     requires flow { length flow.now ≡ length arcs.now }
-    ensures { result ≡ within 1 (room arcs.now flow.now step) }
+    ensures { result ≡ entry_of arcs.now flow.now step }
 {
-    match room_of(arcs, flow, step) {
-        None => true,
-        Some(limit) => 1 <= limit,
+    Entry {
+        to: finish_of(arcs, step),
+        step,
+        room: room_of(arcs, flow, step),
     }
 }
 
@@ -83,16 +135,5 @@ pub fn finish_of(arcs: &[Arc], step: Step) -> usize
     match step {
         Step::Along(i) => arcs[i].to,
         Step::Against(i) => arcs[i].from,
-    }
-}
-
-/// The node that a step starts at.
-pub fn start_of(arcs: &[Arc], step: Step) -> usize
-    requires { arc_of step < length arcs.now }
-    ensures { result ≡ start arcs.now step }
-{
-    match step {
-        Step::Along(i) => arcs[i].from,
-        Step::Against(i) => arcs[i].to,
     }
 }

@@ -1,15 +1,15 @@
 //! A greatest flow, by shortest augmenting paths.
-ghost use Rattle.std.specs.Prelude.{◌≡◌, ℕ, ◌+◌, ◌*◌, ◌^◌, ◌<◌, ◌≤◌, ◌≢◌, Bool, true, false, length, get_or, take, IfOk, List, None};
+ghost use Rattle.std.specs.Prelude.{◌≡◌, ℕ, ◌+◌, ◌*◌, ◌^◌, ◌<◌, ◌≤◌, ◌≢◌, Bool, true, false, length, get_or, set, take, IfOk, List, None};
 ghost use Rattle.esr_flow.specs.declared.step.Step.{Step};
 ghost use Rattle.esr_cert.specs.Network.{Network, IsNetwork};
-ghost use Rattle.esr_flow.specs.Residual.{arc_of, lesser, least_room, raise, IsPath};
+ghost use Rattle.esr_flow.specs.Residual.{arc_of, lesser, least_room, shift, raise, IsPath};
 ghost use Rattle.esr_cert.specs.Flow.{amount_at, IsFlow, worth};
 ghost use Rattle.esr_flow.specs.Augmentation.{IsReach, Augments, Takes};
-ghost use Rattle.esr_flow.specs.Graph.{net_of, IsGraph};
+ghost use Rattle.esr_flow.specs.Graph.{net_of, IsGraph, AreEntries};
 ghost use Rattle.esr_flow.specs.Search.{IsShortestPath, Guides, IsGuided, is_marked};
 ghost use Rattle.esr_flow.specs.Maximum.{InArcs, HasLimit, LIMIT};
 
-use crate::graph::{Graph, room_of};
+use crate::graph::{Entry, Graph, room_of};
 use crate::search::{Found, search};
 use crate::step::Step;
 use crate::walk::{rewind, walk};
@@ -41,35 +41,51 @@ fn least_room_of(arcs: &[Arc], flow: &[u64], path: &[Step]) -> Option<u64>
     least
 }
 
+/// What the arc of a step carries once an amount more goes over the step.
+fn amount_after(flow: &[u64], amount: u64, step: Step) -> u64
+    requires arc { arc_of step < length flow.now }
+    requires fits { amount_at flow.now (arc_of step) + amount < 2 ^ 64 }
+    ensures { set flow.now (arc_of step) result ≡ shift flow.now amount step }
+{
+    match step {
+        Step::Along(i) => flow[i] + amount,
+        Step::Against(i) => flow[i].saturating_sub(amount),
+    }
+}
+
 /// Raises the amounts along a path.
-fn raise_along(flow: &mut [u64], amount: u64, path: &[Step])
-    requires in_flow { (k : ℕ) (d : Step) → k < length path.now → arc_of (get_or path.now k d) < length flow.old }
+fn raise_along(graph: &Graph, flow: &mut [u64], entries: &mut [Entry], amount: u64, path: &[Step])
+    requires graph { IsGraph graph.now }
+    requires in_arcs { InArcs graph.now.arcs.items path.now }
+    requires flow { length flow.old ≡ length graph.now.arcs.items }
+    requires entries { AreEntries graph.now flow.old entries.old }
     requires fits { (k i : ℕ) → amount_at (raise flow.old amount (take k path.now)) i + amount < 2 ^ 64 }
-    ensures { flow.new ≡ raise flow.old amount path.now }
+    ensures flow { flow.new ≡ raise flow.old amount path.now }
+    ensures entries { AreEntries graph.now flow.new entries.new }
 {
     for step in path {
-        match *step {
-            Step::Along(i) => flow[i] += amount,
-            Step::Against(i) => flow[i] = flow[i].saturating_sub(amount),
-        }
+        let after = amount_after(flow, amount, *step);
+        graph.set_amount(flow, entries, step.arc(), after);
     }
 }
 
 /// One augmentation, along a path that a search found, by the amount that it returns.
-fn augment(graph: &Graph, flow: &mut [u64], path: &[Step]) -> u64
+fn augment(graph: &Graph, flow: &mut [u64], entries: &mut [Entry], path: &[Step]) -> u64
     requires graph { IsGraph graph.now }
     requires flow { IsFlow (net_of graph.now) flow.old }
+    requires entries { AreEntries graph.now flow.old entries.old }
     requires amounts { (i : ℕ) → amount_at flow.old i ≤ LIMIT }
     requires small { (f : List ℕ) → IsFlow (net_of graph.now) f → worth (net_of graph.now) f ≤ LIMIT }
     requires path { IsShortestPath (net_of graph.now) flow.old path.now }
     requires limited { HasLimit (net_of graph.now) }
     ensures augments { Augments (net_of graph.now) flow.old flow.new }
+    ensures entries { AreEntries graph.now flow.new entries.new }
     ensures worth { worth (net_of graph.now) flow.new ≡ worth (net_of graph.now) flow.old + result }
 {
     match least_room_of(&graph.arcs, flow, path) {
         None => unreachable!(),
         Some(amount) => {
-            raise_along(flow, amount, path);
+            raise_along(graph, flow, entries, amount, path);
             amount
         }
     }
@@ -83,18 +99,20 @@ pub struct Progress {
     pub worth: u64,
 }
 
-/// Augments along a first path and along each that a walk down the labels finds after it.
+/// Augments along a first path and along each that a walk finds after it.
 fn run_phase(
     alloc: Global,
     graph: &Graph,
     labels: &[usize],
     first: Vec<Step>,
     flow: &mut [u64],
+    entries: &mut [Entry],
     before: Progress,
 ) -> Result<Progress, AllocError>
     requires graph { IsGraph graph.now }
     requires small { (f : List ℕ) → IsFlow (net_of graph.now) f → worth (net_of graph.now) f ≤ LIMIT }
     requires limited { HasLimit (net_of graph.now) }
+    requires entries { AreEntries graph.now flow.old entries.old }
     requires guides { Guides (net_of graph.now) flow.old labels.now }
     requires first { IsGuided (net_of graph.now) flow.old labels.now first.items }
     requires takes { Takes (net_of graph.now) before.augmentations flow.old }
@@ -102,6 +120,7 @@ fn run_phase(
     requires phases { before.phases ≤ before.augmentations }
     ensures takes { IfOk result (λ p. Takes (net_of graph.now) p.augmentations flow.new) }
     ensures worth { IfOk result (λ p. p.worth ≡ worth (net_of graph.now) flow.new) }
+    ensures entries { IfOk result (λ p. AreEntries graph.now flow.new entries.new) }
     ensures more { IfOk result (λ p. before.augmentations < p.augmentations) }
     ensures phases { IfOk result (λ p. p.phases ≤ p.augmentations) }
 {
@@ -110,10 +129,10 @@ fn run_phase(
     let mut worth = before.worth;
     let mut path = first;
     loop {
-        worth += augment(graph, flow, &path);
+        worth += augment(graph, flow, entries, &path);
         augmentations += 1;
         rewind(graph, &mut next, &path);
-        match walk(alloc, graph, flow, labels, &mut next)? {
+        match walk(alloc, graph, flow, entries, labels, &mut next)? {
             None => return Ok(Progress {
                 augmentations,
                 phases: before.phases + 1,
@@ -150,13 +169,14 @@ pub fn find_maximum(alloc: Global, graph: &Graph) -> Result<MaximumFlow, AllocEr
     ensures end { IfOk result (λ m. (is_marked m.marks.items graph.now.sink ≡ false) × (length m.marks.items ≡ graph.now.nodes)) }
 {
     let mut flow = vec![in alloc; 0u64; graph.arcs.len()]?;
+    let mut entries = graph.entries(alloc, &flow)?;
     let mut progress = Progress {
         augmentations: 0,
         phases: 0,
         worth: 0,
     };
     loop {
-        match search(alloc, graph, &flow)? {
+        match search(alloc, graph, &flow, &entries)? {
             Found::Reach(marks) => return Ok(MaximumFlow {
                 flow,
                 augmentations: progress.augmentations,
@@ -165,7 +185,15 @@ pub fn find_maximum(alloc: Global, graph: &Graph) -> Result<MaximumFlow, AllocEr
                 marks,
             }),
             Found::Path(path, labels) => {
-                progress = run_phase(alloc, graph, &labels, path, &mut flow, progress)?;
+                progress = run_phase(
+                    alloc,
+                    graph,
+                    &labels,
+                    path,
+                    &mut flow,
+                    &mut entries,
+                    progress,
+                )?;
             }
         }
     }

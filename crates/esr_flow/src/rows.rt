@@ -4,9 +4,9 @@ ghost use Rattle.std.specs.declared.alloc.Global.{Global};
 ghost use Rattle.esr_cert.specs.declared.network.Arc.{Arc};
 ghost use Rattle.esr_flow.specs.declared.step.Step.{Step};
 ghost use Rattle.esr_flow.specs.Residual.{arc_of};
-ghost use Rattle.esr_flow.specs.Graph.{HasSteps, IsLaid, entry_of};
+ghost use Rattle.esr_flow.specs.Graph.{HasSteps, IsLaid, AreOnce, ArePlaces, step_at};
 
-use crate::graph::{Entry, Span, finish_of};
+use crate::graph::{Places, Span};
 use crate::step::Step;
 use esr_cert::Arc;
 use std::alloc::{AllocError, Global};
@@ -37,39 +37,46 @@ pub fn steps_of(alloc: Global, nodes: usize, arcs: &[Arc]) -> Result<Vec<Vec<Ste
     Ok(steps)
 }
 
-/// Adds the entries of a row.
-fn push_row(entries: &mut Vec<Entry>, arcs: &[Arc], steps: &[Step]) -> Result<(), AllocError>
-    requires { (k : ℕ) (d : Step) → k < length steps.now → arc_of (get_or steps.now k d) < length arcs.now }
-    ensures { IfOk result (λ _. entries.new.items ≡ entries.old.items ++ map (entry_of arcs.now) steps.now) }
-{
-    for step in steps {
-        let to = finish_of(arcs, *step);
-        entries.push(Entry { to, step: *step })?;
-    }
-    Ok(())
-}
-
-/// The entries of all nodes, and where those of each lie.
+/// The steps of all nodes, and where those of each lie.
 #[derive(Drop)]
 pub struct Rows {
     pub spans: Vec<Span>,
-    pub entries: Vec<Entry>,
+    pub steps: Vec<Step>,
 }
 
 /// Lays the rows one after another.
-pub fn lay(alloc: Global, arcs: &[Arc], steps: &[Vec<Step>]) -> Result<Rows, AllocError>
-    requires { (v : ℕ) (row : Vec Step Global) → v < length steps.now → get_or steps.now v row ≡ row → (k : ℕ) (d : Step) → k < length row.items → arc_of (get_or row.items k d) < length arcs.now }
-    ensures { IfOk result (λ rows. IsLaid arcs.now steps.now (length steps.now) rows.spans.items rows.entries.items) }
+pub fn lay(alloc: Global, rows: &[Vec<Step>]) -> Result<Rows, AllocError>
+    ensures { IfOk result (λ laid. IsLaid rows.now (length rows.now) laid.spans.items laid.steps.items) }
 {
     let mut spans = Vec::new(alloc);
-    let mut entries = Vec::new(alloc);
-    for row in steps {
-        let begin = entries.len();
-        push_row(&mut entries, arcs, row)?;
+    let mut steps = Vec::new(alloc);
+    for row in rows {
+        let begin = steps.len();
+        steps.extend_from_slice(row)?;
         spans.push(Span {
             begin,
-            end: entries.len(),
+            end: steps.len(),
         })?;
     }
-    Ok(Rows { spans, entries })
+    Ok(Rows { spans, steps })
+}
+
+/// Where the two steps of each arc lie.
+pub fn places_of(alloc: Global, arcs: &[Arc], steps: &[Step]) -> Result<Vec<Places>, AllocError>
+    requires arcs { (k : ℕ) → k < length steps.now → arc_of (step_at steps.now k) < length arcs.now }
+    requires once { AreOnce steps.now }
+    ensures { IfOk result (λ places. ArePlaces arcs.now steps.now places.items) }
+{
+    let nowhere = Places {
+        along: 0,
+        against: 0,
+    };
+    let mut places = vec![in alloc; nowhere; arcs.len()]?;
+    for (k, step) in steps.iter().enumerate() {
+        match *step {
+            Step::Along(i) => places[i].along = k,
+            Step::Against(i) => places[i].against = k,
+        }
+    }
+    Ok(places)
 }

@@ -5,10 +5,10 @@ ghost use Rattle.esr_cert.specs.Network.{Network, IsNetwork, arc_at};
 ghost use Rattle.esr_cert.specs.Flow.{within, amount_at};
 ghost use Rattle.esr_flow.specs.Residual.{room, arc_of, start, finish, IsResidual, IsPath};
 ghost use Rattle.esr_flow.specs.Augmentation.{IsReach};
-ghost use Rattle.esr_flow.specs.Graph.{net_of, IsGraph, Lists};
+ghost use Rattle.esr_flow.specs.Graph.{net_of, IsGraph, AreEntries, Lists};
 ghost use Rattle.esr_flow.specs.Search.{Searched, visit_at, is_marked, IsShortestPath, AfterScan, FoundSink, IsFound, Guides, IsGuided, label_at};
 
-use crate::graph::{Entry, Graph, has_room};
+use crate::graph::{Entry, Graph};
 use crate::step::Step;
 use std::alloc::{AllocError, Global};
 
@@ -24,24 +24,23 @@ pub struct Visit {
 /// Visits each unmarked node that a step of the row leads to, until the sink is visited.
 fn scan(
     graph: &Graph,
+    _flow: &[u64],
     row: &[Entry],
-    flow: &[u64],
     visits: &mut Vec<Visit>,
     marks: &mut Vec<bool>,
     head: usize,
 ) -> Result<bool, AllocError>
     requires graph { IsGraph graph.now }
-    requires row { Lists graph.now.arcs.items (visit_at visits.old.items head).node row.now }
-    requires flow { length flow.now ≡ length graph.now.arcs.items }
+    requires row { Lists graph.now.arcs.items _flow.now (visit_at visits.old.items head).node row.now }
     requires head { head < length visits.old.items }
-    requires searched { Searched (net_of graph.now) flow.now visits.old.items marks.old.items head }
+    requires searched { Searched (net_of graph.now) _flow.now visits.old.items marks.old.items head }
     requires sink { is_marked marks.old.items graph.now.sink ≡ false }
-    ensures { IfOk result (λ found. AfterScan (net_of graph.now) flow.now visits.new.items marks.new.items head found) }
+    ensures { IfOk result (λ found. AfterScan (net_of graph.now) _flow.now visits.new.items marks.new.items head found) }
 {
     let level = visits[head].level + 1;
     for entry in row {
         if !marks[entry.to] {
-            if has_room(&graph.arcs, flow, entry.step) {
+            if entry.has_room() {
                 visits.push(Visit {
                     node: entry.to,
                     level,
@@ -108,14 +107,19 @@ pub enum Found {
 }
 
 /// Searches the residual network for a path from the source to the sink.
-pub fn search(alloc: Global, graph: &Graph, flow: &[u64]) -> Result<Found, AllocError>
+pub fn search(
+    alloc: Global,
+    graph: &Graph,
+    flow: &[u64],
+    entries: &[Entry],
+) -> Result<Found, AllocError>
     requires graph { IsGraph graph.now }
-    requires flow { length flow.now ≡ length graph.now.arcs.items }
+    requires entries { AreEntries graph.now flow.now entries.now }
     ensures { IfOk result (λ found. IsFound (net_of graph.now) flow.now found) }
 {
     let mut marks = vec![in alloc; false; graph.nodes]?;
     marks[graph.source] = true;
-    let mut visits = Vec::new(alloc);
+    let mut visits = Vec::with_capacity(alloc, graph.nodes)?;
     visits.push(Visit {
         node: graph.source,
         level: 0,
@@ -124,8 +128,8 @@ pub fn search(alloc: Global, graph: &Graph, flow: &[u64]) -> Result<Found, Alloc
     })?;
     let mut head = 0;
     while head < visits.len() {
-        let row = graph.row(visits[head].node);
-        if scan(graph, row, flow, &mut visits, &mut marks, head)? {
+        let row = graph.row(entries, visits[head].node);
+        if scan(graph, flow, row, &mut visits, &mut marks, head)? {
             let path = path_to_last(alloc, graph, flow, &visits)?;
             let labels = labels_of(alloc, graph, flow, &visits)?;
             return Ok(Found::Path(path, labels));

@@ -6,3 +6,28 @@ pub enum Step {
     Along(usize),
     Against(usize),
 }
+
+impl Step {
+    ghost use Rattle.std.specs.Prelude.{◌≡◌};
+    ghost use Rattle.esr_flow.specs.Residual.{arc_of, opposite};
+
+    /// The number of the step's arc.
+    pub fn arc(self) -> usize
+        ensures { result ≡ arc_of self }
+    {
+        match self {
+            Step::Along(i) => i,
+            Step::Against(i) => i,
+        }
+    }
+
+    /// The step back over the same arc.
+    pub fn opposite(self) -> Step
+        ensures { result ≡ opposite self }
+    {
+        match self {
+            Step::Along(i) => Step::Against(i),
+            Step::Against(i) => Step::Along(i),
+        }
+    }
+}

@@ -1,20 +1,20 @@
-//! Walks from the source to the sink along steps on which labels fall.
-ghost use Rattle.std.specs.Prelude.{◌≡◌, ℕ, ◌+◌, ◌<◌, ◌≤◌, Bool, true, false, length, get_or, IfOk, IfSome, List};
+//! Walks from the sink back to the source, against steps on which labels fall.
+ghost use Rattle.std.specs.Prelude.{◌≡◌, ℕ, ◌+◌, ◌<◌, ◌≤◌, Bool, true, false, length, get_or, reverse, IfOk, IfSome, List};
 ghost use Rattle.esr_flow.specs.declared.step.Step.{Step};
 ghost use Rattle.esr_cert.specs.Network.{Network, IsNetwork};
 ghost use Rattle.esr_cert.specs.Flow.{within};
-ghost use Rattle.esr_flow.specs.Residual.{room, arc_of, start, finish, IsPath};
-ghost use Rattle.esr_flow.specs.Graph.{net_of, IsGraph, Lists, entry_at};
+ghost use Rattle.esr_flow.specs.Residual.{room, arc_of, start, finish, opposite, IsPath};
+ghost use Rattle.esr_flow.specs.Graph.{net_of, IsGraph, AreEntries, Lists, entry_at};
 ghost use Rattle.esr_flow.specs.Search.{Guides, IsGuided, label_at};
 ghost use Rattle.esr_flow.specs.Maximum.{InArcs};
 
-use crate::graph::{Entry, Graph, has_room, start_of};
+use crate::graph::{Entry, Graph, entry_of, finish_of};
 use crate::step::Step;
 use std::alloc::{AllocError, Global};
 
-/// The first place of a node's row, from a place on, with a step that has room and
-/// leads to a lesser label; the row's length where there is none.
-fn next_down(
+/// The first place of a node's row, from a place on, with a step that leads to a
+/// greater label and whose opposite has room; the row's length where there is none.
+fn next_back(
     graph: &Graph,
     flow: &[u64],
     labels: &[usize],
@@ -24,18 +24,18 @@ fn next_down(
 ) -> usize
     requires graph { IsGraph graph.now }
     requires node { at < graph.now.nodes }
-    requires row { Lists graph.now.arcs.items at row.now }
+    requires row { Lists graph.now.arcs.items flow.now at row.now }
     requires flow { length flow.now ≡ length graph.now.arcs.items }
     requires labels { length labels.now ≡ graph.now.nodes }
     ensures later { from ≤ result }
-    ensures room { result < length row.now → within 1 (room graph.now.arcs.items flow.now (entry_at row.now result).step) ≡ true }
-    ensures down { result < length row.now → label_at labels.now (entry_at row.now result).to < label_at labels.now at }
+    ensures room { result < length row.now → within 1 (room graph.now.arcs.items flow.now (opposite (entry_at row.now result).step)) ≡ true }
+    ensures up { result < length row.now → label_at labels.now at < label_at labels.now (entry_at row.now result).to }
 {
     let label = labels[at];
     for i in from..row.len() {
         let entry = row[i];
-        if labels[entry.to] < label {
-            if has_room(&graph.arcs, flow, entry.step) {
+        if label < labels[entry.to] {
+            if entry_of(&graph.arcs, flow, entry.step.opposite()).has_room() {
                 return i;
             }
         }
@@ -43,37 +43,40 @@ fn next_down(
     if from < row.len() { row.len() } else { from }
 }
 
-/// Goes from the source along steps that lead down, each node's steps from its pointer on, and back where a node has none.
+/// Goes back from the sink to greater labels, each node's steps from its pointer on, and forward again where a node has none.
 pub fn walk(
     alloc: Global,
     graph: &Graph,
     flow: &[u64],
+    entries: &[Entry],
     labels: &[usize],
     next: &mut [usize],
 ) -> Result<Option<Vec<Step>>, AllocError>
     requires graph { IsGraph graph.now }
     requires flow { length flow.now ≡ length graph.now.arcs.items }
+    requires entries { AreEntries graph.now flow.now entries.now }
     requires guides { Guides (net_of graph.now) flow.now labels.now }
     requires next { length next.old ≡ graph.now.nodes }
     ensures { IfOk result (λ found. IfSome found (λ path. IsGuided (net_of graph.now) flow.now labels.now path.items)) }
 {
-    let mut path = Vec::new(alloc);
-    let mut at = graph.source;
-    while at != graph.sink {
-        let row = graph.row(at);
-        let i = next_down(graph, flow, labels, at, row, next[at]);
+    let mut path = Vec::with_capacity(alloc, labels[graph.source])?;
+    let mut at = graph.sink;
+    while at != graph.source {
+        let row = graph.row(entries, at);
+        let i = next_back(graph, flow, labels, at, row, next[at]);
         if i < row.len() {
             next[at] = i + 1;
-            path.push(row[i].step)?;
+            path.push(row[i].step.opposite())?;
             at = row[i].to;
         } else {
             next[at] = i;
             match path.pop() {
                 None => return Ok(None),
-                Some(step) => at = start_of(&graph.arcs, step),
+                Some(step) => at = finish_of(&graph.arcs, step),
             }
         }
     }
+    path.reverse();
     Ok(Some(path))
 }
 
@@ -85,7 +88,7 @@ pub fn rewind(graph: &Graph, next: &mut [usize], path: &[Step])
     ensures { length next.new ≡ length next.old }
 {
     for step in path {
-        let node = start_of(&graph.arcs, *step);
+        let node = finish_of(&graph.arcs, *step);
         next[node] = next[node].saturating_sub(1);
     }
 }

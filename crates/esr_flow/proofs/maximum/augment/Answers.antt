@@ -1,7 +1,7 @@
-use Rattle.std.proofs.Common.{arith, ◌≡◌, ◌<◌, length, get_or, Some, sym, ◌∙◌, ap, subst}
+use Rattle.std.proofs.Common.{◌≡◌, Some, sym, ◌∙◌, ap, subst}
 use Rattle.esr_cert.specs.Network.{Network}
 use Rattle.esr_cert.specs.Flow.{worth}
-use Rattle.esr_flow.specs.Residual.{arc_of, least_room, raise}
+use Rattle.esr_flow.specs.Residual.{least_room, raise}
 use Rattle.esr_flow.specs.Augmentation.{Augments}
 use Rattle.esr_flow.specs.Graph.{net_of}
 use Rattle.esr_flow.specs.Maximum.{InArcs}
@@ -14,10 +14,9 @@ least_room_of-requires-clause-path c =
     subst (λ arcs. InArcs arcs c.args.path.now) (sym c.deref.ensures.value)
     (path_in_arcs c.args.graph.now.arcs.items c.args.flow.now c.args.path.now c.args.graph.now.source c.args.graph.now.sink c.requires.path.is_path)
 
-pub raise_along-requires-clause-in_flow : goal.raise_along-requires-clause-in_flow
-raise_along-requires-clause-in_flow c k d l =
-    let i : arc_of (get_or c.args.path.now k d) < length c.args.graph.now.arcs.items = path_in_arcs c.args.graph.now.arcs.items c.args.flow.now c.args.path.now c.args.graph.now.source c.args.graph.now.sink c.requires.path.is_path k d l in
-    omega (arith, c.requires.flow.same_length)
+pub raise_along-requires-clause-in_arcs : goal.raise_along-requires-clause-in_arcs
+raise_along-requires-clause-in_arcs c =
+    path_in_arcs c.args.graph.now.arcs.items c.args.flow.now c.args.path.now c.args.graph.now.source c.args.graph.now.sink c.requires.path.is_path
 
 pub raise_along-requires-clause-fits : goal.raise_along-requires-clause-fits
 raise_along-requires-clause-fits c =
@@ -30,4 +29,4 @@ returns-clause-worth c =
     let least : least_room c.args.graph.now.arcs.items c.args.flow.now c.args.path.now ≡ Some c.in-Some.amount = cc (c.in-Some.is, c.least_room_of.ensures, c.deref.ensures.value) in
     let a : Augments net c.args.flow.now (raise c.args.flow.now c.in-Some.amount c.args.path.now) = augments net c.args.flow.now c.args.path.now c.in-Some.amount c.requires.path least in
     let after : After net c.args.flow.now (raise c.args.flow.now c.in-Some.amount c.args.path.now) c.in-Some.amount = augmented net c.requires.graph.is_network c.args.flow.now (raise c.args.flow.now c.in-Some.amount c.args.path.now) c.requires.flow a in
-    ap (worth net) c.raise_along.ensures ∙ after.raised
+    ap (worth net) c.raise_along.ensures.flow ∙ after.raised

@@ -60,4 +60,4 @@ pub loop-path-preserved : goal.loop-path-preserved
 loop-path-preserved c =
     let r : Running (net_of c.args.graph.now) c.augment-worth.new.flow c.args.labels.now (c.loop-path.augmentations + 1) (c.loop-path.worth + c.augment-worth.result) = run_more (net_of c.args.graph.now) c.loop-path.flow c.augment-worth.new.flow c.args.labels.now c.loop-path.path.items c.loop-path.augmentations c.loop-path.worth c.augment-worth.result c.loop-path.invariant.0 c.loop-path.invariant.1 c.augment-worth.ensures.augments c.augment-worth.ensures.worth in
     let p : IsGuided (net_of c.args.graph.now) c.augment-worth.new.flow c.args.labels.now c.in-Some.found.items = subst (λ o. IfSome o (λ path. IsGuided (net_of c.args.graph.now) c.augment-worth.new.flow c.args.labels.now path.items)) c.in-Some.is c.in_ok-walk.ensures in
-    (r, p, c.loop-path.invariant.2, omega (arith, c.loop-path.invariant.3))
+    (r, p, c.loop-path.invariant.2, omega (arith, c.loop-path.invariant.3), c.augment-worth.ensures.entries)

@@ -2,8 +2,9 @@ use Rattle.std.proofs.Common.{arith, ◌≡◌, true, false, set, replicate, [],
 use Rattle.esr_flow.specs.declared.step.Step.TheVariants.{Along}
 use Rattle.std.proofs.lemmas.List.{get_or_default}
 use Rattle.esr_cert.specs.Network.{Network}
-use Rattle.esr_flow.specs.Graph.{net_of, Lists, row_of}
+use Rattle.esr_flow.specs.Graph.{net_of, Lists, row_in, span_at}
 use Rattle.esr_flow.specs.Search.{visit_at, is_marked, Searched, AfterScan}
+use Rattle.esr_flow.proofs.EntriesLaws.{row_lists}
 use Rattle.esr_flow.proofs.PathLaws.{begin, sink_unmarked}
 use Rattle.esr_flow.proofs.SearchLaws.{all_reached}
 use Rattle.esr_flow.proofs.search.search.Goals as goal
@@ -13,7 +14,7 @@ loop-head-init c =
     let net : Network = net_of c.args.graph.now in
     let marks : c.in_ok-marks.marks.items ≡ replicate c.args.graph.now.nodes false = c.in_ok-marks.ensures.items_if_clones_equal (λ y e. e) in
     let visits : c.push.new.self.items ≡ record { node = c.args.graph.now.source; level = 0; step = Along 0; parent = 0 } ∷ [] =
-    c.in_ok-push.ensures.items ∙ ap (λ vs. vs ++ record { node = c.args.graph.now.source; level = 0; step = Along 0; parent = 0 } ∷ []) c.new-visits.ensures.items in (
+    c.in_ok-push.ensures.items ∙ ap (λ vs. vs ++ record { node = c.args.graph.now.source; level = 0; step = Along 0; parent = 0 } ∷ []) c.in_ok-visits.ensures.items in (
       subst (λ vs. Searched net c.args.flow.now vs (set c.in_ok-marks.marks.items c.args.graph.now.source true) 0) (sym visits)
           (subst (λ ms. Searched net c.args.flow.now (record { node = c.args.graph.now.source; level = 0; step = Along 0; parent = 0 } ∷ []) (set ms c.args.graph.now.source true) 0) (sym marks)
           (begin net c.args.flow.now c.requires.graph.is_network)),
@@ -27,10 +28,10 @@ scan-requires-clause-row c =
     let at : c.index.result.now ≡ visit_at c.loop-head.visits.items c.loop-head.head =
     c.index.ensures ∙ get_or_default c.loop-head.visits.items c.loop-head.head c.index.result.now (record { node = 0; level = 0; step = Along 0; parent = 0 }) (omega arith) in
     let node : c.index.result.now.node ≡ (visit_at c.loop-head.visits.items c.loop-head.head).node = ap (λ x. x.node) at in
-    let lists : Lists c.args.graph.now.arcs.items c.index.result.now.node (row_of c.args.graph.now c.index.result.now.node) =
-    c.requires.graph.lists c.index.result.now.node (omega (arith, node, h.nodes c.loop-head.head (omega arith))) in
-    subst (λ r. Lists c.args.graph.now.arcs.items (visit_at c.loop-head.visits.items c.loop-head.head).node r) (sym c.row-row.ensures)
-    (subst (λ n. Lists c.args.graph.now.arcs.items n (row_of c.args.graph.now c.index.result.now.node)) node lists)
+    let lists : Lists c.args.graph.now.arcs.items c.args.flow.now c.index.result.now.node (row_in c.args.entries.now (span_at c.args.graph.now.spans.items c.index.result.now.node)) =
+    row_lists c.args.graph.now c.requires.graph c.args.flow.now c.args.entries.now c.requires.entries c.index.result.now.node (omega (arith, node, h.nodes c.loop-head.head (omega arith))) in
+    subst (λ r. Lists c.args.graph.now.arcs.items c.args.flow.now (visit_at c.loop-head.visits.items c.loop-head.head).node r) (sym c.row-row.ensures)
+    (subst (λ n. Lists c.args.graph.now.arcs.items c.args.flow.now n (row_in c.args.entries.now (span_at c.args.graph.now.spans.items c.index.result.now.node))) node lists)
 
 pub loop-head-preserved : goal.loop-head-preserved
 loop-head-preserved c =

@@ -1,10 +1,10 @@
-use Rattle.std.proofs.Common.{arith, ◌≡◌, ℕ, ◌+◌, ◌-◌, ◌*◌, ◌≤◌, ◌++◌, true, Some, List, length, take, drop, map, sum_by, sym, refl, ◌∙◌, ap, subst, length-take, length-drop}
+use Rattle.std.proofs.Common.{arith, ◌≡◌, ℕ, ◌+◌, ◌-◌, true, Some, List, length, take, drop, sum_by, sym, refl, ◌∙◌, ap, length-take, length-drop}
 use Rattle.std.specs.List.{concat}
 use Rattle.std.proofs.lemmas.List.{length-map}
 use Rattle.esr_cert.specs.declared.problem.Chain as code
 use Rattle.esr_cert.specs.Problem.{Chain, size}
 use Rattle.esr_cert.specs.Certificate.{are_rows_matched}
-use Rattle.esr_cert.specs.Views.{chain_of, rows_of, certificate_of}
+use Rattle.esr_cert.specs.Views.{rows_of, certificate_of}
 use Rattle.esr_cert.proofs.Sound.{facts}
 use Rattle.esr_flow.specs.Search.{is_marked}
 use Rattle.esr_flow.specs.Certificate.{positions}

@@ -1,57 +1,74 @@
-use Rattle.std.proofs.Common.{arith, ◌≡◌, ℕ, ◌+◌, ◌-◌, ◌<◌, ◌≤◌, [], ◌∷◌, ◌++◌, List, length, get_or, set, take, drop, sym, ◌∙◌, ap, subst, refl, suc, true, length-set, length-take}
+use Rattle.std.proofs.Common.{arith, ◌≡◌, ℕ, ◌+◌, ◌-◌, ◌<◌, ◌≤◌, [], ◌∷◌, ◌++◌, List, length, set, drop, sym, ◌∙◌, ap, subst, suc, true, length-set, length-take}
 use Rattle.std.proofs.lemmas.List.{length_push}
 use Rattle.esr_cert.specs.declared.network.Arc.{Arc}
 use Rattle.esr_cert.specs.Flow.{within}
+use Rattle.esr_cert.specs.Network.{Network}
+use Rattle.esr_flow.specs.declared.step.Step.{Step}
 use Rattle.esr_flow.specs.declared.graph.Entry.{Entry}
-use Rattle.esr_flow.specs.Residual.{room, arc_of, start, finish}
-use Rattle.esr_flow.specs.Graph.{net_of, Lists, IsEntry, entry_at, span_at, row_of}
-use Rattle.esr_flow.specs.Search.{label_at}
-use Rattle.esr_flow.proofs.WalkLaws.{Walk, walk_push, walk_pop, walk_end, popped_in, untried, untried_less, untried_same}
+use Rattle.esr_flow.specs.Residual.{room, arc_of, start, finish, opposite}
+use Rattle.esr_flow.specs.Graph.{net_of, Lists, IsEntry, entry_at, span_at}
+use Rattle.esr_flow.specs.Search.{label_at, IsGuided}
+use Rattle.esr_flow.proofs.EntriesLaws.{row_lists}
+use Rattle.esr_flow.proofs.WalkLaws.{Walk, walk_push, walk_pop, walk_end, popped_in, opposite_arc, opposite_start, opposite_finish, untried, untried_less, untried_same}
 use Rattle.esr_flow.proofs.walk.walk.Goals as goal
+
+pub next_back-i-requires-clause-row : goal.next_back-i-requires-clause-row
+next_back-i-requires-clause-row c =
+    subst (Lists c.args.graph.now.arcs.items c.args.flow.now c.loop-at.at) (sym c.row-row.ensures)
+    (row_lists c.args.graph.now c.requires.graph c.args.flow.now c.args.entries.now c.requires.entries c.loop-at.at c.loop-at.invariant.0.node)
 
 pub loop-at-smaller-then-i-row : goal.loop-at-smaller-then-i-row
 loop-at-smaller-then-i-row c =
     let span = span_at c.args.graph.now.spans.items c.loop-at.at in
-    let long : length c.row-row.result.now ≤ span.end - span.begin = omega (arith, ap length c.row-row.ensures, length-take (span.end - span.begin) (drop span.begin c.args.graph.now.entries.items)) in
-    let less : suc (untried c.args.graph.now.spans.items (set c.loop-at.next c.loop-at.at (c.next_down-i.result + 1))) ≤ untried c.args.graph.now.spans.items c.loop-at.next =
-    untried_less c.args.graph.now.spans.items c.loop-at.next c.loop-at.at c.next_down-i.result (omega (arith, c.requires.graph.count, c.loop-at.invariant.0.node)) (omega (arith, c.loop-at.invariant.1, c.loop-at.invariant.0.node)) c.next_down-i.ensures.later (omega (arith, long, c.if-i-row.true)) in
-    omega (arith, less, length_push c.loop-at.path.items (entry_at c.row-row.result.now c.next_down-i.result).step, ap length c.in_ok-push.ensures.items)
+    let long : length c.row-row.result.now ≤ span.end - span.begin = omega (arith, ap length c.row-row.ensures, length-take (span.end - span.begin) (drop span.begin c.args.entries.now)) in
+    let less : suc (untried c.args.graph.now.spans.items (set c.loop-at.next c.loop-at.at (c.next_back-i.result + 1))) ≤ untried c.args.graph.now.spans.items c.loop-at.next =
+    untried_less c.args.graph.now.spans.items c.loop-at.next c.loop-at.at c.next_back-i.result (omega (arith, c.requires.graph.count, c.loop-at.invariant.0.node)) (omega (arith, c.loop-at.invariant.1, c.loop-at.invariant.0.node)) c.next_back-i.ensures.later (omega (arith, long, c.if-i-row.true)) in
+    omega (arith, less, length_push c.loop-at.path.items c.opposite.result, ap length c.in_ok-push.ensures.items)
 
 pub loop-at-preserved-then-i-row : goal.loop-at-preserved-then-i-row
 loop-at-preserved-then-i-row c =
-    let e : Entry = entry_at c.row-row.result.now c.next_down-i.result in
+    let net : Network = net_of c.args.graph.now in
     let arcs : List Arc = c.args.graph.now.arcs.items in
-    let row : Lists arcs c.loop-at.at c.row-row.result.now = subst (Lists arcs c.loop-at.at) (sym c.row-row.ensures) (c.requires.graph.lists c.loop-at.at c.loop-at.invariant.0.node) in
-    let at : IsEntry arcs c.loop-at.at e = row.entries c.next_down-i.result (entry_at [] 0) c.if-i-row.true in
-    let has_room : within 1 (room arcs c.args.flow.now e.step) ≡ true = c.next_down-i.ensures.room c.if-i-row.true in
-    let down : label_at c.args.labels.now (finish arcs e.step) < label_at c.args.labels.now (start arcs e.step) = omega (arith, c.next_down-i.ensures.down c.if-i-row.true, ap (label_at c.args.labels.now) at.leads, ap (label_at c.args.labels.now) at.starts) in (
-      subst (λ n. Walk (net_of c.args.graph.now) c.args.flow.now c.args.labels.now c.push.new.self.items n) (sym at.leads)
-          (subst (λ p. Walk (net_of c.args.graph.now) c.args.flow.now c.args.labels.now p (finish arcs e.step)) (sym c.in_ok-push.ensures.items)
-          (walk_push (net_of c.args.graph.now) c.requires.graph.is_network c.args.flow.now c.args.labels.now c.loop-at.path.items c.loop-at.at e.step c.loop-at.invariant.0 at.starts (at.in_arcs, has_room) down)),
-      length-set c.loop-at.next c.loop-at.at (c.next_down-i.result + 1) ∙ c.loop-at.invariant.1,
+    let flow : List ℕ = c.args.flow.now in
+    let labels : List ℕ = c.args.labels.now in
+    let e : Entry = entry_at c.row-row.result.now c.next_back-i.result in
+    let s : Step = opposite e.step in
+    let row : Lists arcs flow c.loop-at.at c.row-row.result.now = subst (Lists arcs flow c.loop-at.at) (sym c.row-row.ensures) (row_lists c.args.graph.now c.requires.graph flow c.args.entries.now c.requires.entries c.loop-at.at c.loop-at.invariant.0.node) in
+    let at : IsEntry arcs flow c.loop-at.at e = row.entries c.next_back-i.result c.if-i-row.true in
+    let in_arcs : arc_of s < length arcs = omega (arith, at.in_arcs, opposite_arc e.step) in
+    let has_room : within 1 (room arcs flow s) ≡ true = c.next_back-i.ensures.room c.if-i-row.true in
+    let ends : finish arcs s ≡ c.loop-at.at = opposite_finish arcs e.step ∙ at.starts in
+    let begins : start arcs s ≡ e.to = opposite_start arcs e.step ∙ sym at.leads in
+    let down : label_at labels (finish arcs s) < label_at labels (start arcs s) = omega (arith, c.next_back-i.ensures.up c.if-i-row.true, ap (label_at labels) ends, ap (label_at labels) begins) in
+    let pushed : c.push.new.self.items ≡ c.loop-at.path.items ++ s ∷ [] = c.in_ok-push.ensures.items ∙ ap (λ t. c.loop-at.path.items ++ t ∷ []) c.opposite.ensures in (
+      subst (Walk net flow labels c.push.new.self.items) begins
+          (subst (λ p. Walk net flow labels p (start arcs s)) (sym pushed)
+          (walk_push net c.requires.graph.is_network flow labels c.loop-at.path.items c.loop-at.at s c.loop-at.invariant.0 ends (in_arcs, has_room) down)),
+      length-set c.loop-at.next c.loop-at.at (c.next_back-i.result + 1) ∙ c.loop-at.invariant.1,
     )
 
-pub start_of-at-requires : goal.start_of-at-requires
-start_of-at-requires c =
+pub finish_of-at-requires : goal.finish_of-at-requires
+finish_of-at-requires c =
     let w : Walk (net_of c.args.graph.now) c.args.flow.now c.args.labels.now (c.pop.new.self.items ++ c.in-Some.step ∷ []) c.loop-at.at = subst (λ p. Walk (net_of c.args.graph.now) c.args.flow.now c.args.labels.now p c.loop-at.at) c.in-Some.ensures.items c.loop-at.invariant.0 in
     subst (λ arcs. arc_of c.in-Some.step < length arcs) (sym c.deref.ensures.value)
     (popped_in (net_of c.args.graph.now) c.requires.graph.is_network c.args.flow.now c.args.labels.now c.pop.new.self.items c.loop-at.at c.in-Some.step w)
 
 pub loop-at-smaller : goal.loop-at-smaller
 loop-at-smaller c =
-    let same : untried c.args.graph.now.spans.items (set c.loop-at.next c.loop-at.at c.next_down-i.result) ≤ untried c.args.graph.now.spans.items c.loop-at.next =
-    untried_same c.args.graph.now.spans.items c.loop-at.next c.loop-at.at c.next_down-i.result (omega (arith, c.loop-at.invariant.1, c.loop-at.invariant.0.node)) c.next_down-i.ensures.later in
+    let same : untried c.args.graph.now.spans.items (set c.loop-at.next c.loop-at.at c.next_back-i.result) ≤ untried c.args.graph.now.spans.items c.loop-at.next =
+    untried_same c.args.graph.now.spans.items c.loop-at.next c.loop-at.at c.next_back-i.result (omega (arith, c.loop-at.invariant.1, c.loop-at.invariant.0.node)) c.next_back-i.ensures.later in
     omega (arith, same, length_push c.pop.new.self.items c.in-Some.step, ap length c.in-Some.ensures.items)
 
 pub loop-at-preserved : goal.loop-at-preserved
 loop-at-preserved c =
     let w : Walk (net_of c.args.graph.now) c.args.flow.now c.args.labels.now (c.pop.new.self.items ++ c.in-Some.step ∷ []) c.loop-at.at = subst (λ p. Walk (net_of c.args.graph.now) c.args.flow.now c.args.labels.now p c.loop-at.at) c.in-Some.ensures.items c.loop-at.invariant.0 in
-    let start_is : c.start_of-at.result ≡ start c.args.graph.now.arcs.items c.in-Some.step = cc (c.start_of-at.ensures, c.deref.ensures.value) in (
-      subst (λ n. Walk (net_of c.args.graph.now) c.args.flow.now c.args.labels.now c.pop.new.self.items n) (sym start_is)
+    let finish_is : c.finish_of-at.result ≡ finish c.args.graph.now.arcs.items c.in-Some.step = cc (c.finish_of-at.ensures, c.deref.ensures.value) in (
+      subst (λ n. Walk (net_of c.args.graph.now) c.args.flow.now c.args.labels.now c.pop.new.self.items n) (sym finish_is)
           (walk_pop (net_of c.args.graph.now) c.requires.graph.is_network c.args.flow.now c.args.labels.now c.pop.new.self.items c.loop-at.at c.in-Some.step c.requires.guides w),
-      length-set c.loop-at.next c.loop-at.at c.next_down-i.result ∙ c.loop-at.invariant.1,
+      length-set c.loop-at.next c.loop-at.at c.next_back-i.result ∙ c.loop-at.invariant.1,
     )
 
 pub returns : goal.returns
 returns c =
-    walk_end (net_of c.args.graph.now) c.requires.graph.is_network c.args.flow.now c.args.labels.now c.loop-at.path.items c.loop-at.at c.requires.guides c.loop-at-test.false c.loop-at.invariant.0
+    subst (IsGuided (net_of c.args.graph.now) c.args.flow.now c.args.labels.now) (sym c.reverse.ensures.items)
+    (walk_end (net_of c.args.graph.now) c.requires.graph.is_network c.args.flow.now c.args.labels.now c.loop-at.path.items c.loop-at.at c.requires.guides c.loop-at-test.false c.loop-at.invariant.0)
