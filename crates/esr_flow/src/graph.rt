@@ -10,7 +10,7 @@ use crate::step::Step;
 use esr_cert::Arc;
 use std::alloc::{AllocError, Global};
 
-/// A step, the node that it leads to, and its residual amount; none is without limit.
+/// A step, the node that it leads to, and its residual amount, `None` where there is no limit.
 #[derive(Clone, Copy)]
 pub struct Entry {
     pub to: usize,
