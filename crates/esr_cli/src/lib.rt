@@ -1,14 +1,15 @@
 //! The command line of the program `esr`.
 #![tactic(auto)]
 
-ghost use Rattle.std.specs.Prelude.{◌≡◌, map, IfOk, IfSome};
-ghost use Rattle.clap.specs.Words.{app_of, subcommand_of, subcommand_rows_of};
-ghost use Rattle.esr_cli.specs.Job.{program, Asks};
+ghost use Rattle.std.specs.Prelude.{◌≡◌, IfOk, IfSome, IsNone, MatchResult};
+ghost use Rattle.clap.specs.Words.{app_of, fault_of, kind_of, subcommand_of, subcommand_rows_of, FailsBy};
+ghost use Rattle.clap.specs.Walk.{texts};
+ghost use Rattle.clap.specs.declared.error.kind.ErrorKind.TheVariants.{OutOfMemory};
+ghost use Rattle.esr_cli.specs.Job.{program, Asks, Spells};
 
 #[cfg(test)]
 mod tests;
 
-use clap::error::ErrorKind;
 use clap::{ArgMatches, Command, Error};
 use std::alloc::{AllocError, Global};
 
@@ -33,7 +34,8 @@ fn program<'a>(alloc: Global) -> Result<Command<'a>, AllocError>
 }
 
 fn job_of(matches: &ArgMatches<'_>) -> Option<Job>
-    ensures { IfSome result (Asks (subcommand_rows_of matches.now)) }
+    ensures job { IfSome result (Asks (subcommand_rows_of matches.now)) }
+    ensures none { IsNone result → (job : Job) → ¬ Asks (subcommand_rows_of matches.now) job }
 {
     let (name, _) = matches.subcommand()?;
     match name {
@@ -44,15 +46,18 @@ fn job_of(matches: &ArgMatches<'_>) -> Option<Job>
 
 /// The job that the words ask for, from the program's name on.
 ///
-/// An error may be help or the version that was asked for, a mistake in the
-/// words, or want of memory; its exit code says which.
+/// An error is help or the version that was asked for, a mistake in the words,
+/// or want of memory; its kind says which. Words that spell a job have it, but
+/// for want of memory.
 pub fn command<'a>(alloc: Global, words: &'a [&'a str]) -> Result<Job, Error>
-    ensures { IfOk result (Asks (subcommand_of program (map (λ word. word.now) words.entry.now))) }
+    ensures job { IfOk result (Asks (subcommand_of program (texts words.entry.now))) }
+    ensures errors { FailsBy (fault_of program (texts words.entry.now)) result }
+    ensures asked { (job : Job) → Spells (texts words.entry.now) job
+        → MatchResult result (λ found. found ≡ job) (λ e. kind_of e ≡ OutOfMemory) }
 {
-    let mut command = program(alloc)?;
-    let matches = command.try_get_matches_from_mut(words)?;
+    let matches = program(alloc)?.try_get_matches_from(words)?;
     match job_of(&matches) {
         Some(job) => Ok(job),
-        None => Err(command.error(ErrorKind::MissingSubcommand, "a command is missing")?),
+        None => unreachable!(),
     }
 }
