@@ -47,8 +47,8 @@ fn job_of(matches: &ArgMatches<'_>) -> Option<Job>
 /// The job that the words ask for, from the program's name on.
 ///
 /// An error is help or the version that was asked for, a mistake in the words,
-/// or want of memory; its kind says which. Words that spell a job have it, but
-/// for want of memory.
+/// or want of memory; its kind says which. Words that spell a job fail only for
+/// want of memory.
 pub fn command<'a>(alloc: Global, words: &'a [&'a str]) -> Result<Job, Error>
     ensures job { IfOk result (Asks (subcommand_of program (texts words.entry.now))) }
     ensures errors { FailsBy (fault_of program (texts words.entry.now)) result }
