@@ -12,7 +12,7 @@ pub record RowOf : Type 0 where
   pub locks : ItemLocks
   pub room : ℕ
 
--- a transaction as a reader
+-- an update as a reader
 abbrev pub reader : TxnId → Reader
 reader t = record { update = t }
 

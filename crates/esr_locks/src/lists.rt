@@ -1,4 +1,4 @@
-ghost use Rattle.std.specs.Prelude.{◌≡◌, ℕ, ◌+◌, ◌<◌, ◌≤◌, ◌==◌, filter, find, not, All, Some, IfOk, IfErr};
+ghost use Rattle.std.specs.Prelude.{◌≡◌, ℕ, ◌+◌, ◌<◌, ◌≤◌, ◌==◌, filter, find, not, All, IfOk, IfErr};
 ghost use Rattle.std.specs.List.{list_any, AllByRecursion};
 ghost use Rattle.std.specs.Option.{option_map};
 ghost use Rattle.smallvec.specs.SmallVec.{HasRoomFor};
@@ -21,27 +21,32 @@ pub struct QueryReads {
     pub count: u32,
 }
 
-/// What stands in an unused place of a row: nobody, since transactions count from 1.
+/// The number of no transaction, since they count from 1. It stands in unused places.
+const NOBODY: TxnId = TxnId(0);
+
 impl Default for Reader {
+    ghost is_default = { λ r. r.update.0 ≡ 0 };
+
     fn default() -> Reader {
-        Reader { update: TxnId(0) }
+        Reader { update: NOBODY }
     }
 }
 
-/// What stands in an unused place of a row: nobody, since transactions count from 1.
 impl Default for QueryReads {
+    ghost is_default = { λ r. (r.query.0 ≡ 0) × (r.count ≡ 0) };
+
     fn default() -> QueryReads {
         QueryReads {
-            query: TxnId(0),
+            query: NOBODY,
             count: 0,
         }
     }
 }
 
-/// The updates that have read an item. As many as mostly do stand in the row itself.
+/// Up to four readers stand in the list itself, more in an allocation.
 pub type Readers = SmallVec<Reader, 4>;
 
-/// The queries that have read an item. As many as mostly do stand in the row itself.
+/// Up to two queries stand in the list itself, more in an allocation.
 pub type Queries = SmallVec<QueryReads, 2>;
 
 /// Where a reader stands among readers, or where it would go.

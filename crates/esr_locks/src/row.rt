@@ -111,8 +111,14 @@ impl Row {
         ensures ok { OnOk result (0 < self.new.room) }
         ensures full { OnErr result (self.old.room ≡ 0) }
     {
-        self.readers.reserve(1)?;
-        self.queries.reserve(1)
+        // A full list is rare, and this test is shorter than the call.
+        if self.readers.len() == self.readers.capacity() {
+            self.readers.reserve(1)?;
+        }
+        if self.queries.len() == self.queries.capacity() {
+            self.queries.reserve(1)?;
+        }
+        Ok(())
     }
 
     /// Adds a read by an update, and answers whether the update had not read the item.
