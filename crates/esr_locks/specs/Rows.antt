@@ -3,6 +3,7 @@ use Rattle.std.specs.Prelude.{◌≡◌, ℕ, ◌+◌, ◌<◌, List, [], length
 use Rattle.esr_items.specs.declared.metric.ItemId.{ItemId}
 use Rattle.esr_history.specs.declared.event.TxnId.{TxnId}
 use Rattle.esr_history.specs.ItemLocks.{ItemLocks}
+use Rattle.esr_locks.specs.declared.lists.Reader.{Reader}
 use Rattle.esr_locks.specs.declared.lists.QueryReads.{QueryReads}
 use Rattle.esr_locks.specs.Tables.{no_locks, has_lock, lists_item}
 
@@ -10,6 +11,10 @@ use Rattle.esr_locks.specs.Tables.{no_locks, has_lock, lists_item}
 pub record RowOf : Type 0 where
   pub locks : ItemLocks
   pub room : ℕ
+
+-- an update as a reader
+abbrev pub reader : TxnId → Reader
+reader t = record { update = t }
 
 -- a query with its count of reads
 abbrev pub reads_of : QueryReads → ℕ × ℕ

@@ -1,9 +1,18 @@
-ghost use Rattle.std.specs.Prelude.{◌≡◌, ℕ, ◌+◌, ◌<◌, ◌≤◌, ◌==◌, filter, find, not, All, IfOk, IfErr, vec_len, vec_capacity};
+ghost use Rattle.std.specs.Prelude.{◌≡◌, ℕ, ◌+◌, ◌<◌, ◌≤◌, ◌==◌, filter, find, not, All, IfOk, IfErr};
 ghost use Rattle.std.specs.List.{list_any, AllByRecursion};
+ghost use Rattle.std.specs.Option.{option_map};
+ghost use Rattle.smallvec.specs.SmallVec.{HasRoomFor};
 ghost use Rattle.esr_history.specs.Ascending.{IsAscendingBy, IsPlaceOf, IsGapFor, placed};
-ghost use Rattle.esr_locks.specs.Rows.{first_reads, more_reads};
+ghost use Rattle.esr_locks.specs.Rows.{reader, first_reads, more_reads};
 
 use esr_history::TxnId;
+use smallvec::SmallVec;
+
+/// An update that has read an item.
+#[derive(Clone, Copy)]
+pub struct Reader {
+    pub update: TxnId,
+}
 
 /// How often a query has read an item.
 #[derive(Clone, Copy, PartialEq, Eq, Debug)]
@@ -12,13 +21,41 @@ pub struct QueryReads {
     pub count: u32,
 }
 
+/// The number of no transaction, since they count from 1. It stands in unused places.
+const NOBODY: TxnId = TxnId(0);
+
+impl Default for Reader {
+    ghost is_default = { λ r. r.update.0 ≡ 0 };
+
+    fn default() -> Reader {
+        Reader { update: NOBODY }
+    }
+}
+
+impl Default for QueryReads {
+    ghost is_default = { λ r. (r.query.0 ≡ 0) × (r.count ≡ 0) };
+
+    fn default() -> QueryReads {
+        QueryReads {
+            query: NOBODY,
+            count: 0,
+        }
+    }
+}
+
+/// Up to four readers stand in the list itself, more in an allocation.
+pub type Readers = SmallVec<Reader, 4>;
+
+/// Up to two queries stand in the list itself, more in an allocation.
+pub type Queries = SmallVec<QueryReads, 2>;
+
 /// Where a reader stands among readers, or where it would go.
-fn reader_place(readers: &[TxnId], t: TxnId) -> Result<usize, usize>
-    requires { IsAscendingBy (λ u. u.0) readers.now }
-    ensures found { IfOk result (IsPlaceOf (λ u. u.0) readers.now t.0) }
-    ensures absent { IfErr result (IsGapFor (λ u. u.0) readers.now t.0) }
+fn reader_place(readers: &[Reader], t: TxnId) -> Result<usize, usize>
+    requires { IsAscendingBy (λ r. r.update.0) readers.now }
+    ensures found { IfOk result (IsPlaceOf (λ r. r.update.0) readers.now t.0) }
+    ensures absent { IfErr result (IsGapFor (λ r. r.update.0) readers.now t.0) }
 {
-    readers.binary_search_by_key(&t.0, |u| u.0)
+    readers.binary_search_by_key(&t.0, |r| r.update.0)
 }
 
 /// Where a query stands among queries, or where it would go.
@@ -31,32 +68,32 @@ fn query_place(queries: &[QueryReads], q: TxnId) -> Result<usize, usize>
 }
 
 /// The first reader other than `t`.
-pub fn other_reader(readers: &[TxnId], t: TxnId) -> Option<TxnId>
-    ensures { result ≡ find (λ u. not (u.0 == t.0)) readers.now }
+pub fn other_reader(readers: &[Reader], t: TxnId) -> Option<TxnId>
+    ensures { result ≡ option_map (λ r. r.update) (find (λ r. not (r.update.0 == t.0)) readers.now) }
 {
-    readers.iter().copied().find(|u| u.0 != t.0)
+    readers.iter().find(|r| r.update.0 != t.0).map(|r| r.update)
 }
 
 /// Adds a reader, and answers whether it was not there.
-pub fn add_reader(readers: &mut Vec<TxnId>, t: TxnId) -> bool
-    requires ascending { IsAscendingBy (λ u. u.0) readers.old.items }
-    requires room { vec_len readers.old < vec_capacity readers.old }
-    ensures items { readers.new.items ≡ placed (λ u. u.0) t.0 t (λ u. u) readers.old.items }
-    ensures fresh { result ≡ not (list_any (λ u. u.0 == t.0) readers.old.items) }
+pub fn add_reader(readers: &mut Readers, t: TxnId) -> bool
+    requires ascending { IsAscendingBy (λ r. r.update.0) readers.old.items }
+    requires room { HasRoomFor readers.old 1 }
+    ensures items { readers.new.items ≡ placed (λ r. r.update.0) t.0 (reader t) (λ r. r) readers.old.items }
+    ensures fresh { result ≡ not (list_any (λ r. r.update.0 == t.0) readers.old.items) }
 {
     match reader_place(readers, t) {
         Ok(_) => false,
         Err(at) => {
-            let _ = readers.insert(at, t);
+            let _ = readers.insert(at, Reader { update: t });
             true
         }
     }
 }
 
 /// Counts one more read of a query, and answers whether it had none.
-pub fn count_read(queries: &mut Vec<QueryReads>, q: TxnId) -> bool
+pub fn count_read(queries: &mut Queries, q: TxnId) -> bool
     requires ascending { IsAscendingBy (λ r. r.query.0) queries.old.items }
-    requires room { vec_len queries.old < vec_capacity queries.old }
+    requires room { HasRoomFor queries.old 1 }
     requires few { All (λ r. r.query.0 ≡ q.0 → r.count < 1000) queries.old.items }
     requires most { AllByRecursion (λ r. r.count ≤ 1000) queries.old.items }
     ensures items { queries.new.items ≡ placed (λ r. r.query.0) q.0 (first_reads q) more_reads queries.old.items }
@@ -77,9 +114,9 @@ pub fn count_read(queries: &mut Vec<QueryReads>, q: TxnId) -> bool
 }
 
 /// Drops a reader.
-pub fn drop_reader(readers: &mut Vec<TxnId>, t: TxnId)
-    requires { IsAscendingBy (λ u. u.0) readers.old.items }
-    ensures { readers.new.items ≡ filter (λ u. not (u.0 == t.0)) readers.old.items }
+pub fn drop_reader(readers: &mut Readers, t: TxnId)
+    requires { IsAscendingBy (λ r. r.update.0) readers.old.items }
+    ensures { readers.new.items ≡ filter (λ r. not (r.update.0 == t.0)) readers.old.items }
 {
     if let Ok(at) = reader_place(readers, t) {
         let _ = readers.remove(at);
@@ -87,7 +124,7 @@ pub fn drop_reader(readers: &mut Vec<TxnId>, t: TxnId)
 }
 
 /// Drops a query.
-pub fn drop_query(queries: &mut Vec<QueryReads>, q: TxnId)
+pub fn drop_query(queries: &mut Queries, q: TxnId)
     requires { IsAscendingBy (λ r. r.query.0) queries.old.items }
     ensures { queries.new.items ≡ filter (λ r. not (r.query.0 == q.0)) queries.old.items }
 {

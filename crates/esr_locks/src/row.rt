@@ -3,7 +3,9 @@ ghost use Rattle.std.specs.Option.{option_map};
 ghost use Rattle.esr_locks.specs.Rows.{RowOf, reads_of};
 ghost use Rattle.esr_locks.specs.Tables.{no_locks, is_reader, is_writer, is_query, keeps_from_reading, keeps_from_writing, IsLeast, with_reader, with_writer, with_query_read, released};
 
-use crate::lists::{QueryReads, add_reader, count_read, drop_query, drop_reader, other_reader};
+use crate::lists::{
+    Queries, QueryReads, Readers, add_reader, count_read, drop_query, drop_reader, other_reader,
+};
 use esr_history::TxnId;
 use std::alloc::{AllocError, Global};
 use std::marker::Model;
@@ -13,12 +15,12 @@ use std::marker::Model;
 #[derive(Drop)]
 pub struct Row {
     writer: Option<TxnId>,
-    readers: Vec<TxnId>,
-    queries: Vec<QueryReads>,
+    readers: Readers,
+    queries: Queries,
 }
 
 impl Model for Row {
-    ghost use Rattle.std.specs.Prelude.{map, min, ◌-◌, ◌≤◌, length, vec_capacity};
+    ghost use Rattle.std.specs.Prelude.{map, min, ◌-◌, ◌≤◌, length};
     ghost use Rattle.std.specs.List.{AllByRecursion};
     ghost use Rattle.std.specs.Option.{option_map};
     ghost use Rattle.esr_history.specs.Ascending.{IsAscendingBy};
@@ -27,11 +29,11 @@ impl Model for Row {
     ghost Value = { RowOf };
 
     ghost view = { λ r. record {
-      locks = record { writer = option_map (λ u. u.0) r.writer; readers = map (λ u. u.0) r.readers.items; queries = map reads_of r.queries.items };
-      room = min (vec_capacity r.readers - length r.readers.items) (vec_capacity r.queries - length r.queries.items);
+      locks = record { writer = option_map (λ u. u.0) r.writer; readers = map (λ u. u.update.0) r.readers.items; queries = map reads_of r.queries.items };
+      room = min (r.readers.capacity - length r.readers.items) (r.queries.capacity - length r.queries.items);
     } };
 
-    ghost invariant = { λ r. IsAscendingBy (λ u. u.0) r.readers.items × IsAscendingBy (λ q. q.query.0) r.queries.items × AllByRecursion (λ q. q.count ≤ 1000) r.queries.items };
+    ghost invariant = { λ r. IsAscendingBy (λ u. u.update.0) r.readers.items × IsAscendingBy (λ q. q.query.0) r.queries.items × AllByRecursion (λ q. q.count ≤ 1000) r.queries.items };
 }
 
 /// Whether a transaction is the one that there is.
@@ -69,8 +71,8 @@ impl Row {
     {
         Row {
             writer: None,
-            readers: Vec::new(alloc),
-            queries: Vec::new(alloc),
+            readers: Readers::new(alloc),
+            queries: Queries::new(alloc),
         }
     }
 
@@ -109,8 +111,14 @@ impl Row {
         ensures ok { OnOk result (0 < self.new.room) }
         ensures full { OnErr result (self.old.room ≡ 0) }
     {
-        self.readers.reserve(1)?;
-        self.queries.reserve(1)
+        // A full list is rare, and this test is shorter than the call.
+        if self.readers.len() == self.readers.capacity() {
+            self.readers.reserve(1)?;
+        }
+        if self.queries.len() == self.queries.capacity() {
+            self.queries.reserve(1)?;
+        }
+        Ok(())
     }
 
     /// Adds a read by an update, and answers whether the update had not read the item.

@@ -26,6 +26,14 @@ fn make_room(rt: &impl Abort, locks: &mut LockTable, t: TxnId, x: ItemId)
     locks.reserve(t, x).expect(rt, "memory")
 }
 
+fn read_by(rt: &impl Abort, locks: &mut LockTable, t: TxnId)
+    requires { 0 < length locks.old.locks }
+    ensures { length locks.new.locks ≡ length locks.old.locks }
+{
+    make_room(rt, locks, t, A);
+    locks.add_read_update(t, A);
+}
+
 #[test]
 fn an_upgrade_waits_for_the_smallest_other_reader(rt: HostRuntime) {
     let mut locks = table(&rt, rt.alloc());
@@ -76,4 +84,40 @@ fn queries_stand_by_their_numbers_with_counts(rt: HostRuntime) {
     );
     locks.release(q);
     assert!(rt; locks.query_reads(B) == [QueryReads { query: r, count: 1 }].as_slice());
+}
+
+#[test]
+fn more_readers_than_a_row_holds_stand_by_their_numbers(rt: HostRuntime) {
+    let mut locks = table(&rt, rt.alloc());
+    read_by(&rt, &mut locks, TxnId(14));
+    read_by(&rt, &mut locks, TxnId(12));
+    read_by(&rt, &mut locks, TxnId(15));
+    read_by(&rt, &mut locks, TxnId(11));
+    read_by(&rt, &mut locks, TxnId(13));
+    assert!(rt; locks.may_write(TxnId(11), A) == Some(TxnId(12)));
+    locks.release(TxnId(12));
+    assert!(rt; locks.may_write(TxnId(11), A) == Some(TxnId(13)));
+}
+
+#[test]
+fn more_queries_than_a_row_holds_stand_by_their_numbers(rt: HostRuntime) {
+    let mut locks = table(&rt, rt.alloc());
+    let q = TxnId(4);
+    let r = TxnId(2);
+    let s = TxnId(3);
+    make_room(&rt, &mut locks, q, B);
+    locks.add_read_query(q, B);
+    make_room(&rt, &mut locks, r, B);
+    locks.add_read_query(r, B);
+    make_room(&rt, &mut locks, s, B);
+    locks.add_read_query(s, B);
+    locks.release(r);
+    assert!(rt;
+        locks.query_reads(B)
+            == [
+                QueryReads { query: s, count: 1 },
+                QueryReads { query: q, count: 1 }
+            ]
+            .as_slice()
+    );
 }

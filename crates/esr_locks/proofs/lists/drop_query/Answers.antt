@@ -5,10 +5,10 @@ use Rattle.esr_locks.proofs.lists.drop_query.Goals as goal
 
 pub returns-in-Ok : goal.returns-in-Ok
 returns-in-Ok c =
-    let place : IsPlaceOf (λ r. r.query.0) c.args.queries.now.items c.args.q.0 c.in-Ok.at = rw (← c.deref.ensures.value) c.in-Ok.ensures.found in
+    let place : IsPlaceOf (λ r. r.query.0) c.args.queries.now.items c.args.q.0 c.in-Ok.at = rw (← c.deref.ensures) c.in-Ok.ensures.found in
     c.remove.ensures.items ∙ sym (others_at (λ r. r.query.0) c.args.q.0 c.in-Ok.at c.args.queries.now.items c.remove.result c.requires place)
 
 pub returns-in_default : goal.returns-in_default
 returns-in_default c =
-    let gap : IsGapFor (λ r. r.query.0) c.args.queries.now.items c.args.q.0 c.in_default.field-0 = rw (← c.deref.ensures.value) c.in_default.ensures.absent in
+    let gap : IsGapFor (λ r. r.query.0) c.args.queries.now.items c.args.q.0 c.in_default.field-0 = rw (← c.deref.ensures) c.in_default.ensures.absent in
     sym (others_gap (λ r. r.query.0) c.args.q.0 c.in_default.field-0 c.args.queries.now.items gap)

@@ -19,7 +19,7 @@ invariant_of-self c =
 
 pub returns-clause-locks : goal.returns-clause-locks
 returns-clause-locks c =
-    subst (λ (v : RowOf). record { writer = option_map (λ u. u.0) c.self.inside.writer; readers = map (λ u. u.0) c.self.inside.readers.items; queries = map reads_of c.count_read.new.queries.items } ≡ with_query_read c.args.q.0 v.locks) c.self.view_is
+    subst (λ (v : RowOf). record { writer = option_map (λ u. u.0) c.self.inside.writer; readers = map (λ r. r.update.0) c.self.inside.readers.items; queries = map reads_of c.count_read.new.queries.items } ≡ with_query_read c.args.q.0 v.locks) c.self.view_is
     (let mapped : map reads_of c.count_read.new.queries.items ≡ placed (λ (r : ℕ × ℕ). r.0) c.args.q.0 (c.args.q.0, 1) (λ (r : ℕ × ℕ). (r.0, r.1 + 1)) (map reads_of c.self.inside.queries.items) =
     rw c.count_read.ensures.items (map-placed (λ r. r.query.0) (λ (r : ℕ × ℕ). r.0) reads_of (λ r. refl) c.args.q.0 (first_reads c.args.q) more_reads (λ (r : ℕ × ℕ). (r.0, r.1 + 1)) (λ r. refl) c.self.inside.queries.items) in
     rw mapped refl)
