@@ -8,5 +8,7 @@ mod pairs;
 mod scan;
 
 pub use chains::Links;
-pub use laws::{least_sets_are_listed, least_sets_meet, longer_histories_agree, parts_are_closed_sets};
+pub use laws::{
+    least_sets_are_listed, least_sets_meet, longer_histories_agree, parts_are_closed_sets,
+};
 pub use order::{Order, OrderError};
