@@ -5,7 +5,7 @@ use super::audits::{audit_of, played};
 use super::{accepts, commit, query, read, update, write};
 use esr_core::Machine;
 use esr_history::{Entry, Event, Log, Reply};
-use esr_items::Plain;
+use esr_items::{ItemId, Plain};
 use std::alloc::{AllocError, Global};
 use std::test::Fail;
 
@@ -120,67 +120,158 @@ fn written(operations: &[Operation], u: u32, item: u32) -> Option<i64> {
     value
 }
 
-/// The value of an item that opened with 0, after these updates.
-fn value_after(operations: &[Operation], before: &[u32], item: u32) -> i64 {
-    let mut value = 0;
-    for u in before {
-        value = written(operations, *u, item).unwrap_or(value);
+/// The update that begins in an entry, if one does.
+fn update_in(entry: Entry) -> Option<u32> {
+    match (entry.event, entry.reply) {
+        (Event::BeginUpdate { .. }, Reply::Begun(txn)) => Some(txn.0),
+        _ => None,
     }
-    value
 }
 
-/// The distance of what query 1 read from the values after these updates.
-fn distance_after(operations: &[Operation], before: &[u32]) -> u64 {
-    let mut sum = 0u64;
-    for o in operations {
-        if o.txn == 1 {
-            sum = sum.saturating_add(o.value.abs_diff(value_after(operations, before, o.item)));
+/// Whether a strict query begins in an entry, and is this one.
+fn begins_strictly(entry: Entry, q: u32) -> bool {
+    match (entry.event, entry.reply) {
+        (Event::BeginQuery { strict: true, .. }, Reply::Begun(txn)) => txn.0 == q,
+        _ => false,
+    }
+}
+
+/// The updates that committed before a query did.
+fn updates_before(alloc: Global, log: &Log, q: u32) -> Result<Vec<u32>, AllocError> {
+    let updates: Vec<u32> = (0..log.len())
+        .filter_map(|i| log.get(i))
+        .filter_map(update_in)
+        .collect(alloc)?;
+    let mut before = Vec::new(alloc);
+    for t in &commits_in(alloc, log)? {
+        if *t == q {
+            return Ok(before);
+        }
+        if updates.contains(t) {
+            before.push(*t)?;
         }
     }
-    sum
+    Ok(before)
 }
 
-/// The least distance of the positions in an order, with the first such.
-fn least_in(operations: &[Operation], order: &[u32]) -> (u64, usize) {
-    let mut least = (distance_after(operations, &[]), 0);
-    for n in 1..=order.len() {
-        let distance = distance_after(operations, &order[..n]);
-        if distance < least.0 {
-            least = (distance, n);
-        }
-    }
-    least
-}
-
-/// The least distance of all placements, with how many updates are before the position in
-/// those that have the fewest.
-fn least(
+/// Those of the updates that committed before a strict query began; of another, none.
+fn seen_at_begin(
     alloc: Global,
-    operations: &[Operation],
+    log: &Log,
+    q: u32,
     updates: &[u32],
-) -> Result<(u64, usize), AllocError> {
-    let mut least = (u64::MAX, 0);
-    for list in [
-        [2, 3, 4],
-        [2, 4, 3],
-        [3, 2, 4],
-        [3, 4, 2],
-        [4, 2, 3],
-        [4, 3, 2],
-    ] {
-        let mut order = Vec::new(alloc);
-        for u in list {
-            if updates.contains(&u) {
-                order.push(u)?;
+) -> Result<Vec<u32>, AllocError> {
+    let mut seen = Vec::new(alloc);
+    for i in 0..log.len() {
+        if let Some(entry) = log.get(i) {
+            if begins_strictly(entry, q) {
+                return Ok(seen);
+            }
+            if let Some(t) = commit_in(entry) {
+                if updates.contains(&t) {
+                    seen.push(t)?;
+                }
             }
         }
-        let (distance, n) = least_in(operations, &order);
-        let is_less = distance < least.0 || distance == least.0 && n < least.1;
-        if keeps_conflicts(operations, &order) && is_less {
-            least = (distance, n);
-        }
     }
-    Ok(least)
+    Ok(Vec::new(alloc))
+}
+
+/// What the plain program looks at: the opening values and the accepted operations of a
+/// history, a query, the updates that committed before it, and those that it must have seen.
+#[derive(Drop)]
+struct Small {
+    opening: Vec<i64>,
+    operations: Vec<Operation>,
+    query: u32,
+    updates: Vec<u32>,
+    must: Vec<u32>,
+}
+
+impl Small {
+    fn of(alloc: Global, m: &Machine<Plain>, q: u32) -> Result<Small, AllocError> {
+        let history = m.history();
+        let mut opening = Vec::new(alloc);
+        for x in 0..history.items() {
+            opening.push(history.opening(ItemId(x)))?;
+        }
+        let updates = updates_before(alloc, m.log(), q)?;
+        let must = seen_at_begin(alloc, m.log(), q, &updates)?;
+        Ok(Small {
+            opening,
+            operations: operations_in(alloc, m.log())?,
+            query: q,
+            updates,
+            must,
+        })
+    }
+
+    /// The value of an item after these updates.
+    fn value_after(&self, before: &[u32], item: u32) -> i64 {
+        let mut value = self.opening.get(item as usize).copied().unwrap_or(0);
+        for u in before {
+            value = written(&self.operations, *u, item).unwrap_or(value);
+        }
+        value
+    }
+
+    /// The distance of what the query read from the values after these updates.
+    fn distance_after(&self, before: &[u32]) -> u64 {
+        let mut sum = 0u64;
+        for o in &self.operations {
+            if o.txn == self.query {
+                sum = sum.saturating_add(o.value.abs_diff(self.value_after(before, o.item)));
+            }
+        }
+        sum
+    }
+
+    /// The least distance of the positions in an order that have what the query must have seen
+    /// before them, with the first such.
+    fn least_in(&self, order: &[u32]) -> (u64, usize) {
+        let mut least = (u64::MAX, 0);
+        for n in 0..=order.len() {
+            let before = &order[..n];
+            let distance = self.distance_after(before);
+            if distance < least.0 && self.must.iter().all(|u| before.contains(u)) {
+                least = (distance, n);
+            }
+        }
+        least
+    }
+
+    /// The same of all orders of up to three updates, and how many updates are before the
+    /// position in those that have the fewest.
+    fn least(&self, alloc: Global) -> Result<(u64, usize), AllocError> {
+        let mut least = (u64::MAX, 0);
+        for list in [
+            [0usize, 1, 2],
+            [0, 2, 1],
+            [1, 0, 2],
+            [1, 2, 0],
+            [2, 0, 1],
+            [2, 1, 0],
+        ] {
+            let mut order = Vec::new(alloc);
+            for i in list {
+                if let Some(u) = self.updates.get(i) {
+                    order.push(*u)?;
+                }
+            }
+            let (distance, n) = self.least_in(&order);
+            let is_less = distance < least.0 || distance == least.0 && n < least.1;
+            if keeps_conflicts(&self.operations, &order) && is_less {
+                least = (distance, n);
+            }
+        }
+        Ok(least)
+    }
+}
+
+/// The least distance of all placements of a query in a history with up to three updates, and
+/// how many updates are before the position in those that have the fewest.
+pub(super) fn least(alloc: Global, m: &Machine<Plain>, q: u32) -> Result<(u64, usize), AllocError> {
+    Small::of(alloc, m, q)?.least(alloc)
 }
 
 /// Lets the machine answer events by the rule.
@@ -199,13 +290,11 @@ fn audited_and_listed(alloc: Global, seed: u64) -> Result<((u64, usize), (u64, u
         return Err(Fail::new("no history"));
     };
     draw(&mut m, seed);
-    let operations = operations_in(alloc, m.log())?;
-    let updates = commits_in(alloc, m.log())?;
     for t in 1..5u32 {
         let _ = accepts(&mut m, commit(t));
     }
     let found = audit_of(alloc, &m, 1)?;
-    let listed = least(alloc, &operations, &updates)?;
+    let listed = least(alloc, &m, 1)?;
     Ok(((found.distance, found.before.len()), listed))
 }
 
