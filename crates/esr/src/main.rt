@@ -1,30 +1,42 @@
 //! The program `esr`: reads its words, does the job that they ask for, and maps
-//! what came of it to a status: 0 done, 1 a fault, 2 a mistake in the words.
+//! what came of it to a status: 0 done (for `check`: valid), 1 invalid, bad or a
+//! fault, 2 a mistake in the words.
 #![tactic(auto)]
 
+ghost use Rattle.esr_cli.specs.Job.{request_of, HasWorkers};
+
+use esr_bundle::{Verdict, judge};
 use esr_cli::{Job, command};
+use esr_drive::{NoGate, drive};
 use esr_history::Watched;
-use esr_script::run;
+use esr_script::{audit, certify, certify_steps, run};
 use std::alloc::AllocError;
+use std::fmt::Display;
 use std::io;
 use std::process::ExitCode;
+use std::sync::Wait;
+use std::thread::Threads;
 
 fn main(rt: HostRuntime) -> io::Result<ExitCode> {
     let alloc = rt.alloc();
-    let Ok(arguments) = std::env::args(&rt) else {
-        return fail(&rt, "wrong arguments", 2);
+    let arguments = match std::env::args(&rt) {
+        Ok(arguments) => arguments,
+        Err(error) if error.kind() == io::ErrorKind::InvalidData => {
+            return fail(&rt, &"an argument is not UTF-8", 2);
+        }
+        Err(_) => return fail(&rt, &"out of memory", 2),
     };
     let Ok(owned): Result<Vec<String>, AllocError> = arguments.collect(alloc) else {
-        return fail(&rt, "out of memory", 2);
+        return fail(&rt, &"out of memory", 2);
     };
     let mut words = Vec::new(alloc);
     for word in &owned {
         if words.push(word.as_str()).is_err() {
-            return fail(&rt, "out of memory", 2);
+            return fail(&rt, &"out of memory", 2);
         }
     }
     match command(alloc, words.as_slice()) {
-        Ok(Job::Run) => run_script(&rt),
+        Ok(job) => do_job(&rt, job),
         Err(error) => {
             error.print(&rt)?;
             Ok(ExitCode::from(error.exit_code() as u8))
@@ -32,21 +44,49 @@ fn main(rt: HostRuntime) -> io::Result<ExitCode> {
     }
 }
 
-/// Runs the script on standard input.
-fn run_script(rt: &(impl Input + Print + Eprint + AllocGlobal)) -> io::Result<ExitCode> {
+/// Does the job, from standard input to standard output.
+fn do_job<R: Input + Print + Eprint + AllocGlobal + Threads + Wait + Sync>(
+    rt: &R,
+    job: Job<'_>,
+) -> io::Result<ExitCode>
+    requires { HasWorkers (request_of job) }
+{
+    let alloc = rt.alloc();
     let mut reader = Watched::new(rt.reader());
     let mut writer = Watched::new(io::writer(rt));
-    match run(rt.alloc(), &mut reader, &mut writer) {
+    match job {
+        Job::Run => ended(rt, run(alloc, &mut reader, &mut writer)),
+        Job::Certify { name, steps: false } => ended(
+            rt,
+            certify(alloc, &mut reader, &mut writer, name),
+        ),
+        Job::Certify { name, steps: true } => ended(
+            rt,
+            certify_steps(alloc, &mut reader, &mut writer, name),
+        ),
+        Job::Check => match judge(alloc, &mut reader, &mut writer) {
+            Ok(Verdict::Valid(_)) => Ok(ExitCode::SUCCESS),
+            Ok(_) => Ok(ExitCode::from(1)),
+            Err(fault) => fail(rt, &fault, 1),
+        },
+        Job::Audit { workers } => ended(rt, audit(rt, alloc, &mut reader, &mut writer, workers)),
+        Job::Drive { workers } => ended(
+            rt,
+            drive(rt, alloc, &mut reader, &mut writer, workers, &NoGate),
+        ),
+    }
+}
+
+/// The status of a job that ended so, after a line on standard error if by a fault.
+fn ended<F: Display + Drop>(rt: &impl Eprint, job: Result<(), F>) -> io::Result<ExitCode> {
+    match job {
         Ok(()) => Ok(ExitCode::SUCCESS),
-        Err(fault) => {
-            eprintln!(rt; "esr: {fault}")?;
-            Ok(ExitCode::from(1))
-        }
+        Err(fault) => fail(rt, &fault, 1),
     }
 }
 
 /// One line on standard error, and the status.
-fn fail(rt: &impl Eprint, text: &str, status: u8) -> io::Result<ExitCode> {
+fn fail(rt: &impl Eprint, text: &impl Display, status: u8) -> io::Result<ExitCode> {
     eprintln!(rt; "esr: {text}")?;
     Ok(ExitCode::from(status))
 }

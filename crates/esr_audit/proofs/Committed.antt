@@ -1,48 +1,29 @@
--- The transactions that committed in a history, and their accounts.
-use Rattle.std.proofs.Common.{◌≡◌, ℕ, ◌+◌, take, get_or, append-nil, ◌<◌, ◌==◌, if◌then◌else◌, Bool, true, false, not, List, [], ◌∷◌, ◌++◌, length, filter, map, get_or, refl, sym, ap, ◌∙◌, inl, inr, Option, Some, None, All}
+-- The transactions that committed in a history.
+use Rattle.std.proofs.Common.{◌≡◌, ℕ, ◌+◌, ◌≤◌, ◌<◌, ◌==◌, eqb, arith, subst, Bool, true, false, not, List, [], ◌∷◌, ◌++◌, length, filter, map, refl, sym, ap, ◌∙◌, inl, inr, Option, Some, None, All}
 use Rattle.std.specs.Prelude.{IsTrue, is_some, unwrap_or}
-use Rattle.std.specs.List.{filter_map, list_any}
+use Rattle.std.specs.List.{list_any, AllByRecursion, IsDistinct}
 use Rattle.std.specs.Option.{option_map}
-use Rattle.std.proofs.lemmas.Bool.{and_from, or_left, or_right, eq-eqb}
-use Rattle.std.proofs.lemmas.List.{take_more}
-use Rattle.std.proofs.lemmas.List.Elements.{All-from_recursion, filter-append}
+use Rattle.std.proofs.lemmas.Bool.{and_from, or_left, or_right, eq-eqb, ne_eqb, eqb-true}
+use Rattle.std.proofs.lemmas.Map.Steps.{length-le_from_distinct_below}
+use Rattle.std.proofs.lemmas.List.Elements.{All-from_recursion}
 use Rattle.esr_history.specs.declared.event.TxnId.{TxnId}
 use Rattle.esr_history.specs.declared.event.Event.{Event}
 use Rattle.esr_history.specs.declared.event.Event.TheVariants.{BeginUpdate, BeginQuery, Read, Write, Commit, Abort}
-use Rattle.esr_history.specs.declared.event.Entry.{Entry}
-use Rattle.esr_history.specs.Events.{Beginning, beginning, is_begun, is_query, is_update, is_committed, commits}
-use Rattle.esr_history.specs.Machine.{Distance, Schedule, done, charges_in, import_in, IsLegal}
-use Rattle.esr_history.specs.Operations.{committer, commit_order}
+use Rattle.esr_history.specs.Events.{Beginning, beginning, is_begun, is_query, is_update, is_committed, commits, beginnings}
+use Rattle.esr_history.specs.Machine.{Distance, Schedule, done, IsLegal}
+use Rattle.esr_history.specs.Operations.{commit_order}
 use Rattle.esr_history.specs.Orderly.{names}
 use Rattle.esr_history.specs.Queries.{is_committed_query}
 use Rattle.esr_history.specs.Serial.{committed_updates}
-use Rattle.esr_history.proofs.Membership.{In, each_in, any-from_In, In-any, filter_agree_in}
-use Rattle.esr_history.proofs.Lawful.{legal_orderly}
+use Rattle.esr_history.proofs.Membership.{In, Pairs, Pairs-filter, In-of_filter, each_in, each_at, any-from_In, In-any, any-from_number, filter_agree_in}
+use Rattle.esr_history.proofs.Lawful.{legal_orderly, begun_number}
+use Rattle.esr_history.proofs.Locking.{commits_once}
+use Rattle.esr_history.proofs.Reaches.{legal_reached}
+use Rattle.esr_history.proofs.WithinRanges.{legal_begins}
 use Rattle.esr_history.proofs.Words.{committed_among}
 use Rattle.esr_order.specs.Placements.{is_among}
-use Rattle.esr_order.specs.Scans.{scanned}
-use Rattle.esr_order.proofs.Entries.{all_entries, given_accepted, given_events, accepts}
-use Rattle.esr_ledgers.specs.declared.account.Account.{Account}
-use Rattle.esr_ledgers.specs.Books.{is_open, is_open_query, amount_at}
+use Rattle.esr_order.proofs.Commits.{mapped_filter}
 use Rattle.esr_audit.specs.Findings.{committed_queries}
-use Rattle.esr_audit.specs.Reads.{commit_by, commit_in}
-
--- the list of committed transactions, by number
-pub committed_are : (h : Schedule) (es : List Entry) → es ≡ h.entries → map (λ (t : TxnId). t.0) (filter_map commit_in (scanned es)) ≡ commit_order (done h)
-committed_are h es same =
-    ap (λ (es : List Entry). map (λ (t : TxnId). t.0) (filter_map commit_in (scanned es))) same
-    ∙ ap (λ (es : List Entry). map (λ (t : TxnId). t.0) (filter_map commit_in es)) (all_entries h.entries)
-    ∙ ap (map (λ (t : TxnId). t.0)) (given_accepted (λ (e : Entry). commit_by e.event) h.entries ∙ given_events commit_by (filter accepts h.entries))
-    ∙ numbers (done h)
-  where
-    numbers : (events : List Event) → map (λ (t : TxnId). t.0) (filter_map commit_by events) ≡ filter_map committer events
-    numbers [] = refl
-    numbers (BeginUpdate l ∷ events) = numbers events
-    numbers (BeginQuery l s ∷ events) = numbers events
-    numbers (Read t x ∷ events) = numbers events
-    numbers (Write t x v ∷ events) = numbers events
-    numbers (Commit t ∷ events) = ap (λ (ns : List ℕ). t.0 ∷ ns) (numbers events)
-    numbers (Abort t ∷ events) = numbers events
 
 module _ (d : Distance) (h : Schedule) (legal : IsLegal d h) (ts : List TxnId) (are : map (λ (t : TxnId). t.0) ts ≡ commit_order (done h)) where
   -- each of them has committed and begun
@@ -68,47 +49,57 @@ module _ (d : Distance) (h : Schedule) (legal : IsLegal d h) (ts : List TxnId) (
       named : (events : List Event) → list_any (commits t.0) events ≡ true → list_any (names t.0) events ≡ true
       named events e = let f = In-any (commits t.0) events e in any-from_In (names t.0) events f.0 f.1 (one f.0 f.2)
 
-  module _ (l : List Account) (open_at : (t : ℕ) → is_begun (done h) t ≡ true → is_open l t ≡ true) (query_at : (t : ℕ) → is_begun (done h) t ≡ true → is_open_query l t ≡ is_query (done h) t) where
-    pub all_open : All (λ (t : TxnId). is_open l t.0 ≡ true) ts
-    all_open = All-from_recursion (λ (t : TxnId). is_open l t.0 ≡ true) ts (each_in (λ (t : TxnId). is_open l t.0 ≡ true) ts (λ t i. open_at t.0 (has_begun t i)))
+  pub queries_are : map (λ (t : TxnId). t.0) (filter (λ (t : TxnId). is_query (done h) t.0) ts) ≡ committed_queries h
+  queries_are = mapped_filter (is_query (done h)) ts ∙ ap (filter (is_query (done h))) are
 
-    pub all_queries : All (λ (t : TxnId). is_open_query l t.0 ≡ true → IsTrue (is_committed_query h t.0)) ts
-    all_queries = All-from_recursion (λ (t : TxnId). is_open_query l t.0 ≡ true → IsTrue (is_committed_query h t.0)) ts (each_in (λ (t : TxnId). is_open_query l t.0 ≡ true → IsTrue (is_committed_query h t.0)) ts
-        (λ t i e. and_from (is_query (done h) t.0) (is_committed (done h) t.0) (sym (query_at t.0 (has_begun t i)) ∙ e) (has_committed t i)))
+  pub updates_are : map (λ (t : TxnId). t.0) (filter (λ (t : TxnId). not (is_query (done h) t.0)) ts) ≡ committed_updates h
+  updates_are =
+      ap (map (λ (t : TxnId). t.0)) (filter_agree_in (λ (t : TxnId). not (is_query (done h) t.0)) (λ (t : TxnId). is_update (done h) t.0) ts (λ t i. either (beginning (done h) t.0) (has_begun t i)))
+      ∙ mapped_filter (is_update (done h)) ts
+      ∙ ap (filter (is_update (done h))) are
+    where
+      either : (b : Option Beginning) → is_some b ≡ true → not (unwrap_or (option_map (λ c. c.query) b) false) ≡ unwrap_or (option_map (λ c. not c.query) b) false
+      either None e = absurd (cc)
+      either (Some b) e = refl
 
-    pub all_imports : ((t : ℕ) → is_query (done h) t ≡ true → amount_at l t ≡ import_in (charges_in d h) t)
-        → All (λ (t : TxnId). is_open_query l t.0 ≡ true → amount_at l t.0 ≡ import_in (charges_in d h) t.0) ts
-    all_imports imports = All-from_recursion (λ (t : TxnId). is_open_query l t.0 ≡ true → amount_at l t.0 ≡ import_in (charges_in d h) t.0) ts (each_in (λ (t : TxnId). is_open_query l t.0 ≡ true → amount_at l t.0 ≡ import_in (charges_in d h) t.0) ts
-        (λ t i e. imports t.0 (sym (query_at t.0 (has_begun t i)) ∙ e)))
+  pub queries_committed : All (λ (t : TxnId). IsTrue (is_committed_query h t.0)) (filter (λ (t : TxnId). is_query (done h) t.0) ts)
+  queries_committed = All-from_recursion (λ (t : TxnId). IsTrue (is_committed_query h t.0)) (filter (λ (t : TxnId). is_query (done h) t.0) ts)
+      (each_in (λ (t : TxnId). IsTrue (is_committed_query h t.0)) (filter (λ (t : TxnId). is_query (done h) t.0) ts) (λ t i.
+      let both = In-of_filter (λ (t : TxnId). is_query (done h) t.0) ts t i in and_from (is_query (done h) t.0) (is_committed (done h) t.0) both.1 (has_committed t both.0)))
 
-    mapped_filter : (p : ℕ → Bool) (us : List TxnId) → map (λ (t : TxnId). t.0) (filter (λ (t : TxnId). p t.0) us) ≡ filter p (map (λ (t : TxnId). t.0) us)
-    mapped_filter p [] = refl
-    mapped_filter p (u ∷ us) = at (p u.0) (mapped_filter p us)
-      where
-        at : (b : Bool) → map (λ (t : TxnId). t.0) (filter (λ (t : TxnId). p t.0) us) ≡ filter p (map (λ (t : TxnId). t.0) us)
-            → map (λ (t : TxnId). t.0) (if b then u ∷ filter (λ (t : TxnId). p t.0) us else filter (λ (t : TxnId). p t.0) us) ≡ (if b then u.0 ∷ filter p (map (λ (t : TxnId). t.0) us) else filter p (map (λ (t : TxnId). t.0) us))
-        at true rest = ap (λ (ns : List ℕ). u.0 ∷ ns) rest
-        at false rest = rest
+-- a query has begun
+pub query_begun : (h : Schedule) (t : ℕ) → is_query (done h) t ≡ true → is_begun (done h) t ≡ true
+query_begun h t is = at (beginning (done h) t) is
+  where
+    at : (b : Option Beginning) → unwrap_or (option_map (λ c. c.query) b) false ≡ true → is_some b ≡ true
+    at None e = absurd (cc)
+    at (Some b) e = refl
 
-    pub queries_are : map (λ (t : TxnId). t.0) (filter (λ (t : TxnId). is_open_query l t.0) ts) ≡ committed_queries h
-    queries_are =
-        ap (map (λ (t : TxnId). t.0)) (filter_agree_in (λ (t : TxnId). is_open_query l t.0) (λ (t : TxnId). is_query (done h) t.0) ts (λ t i. query_at t.0 (has_begun t i)))
-        ∙ mapped_filter (is_query (done h)) ts
-        ∙ ap (filter (is_query (done h))) are
+distinct : (us : List ℕ) → Pairs (λ u v. u ≡ v → ⊥) us → IsDistinct eqb us
+unfolding IsDistinct
+distinct [] once = tt
+distinct (u ∷ us) once = (each_in (λ v. eqb u v ≡ false) us (λ v i. ne_eqb u v (each_at (λ w. u ≡ w → ⊥) us v once.0 i)), distinct us once.1)
 
-    pub updates_are : map (λ (t : TxnId). t.0) (filter (λ (t : TxnId). not (is_open_query l t.0)) ts) ≡ committed_updates h
-    updates_are =
-        ap (map (λ (t : TxnId). t.0)) (filter_agree_in (λ (t : TxnId). not (is_open_query l t.0)) (λ (t : TxnId). is_update (done h) t.0) ts (λ t i. ap not (query_at t.0 (has_begun t i)) ∙ either (beginning (done h) t.0) (has_begun t i)))
-        ∙ mapped_filter (is_update (done h)) ts
-        ∙ ap (filter (is_update (done h))) are
-      where
-        either : (b : Option Beginning) → is_some b ≡ true → not (unwrap_or (option_map (λ c. c.query) b) false) ≡ unwrap_or (option_map (λ c. not c.query) b) false
-        either None e = absurd (cc)
-        either (Some b) e = refl
+-- there are as many committed queries as begins at most
+pub few_queries : (d : Distance) (h : Schedule) → IsLegal d h → length (committed_queries h) ≤ 65535
+few_queries d h legal =
+    let qs : List ℕ = committed_queries h in
+    let begins : length (beginnings (done h)) ≤ 65535 = legal_begins d h legal in
+    let none : AllByRecursion (λ q. 0 ≡ q → ⊥) qs = each_in (λ q. 0 ≡ q → ⊥) qs (λ q i e. let low : 1 ≤ q = (numbered q i).0 in omega (arith, low, e)) in
+    let all : length (0 ∷ qs) ≤ 1 + length (beginnings (done h)) =
+    length-le_from_distinct_below (0 ∷ qs) (1 + length (beginnings (done h))) (distinct (0 ∷ qs) (none, Pairs-filter (λ u v. u ≡ v → ⊥) (is_query (done h)) (commit_order (done h)) (commits_once (legal_reached d h legal))))
+    (λ q some. let w = In-any (eqb q) (0 ∷ qs) some in subst (λ v. v < 1 + length (beginnings (done h))) (sym (eqb-true q w.0 w.2)) (elim w.1 [ inl zero_is ↦ low w.0 zero_is | inr i ↦ (numbered w.0 i).1 ])) in
+    shorter qs (length (beginnings (done h))) all begins
+  where
+    numbered : (q : ℕ) → In q (committed_queries h) → (1 ≤ q) × (q < 1 + length (beginnings (done h)))
+    numbered q i = begun_number (done h) q (query_begun h q (In-of_filter (is_query (done h)) (commit_order (done h)) q i).1)
 
--- one more of a list passes a test, or does not
-pub take_passing : {X : Type 0} (p : X → Bool) (xs : List X) (i : ℕ) (x : X) → i < length xs → p (get_or xs i x) ≡ true → filter p (take (i + 1) xs) ≡ filter p (take i xs) ++ get_or xs i x ∷ []
-take_passing p xs i x l is = ap (filter p) (take_more xs i x l) ∙ filter-append p (take i xs) (get_or xs i x ∷ []) ∙ ap (λ b. filter p (take i xs) ++ (if b then get_or xs i x ∷ [] else [])) is
+    low : (v : ℕ) → 0 ≡ v → v < 1 + length (beginnings (done h))
+    low v e = omega (arith, e)
 
-pub take_failing : {X : Type 0} (p : X → Bool) (xs : List X) (i : ℕ) (x : X) → i < length xs → p (get_or xs i x) ≡ false → filter p (take (i + 1) xs) ≡ filter p (take i xs)
-take_failing p xs i x l isnt = ap (filter p) (take_more xs i x l) ∙ filter-append p (take i xs) (get_or xs i x ∷ []) ∙ ap (λ b. filter p (take i xs) ++ (if b then get_or xs i x ∷ [] else [])) isnt ∙ append-nil (filter p (take i xs))
+    shorter : (us : List ℕ) (n : ℕ) → length (0 ∷ us) ≤ 1 + n → n ≤ 65535 → length us ≤ 65535
+    shorter us n l m = omega arith
+
+-- who is among the committed queries has committed
+pub query_committed : (h : Schedule) (q : ℕ) → In q (committed_queries h) → is_committed (done h) q ≡ true
+query_committed h q i = committed_among (done h) q ∙ any-from_number (commit_order (done h)) q (In-of_filter (is_query (done h)) (commit_order (done h)) q i).0

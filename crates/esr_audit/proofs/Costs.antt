@@ -12,7 +12,8 @@ use Rattle.esr_history.specs.Queries.{updates_of, reads_by, distance_from, membe
 use Rattle.esr_history.proofs.Membership.{In, each_in, each_at}
 use Rattle.esr_cert.specs.Problem as problems
 use Rattle.esr_cert.specs.Problem.{Chain, Problem, version, chain_cost}
-use Rattle.esr_audit.specs.Problems.{passes_at, places, items_read, has_written, writers_of, read_distance, version_cost, chain_for, StandsFor}
+use Rattle.esr_order.specs.Near.{has_written}
+use Rattle.esr_audit.specs.Problems.{passes_at, places, items_read, writers_of, read_distance, version_cost, chain_for, StandsFor}
 use Rattle.esr_audit.proofs.Values.{state_by_version}
 use Rattle.esr_audit.proofs.Places.{places_version, version_le}
 

@@ -13,3 +13,4 @@ pub mod Within
 pub mod Readings
 pub mod Posed
 pub mod Committed
+pub mod Told

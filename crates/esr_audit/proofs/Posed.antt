@@ -1,5 +1,5 @@
 -- The problem that is made for a query is the one gathered from an order, which is sound.
-use Rattle.std.proofs.Common.{Some, None, cond, not, ◌≡◌, ◌≤◌, ◌^◌, ◌*◌, ℕ, ℤ, suc, true, List, length, map, take, sym, ap, ◌∙◌, subst, All}
+use Rattle.std.proofs.Common.{Some, None, cond, not, ◌≡◌, ◌≤◌, ◌^◌, ◌*◌, ℕ, ℤ, suc, true, List, length, map, filter, take, sym, ap, ◌∙◌, subst, All}
 use Rattle.std.specs.Prelude.{IsTrue}
 use Rattle.std.specs.List.{range_with_len}
 use Rattle.std.proofs.lemmas.List.Elements.{All-from_recursion}
@@ -10,7 +10,8 @@ use Rattle.esr_history.specs.Events.{is_query}
 use Rattle.esr_history.specs.Serial.{state}
 use Rattle.esr_history.specs.Queries.{reads_by}
 use Rattle.esr_history.proofs.WithinRanges.{legal_within_ranges}
-use Rattle.esr_order.specs.Orders.{Ordered, IsOrderOf, chain_at}
+use Rattle.esr_order.specs.Orders.{Ordered, IsOrderAmong, chain_at}
+use Rattle.esr_order.specs.Near.{AreNear, has_written}
 use Rattle.esr_cert.specs.declared.problem.Chain.{Chain}
 use Rattle.esr_cert.specs.Views.{chain_of, problem_of}
 use Rattle.esr_cert.specs.Problem.{Problem, is_sound, has_shape, is_in_range}
@@ -19,7 +20,6 @@ use Rattle.esr_cert.specs.declared.problem.BundleFault.{BundleFault}
 use Rattle.esr_cert.specs.declared.problem.BundleFault.TheVariants.{Shape, Range}
 use Rattle.std.proofs.lemmas.Bool.{and_parts}
 use Rattle.esr_audit.specs.declared.reads.Reading.{Reading}
-use Rattle.esr_audit.specs.Problems.{writers_of}
 use Rattle.esr_audit.specs.Reads.{gathered, items_in, values_in}
 use Rattle.esr_audit.proofs.Versions.{reading_of, versions_are}
 use Rattle.esr_audit.proofs.Standing.{problem_from}
@@ -33,25 +33,25 @@ module _ (d : Distance) (h : Schedule) (q : ℕ) (legal : IsLegal d h) (opened :
   pub readings_in_range : (rs : List Reading) → rs ≡ map reading_of (reads_by h q) → All (λ (r : Reading). IsValue r.value) rs
   readings_in_range rs are = subst (All (λ (r : Reading). IsValue r.value)) (sym are) (readings.readings_in_range h q (legal_within_ranges d h opened legal) opened)
 
-  module _ (o : Ordered) (good : IsOrderOf h q o) where
+  module _ (us : List ℕ) (near : AreNear h q us) (o : Ordered) (good : IsOrderAmong h q us o) where
     pub versions_in_range : (x : ℕ) → All IsValue (values_in (chain_at o x))
     versions_in_range x =
-        subst (All IsValue) (sym (versions_are h q o x (good.chains x)))
-        (All-from_recursion IsValue _ (each_mapped IsValue (λ j. state h (take (suc j) (writers_of h q x)) x) (range_with_len 0 (length (writers_of h q x))) (λ j. state_in_range h (legal_within_ranges d h opened legal) opened (take (suc j) (writers_of h q x)) x)))
+        subst (All IsValue) (sym (versions_are h us o x (good.chains x)))
+        (All-from_recursion IsValue _ (each_mapped IsValue (λ j. state h (take (suc j) (filter (has_written h x) us)) x) (range_with_len 0 (length (filter (has_written h x) us))) (λ j. state_in_range h (legal_within_ranges d h opened legal) opened (take (suc j) (filter (has_written h x) us)) x)))
 
-    pub posed : (rs : List Reading) → rs ≡ map reading_of (reads_by h q) → (us : List TxnId) (before : List (ℕ × ℕ)) (chains : List Chain) (must : List ℕ)
-        → us ≡ o.commits → before ≡ o.before → must ≡ o.must → map chain_of chains ≡ map (gathered (distance_in d h) h.opening o rs) (items_in rs (length h.opening))
-        → problem_of us before chains must ≡ problem_from d h q o
-    posed rs are us before chains must a b c e =
+    pub posed : (rs : List Reading) → rs ≡ map reading_of (reads_by h q) → (ts : List TxnId) (before : List (ℕ × ℕ)) (chains : List Chain) (must : List ℕ)
+        → ts ≡ o.commits → before ≡ o.before → must ≡ o.must → map chain_of chains ≡ map (gathered (distance_in d h) h.opening o rs) (items_in rs (length h.opening))
+        → problem_of ts before chains must ≡ problem_from d h q o
+    posed rs are ts before chains must a b c e =
         let parts : map chain_of chains ≡ (problem_from d h q o).chains = e ∙ ap (λ (rs : List Reading). map (gathered (distance_in d h) h.opening o rs) (items_in rs (length h.opening))) are in
-        let A : List TxnId → Problem = λ us. record { updates = map (λ (t : TxnId). t.0) us; before = before; chains = map chain_of chains; must = must } in
+        let A : List TxnId → Problem = λ ts. record { updates = map (λ (t : TxnId). t.0) ts; before = before; chains = map chain_of chains; must = must } in
         let B : List (ℕ × ℕ) → Problem = λ before. record { updates = map (λ (t : TxnId). t.0) o.commits; before = before; chains = map chain_of chains; must = must } in
         let C : List ℕ → Problem = λ must. record { updates = map (λ (t : TxnId). t.0) o.commits; before = o.before; chains = map chain_of chains; must = must } in
         let E : List _ → Problem = λ cs. record { updates = map (λ (t : TxnId). t.0) o.commits; before = o.before; chains = cs; must = o.must } in
         ap A a ∙ ap B b ∙ ap C c ∙ ap E parts
 
     pub posed_sound : length h.opening ≤ 4096 → IsTrue (is_query (done h) q) → ((w : List ℕ) (x : ℕ) (a b : ℤ) → IsValue a → IsValue b → d w x a b ≤ 2 * 10 ^ 15) → is_sound (problem_from d h q o) ≡ true
-    posed_sound few query bounded = sound d h q (legal_within_ranges d h opened legal) opened bounded o good few query
+    posed_sound few query bounded = sound d h q (legal_within_ranges d h opened legal) opened bounded legal us near o good few query
 
 -- a sound problem has no fault
 pub no_fault : (p : Problem) (e : BundleFault) → is_sound p ≡ true → problem_fault p ≡ Some e → ⊥

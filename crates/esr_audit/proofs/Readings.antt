@@ -1,6 +1,6 @@
 -- What is gathered from a log are the reads of the query.
 use Rattle.std.proofs.Common.{◌≡◌, ℕ, ◌≤◌, ◌<◌, Bool, true, false, cond, not, ◌&&◌, eqb, List, [], ◌∷◌, length, filter, map, refl, ap, ◌∙◌, arith, Some, None, All}
-use Rattle.std.specs.Prelude.{IsTrue}
+use Rattle.std.specs.Prelude.{IsTrue, if◌then◌else◌}
 use Rattle.std.specs.List.{filter_map, cons_option, AllByRecursion}
 use Rattle.std.proofs.lemmas.List.{length-map}
 use Rattle.std.proofs.lemmas.List.Elements.{All-from_recursion}
@@ -9,13 +9,13 @@ use Rattle.esr_history.specs.declared.event.Event.{Event}
 use Rattle.esr_history.specs.declared.event.Event.TheVariants.{BeginUpdate, BeginQuery, Read, Write, Commit, Abort}
 use Rattle.esr_history.specs.declared.event.Reply.{Reply}
 use Rattle.esr_history.specs.declared.event.Entry.{Entry}
-use Rattle.esr_history.specs.Events.{is_query}
+use Rattle.esr_history.specs.Events.{is_query, is_refusal}
 use Rattle.esr_history.specs.Machine.{Schedule, done}
 use Rattle.esr_history.specs.Operations.{Operation, operation_by, operation_of, answer}
 use Rattle.esr_history.specs.Queries.{reads_by}
 use Rattle.esr_history.specs.Ranges.{IsWithinRanges}
-use Rattle.esr_order.specs.Scans.{scanned}
-use Rattle.esr_order.proofs.Entries.{all_entries, given_accepted, accepts}
+use Rattle.esr_history.specs.Links.{accepted_txn, txn_of, is_key}
+use Rattle.esr_order.proofs.Entries.{given_accepted, accepts}
 use Rattle.esr_audit.specs.declared.reads.Reading.{Reading}
 use Rattle.esr_audit.specs.Reads.{read_of, read_at}
 use Rattle.esr_audit.proofs.Versions.{reading_of}
@@ -40,12 +40,21 @@ given q (e ∷ es) = ap (cons_option (read_of q e.event e.reply)) (given q es) �
     at (Commit t) r os = refl
     at (Abort t) r os = refl
 
-pub readings_are : (h : Schedule) (q : ℕ) (es : List Entry) → es ≡ h.entries → filter_map (read_at q) (scanned es) ≡ map reading_of (reads_by h q)
-readings_are h q es same =
-    ap (λ (es : List Entry). filter_map (read_at q) (scanned es)) same
-    ∙ ap (filter_map (read_at q)) (all_entries h.entries)
-    ∙ given_accepted (λ (e : Entry). read_of q e.event e.reply) h.entries
-    ∙ given q (filter accepts h.entries)
+pub readings_are : (h : Schedule) (q : ℕ) → filter_map (read_at q) h.entries ≡ map reading_of (reads_by h q)
+readings_are h q = given_accepted (λ (e : Entry). read_of q e.event e.reply) h.entries ∙ given q (filter accepts h.entries)
+
+-- an entry of another transaction is no read by q
+pub read_none : (q : ℕ) (e : Entry) → is_key (accepted_txn e) q ≡ false → read_at q e ≡ None
+read_none q e none = at (is_refusal e.reply) e.event e.reply none
+  where
+    at : (b : Bool) (ev : Event) (r : Reply) → is_key (if b then None else txn_of ev r) q ≡ false → (if b then None else read_of q ev r) ≡ None
+    at true ev r k = refl
+    at false (BeginUpdate l) r k = refl
+    at false (BeginQuery l s) r k = refl
+    at false (Read t x) r k = ap (λ c. if c then Some (record { item = x.0; value = answer r }) else None) k
+    at false (Write t x v) r k = refl
+    at false (Commit t) r k = refl
+    at false (Abort t) r k = refl
 
 module _ (h : Schedule) (q : ℕ) (range : IsWithinRanges h) (opened : All IsValue h.opening) where
   pub readings_few : IsTrue (is_query (done h) q) → length (map reading_of (reads_by h q)) ≤ 1000

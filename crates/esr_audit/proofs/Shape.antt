@@ -7,21 +7,22 @@ use Rattle.std.proofs.lemmas.List.{length-map}
 use Rattle.std.proofs.lemmas.List.FromFn.{length-range_with_len}
 use Rattle.std.proofs.lemmas.List.Elements.{All-contains}
 use Rattle.esr_history.specs.declared.event.TxnId.{TxnId}
-use Rattle.esr_history.specs.Machine.{Distance, Schedule}
+use Rattle.esr_history.specs.Machine.{Distance, Schedule, IsLegal}
 use Rattle.esr_history.specs.Serial.{is_before}
-use Rattle.esr_history.specs.Queries.{updates_of}
-use Rattle.esr_history.proofs.Membership.{Pairs, Pairs-from_all, any-from_In, Contains-In}
+use Rattle.esr_history.proofs.Membership.{In, Pairs, Pairs-from_all, any-from_In, Contains-In}
 use Rattle.std.specs.Prelude.{IsTrue}
 use Rattle.esr_order.specs.Listing.{IsBelow}
 use Rattle.esr_order.specs.Chains as orders
-use Rattle.esr_order.specs.Chains.{update_at, chain_of, chain_from, some_chain, if_written, last_written}
-use Rattle.esr_order.specs.Orders.{Ordered, IsOrderOf}
+use Rattle.esr_order.specs.Chains.{nth, chain_from, if_written, last_among}
+use Rattle.esr_order.specs.Orders.{Ordered, IsOrderAmong}
+use Rattle.esr_order.specs.Near.{AreNear}
 use Rattle.esr_cert.specs.Problem.{Chain, in_set, is_ascending, pair_lt, are_pairs_ascending, has_pair, are_linked, is_distinct, chain_has_shape, has_shape}
 use Rattle.esr_cert.proofs.Sound.{all_from}
-use Rattle.esr_audit.specs.Problems.{places, items_read, has_written, writers_of, passes_at, version_cost, chain_for}
+use Rattle.esr_order.specs.Near.{has_written}
+use Rattle.esr_audit.specs.Problems.{places, items_read, writers_of, passes_at, version_cost, chain_for}
 use Rattle.esr_audit.proofs.Places.{length-places}
 use Rattle.esr_audit.proofs.Versions.{chain_writers}
-use Rattle.esr_audit.proofs.Standing.{problem_from, stands, must_ascends}
+use Rattle.esr_audit.proofs.Standing.{problem_from, stands, must_ascends, all_writers}
 
 distinct_from : (us : List ℕ) → Pairs (λ u v. u ≢ v) us → is_distinct us ≡ true
 distinct_from [] p = refl
@@ -67,48 +68,48 @@ linked_from before (w ∷ x ∷ rest) near =
     (any-from_In (λ (e : ℕ × ℕ). eqb e.0 w && eqb e.1 x) before (w, x) (Contains-In before (w, x) (near 0 (omega arith))) (and_from (eqb w w) (eqb x x) (eq-eqb w w refl) (eq-eqb x x refl)))
     (linked_from before (x ∷ rest) (λ i l. let e : suc i + 1 ≡ suc (i + 1) = omega arith in subst (λ k. Contains before (slice_index_or (x ∷ rest) i 0, slice_index_or (w ∷ x ∷ rest) k 0)) e (near (suc i) (omega arith))))
 
-module _ (d : Distance) (h : Schedule) (q : ℕ) (o : Ordered) (good : IsOrderOf h q o) where
+module _ (d : Distance) (h : Schedule) (q : ℕ) (legal : IsLegal d h) (us : List ℕ) (near : AreNear h q us) (o : Ordered) (good : IsOrderAmong h q us o) where
   -- the writers of an item, each a pair with the next
-  near : (x i : ℕ) → i + 1 < length (places (updates_of h q) (has_written h x)) → Contains o.before (slice_index_or (places (updates_of h q) (has_written h x)) i 0, slice_index_or (places (updates_of h q) (has_written h x)) (i + 1) 0)
-  near x i l =
-      let c : orders.Chain = chain_from (last_written h q x) (length (updates_of h q)) in
-      let same : c.writers ≡ places (updates_of h q) (has_written h x) = chain_writers h q x in
+  linked : (x i : ℕ) → i + 1 < length (places us (has_written h x)) → Contains o.before (slice_index_or (places us (has_written h x)) i 0, slice_index_or (places us (has_written h x)) (i + 1) 0)
+  linked x i l =
+      let c : orders.Chain = chain_from (last_among h us x) (length us) in
+      let same : c.writers ≡ places us (has_written h x) = chain_writers h us x in
       subst (λ ws. Contains o.before (slice_index_or ws i 0, slice_index_or ws (i + 1) 0)) same (good.neighbours x i c (good.chains x ∙ some c.writers (omega (arith, ap length same))) (omega (arith, ap length same)))
     where
-      some : (ws : List ℕ) → 0 < length ws → if_written ws (chain_from (last_written h q x) (length (updates_of h q))) ≡ Some (chain_from (last_written h q x) (length (updates_of h q)))
+      some : (ws : List ℕ) → 0 < length ws → if_written ws (chain_from (last_among h us x) (length us)) ≡ Some (chain_from (last_among h us x) (length us))
       some [] l = absurd (omega arith)
       some (w ∷ ws) l = refl
 
-  one_more : (x : ℕ) → length (map (version_cost d h q x) (range_with_len 0 (suc (length (writers_of h q x))))) ≡ suc (length (places (updates_of h q) (has_written h x)))
-  one_more x =
+  one_more : (x : ℕ) → In x (items_read h q) → length (map (version_cost d h q x) (range_with_len 0 (suc (length (writers_of h q x))))) ≡ suc (length (places us (has_written h x)))
+  one_more x i =
       length-map (range_with_len 0 (suc (length (writers_of h q x)))) (version_cost d h q x)
       ∙ length-range_with_len 0 (suc (length (writers_of h q x)))
-      ∙ ap suc (sym (length-places (updates_of h q) (has_written h x)))
+      ∙ ap suc (sym (length-places us (has_written h x) ∙ ap length (all_writers d h q legal us near o good x i)))
 
-  chain_shape : (x : ℕ) → chain_has_shape o.before (chain_for d h q (updates_of h q) x) ≡ true
-  chain_shape x =
-      let ws : List ℕ = places (updates_of h q) (has_written h x) in
+  chain_shape : (x : ℕ) → In x (items_read h q) → chain_has_shape o.before (chain_for d h q us x) ≡ true
+  chain_shape x i =
+      let ws : List ℕ = places us (has_written h x) in
       and_from _ (are_linked o.before ws)
-      (and_from _ (is_ascending ws) (eq-eqb _ _ (one_more x)) (range_ascends (passes_at (updates_of h q) (has_written h x)) 0 (length (updates_of h q))))
-      (linked_from o.before ws (near x))
+      (and_from _ (is_ascending ws) (eq-eqb _ _ (one_more x i)) (range_ascends (passes_at us (has_written h x)) 0 (length us)))
+      (linked_from o.before ws (linked x))
 
-  pub chains_of : (problem_from d h q o).chains ≡ map (chain_for d h q (updates_of h q)) (items_read h q)
-  chains_of = (stands d h q o good).chains ∙ ap (λ us. map (chain_for d h q us) (items_read h q)) good.commits
+  pub chains_of : (problem_from d h q o).chains ≡ map (chain_for d h q us) (items_read h q)
+  chains_of = (stands d h q legal us near o good).chains ∙ ap (λ vs. map (chain_for d h q vs) (items_read h q)) good.commits
 
-  all_shaped : (xs : List ℕ) → list_all (chain_has_shape o.before) (map (chain_for d h q (updates_of h q)) xs) ≡ true
-  all_shaped [] = refl
-  all_shaped (x ∷ xs) = and_from _ (list_all (chain_has_shape o.before) (map (chain_for d h q (updates_of h q)) xs)) (chain_shape x) (all_shaped xs)
+  all_shaped : (xs : List ℕ) → ((x : ℕ) → In x xs → In x (items_read h q)) → list_all (chain_has_shape o.before) (map (chain_for d h q us) xs) ≡ true
+  all_shaped [] inside = refl
+  all_shaped (x ∷ xs) inside = and_from _ (list_all (chain_has_shape o.before) (map (chain_for d h q us) xs)) (chain_shape x (inside x (inl refl))) (all_shaped xs (λ y i. inside y (inr i)))
 
-  items_of : (xs : List ℕ) → map (λ (c : Chain). c.item) (map (chain_for d h q (updates_of h q)) xs) ≡ xs
+  items_of : (xs : List ℕ) → map (λ (c : Chain). c.item) (map (chain_for d h q us) xs) ≡ xs
   items_of [] = refl
   items_of (x ∷ xs) = ap (λ ys. x ∷ ys) (items_of xs)
 
   distinct : is_distinct (map (λ (t : TxnId). t.0) o.commits) ≡ true
-  distinct = ap is_distinct good.commits ∙ distinct_from (updates_of h q) (Pairs-from_all (λ u v. u ≢ v) (updates_of h q) good.serial.once)
+  distinct = ap is_distinct good.commits ∙ distinct_from us (Pairs-from_all (λ u v. u ≢ v) us good.serial.once)
 
   forward : list_all (λ (e : ℕ × ℕ). nat_lt e.0 e.1) o.before ≡ true
   forward = all_from (λ (e : ℕ × ℕ). nat_lt e.0 e.1) o.before (λ e c.
-      let p = All-contains (λ (p : ℕ × ℕ). (p.0 < p.1) × (p.1 < length o.commits) × IsTrue (is_before h (update_at h q p.0) (update_at h q p.1))) o.before e good.pairs c in
+      let p = All-contains (λ (p : ℕ × ℕ). (p.0 < p.1) × (p.1 < length o.commits) × IsTrue (is_before h (nth us p.0) (nth us p.1))) o.before e good.pairs c in
       lt-ltb e.0 e.1 p.0)
 
   items : is_ascending (map (λ (c : Chain). c.item) (problem_from d h q o).chains) ≡ true
@@ -118,8 +119,8 @@ module _ (d : Distance) (h : Schedule) (q : ℕ) (o : Ordered) (good : IsOrderOf
       ∙ range_ascends _ 0 (length h.opening)
 
   chains : list_all (chain_has_shape o.before) (problem_from d h q o).chains ≡ true
-  chains = ap (list_all (chain_has_shape o.before)) chains_of ∙ all_shaped (items_read h q)
+  chains = ap (list_all (chain_has_shape o.before)) chains_of ∙ all_shaped (items_read h q) (λ x i. i)
 
   pub shaped : has_shape (problem_from d h q o) ≡ true
   shaped =
-      and_from _ _ (and_from _ _ (and_from _ _ (and_from _ _ (and_from _ _ distinct (pairs_ascend o.before (Pairs-from_all IsBelow o.before good.ascending))) forward) items) chains) (must_ascends d h q o good)
+      and_from _ _ (and_from _ _ (and_from _ _ (and_from _ _ (and_from _ _ distinct (pairs_ascend o.before (Pairs-from_all IsBelow o.before good.ascending))) forward) items) chains) (must_ascends d h q legal us near o good)

@@ -1,12 +1,23 @@
 -- The answer of an audit stays in longer histories.
-use Rattle.std.proofs.Common.{◌≡◌, ℕ, ◌≤◌, Bool, List, sym, ap, ◌∙◌, subst, arith, filter, Contains}
-use Rattle.std.specs.Prelude.{All, IsTrue}
-use Rattle.esr_history.specs.Machine.{Distance, Schedule, IsLegal}
+use Rattle.std.proofs.Common.{◌≡◌, ℕ, ◌≤◌, Bool, true, List, [], ◌∷◌, sym, ap, ◌∙◌, subst, arith, filter, map, Contains, Ok, Err, inl, inr, ⊎_elim}
+use Rattle.std.specs.Prelude.{All, IsTrue, Result, IfOk}
+use Rattle.std.proofs.lemmas.List.Elements.{All-from_recursion, recursion_from_All}
+use Rattle.esr_history.specs.declared.event.TxnId.{TxnId}
+use Rattle.esr_history.specs.declared.event.Entry.{Entry}
+use Rattle.esr_history.specs.Events.{is_committed}
+use Rattle.esr_history.specs.Legal.{along}
+use Rattle.esr_history.specs.Machine.{Distance, Schedule, done, IsLegal}
+use Rattle.esr_history.proofs.Laws.{audit_stays}
+use Rattle.esr_history.proofs.Membership.{In, each_in, each_at}
 use Rattle.esr_history.specs.Queries.{updates_of, cost, IsAlike}
 use Rattle.esr_order.specs.Placements.{is_among, IsClosed, IsLeastSet, IsSmallestLeastSet}
 use Rattle.esr_order.specs.Statements.{ClosedSetsAreParts}
 use Rattle.esr_order.proofs.Ordered.{law_of_placements}
-use Rattle.esr_audit.specs.Findings.{IsAnswer}
+use Rattle.esr_audit.specs.declared.finding.Finding.{Finding}
+use Rattle.esr_audit.specs.declared.finding.Book.{Book}
+use Rattle.esr_audit.specs.declared.finding.AuditError.{AuditError}
+use Rattle.esr_audit.specs.Findings.{IsAnswer, IsFinding, committed_queries}
+use Rattle.esr_audit.proofs.Committed.{query_committed}
 
 module _ (d : Distance) (h longer : Schedule) (q : ℕ) (alike : IsAlike d h longer q) where
   closed_then : (S : ℕ → Bool) → IsClosed h q S → IsClosed longer q S
@@ -55,3 +66,23 @@ module _ (d : Distance) (h longer : Schedule) (q : ℕ) (alike : IsAlike d h lon
         import_is = a.import_is ∙ sym alike.import;
         bounded = a.bounded;
       }
+
+-- the answer to a query that has committed
+pub stays : (d : Distance) (h : Schedule) (q distance import : ℕ) (before : List ℕ) → is_committed (done h) q ≡ true → IsAnswer d h q distance import before
+    → (rest : List Entry) → IsLegal d (along h rest) → IsAnswer d (along h rest) q distance import before
+stays d h q distance import before committed a = λ rest legal. answer_stays d h (along h rest) q (audit_stays d h rest q legal committed) legal distance import before a
+
+-- and what is found of each committed query
+pub findings_stay : (d : Distance) (h : Schedule) (r : Result Book AuditError)
+    → IfOk r (λ b. map (λ (f : Finding). f.query.0) b.findings.items ≡ committed_queries h) → IfOk r (λ b. All (IsFinding d h) b.findings.items)
+    → IfOk r (λ b. (rest : List Entry) → IsLegal d (along h rest) → All (λ (f : Finding). IsAnswer d (along h rest) f.query.0 f.distance f.import (map (λ (t : TxnId). t.0) f.before.items)) b.findings.items)
+findings_stay d h (Err e) queries found = tt
+findings_stay d h (Ok b) queries found = λ rest legal.
+    All-from_recursion (λ (f : Finding). IsAnswer d (along h rest) f.query.0 f.distance f.import (map (λ (t : TxnId). t.0) f.before.items)) b.findings.items
+    (each_in (λ (f : Finding). IsAnswer d (along h rest) f.query.0 f.distance f.import (map (λ (t : TxnId). t.0) f.before.items)) b.findings.items (λ f i.
+    let finding : IsFinding d h f = each_at (IsFinding d h) b.findings.items f (recursion_from_All (IsFinding d h) b.findings.items found) i in
+    stays d h f.query.0 f.distance f.import (map (λ (t : TxnId). t.0) f.before.items) (query_committed h f.query.0 (subst (In f.query.0) queries (listed b.findings.items f i))) finding.answer rest legal))
+  where
+    listed : (fs : List Finding) (f : Finding) → In f fs → In f.query.0 (map (λ (f : Finding). f.query.0) fs)
+    listed [] f i = absurd i
+    listed (g ∷ fs) f i = ⊎_elim (λ e. inl (ap (λ (f : Finding). f.query.0) e)) (λ j. inr (listed fs f j)) i

@@ -9,14 +9,16 @@ use Rattle.esr_history.specs.Events.{last_value}
 use Rattle.esr_history.specs.Machine.{Distance, Schedule, done, distance_in}
 use Rattle.esr_history.specs.Operations.{Operation}
 use Rattle.esr_history.specs.Serial.{values_by, state}
-use Rattle.esr_history.specs.Queries.{updates_of, reads_by}
+use Rattle.esr_history.specs.Queries.{reads_by}
 use Rattle.esr_history.proofs.LastWriter.{last_value-append, last_value-some}
-use Rattle.esr_order.specs.Chains.{Chain, chain_from, some_chain, if_written, last_of, last_written, chain_of}
+use Rattle.esr_order.specs.Chains.{Chain, chain_from, some_chain, if_written, last_of, last_among, chain_among}
 use Rattle.esr_order.specs.Orders.{Ordered, chain_at}
 use Rattle.esr_cert.specs.Problem as problems
 use Rattle.esr_audit.specs.declared.reads.Reading.{Reading}
-use Rattle.esr_audit.specs.Problems.{passes_at, places, has_written, writers_of, version_cost, chain_for}
-use Rattle.esr_audit.specs.Reads.{values_of, distance_sum, writers_in, values_in, gathered}
+use Rattle.esr_order.specs.Near.{has_written}
+use Rattle.esr_audit.specs.Problems.{passes_at, places, writers_of, version_cost, chain_for}
+use Rattle.esr_order.specs.Reach.{writers_in}
+use Rattle.esr_audit.specs.Reads.{values_of, distance_sum, values_in, gathered}
 use Rattle.esr_audit.proofs.Values.{values_none, values_some, writers_leave}
 use Rattle.esr_audit.proofs.Places.{length-places}
 
@@ -97,15 +99,15 @@ tested_places f S same us (u ∷ rest) a g =
 from_start : (us : List ℕ) (k : ℕ) → slice_get us (0 + k) ≡ slice_get us k
 from_start us k = ap (slice_get us) (let e : 0 + k ≡ k = omega arith in e)
 
-module _ (h : Schedule) (q x : ℕ) where
-  pub chain_writers : (chain_from (last_written h q x) (length (updates_of h q))).writers ≡ places (updates_of h q) (has_written h x)
-  chain_writers = tested_places (λ u. is_some (last_of (values_by h x u))) (has_written h x) (wrote_some h x) (updates_of h q) (updates_of h q) 0 (from_start (updates_of h q))
+module _ (h : Schedule) (us : List ℕ) (x : ℕ) where
+  pub chain_writers : (chain_from (last_among h us x) (length us)).writers ≡ places us (has_written h x)
+  chain_writers = tested_places (λ u. is_some (last_of (values_by h x u))) (has_written h x) (wrote_some h x) us us 0 (from_start us)
 
-  pub chain_values : (chain_from (last_written h q x) (length (updates_of h q))).values ≡ map (λ j. state h (take (suc j) (writers_of h q x)) x) (range_with_len 0 (length (writers_of h q x)))
+  pub chain_values : (chain_from (last_among h us x) (length us)).values ≡ map (λ j. state h (take (suc j) (filter (has_written h x) us)) x) (range_with_len 0 (length (filter (has_written h x) us)))
   chain_values =
-      given_places (λ u. last_of (values_by h x u)) (updates_of h q) (updates_of h q) 0 (from_start (updates_of h q))
-      ∙ values_of_writers h x (value_at h.opening x) (updates_of h q)
-      ∙ sym (after_each (values_by h x) (value_at h.opening x) (writers_of h q x) 0 (writers_leave h x (updates_of h q)))
+      given_places (λ u. last_of (values_by h x u)) us us 0 (from_start us)
+      ∙ values_of_writers h x (value_at h.opening x) us
+      ∙ sym (after_each (values_by h x) (value_at h.opening x) (filter (has_written h x) us) 0 (writers_leave h x us))
 
 -- a chain with no writer has no value
 pub written_writers : (c : Chain) → writers_in (some_chain c) ≡ c.writers
@@ -161,25 +163,26 @@ versions_from f n = ap (λ ys. f 0 ∷ ys) (moved 0 n)
     moved a (suc n) = let e : suc a ≡ a + 1 = omega arith in ap (λ v. f v ∷ map (λ j. f (suc j)) (range_with_len (a + 1) n)) e ∙ ap (λ ys. f (a + 1) ∷ ys) (moved (a + 1) n)
 
 -- the values in an order are what the first writers leave
-pub versions_are : (h : Schedule) (q : ℕ) (o : Ordered) (x : ℕ) → chain_at o x ≡ chain_of h q x
-    → values_in (chain_at o x) ≡ map (λ j. state h (take (suc j) (writers_of h q x)) x) (range_with_len 0 (length (writers_of h q x)))
-versions_are h q o x is =
-    let c : Chain = chain_from (last_written h q x) (length (updates_of h q)) in
+pub versions_are : (h : Schedule) (us : List ℕ) (o : Ordered) (x : ℕ) → chain_at o x ≡ chain_among h us x
+    → values_in (chain_at o x) ≡ map (λ j. state h (take (suc j) (filter (has_written h x) us)) x) (range_with_len 0 (length (filter (has_written h x) us)))
+versions_are h us o x is =
+    let c : Chain = chain_from (last_among h us x) (length us) in
     let equal : length c.values ≡ length c.writers =
-    ap length (chain_values h q x) ∙ length_mapped (λ j. state h (take (suc j) (writers_of h q x)) x) 0 (length (writers_of h q x)) ∙ sym (ap length (chain_writers h q x) ∙ length-places (updates_of h q) (has_written h x)) in
-    ap values_in is ∙ written_values c equal ∙ chain_values h q x
+    ap length (chain_values h us x) ∙ length_mapped (λ j. state h (take (suc j) (filter (has_written h x) us)) x) 0 (length (filter (has_written h x) us)) ∙ sym (ap length (chain_writers h us x) ∙ length-places us (has_written h x)) in
+    ap values_in is ∙ written_values c equal ∙ chain_values h us x
   where
     length_mapped : {Y : Type 0} (f : ℕ → Y) (a n : ℕ) → length (map f (range_with_len a n)) ≡ n
     length_mapped f a zero = refl
     length_mapped f a (suc n) = let r = length_mapped f (a + 1) n in omega (arith, r)
 
--- the chain that is gathered of an item is that of the problem that stands for the query
-pub gathered_stands : (d : Distance) (h : Schedule) (q : ℕ) (o : Ordered) (x : ℕ) → chain_at o x ≡ chain_of h q x
-    → gathered (distance_in d h) h.opening o (map reading_of (reads_by h q)) x ≡ chain_for d h q (updates_of h q) x
-gathered_stands d h q o x is =
-    let c : Chain = chain_from (last_written h q x) (length (updates_of h q)) in
-    let writers : writers_in (chain_at o x) ≡ places (updates_of h q) (has_written h x) = ap writers_in is ∙ written_writers c ∙ chain_writers h q x in
-    let values : values_in (chain_at o x) ≡ map (λ j. state h (take (suc j) (writers_of h q x)) x) (range_with_len 0 (length (writers_of h q x))) = versions_are h q o x is in
+-- the chain that is gathered of an item is that of the problem that stands for the query, where all its writers are listed
+pub gathered_stands : (d : Distance) (h : Schedule) (q : ℕ) (us : List ℕ) (o : Ordered) (x : ℕ) → chain_at o x ≡ chain_among h us x → filter (has_written h x) us ≡ writers_of h q x
+    → gathered (distance_in d h) h.opening o (map reading_of (reads_by h q)) x ≡ chain_for d h q us x
+gathered_stands d h q us o x is all =
+    let c : Chain = chain_from (last_among h us x) (length us) in
+    let writers : writers_in (chain_at o x) ≡ places us (has_written h x) = ap writers_in is ∙ written_writers c ∙ chain_writers h us x in
+    let values : values_in (chain_at o x) ≡ map (λ j. state h (take (suc j) (writers_of h q x)) x) (range_with_len 0 (length (writers_of h q x))) =
+    versions_are h us o x is ∙ ap (λ ws. map (λ j. state h (take (suc j) ws) x) (range_with_len 0 (length ws))) all in
     let D : ℤ → ℕ = distance_sum (distance_in d h) x (values_of (map reading_of (reads_by h q)) x) in
     let costs : map D (value_at h.opening x ∷ values_in (chain_at o x)) ≡ map (version_cost d h q x) (range_with_len 0 (suc (length (writers_of h q x)))) =
     ap (λ vs. map D (value_at h.opening x ∷ vs)) values
@@ -187,5 +190,5 @@ gathered_stands d h q o x is =
     ∙ mapped_twice D (λ j. state h (take j (writers_of h q x)) x) (range_with_len 0 (suc (length (writers_of h q x))))
     ∙ same_list (λ j. D (state h (take j (writers_of h q x)) x)) (version_cost d h q x) (range_with_len 0 (suc (length (writers_of h q x)))) (λ j. sum_of_reads (distance_in d h) x (state h (take j (writers_of h q x)) x) (reads_by h q)) in
     let with_writers : List ℕ → problems.Chain = λ ws. record { item = x; writers = ws; costs = map D (value_at h.opening x ∷ values_in (chain_at o x)) } in
-    let with_costs : List ℕ → problems.Chain = λ cs. record { item = x; writers = places (updates_of h q) (has_written h x); costs = cs } in
+    let with_costs : List ℕ → problems.Chain = λ cs. record { item = x; writers = places us (has_written h x); costs = cs } in
     ap with_writers writers ∙ ap with_costs costs

@@ -14,7 +14,7 @@ use Rattle.esr_history.specs.declared.event.Event.TheVariants.{BeginUpdate, Begi
 use Rattle.esr_history.specs.declared.event.Reply.{Reply}
 use Rattle.esr_history.specs.declared.event.Entry.{Entry}
 use Rattle.esr_history.specs.Events.{Beginning, beginnings, is_query, is_update, is_refusal, reads_any, all_reads_of, last_value}
-use Rattle.esr_history.specs.Machine.{Distance, Schedule, done, distance_in}
+use Rattle.esr_history.specs.Machine.{Distance, Schedule, IsLegal, done, distance_in}
 use Rattle.esr_history.specs.Operations.{Operation, operations, operation_by, operation_of, answer, commit_order}
 use Rattle.esr_history.specs.Ranges.{IsWithinRanges}
 use Rattle.esr_history.specs.Serial.{is_before, state, values_by}
@@ -22,11 +22,14 @@ use Rattle.esr_history.specs.Queries.{updates_of, reads_by}
 use Rattle.esr_history.proofs.Membership.{In, each_in, each_at, In-of_filter, Contains-In, any-from_In}
 use Rattle.esr_history.proofs.Versions.{wrote_by}
 use Rattle.esr_history.proofs.Words.{values_trace}
-use Rattle.esr_order.specs.Chains.{update_at}
-use Rattle.esr_order.specs.Orders.{Ordered, IsOrderOf}
+use Rattle.esr_order.specs.Chains.{nth}
+use Rattle.esr_order.specs.Orders.{Ordered, IsOrderAmong}
+use Rattle.esr_order.specs.Near.{AreNear}
+use Rattle.esr_order.proofs.NearLaws.{near_updates}
 use Rattle.esr_cert.specs.Problem.{Chain, Problem, size, greatest, chain_is_in_range, is_in_range, is_sound, max_txn, max_item, max_cost}
 use Rattle.esr_cert.proofs.Sound.{all_from}
-use Rattle.esr_audit.specs.Problems.{passes_at, places, items_read, has_written, writers_of, version_cost, chain_for}
+use Rattle.esr_order.specs.Near.{has_written}
+use Rattle.esr_audit.specs.Problems.{passes_at, places, items_read, writers_of, version_cost, chain_for}
 use Rattle.esr_audit.proofs.Costs.{by_item, sum_mapped}
 use Rattle.esr_audit.proofs.Standing.{problem_from}
 use Rattle.esr_audit.proofs.Shape as shape
@@ -156,7 +159,7 @@ module _ (d : Distance) (h : Schedule) (q : ℕ) (range : IsWithinRanges h) (ope
       let all : sum_by (λ (o : Operation). B) (reads_by h q) ≤ length (reads_by h q) * B = sum_by-le (λ (o : Operation). B) B (reads_by h q) (All-from_recursion (λ (o : Operation). B ≤ B) (reads_by h q) (each_in (λ (o : Operation). B ≤ B) (reads_by h q) (λ o i. omega arith))) in
       omega arith
 
-  module _ (o : Ordered) (good : IsOrderOf h q o) (few : length h.opening ≤ 4096) (query : IsTrue (is_query (done h) q)) where
+  module _ (legal : IsLegal d h) (us : List ℕ) (near : AreNear h q us) (o : Ordered) (good : IsOrderAmong h q us o) (few : length h.opening ≤ 4096) (query : IsTrue (is_query (done h) q)) where
     abbrev p : Problem
     p = problem_from d h q o
 
@@ -165,25 +168,25 @@ module _ (d : Distance) (h : Schedule) (q : ℕ) (range : IsWithinRanges h) (ope
 
     numbers : list_all (λ t. nat_lt 0 t && nat_le t max_txn) p.updates ≡ true
     numbers = all_from (λ t. nat_lt 0 t && nat_le t max_txn) p.updates (λ t c.
-        let i : In t (updates_of h q) = Contains-In (updates_of h q) t (subst (λ us. Contains us t) good.commits c) in
+        let i : In t (updates_of h q) = Contains-In (updates_of h q) t (near_updates d h q legal us near t (subst (λ vs. Contains vs t) good.commits c)) in
         let r = number_in_range h range opened t (In-of_filter (is_update (done h)) (before_first (λ t. eqb t q) (commit_order (done h))) t i).1 in
         and_from (nat_lt 0 t) (nat_le t max_txn) (lt-ltb 0 t r.0) (le-leb t max_txn r.1))
 
     before : list_all (λ (e : ℕ × ℕ). nat_lt e.0 (size p) && nat_lt e.1 (size p)) o.before ≡ true
     before = all_from (λ (e : ℕ × ℕ). nat_lt e.0 (size p) && nat_lt e.1 (size p)) o.before (λ e c.
-        let r = All-contains (λ (p : ℕ × ℕ). (p.0 < p.1) × (p.1 < length o.commits) × IsTrue (is_before h (update_at h q p.0) (update_at h q p.1))) o.before e good.pairs c in
+        let r = All-contains (λ (p : ℕ × ℕ). (p.0 < p.1) × (p.1 < length o.commits) × IsTrue (is_before h (nth us p.0) (nth us p.1))) o.before e good.pairs c in
         and_from (nat_lt e.0 (size p)) (nat_lt e.1 (size p)) (lt-ltb e.0 (size p) (omega (arith, r.0, r.1, sized))) (lt-ltb e.1 (size p) (omega (arith, r.1, sized))))
 
     must_within : list_all (λ u. nat_lt u (size p)) o.must ≡ true
     must_within = all_from (λ u. nat_lt u (size p)) o.must (λ u c. lt-ltb u (size p) (omega (arith, All-contains (λ i. i < length o.commits) o.must u good.within c, sized)))
 
-    chain_within : (x : ℕ) → In x (items_read h q) → chain_is_in_range (size p) (chain_for d h q (updates_of h q) x) ≡ true
+    chain_within : (x : ℕ) → In x (items_read h q) → chain_is_in_range (size p) (chain_for d h q us x) ≡ true
     chain_within x i =
         let l = below (λ x. list_any (λ (o : Operation). eqb o.item x) (reads_by h q)) 0 (length h.opening) x i in
-        and_from (nat_le x max_item) (list_all (λ w. nat_lt w (size p)) (places (updates_of h q) (has_written h x)))
+        and_from (nat_le x max_item) (list_all (λ w. nat_lt w (size p)) (places us (has_written h x)))
         (le-leb x max_item (omega arith))
-        (all_from (λ w. nat_lt w (size p)) (places (updates_of h q) (has_written h x)) (λ w c.
-        let k = below (passes_at (updates_of h q) (has_written h x)) 0 (length (updates_of h q)) w (Contains-In (places (updates_of h q) (has_written h x)) w c) in
+        (all_from (λ w. nat_lt w (size p)) (places us (has_written h x)) (λ w c.
+        let k = below (passes_at us (has_written h x)) 0 (length us) w (Contains-In (places us (has_written h x)) w c) in
         lt-ltb w (size p) (omega (arith, k, ap length good.commits))))
       where
         in_row : (a n x : ℕ) → In x (range_with_len a n) → x < a + n
@@ -194,20 +197,20 @@ module _ (d : Distance) (h : Schedule) (q : ℕ) (range : IsWithinRanges h) (ope
         below : (P : ℕ → Bool) (a n x : ℕ) → In x (filter P (range_with_len a n)) → x < a + n
         below P a n x i = in_row a n x (In-of_filter P (range_with_len a n) x i).0
 
-    chains_within : (xs : List ℕ) → ((x : ℕ) → In x xs → In x (items_read h q)) → list_all (chain_is_in_range (size p)) (map (chain_for d h q (updates_of h q)) xs) ≡ true
+    chains_within : (xs : List ℕ) → ((x : ℕ) → In x xs → In x (items_read h q)) → list_all (chain_is_in_range (size p)) (map (chain_for d h q us) xs) ≡ true
     chains_within [] all = refl
-    chains_within (x ∷ xs) all = and_from (chain_is_in_range (size p) (chain_for d h q (updates_of h q) x)) (list_all (chain_is_in_range (size p)) (map (chain_for d h q (updates_of h q)) xs)) (chain_within x (all x (inl refl))) (chains_within xs (λ y i. all y (inr i)))
+    chains_within (x ∷ xs) all = and_from (chain_is_in_range (size p) (chain_for d h q us x)) (list_all (chain_is_in_range (size p)) (map (chain_for d h q us) xs)) (chain_within x (all x (inl refl))) (chains_within xs (λ y i. all y (inr i)))
 
     costs : nat_le (sum_by (λ (c : Chain). greatest c.costs) p.chains) max_cost ≡ true
     costs =
-        let same : sum_by (λ (c : Chain). greatest c.costs) p.chains ≡ sum_by (λ (c : Chain). greatest c.costs) (map (chain_for d h q (updates_of h q)) (items_read h q)) = ap (sum_by (λ (c : Chain). greatest c.costs)) (shape.chains_of d h q o good) in
-        let sum = sum_of_greatest (updates_of h q) in
+        let same : sum_by (λ (c : Chain). greatest c.costs) p.chains ≡ sum_by (λ (c : Chain). greatest c.costs) (map (chain_for d h q us) (items_read h q)) = ap (sum_by (λ (c : Chain). greatest c.costs)) (shape.chains_of d h q legal us near o good) in
+        let sum = sum_of_greatest us in
         let many : length (reads_by h q) ≤ 1000 = subst (λ n. n ≤ 1000) (sym (reads_counted h q)) (range.reads q query) in
         le-leb (sum_by (λ (c : Chain). greatest c.costs) p.chains) max_cost (omega arith)
 
     pub within : is_in_range p ≡ true
     within =
-        and_from _ _ (and_from _ _ (and_from _ _ (and_from _ _ numbers (ap (list_all (chain_is_in_range (size p))) (shape.chains_of d h q o good) ∙ chains_within (items_read h q) (λ x i. i))) before) must_within) costs
+        and_from _ _ (and_from _ _ (and_from _ _ (and_from _ _ numbers (ap (list_all (chain_is_in_range (size p))) (shape.chains_of d h q legal us near o good) ∙ chains_within (items_read h q) (λ x i. i))) before) must_within) costs
 
     pub sound : is_sound p ≡ true
-    sound = and_from _ _ (shape.shaped d h q o good) within
+    sound = and_from _ _ (shape.shaped d h q legal us near o good) within

@@ -1,13 +1,17 @@
 -- What an audit finds of a committed query.
-use Rattle.std.specs.Prelude.{◌≡◌, ◌≤◌, ℕ, List, filter, map}
+use Rattle.std.specs.Prelude.{◌≡◌, ◌≤◌, ℕ, List, filter, map, Some}
 use Rattle.std.specs.List.{filter_map, slice_get}
 use Rattle.esr_history.specs.Events.{is_query}
 use Rattle.esr_history.specs.Machine.{Distance, Schedule, done, charges_in, import_in}
 use Rattle.esr_history.specs.Operations.{commit_order}
 use Rattle.esr_history.specs.Queries.{members, cost}
 use Rattle.esr_order.specs.Placements.{is_among, IsLeastDistance, IsSmallestLeastSet}
+use Rattle.esr_order.specs.Near.{AreNear}
+use Rattle.esr_order.specs.Least.{least_set, least_cost}
 use Rattle.esr_cert.specs.Problem.{Problem}
-use Rattle.esr_cert.specs.Certificate.{Certificate, Certifies}
+use Rattle.esr_cert.specs.Certificate.{Certificate, Certifies, amounts}
+use Rattle.esr_cert.specs.Network.{network}
+use Rattle.esr_flow.specs.Augmentation.{Takes}
 use Rattle.esr_order.specs.declared.order.OrderError.{OrderError}
 use Rattle.esr_order.specs.declared.order.OrderError.TheVariants.{NotACommittedQuery, NoMemory}
 use Rattle.esr_cert.specs.Views.{certificate_of}
@@ -31,18 +35,32 @@ pub record IsAnswer (d : Distance) (h : Schedule) (q distance import : ℕ) (bef
   pub import_is : import ≡ import_in (charges_in d h) q
   pub bounded : distance ≤ import
 
+-- the certificate tells how many augmentations lead to its flow, each along a shortest path
+abbrev pub IsCounted : Problem → Certificate → Type 0
+IsCounted p c = (n : ℕ) × (c.augmentations ≡ Some n) × Takes (network p) n (amounts c)
+
 -- The distance is shown by a closed set and a flow of equal worth, of a problem that stands for q.
 pub record IsShown (d : Distance) (h : Schedule) (q distance : ℕ) (before : List ℕ) (problem : Problem) (certificate : Certificate) : Type 0 where
   pub stands : StandsFor d h q problem
   pub certified : Certifies problem certificate
   pub set_is : before ≡ filter_map (slice_get problem.updates) certificate.set
   pub worth_is : certificate.worth ≡ distance
+  pub counted : IsCounted problem certificate
 
 -- what is found of a query
 pub record IsFinding (d : Distance) (h : Schedule) (f : Finding) : Type 0 where
   pub answer : IsAnswer d h f.query.0 f.distance f.import (map (λ t. t.0) f.before.items)
   pub shown : IsShown d h f.query.0 f.distance (map (λ t. t.0) f.before.items) f.problem (certificate_of f.certificate)
+  pub near : AreNear h f.query.0 f.problem.updates
 
 -- the committed queries, in commit order
 abbrev pub committed_queries : Schedule → List ℕ
 committed_queries h = filter (is_query (done h)) (commit_order (done h))
+
+-- what is told of a finding: its query, its distance, its import, and the updates before the position
+abbrev pub told : Finding → ℕ × ℕ × ℕ × List ℕ
+told f = (f.query.0, f.distance, f.import, map (λ t. t.0) f.before.items)
+
+-- what there is to tell of a committed query: all of it is fixed by the history
+abbrev pub told_of : Distance → Schedule → ℕ → ℕ × ℕ × ℕ × List ℕ
+told_of d h q = (q, least_cost d h q, import_in (charges_in d h) q, least_set d h q)

@@ -1,11 +1,11 @@
 -- The problem that stands for a committed query of a history: what an auditor solves.
 use Rattle.std.specs.Prelude.{◌≡◌, ◌↔◌, ℕ, ℤ, suc, Bool, true, false, ◌&&◌, ◌==◌, List, length, filter, map, take, sum_by, slice_get, All, Some, None, if◌then◌else◌}
 use Rattle.std.specs.List.{list_any, range_with_len}
-use Rattle.esr_history.specs.Events.{writes}
-use Rattle.esr_history.specs.Machine.{Distance, Schedule, done, distance_in}
+use Rattle.esr_history.specs.Machine.{Distance, Schedule, distance_in}
 use Rattle.esr_history.specs.Serial.{state}
 use Rattle.esr_history.specs.Queries.{updates_of, must, reads_by}
 use Rattle.esr_order.specs.Placements.{is_among, IsClosed}
+use Rattle.esr_order.specs.Near.{has_written}
 use Rattle.esr_cert.specs.Problem.{Chain, Problem, is_closed}
 
 -- the positions, in a list of transactions, of those that pass the test: as a test of positions, and as a list
@@ -18,10 +18,6 @@ places us S = filter (passes_at us S) (range_with_len 0 (length us))
 -- the items that q read, ascending
 abbrev pub items_read : Schedule → ℕ → List ℕ
 items_read h q = filter (λ x. list_any (λ o. o.item == x) (reads_by h q)) (range_with_len 0 (length h.opening))
-
--- whether u wrote item x
-abbrev pub has_written : Schedule → ℕ → ℕ → Bool
-has_written h x u = list_any (writes u x) (done h)
 
 -- the updates of q that wrote item x, in commit order
 abbrev pub writers_of : Schedule → ℕ → ℕ → List ℕ

@@ -3,14 +3,14 @@ use Rattle.std.specs.Prelude.{ℕ, ℤ, ◌==◌, List, [], ◌∷◌, Option, S
 use Rattle.std.specs.List.{list_any, range_with_len}
 use Rattle.esr_items.specs.Values.{value_at}
 use Rattle.esr_history.specs.declared.event.Event.{Event}
-use Rattle.esr_history.specs.declared.event.Event.TheVariants.{Read, Commit}
-use Rattle.esr_history.specs.declared.event.TxnId.{TxnId}
+use Rattle.esr_history.specs.declared.event.Event.TheVariants.{Read}
 use Rattle.esr_history.specs.declared.event.Reply.{Reply}
 use Rattle.esr_history.specs.declared.event.Entry.{Entry}
 use Rattle.esr_history.specs.Events.{is_refusal}
 use Rattle.esr_history.specs.Operations.{answer}
 use Rattle.esr_order.specs.Chains as orders
 use Rattle.esr_order.specs.Orders.{Ordered, chain_at}
+use Rattle.esr_order.specs.Reach.{writers_in}
 use Rattle.esr_cert.specs.Problem.{Chain}
 use Rattle.esr_audit.specs.declared.reads.Reading.{Reading}
 
@@ -30,10 +30,6 @@ values_of readings x = map (λ r. r.value) (filter (λ r. r.item == x) readings)
 abbrev pub distance_sum : (ℕ → ℤ → ℤ → ℕ) → ℕ → List ℤ → ℤ → ℕ
 distance_sum d x values version = sum_by (λ v. d x v version) values
 
-abbrev pub writers_in : Option orders.Chain → List ℕ
-writers_in None = []
-writers_in (Some c) = c.writers
-
 abbrev pub values_in : Option orders.Chain → List ℤ
 values_in None = []
 values_in (Some c) = c.values
@@ -49,11 +45,3 @@ gathered d opening order readings x = record {
 -- the items below n that were read
 abbrev pub items_in : List Reading → ℕ → List ℕ
 items_in readings n = filter (λ x. list_any (λ r. r.item == x) readings) (range_with_len 0 n)
-
-abbrev pub commit_by : Event → Option TxnId
-commit_by (Commit t) = Some t
-commit_by _ = None
-
--- the transaction that commits in an entry, if that is accepted
-abbrev pub commit_in : Entry → Option TxnId
-commit_in e = if is_refusal e.reply then None else commit_by e.event

@@ -1,28 +1,26 @@
 //! Audits: what is found of the committed queries of a history.
-ghost use Rattle.std.specs.Prelude.{◌≡◌, ◌↔◌, true, false, not, List, filter, map, All, IfOk, IfErr, IsErrOf, IsTrue};
+ghost use Rattle.std.specs.Prelude.{◌≡◌, ◌↔◌, true, false, List, map, All, IfOk, IfErr, IsErrOf, IsTrue};
 ghost use Rattle.std.specs.List.{filter_map, slice_get};
 ghost use Rattle.esr_history.specs.declared.event.Entry.{Entry};
 ghost use Rattle.esr_history.specs.Legal.{along};
-ghost use Rattle.esr_history.specs.Machine.{IsLegal, charges_in, import_in};
+ghost use Rattle.esr_history.specs.Machine.{IsLegal};
 ghost use Rattle.esr_history.specs.Queries.{is_committed_query};
 ghost use Rattle.esr_history.specs.Serial.{IsSerializable, committed_updates};
 ghost use Rattle.esr_history.specs.Totals.{IsWithinLimits};
 ghost use Rattle.esr_cert.specs.Certificate.{Certifies};
 ghost use Rattle.esr_cert.specs.Problem.{in_set, IsSmallestLeast};
 ghost use Rattle.esr_cert.specs.Views.{certificate_of};
-ghost use Rattle.esr_order.specs.Orders.{IsOrderOf};
-ghost use Rattle.esr_ledgers.specs.Books.{amount_at, is_open, is_open_query};
-ghost use Rattle.esr_audit.specs.Findings.{IsAnswer, IsShown, IsFinding, committed_queries};
+ghost use Rattle.esr_order.specs.Orders.{IsOrderAmong};
+ghost use Rattle.esr_order.specs.Near.{AreNear};
+ghost use Rattle.esr_audit.specs.Findings.{IsAnswer, IsShown, IsCounted, IsFinding, committed_queries, told, told_of};
 
+use crate::commits::{CommitLists, commit_lists};
 use crate::finding::{AuditError, Book, Finding};
 use crate::problem::problem_of;
-use crate::reads::committed;
 use esr_cert::{Certificate, Problem};
-use esr_core::ledgers_of;
 use esr_flow::{Network, solve};
 use esr_history::{History, NoMemory, TxnId};
 use esr_items::Metric;
-use esr_ledgers::Ledgers;
 use esr_order::Order;
 use std::alloc::{AllocError, Global};
 
@@ -46,28 +44,30 @@ fn updates_at(alloc: Global, updates: &[TxnId], set: &[u32]) -> Result<Vec<TxnId
 fn certify(alloc: Global, problem: &Problem) -> Result<Certificate, NoMemory>
     ensures certifies { IfOk result (λ c. Certifies problem.now (certificate_of c)) }
     ensures least { IfOk result (λ c. IsSmallestLeast problem.now (in_set c.set.items)) }
+    ensures counted { IfOk result (λ c. IsCounted problem.now (certificate_of c)) }
 {
     let network = Network::build(alloc, problem)?;
     Ok(solve(alloc, &network)?.certificate)
 }
 
-/// What is found of a query, whose order and import are known.
+/// What is found of a query, of the order among its near updates.
 fn find<M: Metric>(
     alloc: Global,
     history: &History<M>,
-    order: &Order,
+    order: Order,
     q: TxnId,
-    import: u64,
 ) -> Result<Finding, AuditError>
-    requires order { IsOrderOf history.now.schedule q.0 order.now }
+    requires order { IsOrderAmong history.now.schedule q.0 (map (λ t. t.0) order.commits) order }
+    requires near { AreNear history.now.schedule q.0 (map (λ t. t.0) order.commits) }
     requires committed { IsTrue (is_committed_query history.now.schedule q.0) }
-    requires import { import ≡ import_in (charges_in M.distance_by history.now.schedule) q.0 }
     ensures query { IfOk result (λ f. f.query ≡ q) }
     ensures answer { IfOk result (λ f. IsAnswer M.distance_by history.now.schedule q.0 f.distance f.import (map (λ t. t.0) f.before.items)) }
     ensures shown { IfOk result (λ f. IsShown M.distance_by history.now.schedule q.0 f.distance (map (λ t. t.0) f.before.items) f.problem (certificate_of f.certificate)) }
+    ensures near { IfOk result (λ f. AreNear history.now.schedule q.0 f.problem.updates) }
     ensures err { IfErr result (λ e. e ≡ AuditError.NoMemory) }
 {
-    let _legal = history.log();
+    let _legal = history.log(); // brings the invariant into the proof
+    let import = history.import(q);
     let problem = problem_of(alloc, history, order, q)?;
     let certificate = certify(alloc, &problem)?;
     let before = updates_at(alloc, problem.updates(), &certificate.set)?;
@@ -82,7 +82,9 @@ fn find<M: Metric>(
 }
 
 /// The least distance of what a committed query read from any serial placement, with a
-/// certificate. It stays the answer however the history goes on.
+/// certificate. It stays the answer however the history goes on. The problem has exactly the
+/// near updates of the query: those that wrote an item that it read, those from which a row of
+/// befores leads to such an update, and those that it must have seen.
 ///
 /// # Errors
 /// `NotACommittedQuery` exactly where the transaction is no query, or has not committed.
@@ -95,28 +97,15 @@ pub fn audit_query<M: Metric>(
     ensures query { IfOk result (λ f. f.query ≡ q) }
     ensures answer { IfOk result (λ f. IsAnswer M.distance_by history.now.schedule q.0 f.distance f.import (map (λ t. t.0) f.before.items)) }
     ensures shown { IfOk result (λ f. IsShown M.distance_by history.now.schedule q.0 f.distance (map (λ t. t.0) f.before.items) f.problem (certificate_of f.certificate)) }
+    ensures near { IfOk result (λ f. AreNear history.now.schedule q.0 f.problem.updates) }
     ensures refused { IsErrOf result AuditError.NotACommittedQuery ↔ (is_committed_query history.now.schedule q.0 ≡ false) }
+    ensures workers { ¬ IsErrOf result AuditError.WorkersOutOfRange }
     ensures stays { IfOk result (λ f. (rest : List Entry) → IsLegal M.distance_by (along history.now.schedule rest)
         → IsAnswer M.distance_by (along history.now.schedule rest) q.0 f.distance f.import (map (λ t. t.0) f.before.items)) }
 {
-    let _legal = history.log();
-    let order = Order::of(alloc, history, q)?;
-    let ledgers = ledgers_of(alloc, history)?;
-    find(alloc, history, &order, q, ledgers.amount(q))
-}
-
-/// The updates among transactions.
-fn updates_among(alloc: Global, ledgers: &Ledgers, txns: &[TxnId]) -> Result<Vec<TxnId>, AllocError>
-    requires { All (λ t. is_open ledgers.now t.0 ≡ true) txns.now }
-    ensures { IfOk result (λ v. v.items ≡ filter (λ t. not (is_open_query ledgers.now t.0)) txns.now) }
-{
-    let mut updates = Vec::new(alloc);
-    for t in txns {
-        if !ledgers.is_query(*t) {
-            updates.push(*t)?;
-        }
-    }
-    Ok(updates)
+    let _legal = history.log(); // brings the invariant into the proof
+    let order = Order::near(alloc, history, q)?;
+    find(alloc, history, order, q)
 }
 
 /// What is found of a committed query.
@@ -124,40 +113,33 @@ fn find_committed<M: Metric>(
     alloc: Global,
     history: &History<M>,
     q: TxnId,
-    import: u64,
 ) -> Result<Finding, AuditError>
-    requires committed { IsTrue (is_committed_query history.now.schedule q.0) }
-    requires import { import ≡ import_in (charges_in M.distance_by history.now.schedule) q.0 }
+    requires { IsTrue (is_committed_query history.now.schedule q.0) }
     ensures query { IfOk result (λ f. f.query ≡ q) }
     ensures finding { IfOk result (IsFinding M.distance_by history.now.schedule) }
     ensures err { IfErr result (λ e. e ≡ AuditError.NoMemory) }
 {
-    let order = Order::of(alloc, history, q)?;
-    find(alloc, history, &order, q, import)
+    let near = Order::near(alloc, history, q)?;
+    find(alloc, history, near, q)
 }
 
-/// What is found of each query among transactions that committed.
+/// What is found of each of these committed queries.
 fn findings_of<M: Metric>(
     alloc: Global,
     history: &History<M>,
-    ledgers: &Ledgers,
-    txns: &[TxnId],
+    queries: &[TxnId],
 ) -> Result<Vec<Finding>, AuditError>
-    requires open { All (λ t. is_open ledgers.now t.0 ≡ true) txns.now }
-    requires queries { All (λ t. is_open_query ledgers.now t.0 ≡ true → IsTrue (is_committed_query history.now.schedule t.0)) txns.now }
-    requires imports { All (λ t. is_open_query ledgers.now t.0 ≡ true → amount_at ledgers.now t.0 ≡ import_in (charges_in M.distance_by history.now.schedule) t.0) txns.now }
-    ensures queries { IfOk result (λ v. map (λ f. f.query) v.items ≡ filter (λ t. is_open_query ledgers.now t.0) txns.now) }
+    requires { All (λ t. IsTrue (is_committed_query history.now.schedule t.0)) queries.now }
+    ensures queries { IfOk result (λ v. map (λ f. f.query) v.items ≡ queries.now) }
     ensures findings { IfOk result (λ v. All (IsFinding M.distance_by history.now.schedule) v.items) }
     ensures err { IfErr result (λ e. e ≡ AuditError.NoMemory) }
 {
     let mut findings = Vec::new(alloc);
-    for t in txns {
-        if ledgers.is_query(*t) {
-            let finding = find_committed(alloc, history, *t, ledgers.amount(*t))?;
-            match findings.push(finding) {
-                Ok(()) => {}
-                Err(_) => return Err(AuditError::NoMemory),
-            }
+    for q in queries {
+        let finding = find_committed(alloc, history, *q)?;
+        match findings.push(finding) {
+            Ok(()) => {}
+            Err(_) => return Err(AuditError::NoMemory),
         }
     }
     Ok(findings)
@@ -170,12 +152,12 @@ fn book_of<M: Metric>(alloc: Global, history: &History<M>) -> Result<Book, Audit
     ensures findings { IfOk result (λ b. All (IsFinding M.distance_by history.now.schedule) b.findings.items) }
     ensures err { IfErr result (λ e. e ≡ AuditError.NoMemory) }
 {
-    let log = history.log();
-    let ledgers = ledgers_of(alloc, history)?;
-    let txns = committed(alloc, log)?;
-    let order = updates_among(alloc, &ledgers, &txns)?;
-    let findings = findings_of(alloc, history, &ledgers, &txns)?;
-    Ok(Book { order, findings })
+    let CommitLists { updates, queries } = commit_lists(alloc, history)?;
+    let findings = findings_of(alloc, history, &queries)?;
+    Ok(Book {
+        order: updates,
+        findings,
+    })
 }
 
 /// The audit of a history: a serial order of its committed updates, and what is found of each
@@ -184,7 +166,8 @@ fn book_of<M: Metric>(alloc: Global, history: &History<M>) -> Result<Book, Audit
 /// Each reply of the history is the machine's; its committed updates are conflict-serializable,
 /// in the order of their commits; no import and no export has passed its limit; and of each
 /// committed query there is the least distance of what it read from any serial placement, shown
-/// by a closed set and a flow of equal worth, and at most the import charged.
+/// by a closed set and a flow of equal worth, and at most the import charged. What is found stays
+/// the answer however the history goes on.
 ///
 /// # Errors
 /// `NoMemory` where memory was refused.
@@ -195,8 +178,11 @@ pub fn audit_history<M: Metric>(alloc: Global, history: &History<M>) -> Result<B
     ensures order { IfOk result (λ b. map (λ t. t.0) b.order.items ≡ committed_updates history.now.schedule) }
     ensures queries { IfOk result (λ b. map (λ f. f.query.0) b.findings.items ≡ committed_queries history.now.schedule) }
     ensures findings { IfOk result (λ b. All (IsFinding M.distance_by history.now.schedule) b.findings.items) }
+    ensures told { IfOk result (λ b. map told b.findings.items ≡ map (told_of M.distance_by history.now.schedule) (committed_queries history.now.schedule)) }
     ensures err { IfErr result (λ e. e ≡ AuditError.NoMemory) }
+    ensures stays { IfOk result (λ b. (rest : List Entry) → IsLegal M.distance_by (along history.now.schedule rest)
+        → All (λ f. IsAnswer M.distance_by (along history.now.schedule rest) f.query.0 f.distance f.import (map (λ t. t.0) f.before.items)) b.findings.items) }
 {
-    let _legal = history.log();
+    let _legal = history.log(); // brings the invariant into the proof
     book_of(alloc, history)
 }

@@ -42,6 +42,8 @@ pub enum AuditError {
     NotACommittedQuery = 1,
     /// Memory was refused.
     NoMemory = 2,
+    /// An audit has 1 to 64 workers.
+    WorkersOutOfRange = 3,
 }
 
 impl From<AllocError> for AuditError {

@@ -4,9 +4,11 @@
 
 mod audit;
 mod chains;
+mod commits;
 mod finding;
 mod problem;
 mod reads;
 
 pub use audit::{audit_history, audit_query};
+pub use commits::{CommitLists, commit_lists};
 pub use finding::{AuditError, Book, Finding};

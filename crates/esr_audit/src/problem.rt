@@ -1,8 +1,9 @@
 //! The problem that stands for a committed query.
-ghost use Rattle.std.specs.Prelude.{◌≡◌, IfOk, IfErr, IsTrue};
+ghost use Rattle.std.specs.Prelude.{◌≡◌, map, IfOk, IfErr, IsTrue};
 ghost use Rattle.esr_history.specs.Events.{is_query};
 ghost use Rattle.esr_history.specs.Machine.{done};
-ghost use Rattle.esr_order.specs.Orders.{IsOrderOf};
+ghost use Rattle.esr_order.specs.Orders.{IsOrderAmong};
+ghost use Rattle.esr_order.specs.Near.{AreNear};
 ghost use Rattle.esr_audit.specs.Problems.{StandsFor};
 
 use crate::chains::chains_of;
@@ -14,28 +15,29 @@ use esr_items::Metric;
 use esr_order::Order;
 use std::alloc::{AllocError, Global};
 
-/// The problem of a query, from an order of it.
+/// The problem of a query, of an order among its near updates.
 pub fn problem_of<M: Metric>(
     alloc: Global,
     history: &History<M>,
-    order: &Order,
+    order: Order,
     q: TxnId,
 ) -> Result<Problem, AuditError>
-    requires order { IsOrderOf history.now.schedule q.0 order.now }
+    requires order { IsOrderAmong history.now.schedule q.0 (map (λ t. t.0) order.commits) order }
+    requires near { AreNear history.now.schedule q.0 (map (λ t. t.0) order.commits) }
     requires query { IsTrue (is_query (done history.now.schedule) q.0) }
     ensures stands { IfOk result (λ p. StandsFor M.distance_by history.now.schedule q.0 p) }
+    ensures near { IfOk result (λ p. AreNear history.now.schedule q.0 p.updates) }
     ensures err { IfErr result (λ e. e ≡ AuditError.NoMemory) }
 {
-    let log = history.log();
-    let readings = readings(alloc, log, q)?;
-    let chains = chains_of(alloc, history, order, &readings)?;
-    let updates = order.commits().to_vec(alloc)?;
-    let before = order.before().to_vec(alloc)?;
-    let must = order.must().to_vec(alloc)?;
+    let _legal = history.log(); // brings the invariant into the proof
+    let readings = readings(alloc, history, q)?;
+    let chains = chains_of(alloc, history, &order, &readings)?;
+    let (updates, before, must) = order.into_parts();
     match Problem::new(alloc, updates, before, chains, must) {
         Ok(problem) => Ok(problem),
         Err(BundleFault::NoMemory) => Err(AuditError::NoMemory),
         Err(BundleFault::Shape) => unreachable!(),
         Err(BundleFault::Range) => unreachable!(),
+        Err(BundleFault::Json) => unreachable!(),
     }
 }

@@ -1,12 +1,14 @@
-//! What a query read, and who committed.
-ghost use Rattle.std.specs.Prelude.{◌≡◌, IfOk};
-ghost use Rattle.std.specs.List.{filter_map};
-ghost use Rattle.esr_history.specs.Events.{is_refusal};
+//! What a query read.
+ghost use Rattle.std.specs.Prelude.{◌≡◌, IfOk, reverse};
+ghost use Rattle.std.specs.List.{filter_map, slice_get};
+ghost use Rattle.esr_history.specs.Events.{is_query};
+ghost use Rattle.esr_history.specs.Machine.{done};
 ghost use Rattle.esr_history.specs.Operations.{answer};
-ghost use Rattle.esr_order.specs.Scans.{scanned};
-ghost use Rattle.esr_audit.specs.Reads.{read_at, commit_in};
+ghost use Rattle.esr_audit.specs.Reads.{read_at};
 
-use esr_history::{Entry, Event, Log, Reply, TxnId};
+use esr_history::{Entry, Event, History, Log, Reply, TxnId};
+use esr_items::Metric;
+use esr_order::places_of_txn;
 use std::alloc::{AllocError, Global};
 
 /// A value that was read of an item.
@@ -14,12 +16,6 @@ use std::alloc::{AllocError, Global};
 pub struct Reading {
     pub item: u32,
     pub value: i64,
-}
-
-fn is_refused(reply: Reply) -> bool
-    ensures { result ≡ is_refusal reply }
-{
-    matches!(reply, Reply::Refused(_))
 }
 
 fn answered(reply: Reply) -> i64
@@ -35,7 +31,7 @@ fn answered(reply: Reply) -> i64
 fn reading_in(entry: Entry, q: TxnId) -> Option<Reading>
     ensures { result ≡ read_at q.0 entry }
 {
-    if is_refused(entry.reply) {
+    if entry.is_refused() {
         return None;
     }
     match entry.event {
@@ -53,35 +49,36 @@ fn reading_in(entry: Entry, q: TxnId) -> Option<Reading>
     }
 }
 
-/// What the query read, in order.
-pub fn readings(alloc: Global, log: &Log, q: TxnId) -> Result<Vec<Reading>, AllocError>
-    ensures { IfOk result (λ v. v.items ≡ filter_map (read_at q.0) (scanned log.now.entries)) }
+/// What the query read in the entries at these places, the last first.
+fn readings_at(alloc: Global, log: &Log, at: &[u64], q: TxnId) -> Result<Vec<Reading>, AllocError>
+    ensures { IfOk result (λ v. v.items ≡ filter_map (read_at q.0) (filter_map (slice_get log.now.entries) (reverse at.now))) }
 {
-    (0..log.len())
-        .filter_map(|i| log.get(i))
+    at.iter()
+        .rev()
+        .filter_map(|i| log.get(*i as usize))
         .filter_map(|entry| reading_in(entry, q))
         .collect(alloc)
 }
 
-/// The transaction that commits in an entry, if that is accepted.
-fn committer_of(entry: Entry) -> Option<TxnId>
-    ensures { result ≡ commit_in entry }
+/// What the query read, in order. It goes along the links of the query.
+pub fn readings<M: Metric>(
+    alloc: Global,
+    history: &History<M>,
+    q: TxnId,
+) -> Result<Vec<Reading>, AllocError>
+    ensures { IfOk result (λ v. v.items ≡ filter_map (read_at q.0) history.now.schedule.entries) }
 {
-    if is_refused(entry.reply) {
-        return None;
-    }
-    match entry.event {
-        Event::Commit { txn } => Some(txn),
-        _ => None,
-    }
+    let at = places_of_txn(alloc, history, q)?;
+    let readings = readings_at(alloc, history.log(), &at, q)?;
+    Ok(readings)
 }
 
-/// The transactions that committed, in order.
-pub fn committed(alloc: Global, log: &Log) -> Result<Vec<TxnId>, AllocError>
-    ensures { IfOk result (λ v. v.items ≡ filter_map commit_in (scanned log.now.entries)) }
+/// Whether the transaction is a query.
+pub fn is_query<M: Metric>(history: &History<M>, t: TxnId) -> bool
+    ensures { result ≡ is_query (done history.now.schedule) t.0 }
 {
-    (0..log.len())
-        .filter_map(|i| log.get(i))
-        .filter_map(committer_of)
-        .collect(alloc)
+    match history.facts(t) {
+        None => false,
+        Some(facts) => facts.query,
+    }
 }

@@ -1,50 +1,95 @@
-//! Measures the solver on problems made by a fixed rule. What it found goes to
-//! standard output, how long it took to standard error.
+//! Measures the check, the solver, and the reading and writing of bundles. What
+//! came of them goes to standard output, how long they took to standard error.
 #![tactic(auto)]
 
-mod problems;
+mod checked;
+mod solved;
 
-use crate::problems::{line, scattered};
-use esr_cert::Problem;
+use crate::checked::{certificate_of, problem_of};
+use crate::solved::{line, scattered};
+use anyhow::{Result, anyhow};
+use esr_bundle::{from_json, to_json};
+use esr_cert::{Problem, check};
 use esr_flow::{Network, solve};
 use std::alloc::Global;
-use std::process::ExitCode;
+use std::io::Read;
 use std::rt::Clock;
 use std::time::Instant;
 
-fn main(rt: HostRuntime) -> anyhow::Result<ExitCode> {
+const USAGE: &str = "usage: esr_bench check UPDATES ROUNDS, with 100 to 60000 updates
+       esr_bench solve line|scattered UPDATES
+       esr_bench bundle, with a bundle on standard input";
+
+fn main(rt: HostRuntime) -> Result<()> {
     let alloc = rt.alloc();
-    let mut words = Vec::new(alloc);
-    for word in std::env::args(&rt)? {
-        words.push(word)?;
+    let mut owned = Vec::new(alloc);
+    for word in std::env::args(&rt)?.skip(1) {
+        owned.push(word)?;
     }
-    let kind = words.get(1).map(|word| word.as_str());
-    let updates = words
-        .get(2)
-        .and_then(|word| word.parse::<u32>().ok())
-        .unwrap_or(200);
-    let problem = match kind {
-        Some("line") => line(alloc, updates)?,
-        Some("scattered") => scattered(alloc, updates)?,
-        _ => {
-            eprintln!(rt; "usage: esr_bench line|scattered UPDATES")?;
-            return Ok(ExitCode::from(2));
+    let mut words = Vec::new(alloc);
+    for word in &owned {
+        words.push(word.as_str())?;
+    }
+    match words.as_slice() {
+        ["check", updates, rounds] => measure_check(&rt, alloc, updates.parse()?, rounds.parse()?),
+        ["solve", "line", updates] => {
+            let problem = line(alloc, updates.parse()?)?;
+            measure_solve(&rt, alloc, &problem)
         }
+        ["solve", "scattered", updates] => {
+            let problem = scattered(alloc, updates.parse()?)?;
+            measure_solve(&rt, alloc, &problem)
+        }
+        ["bundle"] => measure_bundle(&rt, alloc),
+        _ => Err(anyhow!("{USAGE}")),
+    }
+}
+
+/// How many arcs the network of a problem has.
+fn arc_count(problem: &Problem) -> usize {
+    let mut count = problem.before().len().saturating_add(problem.must().len());
+    for chain in problem.chains() {
+        count = count.saturating_add(chain.costs.len());
+    }
+    count
+}
+
+/// Checks a certificate so many times, and tells how long one check took.
+fn measure_check(
+    rt: &(impl Print + Eprint + Clock),
+    alloc: Global,
+    updates: u32,
+    rounds: u32,
+) -> Result<()> {
+    if !(100..=60_000).contains(&updates) || rounds == 0 {
+        return Err(anyhow!("{USAGE}"));
+    }
+    let Ok(problem) = problem_of(alloc, updates) else {
+        return Err(anyhow!("no problem"));
     };
-    measure(&rt, alloc, &problem)?;
-    Ok(ExitCode::SUCCESS)
+    let certificate = certificate_of(alloc, updates)?;
+    let start = Instant::now(rt)?;
+    let mut valid = true;
+    for _ in 0..rounds {
+        valid = valid && check(&problem, &certificate).is_ok();
+    }
+    let each = start.elapsed(rt)?.as_micros() / u128::from(rounds);
+    let arcs = arc_count(&problem);
+    println!(rt; "updates {updates} arcs {arcs} valid {valid}")?;
+    eprintln!(rt; "microseconds {each}")?;
+    Ok(())
 }
 
 /// Solves the problem, says what was found, and how long it took.
-fn measure(
+fn measure_solve(
     rt: &(impl Print + Eprint + Clock),
     alloc: Global,
     problem: &Problem,
-) -> anyhow::Result<()> {
+) -> Result<()> {
     let start = Instant::now(rt)?;
-    let network = Network::build(alloc, problem).map_err(|_| anyhow::anyhow!("out of memory"))?;
+    let network = Network::build(alloc, problem).map_err(|_| anyhow!("out of memory"))?;
     let built = start.elapsed(rt)?;
-    let solved = solve(alloc, &network).map_err(|_| anyhow::anyhow!("out of memory"))?;
+    let solved = solve(alloc, &network).map_err(|_| anyhow!("out of memory"))?;
     let done = start.elapsed(rt)?;
     println!(rt;
         "worth {} augmentations {} phases {}",
@@ -55,5 +100,27 @@ fn measure(
         built.as_millis(),
         done.as_millis()
     )?;
+    Ok(())
+}
+
+/// Reads the bundle on standard input, checks it, writes it again, and says
+/// whether the same bytes came out.
+fn measure_bundle(rt: &(impl Input + Print + Eprint + Clock), alloc: Global) -> Result<()> {
+    let mut input = Vec::new(alloc);
+    rt.reader().read_to_end(&mut input)?;
+    let start = Instant::now(rt)?;
+    let (problem, certificate) = from_json(alloc, &input).map_err(|fault| anyhow!(
+        "no bundle: {fault:?}"
+    ))?;
+    let read = start.elapsed(rt)?.as_millis();
+    let start = Instant::now(rt)?;
+    let valid = check(&problem, &certificate).is_ok();
+    let checked = start.elapsed(rt)?.as_millis();
+    let start = Instant::now(rt)?;
+    let text = to_json(alloc, &problem, &certificate).map_err(|_| anyhow!("out of memory"))?;
+    let written = start.elapsed(rt)?.as_millis();
+    let same = text.as_slice() == input.as_slice();
+    println!(rt; "valid {valid} same {same}")?;
+    eprintln!(rt; "read {read} ms, check {checked} ms, write {written} ms")?;
     Ok(())
 }

@@ -5,9 +5,9 @@ pub mod Cut
 pub mod Least
 pub mod Matched
 pub mod Certified
-mod Steps
-mod Search
-mod Distinct
+pub mod Steps
+pub mod Search
+pub mod Distinct
 pub mod Touches
 mod Balance
 mod Rows

@@ -4,7 +4,7 @@ use Rattle.esr_cert.specs.Problem.{Problem, has_shape, is_in_range}
 use Rattle.esr_cert.specs.declared.certificate.Fault.{Fault}
 use Rattle.esr_cert.specs.declared.certificate.Fault.TheVariants.{SetNotAscending, UnknownUpdate, SetNotClosed, OverCapacity, NotConserved, WorthNotCost, TooManyAugmentations}
 use Rattle.esr_cert.specs.declared.problem.BundleFault.{BundleFault}
-use Rattle.esr_cert.specs.declared.problem.BundleFault.TheVariants.{Shape, Range, NoMemory}
+use Rattle.esr_cert.specs.declared.problem.BundleFault.TheVariants.{Json, Shape, Range, NoMemory}
 
 -- shape comes before range
 abbrev pub problem_fault : Problem → Option BundleFault
@@ -20,6 +20,7 @@ fault_number WorthNotCost = 6
 fault_number TooManyAugmentations = 7
 
 abbrev pub bundle_fault_number : BundleFault → ℕ
+bundle_fault_number Json = 1
 bundle_fault_number Shape = 2
 bundle_fault_number Range = 3
 bundle_fault_number NoMemory = 4

@@ -22,9 +22,11 @@ pub struct Chain {
     pub costs: Vec<u64>,
 }
 
-/// Why parts make no problem.
+/// Why parts make no problem, or bytes no bundle.
 #[derive(Clone, Copy, Debug, PartialEq, Eq)]
 pub enum BundleFault {
+    /// The bytes are no JSON. Parts never have this fault.
+    Json = 1,
     /// A rule of shape is broken.
     Shape = 2,
     /// The shape is right, and a number is out of its range.

@@ -1,20 +1,85 @@
--- The command line of the program, and the job that words ask for.
-use Rattle.std.specs.Prelude.{◌≡◌, List, [], ◌∷◌, Some, true, codes, Option}
-use Rattle.clap.specs.Words.{App, Row, Text, new_app, with_subcommand}
+-- The jobs that words ask for.
+use Rattle.std.specs.Prelude.{◌≡◌, ◌≤◌, ◌⊎◌, ⊤, ℕ, Bool, true, false, List, [], ◌∷◌, Option, Some, None, codes, if◌then◌else◌, option_and_then, option_map}
+use Rattle.std.specs.Str.{bytes_eq}
+use Rattle.std.specs.Str.Parse.{digits_value, without_leading_plus}
+use Rattle.clap.specs.Lexer.{strip_byte}
+use Rattle.clap.specs.Words.{Row, Text, first_of, one_of}
+use Rattle.clap.specs.ValueTests.{is_unsigned_in}
 use Rattle.esr_cli.specs.declared.Job.{Job}
 use Rattle.esr_cli.specs.declared.Job.TheVariants as job
 
--- the command `esr`, with a version, which needs one of its subcommands
-abbrev pub esr : App
-esr = let plain = new_app (codes "esr") in record plain { top = record plain.top { has_version = true; subcommand_required = true } }
+-- what the program is asked for
+pub data Request : Type 0 where
+  run : Request
+  certify : Text → Bool → Request
+  check : Request
+  audit : ℕ → Request
+  drive : ℕ → Request
 
-abbrev pub program : App
-program = with_subcommand esr (new_app (codes "run")).top
+abbrev pub request_of : Job → Request
+request_of job.Run = run
+request_of (job.Certify name steps) = certify name.now steps
+request_of job.Check = check
+request_of (job.Audit workers) = audit workers
+request_of (job.Drive workers) = drive workers
 
--- the subcommand and its matches ask for the job
-abbrev pub Asks : Option (Text × List Row) → Job → Type 0
-Asks found job.Run = (rows : List Row) × (found ≡ Some (codes "run", rows))
+-- 1 to 64 workers, where any work
+abbrev pub HasWorkers : Request → Type 0
+HasWorkers (audit workers) = (1 ≤ workers) × (workers ≤ 64)
+HasWorkers (drive workers) = (1 ≤ workers) × (workers ≤ 64)
+HasWorkers _ = ⊤
 
--- a program's name, and then just the word for the job
-abbrev pub Spells : List Text → Job → Type 0
-Spells words job.Run = (name : Text) × (words ≡ name ∷ codes "run" ∷ [])
+abbrev pub bool_of : Text → Option Bool
+bool_of text = if bytes_eq text (codes "true") then Some true
+    else (if bytes_eq text (codes "false") then Some false else None)
+
+abbrev pub number_of : Text → Option ℕ
+number_of text = if is_unsigned_in 0 18446744073709551615 text
+    then Some (digits_value 10 (without_leading_plus text)) else None
+
+-- what the matches of a subcommand ask for
+abbrev pub steps_in : List Row → Option Bool
+steps_in rows = option_and_then bool_of (one_of (codes "steps") rows)
+
+abbrev pub certify_in : List Row → Option Request
+certify_in rows = option_and_then (λ name. option_map (certify name) (steps_in rows)) (first_of (codes "NAME") rows)
+
+abbrev pub workers_in : List Row → Option ℕ
+workers_in rows = option_and_then number_of (one_of (codes "workers") rows)
+
+-- what a subcommand and its matches ask for
+abbrev pub request_in_one : Text → List Row → Option Request
+request_in_one name rows =
+    if bytes_eq name (codes "run") then Some run
+    else (if bytes_eq name (codes "certify") then certify_in rows
+    else (if bytes_eq name (codes "check") then Some check
+    else (if bytes_eq name (codes "audit") then option_map audit (workers_in rows)
+    else (if bytes_eq name (codes "drive") then option_map drive (workers_in rows)
+    else None))))
+
+abbrev pub request_in : Option (Text × List Row) → Option Request
+request_in None = None
+request_in (Some p) = request_in_one p.0 p.1
+
+-- the word is no option, since it does not begin with `-`
+abbrev pub IsPlainWord : Text → Type 0
+IsPlainWord word = strip_byte 45 word ≡ None
+
+-- the words that follow the program's name
+abbrev pub IsCall : List Text → List Text → Type 0
+IsCall words rest = (name : Text) × (words ≡ name ∷ rest)
+
+-- a program's name and the subcommand's, and then this number of workers or, where they are 4, none
+abbrev pub SpellsWorkers : Text → ℕ → List Text → Type 0
+SpellsWorkers name workers words = ((workers ≡ 4) × IsCall words (name ∷ []))
+    ⊎ ((text : Text) × (is_unsigned_in 1 64 text ≡ true) × (workers ≡ digits_value 10 (without_leading_plus text))
+    × IsCall words (name ∷ codes "--workers" ∷ text ∷ []))
+
+-- a program's name, and then just the words for the request
+abbrev pub Spells : List Text → Request → Type 0
+Spells words run = IsCall words (codes "run" ∷ [])
+Spells words (certify name false) = IsPlainWord name × IsCall words (codes "certify" ∷ name ∷ [])
+Spells words (certify name true) = IsPlainWord name × IsCall words (codes "certify" ∷ codes "--steps" ∷ name ∷ [])
+Spells words check = IsCall words (codes "check" ∷ [])
+Spells words (audit workers) = SpellsWorkers (codes "audit") workers words
+Spells words (drive workers) = SpellsWorkers (codes "drive") workers words

@@ -1,45 +1,175 @@
 //! The command line of the program `esr`.
 #![tactic(auto)]
 
-ghost use Rattle.std.specs.Prelude.{◌≡◌, IfOk, IfSome, IsNone, MatchResult};
-ghost use Rattle.clap.specs.Words.{app_of, fault_of, kind_of, subcommand_of, subcommand_rows_of, FailsBy};
+ghost use Rattle.std.specs.Prelude.{◌≡◌, IfOk, MatchResult, Some, codes, false, option_map};
+ghost use Rattle.clap.specs.Words.{app_of, fault_of, first_of, found_of, kind_of, rows_of};
+ghost use Rattle.clap.specs.Words.{subcommand_of, subcommand_rows_of, FailsBy};
 ghost use Rattle.clap.specs.Walk.{texts};
+ghost use Rattle.clap.specs.declared.builder.command.Command.TheViews.{out-Command};
 ghost use Rattle.clap.specs.declared.error.kind.ErrorKind.TheVariants.{OutOfMemory};
-ghost use Rattle.esr_cli.specs.Job.{program, Asks, Spells};
+ghost use Rattle.esr_cli.specs.Program.{certify, parallel, program, scripts};
+ghost use Rattle.esr_cli.specs.Job.{certify_in, request_in, request_of, steps_in, workers_in, HasWorkers, Spells};
 
 #[cfg(test)]
 mod tests;
 
-use clap::{ArgMatches, Command, Error};
+use clap::{Arg, ArgAction, ArgMatches, Command, Error, value_parser};
 use std::alloc::{AllocError, Global};
 
-/// What the words of a command line ask for.
+/// What the words of a command line ask for. Each job reads standard input and
+/// writes standard output.
 #[derive(Clone, Copy, Debug, PartialEq, Eq)]
-pub enum Job {
-    /// Runs a script from standard input to standard output.
+pub enum Job<'a> {
+    /// Runs a script.
     Run,
+    /// Runs a script without writing its lines, and writes the bundle of the
+    /// query `name`, with the count of augmentations if `steps`.
+    Certify { name: &'a str, steps: bool },
+    /// Judges a bundle.
+    Check,
+    /// Runs a script without writing its lines, and audits each committed query
+    /// with so many workers, 1 to 64.
+    Audit { workers: u64 },
+    /// Runs the sessions of a drive file, and audits with so many workers, 1 to
+    /// 64.
+    Drive { workers: u64 },
+}
+
+const SCRIPTS: &str = "A script is a list of lines, each answered by one line:
+
+  item NAME VALUE             declares an item (before all other lines)
+  item NAME VALUE weight W    the same; distances count W times, 1 to 1000
+  begin NAME update LIMIT     begins an update, which may export at most LIMIT
+  begin NAME query LIMIT      begins a query, which may import at most LIMIT
+  begin NAME query LIMIT strict   the same, audited behind all that had committed
+  read TRANSACTION ITEM
+  write TRANSACTION ITEM VALUE
+  commit TRANSACTION
+  abort TRANSACTION
+  audit QUERY                 how far a committed query is from a serial order
+  totals                      what was imported and exported, and the entries
+  # a comment                 skipped, as an empty line is
+
+For example:
+
+  item a 100
+  begin u update 50
+  begin q query 10
+  write u a 107
+  read q a
+  commit u
+  commit q
+  audit q
+
+docs/FORMATS.md has every rule.";
+
+/// `certify [--steps] NAME`
+fn certify<'a>(alloc: Global) -> Result<Command<'a>, AllocError>
+    ensures app { IfOk result (λ c. app_of c ≡ certify) }
+    ensures local { IfOk result (λ c. (out-Command c).has_globals ≡ false) }
+{
+    let steps = Arg::new(alloc, "steps")
+        .long("steps")
+        .action(ArgAction::SetTrue)
+        .help("Tells how many augmentations led to the flow");
+    let name = Arg::new(alloc, "NAME").required(true).help("The query");
+    Command::new(alloc, "certify")
+        .about("Runs a script from standard input and writes the bundle of a query")
+        .arg(steps)?
+        .arg(name)
+}
+
+/// `name [--workers W]`
+fn parallel<'a>(alloc: Global, name: &'a str, about: &'a str) -> Result<Command<'a>, AllocError>
+    ensures app { IfOk result (λ c. app_of c ≡ parallel name.entry.now) }
+    ensures local { IfOk result (λ c. (out-Command c).has_globals ≡ false) }
+{
+    let workers = Arg::new(alloc, "workers")
+        .long("workers")
+        .value_name("W")
+        .value_parser(value_parser!(u64).range(1..=64))
+        .default_value("4")
+        .help("How many threads audit, 1 to 64");
+    Command::new(alloc, name).about(about).arg(workers)
+}
+
+/// The program with the jobs that need one thread.
+fn scripts<'a>(alloc: Global) -> Result<Command<'a>, AllocError>
+    ensures { IfOk result (λ c. app_of c ≡ scripts) }
+{
+    let run = Command::new(alloc, "run")
+        .about("Runs a script from standard input to standard output")
+        .after_help(SCRIPTS);
+    let check = Command::new(alloc, "check").about(
+        "Judges the bundle on standard input: valid, invalid or bad",
+    );
+    Command::new(alloc, "esr")
+        .about("Epsilon-serializable transactions over whole-number items")
+        .after_help(SCRIPTS)
+        .version("0.1.0")
+        .subcommand_required(true)
+        .subcommand(run)?
+        .subcommand(certify(alloc)?)?
+        .subcommand(check)
 }
 
 fn program<'a>(alloc: Global) -> Result<Command<'a>, AllocError>
     ensures { IfOk result (λ c. app_of c ≡ program) }
 {
-    let run = Command::new(alloc, "run").about(
-        "Runs a script from standard input to standard output",
-    );
-    Command::new(alloc, "esr")
-        .about("Epsilon-serializable transactions over whole-number items")
-        .version("0.1.0")
-        .subcommand_required(true)
-        .subcommand(run)
+    let audit = parallel(
+        alloc,
+        "audit",
+        "Runs a script from standard input and audits each committed query",
+    )?;
+    let drive = parallel(
+        alloc,
+        "drive",
+        "Runs the sessions of a drive file from standard input, each on a thread",
+    )?;
+    scripts(alloc)?.subcommand(audit)?.subcommand(drive)
 }
 
-fn job_of(matches: &ArgMatches<'_>) -> Option<Job>
-    ensures job { IfSome result (Asks (subcommand_rows_of matches.now)) }
-    ensures none { IsNone result → (job : Job) → ¬ Asks (subcommand_rows_of matches.now) job }
+fn query<'a>(given: &ArgMatches<'a>) -> Option<&'a str>
+    ensures { option_map (λ s. s.now) result ≡ first_of (codes "NAME") (rows_of (found_of given.now)) }
 {
-    let (name, _) = matches.subcommand()?;
+    given.get_str("NAME")
+}
+
+fn steps(given: &ArgMatches<'_>) -> Option<bool>
+    ensures { result ≡ steps_in (rows_of (found_of given.now)) }
+{
+    given.get_one::<bool>("steps")
+}
+
+fn workers(given: &ArgMatches<'_>) -> Option<u64>
+    ensures { result ≡ workers_in (rows_of (found_of given.now)) }
+{
+    given.get_one::<u64>("workers")
+}
+
+fn certify_job<'a>(given: &ArgMatches<'a>) -> Option<Job<'a>>
+    ensures { option_map request_of result ≡ certify_in (rows_of (found_of given.now)) }
+{
+    match (query(given), steps(given)) {
+        (Some(name), Some(steps)) => Some(Job::Certify { name, steps }),
+        _ => None,
+    }
+}
+
+fn job_of<'a>(matches: &ArgMatches<'a>) -> Option<Job<'a>>
+    ensures { option_map request_of result ≡ request_in (subcommand_rows_of matches.now) }
+{
+    let (name, given) = matches.subcommand()?;
     match name {
         "run" => Some(Job::Run),
+        "certify" => certify_job(given),
+        "check" => Some(Job::Check),
+        "audit" => Some(Job::Audit {
+            workers: workers(given)?,
+        }),
+        "drive" => Some(Job::Drive {
+            workers: workers(given)?,
+        }),
         _ => None,
     }
 }
@@ -47,13 +177,15 @@ fn job_of(matches: &ArgMatches<'_>) -> Option<Job>
 /// The job that the words ask for, from the program's name on.
 ///
 /// An error is help or the version that was asked for, a mistake in the words,
-/// or want of memory; its kind says which. Words that spell a job fail only for
-/// want of memory.
-pub fn command<'a>(alloc: Global, words: &'a [&'a str]) -> Result<Job, Error>
-    ensures job { IfOk result (Asks (subcommand_of program (texts words.entry.now))) }
+/// or out of memory; its kind says which. Words that spell a job fail only if
+/// allocation fails.
+pub fn command<'a>(alloc: Global, words: &'a [&'a str]) -> Result<Job<'a>, Error>
+    ensures job { IfOk result (λ job.
+        request_in (subcommand_of program (texts words.entry.now)) ≡ Some (request_of job)) }
+    ensures workers { IfOk result (λ job. HasWorkers (request_of job)) }
     ensures errors { FailsBy (fault_of program (texts words.entry.now)) result }
-    ensures asked { (job : Job) → Spells (texts words.entry.now) job
-        → MatchResult result (λ found. found ≡ job) (λ e. kind_of e ≡ OutOfMemory) }
+    ensures asked { (request : _) → Spells (texts words.entry.now) request
+        → MatchResult result (λ job. request_of job ≡ request) (λ e. kind_of e ≡ OutOfMemory) }
 {
     let matches = program(alloc)?.try_get_matches_from(words)?;
     match job_of(&matches) {

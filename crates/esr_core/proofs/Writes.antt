@@ -66,7 +66,7 @@ module _ (d : Distance) (h : Schedule) (items : List Versions) (table : List Tra
       subst (λ (as' : List Account). AreCharges as' t owed) (sym tie.books)
       (subst (λ (cs : List (TxnId × ℕ)). AreCharges (books_of (d h.weights) h.opening (done h)) t cs) (sym owed_is) (are_charges-write (d h.weights) h.opening (done h) t x.0 (d h.weights x.0 v (current_value h.opening (done h) x.0)) update))
 
-  due_is : is_update (done h) t.0 ≡ true → due_in d h (Write t x v) ≡ charges_by t.0 owed
+  pub due_is : is_update (done h) t.0 ≡ true → due_in d h (Write t x v) ≡ charges_by t.0 owed
   due_is update = due-write (d h.weights) h.opening (done h) t x v update ∙ ap (charges_by t.0) (sym owed_is)
 
   pub write_books : is_update (done h) t.0 ≡ true → charged accounts t owed ≡ books_of (d h.weights) h.opening (done h ++ Write t x v ∷ [])

@@ -1,5 +1,5 @@
 -- Worked examples: the machine's replies, charges, locks and accounts on some lists of events.
-use Rattle.std.specs.Prelude.{◌≡◌, ℕ, ℤ, pos, List, [], ◌∷◌, ◌++◌, Bool, true, false, refl, map}
+use Rattle.std.specs.Prelude.{◌≡◌, ℕ, ℤ, pos, List, [], ◌∷◌, true, false, refl, map}
 use Rattle.esr_items.specs.Values.{gap}
 use Rattle.esr_history.specs.declared.event.TxnId.{TxnId}
 use Rattle.esr_items.specs.declared.metric.ItemId.{ItemId}
@@ -7,10 +7,10 @@ use Rattle.esr_history.specs.declared.event.Event.{Event}
 use Rattle.esr_history.specs.declared.event.Event.TheVariants.{BeginUpdate, BeginQuery, Read, Write, Commit, Abort}
 use Rattle.esr_history.specs.declared.event.Reply.{Reply}
 use Rattle.esr_history.specs.declared.event.Reply.TheVariants.{Begun, Value, Wrote, Committed, Aborted, Refused}
-use Rattle.esr_history.specs.declared.event.Refusal.TheVariants.{NoSuchTransaction, AlreadyEnded, NoSuchItem, QueryMayNotWrite, ValueOutOfRange, LimitOutOfRange, TooManyTransactions, TooManyReads, BlockedByLock, BlockedByImport, BlockedByExport}
+use Rattle.esr_history.specs.declared.event.Refusal.TheVariants.{NoSuchTransaction, AlreadyEnded, NoSuchItem, QueryMayNotWrite, ValueOutOfRange, LimitOutOfRange, BlockedByLock, BlockedByImport, BlockedByExport}
 use Rattle.esr_history.specs.Machine.{Schedule, Distance, extended, reply_to, charges_in, total, import_in, export_in, done}
-use Rattle.esr_history.specs.ItemLocks.{ItemLocks, Account, item_locks, accounts}
-use Rattle.std.specs.Prelude.{Some, None}
+use Rattle.esr_history.specs.ItemLocks.{item_locks, accounts}
+use Rattle.std.specs.Prelude.{Some}
 
 abbrev pub plain : Distance
 plain w x a b = gap a b

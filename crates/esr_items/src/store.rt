@@ -6,15 +6,17 @@ use crate::{LARGEST_VALUE, MOST_ITEMS};
 use std::alloc::Global;
 use std::marker::Model;
 
-/// Why no store is made, with the number of each reason.
+/// Why `Store::new` or `Weighted::new` fails, with the number of each reason.
 #[derive(Clone, Copy, PartialEq, Eq, Debug)]
 pub enum ItemsError {
     /// There are more than 4,096 items.
     TooManyItems = 1,
     /// A value is above 1,000,000,000,000 or below its negative.
     ValueOutOfRange = 2,
-    /// Memory was refused.
+    /// An allocation failed.
     NoMemory = 3,
+    /// A weight is 0 or above 1,000.
+    WeightOutOfRange = 4,
 }
 
 /// The two values of an item: the one that committed transactions left, and the one that the

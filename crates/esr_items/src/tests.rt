@@ -1,4 +1,4 @@
-use crate::{ItemId, ItemsError, Metric, Plain, Store};
+use crate::{ItemId, ItemsError, Metric, Plain, Store, Weighted};
 use std::test::Fail;
 
 #[test]
@@ -41,4 +41,29 @@ fn plain_distances_are_differences(rt: HostRuntime) {
         2_000_000_000_000
     );
     assert_eq!(rt; Plain.distance(x, 3, 3), 0);
+}
+
+#[test]
+fn weighted_distances_are_differences_times_weights(rt: HostRuntime) -> Result<(), Fail> {
+    let alloc = rt.alloc();
+    let metric = Weighted::new(vec![in alloc; 3u32, 1000u32]?)?;
+    assert_eq!(rt; metric.distance(ItemId(0), 107, 100), 21);
+    assert_eq!(rt;
+        metric.distance(ItemId(1), -1_000_000_000_000, 1_000_000_000_000),
+        2_000_000_000_000_000
+    );
+    assert_eq!(rt; metric.distance(ItemId(2), 3, 5), 2);
+    Ok(())
+}
+
+#[test]
+fn a_weighted_metric_names_what_it_refuses(rt: HostRuntime) -> Result<(), Fail> {
+    let alloc = rt.alloc();
+    let none = Weighted::new(vec![in alloc; 1u32, 0u32]?);
+    assert!(rt; matches!(none, Err(ItemsError::WeightOutOfRange)));
+    let large = Weighted::new(vec![in alloc; 1001u32]?);
+    assert!(rt; matches!(large, Err(ItemsError::WeightOutOfRange)));
+    let many = Weighted::new(Vec::from_elem(alloc, 0u32, 4097)?);
+    assert!(rt; matches!(many, Err(ItemsError::TooManyItems)));
+    Ok(())
 }

@@ -1,7 +1,6 @@
 -- The updates that a strict query must have seen stand first in commit order.
 use Rattle.std.proofs.Common.{◌≡◌, ℕ, ◌+◌, ◌≤◌, Bool, true, false, ◌||◌, List, [], ◌∷◌, ◌++◌, length, drop, refl, sym, ◌∙◌, ap, subst, arith, inl, inr, map, filter, eqb, cond, slice_index_or, append_assoc, append-nil, if◌then◌else◌}
-use Rattle.std.specs.List.{filter_map, list_any, before_first, position_or_len, range_with_len}
-use Rattle.std.proofs.Math.Path.{fun_ext}
+use Rattle.std.specs.List.{list_any, before_first, position_or_len, range_with_len}
 use Rattle.std.proofs.lemmas.Bool.{true≢false, cases_Bool, or_left, or_parts, false_from_ne_true}
 use Rattle.std.proofs.lemmas.List.{take-append-drop, length-append, map-append}
 use Rattle.std.proofs.lemmas.List.Elements.{filter-append, filter_map-append}
@@ -16,10 +15,8 @@ use Rattle.esr_history.proofs.Locking.{known, commits_once}
 use Rattle.esr_history.proofs.Words.{committed_among, trace}
 use Rattle.esr_history.proofs.Reaches.{legal_reached}
 use Rattle.esr_history.proofs.Onward.{legal_front, has_begins}
-use Rattle.esr_order.specs.Scans.{scanned, commit_at, found_early}
 use Rattle.esr_order.specs.Chains.{update_at}
-use Rattle.esr_order.proofs.Entries.{all_entries, given_accepted, given_events, accepts}
-use Rattle.esr_order.proofs.Found.{update_table, is_update_found}
+use Rattle.esr_order.proofs.Entries.{accepts}
 
 none_before : {X : Type 0} (p : X → Bool) (xs : List X) → list_any p (before_first p xs) ≡ false
 none_before p [] = refl
@@ -114,31 +111,23 @@ module _ (d : Distance) (h : Schedule) (q : ℕ) (legal : IsLegal d h) where
           false_from_ne_true (is_committed (accepted (before_begin h q)) u) (λ is.
           Pairs-across (λ u v. u ≡ v → ⊥) early (commit_order (accepted later)) u u once (In-from_any early u (sym (committed_among (accepted (before_begin h q)) u) ∙ is)) behind refl)
 
-  -- what the scan counts
-  early_found : found_early h.entries (update_table h.entries) q ≡ first
-  early_found =
-      ap (λ (p : ℕ → Bool). filter p (filter_map commit_at (before_first (λ (e : Entry). begins q e.reply) (scanned h.entries)))) (fun_ext (is_update_found h.entries))
-      ∙ ap (filter (is_update (done h)))
-      (ap (λ (es : List Entry). filter_map commit_at (before_first (λ (e : Entry). begins q e.reply) es)) (all_entries h.entries)
-      ∙ (given_accepted (λ e. committer e.event) (before_begin h q) ∙ given_events committer (filter accepts (before_begin h q))))
-
   -- the positions that a strict query must have seen, and those of another
-  pub must_positions : (n : ℕ) → n ≡ (if is_strict (done h) q then length (found_early h.entries (update_table h.entries) q) else 0) → map (update_at h q) (range_with_len 0 n) ≡ must h q
+  pub must_positions : (n : ℕ) → n ≡ length (must h q) → map (update_at h q) (range_with_len 0 n) ≡ must h q
   must_positions n is = at (is_strict (done h) q) is
     where
-      at : (b : Bool) → n ≡ (if b then length (found_early h.entries (update_table h.entries) q) else 0)
+      at : (b : Bool) → n ≡ length (if b then filter (is_committed (accepted (before_begin h q))) (updates_of h q) else [])
           → map (update_at h q) (range_with_len 0 n) ≡ (if b then filter (is_committed (accepted (before_begin h q))) (updates_of h q) else [])
       at true count =
-          ap (λ m. map (update_at h q) (range_with_len 0 m)) (count ∙ ap length early_found)
+          ap (λ m. map (update_at h q) (range_with_len 0 m)) (count ∙ ap length must_first)
           ∙ (ap (λ us. map (λ i. slice_index_or us i 0) (range_with_len 0 (length first))) updates_split ∙ (part_at [] first rest ∙ sym must_first))
       at false count = ap (λ m. map (update_at h q) (range_with_len 0 m)) count
 
-  pub must_below : (n : ℕ) → n ≡ (if is_strict (done h) q then length (found_early h.entries (update_table h.entries) q) else 0) → n ≤ length (updates_of h q)
-  must_below n is = at (is_strict (done h) q) is
+  pub must_below : length (must h q) ≤ length (updates_of h q)
+  must_below = at (is_strict (done h) q)
     where
-      at : (b : Bool) → n ≡ (if b then length (found_early h.entries (update_table h.entries) q) else 0) → n ≤ length (updates_of h q)
-      at true count =
-          let a : n ≡ length first = count ∙ ap length early_found in
+      at : (b : Bool) → length (if b then filter (is_committed (accepted (before_begin h q))) (updates_of h q) else []) ≤ length (updates_of h q)
+      at true =
+          let a : length (filter (is_committed (accepted (before_begin h q))) (updates_of h q)) ≡ length first = ap length must_first in
           let c : length (updates_of h q) ≡ length first + length rest = ap length updates_split ∙ length-append first rest in
           omega arith
-      at false count = omega arith
+      at false = omega arith

@@ -1,5 +1,5 @@
 -- The versions of an item that the updates of a query leave.
-use Rattle.std.specs.Prelude.{ℕ, ℤ, List, [], ◌∷◌, ◌&&◌, ◌==◌, Option, None, Some, is_some, filter, map, length, slice_index_or}
+use Rattle.std.specs.Prelude.{ℕ, ℤ, List, [], ◌∷◌, ◌++◌, if◌then◌else◌, ◌&&◌, ◌==◌, Option, None, Some, is_some, filter, map, length, slice_index_or}
 use Rattle.std.specs.List.{filter_map, range_with_len, last_or}
 use Rattle.esr_history.specs.Machine.{Schedule}
 use Rattle.esr_history.specs.Serial.{values_by}
@@ -36,13 +36,39 @@ update_at h q i = slice_index_or (updates_of h q) i 0
 abbrev pub last_written : Schedule → ℕ → ℕ → ℕ → Option ℤ
 last_written h q x i = last_of (values_by h x (update_at h q i))
 
+-- the same of a list of updates
+abbrev pub nth : List ℕ → ℕ → ℕ
+nth us i = slice_index_or us i 0
+
+abbrev pub last_among : Schedule → List ℕ → ℕ → ℕ → Option ℤ
+last_among h us x i = last_of (values_by h x (nth us i))
+
+abbrev pub chain_among : Schedule → List ℕ → ℕ → Option Chain
+chain_among h us x = some_chain (chain_from (last_among h us x) (length us))
+
 -- the updates of q that wrote item x, if there is one
 abbrev pub chain_of : Schedule → ℕ → ℕ → Option Chain
 chain_of h q x = some_chain (chain_from (last_written h q x) (length (updates_of h q)))
 
+-- the last value that the update at position i wrote, of writes of one item
+abbrev pub last_in : List Step → ℕ → Option ℤ
+last_in writes i = last_of (map (λ s. s.value) (filter (λ s. s.place == i) writes))
+
 -- the same of the steps of updates
 abbrev pub last_step : List Step → ℕ → ℕ → Option ℤ
-last_step steps x i = last_of (map (λ s. s.value) (filter (λ s. s.place == i) (filter (λ s. s.writes && (s.item == x)) steps)))
+last_step steps x i = last_in (filter (λ s. s.writes && (s.item == x)) steps) i
+
+-- a chain with one more writer, and one with the last writer unless it is the next too
+abbrev pub with_write : Chain → Step → Chain
+with_write c w = record { writers = c.writers ++ w.place ∷ []; values = c.values ++ w.value ∷ [] }
+
+abbrev pub with_last : Chain → Option Step → ℕ → Chain
+with_last c None next = c
+with_last c (Some w) next = if w.place == next then c else with_write c w
+
+abbrev pub with_end : Chain → Option Step → Chain
+with_end c None = c
+with_end c (Some w) = with_write c w
 
 abbrev pub seen_links : Links → Chain
 seen_links l = record { writers = l.writers.items; values = l.values.items }

@@ -3,6 +3,9 @@ pub mod Least
 pub mod Statements
 pub mod Scans
 pub mod Listing
+pub mod Ties
+pub mod Reach
 pub mod Chains
 pub mod Orders
+pub mod Near
 pub mod Worked

@@ -1,11 +1,12 @@
 -- What an order tells of a query.
-use Rattle.std.specs.Prelude.{◌≡◌, ◌↔◌, ◌<◌, ◌≤◌, ◌+◌, ℕ, Bool, IsTrue, List, Option, None, Some, All, AllPairs, Contains, length, map, slice_get, slice_index_or}
+use Rattle.std.specs.Prelude.{◌≡◌, ◌↔◌, ◌<◌, ◌≤◌, ◌+◌, ℕ, Bool, IsTrue, List, Option, None, Some, All, AllPairs, Contains, length, filter, map, slice_get, slice_index_or}
 use Rattle.esr_history.specs.declared.event.TxnId.{TxnId}
 use Rattle.esr_history.specs.Machine.{Schedule}
+use Rattle.esr_history.specs.Operations.{Operation, operations}
 use Rattle.esr_history.specs.Serial.{is_before, IsSerialOrder}
 use Rattle.esr_history.specs.Queries.{updates_of, must}
-use Rattle.esr_order.specs.Placements.{IsClosed}
-use Rattle.esr_order.specs.Chains.{Chain, some_chain, update_at, chain_of}
+use Rattle.esr_order.specs.Placements.{is_among, IsClosed}
+use Rattle.esr_order.specs.Chains.{Chain, some_chain, update_at, chain_of, nth, chain_among}
 use Rattle.esr_order.specs.Listing.{IsBelow}
 
 -- what an order is to contracts
@@ -28,6 +29,10 @@ pub record IsClosedIn (h : Schedule) (q : ℕ) (o : Ordered) (S : ℕ → Bool) 
   pub downward : All (λ p. IsTrue (S (update_at h q p.1)) → IsTrue (S (update_at h q p.0))) o.before
   pub holds_must : All (λ i. IsTrue (S (update_at h q i))) o.must
 
+-- the accepted reads and writes of the updates of q
+abbrev pub operations_of : Schedule → ℕ → List Operation
+operations_of h q = filter (λ o. is_among (updates_of h q) o.txn) (operations h)
+
 -- The updates that committed before q did, and what is needed of their conflict order and their versions. Updates are given by their positions in commit order.
 pub record IsOrderOf (h : Schedule) (q : ℕ) (o : Ordered) : Type 0 where
   pub commits : map (λ t. t.0) o.commits ≡ updates_of h q
@@ -42,4 +47,27 @@ pub record IsOrderOf (h : Schedule) (q : ℕ) (o : Ordered) : Type 0 where
   pub musts : map (update_at h q) o.must ≡ must h q
   -- all that wrote an item, in commit order, each a pair with the next
   pub chains : (x : ℕ) → chain_at o x ≡ chain_of h q x
+  pub neighbours : (x i : ℕ) (c : Chain) → chain_at o x ≡ Some c → i + 1 < length c.writers → Contains o.before (slice_index_or c.writers i 0, slice_index_or c.writers (i + 1) 0)
+
+-- The same of some updates, us, of which all that q must see are among them.
+
+pub record IsClosedOn (h : Schedule) (q : ℕ) (us : List ℕ) (S : ℕ → Bool) : Type 0 where
+  pub downward : (u v : ℕ) → Contains us u → Contains us v → IsTrue (is_before h u v) → IsTrue (S v) → IsTrue (S u)
+  pub holds_must : (u : ℕ) → Contains (must h q) u → IsTrue (S u)
+
+pub record IsClosedAt (us : List ℕ) (o : Ordered) (S : ℕ → Bool) : Type 0 where
+  pub downward : All (λ p. IsTrue (S (nth us p.1)) → IsTrue (S (nth us p.0))) o.before
+  pub holds_must : All (λ i. IsTrue (S (nth us i))) o.must
+
+pub record IsOrderAmong (h : Schedule) (q : ℕ) (us : List ℕ) (o : Ordered) : Type 0 where
+  pub commits : map (λ t. t.0) o.commits ≡ us
+  pub serial : IsSerialOrder h us us
+  pub few : length o.commits ≤ 65535
+  pub ascending : AllPairs IsBelow o.before
+  pub pairs : All (λ p. (p.0 < p.1) × (p.1 < length o.commits) × IsTrue (is_before h (nth us p.0) (nth us p.1))) o.before
+  pub closed : (S : ℕ → Bool) → IsClosedAt us o S ↔ IsClosedOn h q us S
+  pub rising : AllPairs (λ i j. i < j) o.must
+  pub within : All (λ i. i < length o.commits) o.must
+  pub musts : map (nth us) o.must ≡ must h q
+  pub chains : (x : ℕ) → chain_at o x ≡ chain_among h us x
   pub neighbours : (x i : ℕ) (c : Chain) → chain_at o x ≡ Some c → i + 1 < length c.writers → Contains o.before (slice_index_or c.writers i 0, slice_index_or c.writers (i + 1) 0)

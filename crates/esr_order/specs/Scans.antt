@@ -1,41 +1,67 @@
 -- What the entries of a log give, where they are accepted.
-use Rattle.std.specs.Prelude.{ℕ, zero, suc, filter, List, Bool, false, ◌==◌, Option, None, Some, slice_get, length, unwrap_or, if◌then◌else◌}
-use Rattle.std.specs.List.{filter_map, range_with_len, before_first}
+use Rattle.std.specs.Prelude.{◌≡◌, ℕ, List, [], ◌∷◌, Bool, true, false, ◌==◌, Option, None, Some, Contains, is_some, nat_lt, slice_get, unwrap_or, if◌then◌else◌}
 use Rattle.std.specs.Option.{option_map}
+use Rattle.esr_history.specs.declared.event.TxnId.{TxnId}
+use Rattle.esr_history.specs.declared.event.Event.{Event}
+use Rattle.esr_history.specs.declared.event.Event.TheVariants.{BeginQuery, Read, Commit}
 use Rattle.esr_history.specs.declared.event.Entry.{Entry}
-use Rattle.esr_history.specs.Events.{Beginning, is_refusal, beginning_of}
-use Rattle.esr_history.specs.Operations.{Operation, operation_of, committer}
-use Rattle.esr_history.specs.Queries.{begins}
-use Rattle.esr_order.specs.declared.scan.Kind.{Kind}
+use Rattle.esr_history.specs.Events.{is_refusal, is_begun}
+use Rattle.esr_history.specs.declared.links.Facts.{Facts}
+use Rattle.esr_history.specs.Links.{accepted_end, last_place, facts_of}
+use Rattle.esr_history.specs.Machine.{Schedule, done}
+use Rattle.esr_history.specs.Operations.{Operation, operation_of}
 use Rattle.esr_order.specs.declared.scan.Step.{Step}
-
--- the entries at the places of a log, in order
-abbrev pub scanned : List Entry → List Entry
-scanned es = filter_map (slice_get es) (range_with_len 0 (length es))
 
 abbrev pub if_accepted : {Y : Type 0} → (Entry → Option Y) → Entry → Option Y
 if_accepted f e = if is_refusal e.reply then None else f e
 
-abbrev pub kind_of : Beginning → Kind
-kind_of b = record { query = b.query; strict = b.strict }
+-- the transaction that commits in an entry, if that is accepted
+abbrev pub commit_by : Event → Option TxnId
+commit_by (Commit t) = Some t
+commit_by _ = None
 
-abbrev pub kind_at : Entry → Option Kind
-kind_at e = if_accepted (λ n. option_map kind_of (beginning_of n.event)) e
+abbrev pub commit_in : Entry → Option TxnId
+commit_in e = if_accepted (λ n. commit_by n.event) e
 
-abbrev pub commit_at : Entry → Option ℕ
-commit_at e = if_accepted (λ n. committer n.event) e
+-- whether the entry at a place, if there is one, is an accepted commit
+abbrev pub commits_in : Option Entry → Bool
+commits_in None = false
+commits_in (Some e) = is_some (commit_in e)
 
--- whether a transaction is an update, by its number
-abbrev pub is_update_of : List Bool → ℕ → Bool
-is_update_of updates zero = false
-is_update_of updates (suc k) = unwrap_or (slice_get updates k) false
+abbrev pub is_commit_at : List Entry → Option ℕ → Bool
+is_commit_at es None = false
+is_commit_at es (Some i) = commits_in (slice_get es i)
 
--- the updates that committed before q did, and those that committed before q began
-abbrev pub found_before : List Entry → List Bool → ℕ → List ℕ
-found_before es updates q = filter (is_update_of updates) (before_first (λ t. t == q) (filter_map commit_at (scanned es)))
+-- the place of an end, if there is one
+abbrev pub end_in : Option ℕ → List ℕ
+end_in None = []
+end_in (Some p) = p ∷ []
 
-abbrev pub found_early : List Entry → List Bool → ℕ → List ℕ
-found_early es updates q = filter (is_update_of updates) (filter_map commit_at (before_first (λ e. begins q e.reply) (scanned es)))
+-- the places at which transactions ended
+pub record AreEnds (h : Schedule) (ends : List ℕ) : Type 0 where
+  pub all : (t p : ℕ) → is_begun (done h) t ≡ true → last_place accepted_end t h.entries ≡ Some p → Contains ends p
+  pub only : (p : ℕ) → Contains ends p → (t : ℕ) × (last_place accepted_end t h.entries ≡ Some p)
+
+-- whether transaction t ended before a place
+abbrev pub is_end_before : Option ℕ → ℕ → Bool
+is_end_before None place = false
+is_end_before (Some p) place = nat_lt p place
+
+abbrev pub is_ended_before : Option Facts → ℕ → Bool
+is_ended_before None place = false
+is_ended_before (Some f) place = is_end_before f.end place
+
+abbrev pub has_ended_before : Schedule → ℕ → ℕ → Bool
+has_ended_before h t place = is_ended_before (facts_of h.entries t) place
+
+-- whether an entry, if there is one, is the begin of a strict query
+abbrev pub begins_strictly : Event → Bool
+begins_strictly (BeginQuery limit strict) = strict
+begins_strictly _ = false
+
+abbrev pub is_strict_begin : Option Entry → Bool
+is_strict_begin None = false
+is_strict_begin (Some e) = begins_strictly e.event
 
 -- the position of a transaction among the updates, by its number
 abbrev pub place_of : List (Option ℕ) → ℕ → Option ℕ
@@ -50,3 +76,11 @@ step_by places (Some o) = step_of places o
 
 abbrev pub step_at : List (Option ℕ) → Entry → Option Step
 step_at places e = if_accepted (λ n. step_by places (operation_of n)) e
+
+-- the item that q read in an entry, if that is an accepted read by q
+abbrev pub item_read_by : ℕ → Event → Option ℕ
+item_read_by q (Read t x) = if t.0 == q then Some x.0 else None
+item_read_by q _ = None
+
+abbrev pub item_read_at : ℕ → Entry → Option ℕ
+item_read_at q e = if_accepted (λ n. item_read_by q n.event) e

@@ -1,6 +1,8 @@
-ghost use Rattle.std.specs.Prelude.{◌≡◌, ◌<◌, ◌^◌, ◌&&◌, ◌==◌, IfOk, filter, map};
+ghost use Rattle.std.specs.Prelude.{◌≡◌, ◌<◌, ◌≤◌, ◌&&◌, ◌==◌, ℕ, List, IfOk, OnOk, All, AllPairs, filter, map};
 ghost use Rattle.std.specs.List.{range_with_len};
-ghost use Rattle.esr_order.specs.Chains.{last_of, last_step, chain_from, seen_links};
+ghost use Rattle.esr_order.specs.declared.scan.Step.{Step};
+ghost use Rattle.esr_order.specs.Ties.{on_item};
+ghost use Rattle.esr_order.specs.Chains.{last_in, last_step, chain_from, with_write, with_last, with_end, seen_links};
 
 use crate::scan::Step;
 use std::alloc::{AllocError, Global};
@@ -13,59 +15,64 @@ pub struct Links {
     pub values: Vec<i64>,
 }
 
-fn writes_to(alloc: Global, steps: &[Step], item: u32) -> Result<Vec<Step>, AllocError>
-    ensures { IfOk result (λ v. v.items ≡ filter (λ s. s.writes && (s.item == item)) steps.now) }
+fn put(links: &mut Links, write: Step) -> Result<(), AllocError>
+    ensures { OnOk result (seen_links links.new ≡ with_write (seen_links links.old) write) }
 {
-    steps
-        .iter()
-        .copied()
-        .filter(|s| s.writes && s.item == item)
-        .collect(alloc)
+    links.writers.push(write.place)?;
+    links.values.push(write.value)?;
+    Ok(())
 }
 
-/// The last value that the update at the position wrote, if it wrote.
-fn last_write(writes: &[Step], place: u32) -> Option<i64>
-    ensures { result ≡ last_of (map (λ s. s.value) (filter (λ s. s.place == place) writes.now)) }
+/// Adds the last write, where the next is by another update.
+fn put_before(links: &mut Links, last: Option<Step>, next: u32) -> Result<(), AllocError>
+    ensures { OnOk result (seen_links links.new ≡ with_last (seen_links links.old) last next) }
 {
+    if let Some(write) = last {
+        if write.place != next {
+            put(links, write)?;
+        }
+    }
+    Ok(())
+}
+
+fn put_end(links: &mut Links, last: Option<Step>) -> Result<(), AllocError>
+    ensures { OnOk result (seen_links links.new ≡ with_end (seen_links links.old) last) }
+{
+    if let Some(write) = last {
+        put(links, write)?;
+    }
+    Ok(())
+}
+
+/// The writers of an item, from its steps. Its writes are in the order of positions.
+fn links_of(alloc: Global, steps: &[Step]) -> Result<Links, AllocError>
+    ensures { IfOk result (λ l. (n : ℕ) → All (λ s. s.place < n) steps.now → AllPairs (λ a b. a.place ≤ b.place) (filter (λ s. s.writes) steps.now)
+        → seen_links l ≡ chain_from (last_in (filter (λ s. s.writes) steps.now)) n) }
+{
+    let mut links = Links {
+        writers: Vec::new(alloc),
+        values: Vec::new(alloc),
+    };
     let mut last = None;
-    for s in writes {
-        if s.place == place {
-            last = Some(s.value);
+    for s in steps {
+        if s.writes {
+            put_before(&mut links, last, s.place)?;
+            last = Some(*s);
         }
     }
-    last
+    put_end(&mut links, last)?;
+    Ok(links)
 }
 
-/// The writers of an item among the first `n` positions.
-fn links_of(alloc: Global, steps: &[Step], item: u32, n: usize) -> Result<Links, AllocError>
-    requires { n < 2 ^ 32 }
-    ensures { IfOk result (λ l. seen_links l ≡ chain_from (last_step steps.now item) n) }
-{
-    let writes = writes_to(alloc, steps, item)?;
-    let mut writers = Vec::new(alloc);
-    let mut values = Vec::new(alloc);
-    for i in 0..n {
-        if let Some(value) = last_write(&writes, i as u32) {
-            writers.push(i as u32)?;
-            values.push(value)?;
-        }
-    }
-    Ok(Links { writers, values })
-}
-
-/// The writers of each item.
-pub fn chains_of(
-    alloc: Global,
-    steps: &[Step],
-    items: u32,
-    n: usize,
-) -> Result<Vec<Links>, AllocError>
-    requires { n < 2 ^ 32 }
-    ensures { IfOk result (λ v. map seen_links v.items ≡ map (λ x. chain_from (last_step steps.now x) n) (range_with_len 0 items)) }
+/// The writers of each item, of which the steps are given item by item.
+pub fn chains_of(alloc: Global, rows: &[Vec<Step>]) -> Result<Vec<Links>, AllocError>
+    ensures { IfOk result (λ v. (steps : List Step) (items n : ℕ) → map (λ r. r.items) rows.now ≡ map (λ x. on_item x steps) (range_with_len 0 items)
+        → All (λ s. s.place < n) steps → ((x : ℕ) → AllPairs (λ a b. a.place ≤ b.place) (filter (λ s. s.writes) (on_item x steps)))
+        → map seen_links v.items ≡ map (λ x. chain_from (last_step steps x) n) (range_with_len 0 items)) }
 {
     let mut chains = Vec::new(alloc);
-    for x in 0..items {
-        chains.push(links_of(alloc, steps, x, n)?)?;
+    for row in rows {
+        chains.push(links_of(alloc, row)?)?;
     }
     Ok(chains)
 }

@@ -3,12 +3,19 @@
 
 mod chains;
 mod laws;
+mod near;
 mod order;
 mod pairs;
+mod reach;
 mod scan;
+mod split;
+mod ties;
+mod walk;
 
 pub use chains::Links;
 pub use laws::{
     least_sets_are_listed, least_sets_meet, longer_histories_agree, parts_are_closed_sets,
 };
 pub use order::{Order, OrderError};
+pub use scan::committed;
+pub use walk::places_of_txn;

@@ -1,17 +1,25 @@
-ghost use Rattle.std.specs.Prelude.{◌≡◌, ◌↔◌, ◌<◌, ◌^◌, ◌&&◌, true, false, IfOk, IsErrOf, MatchOption};
+ghost use Rattle.std.specs.Prelude.{◌≡◌, ◌↔◌, ◌<◌, ◌≤◌, ◌*◌, ◌^◌, length, map, filter, ℕ, All, AllPairs, ◌≢◌, ◌&&◌, true, false, IfOk, IsErrOf, MatchOption};
 ghost use Rattle.std.specs.List.{range_with_len};
 ghost use Rattle.std.specs.Option.{option_map};
 ghost use Rattle.esr_history.specs.Events.{accepted, is_query, is_committed};
 ghost use Rattle.esr_history.specs.Queries.{is_committed_query, is_strict};
 ghost use Rattle.esr_order.specs.Chains.{seen_links};
-ghost use Rattle.esr_order.specs.Orders.{IsOrderOf, chain_at};
+ghost use Rattle.esr_order.specs.Orders.{IsOrderOf, IsOrderAmong, chain_at, operations_of};
+ghost use Rattle.esr_order.specs.Chains.{nth};
+ghost use Rattle.esr_order.specs.Near.{AreNear};
+ghost use Rattle.esr_order.specs.Placements.{is_among};
+ghost use Rattle.esr_history.specs.Queries.{must};
+ghost use Rattle.esr_history.specs.Serial.{is_before};
+ghost use Rattle.esr_history.specs.Operations.{operations};
 
 use crate::chains::{Links, chains_of};
-use crate::pairs::{pairs_of, places_of};
-use crate::scan::{
-    Kind, are_updates, count_must, has_committed, nth_kind, steps_in, updates_before,
-};
-use esr_history::{History, Log, TxnId};
+use crate::near::{items_read, kept, seeds_of};
+use crate::pairs::places_of;
+use crate::reach::mark_back;
+use crate::scan::{committed, count_must, is_committed_query, steps_of, updates_before};
+use crate::split::by_item;
+use crate::ties::pairs_of;
+use esr_history::{History, TxnId};
 use esr_items::{ItemId, Metric};
 use std::alloc::{AllocError, Global};
 use std::marker::Model;
@@ -57,23 +65,6 @@ impl Model for Order {
     ghost view = { λ o. record { commits = o.commits.items; before = o.before.items; must = o.must.items; chains = map seen_links o.chains.items } };
 }
 
-/// How a query began, if it is one and has committed.
-fn find_query(log: &Log, q: u32) -> Option<Kind>
-    ensures { MatchOption result ((is_query (accepted log.now.entries) q && is_committed (accepted log.now.entries) q) ≡ false) (λ k. ((is_query (accepted log.now.entries) q && is_committed (accepted log.now.entries) q) ≡ true) × (k.strict ≡ is_strict (accepted log.now.entries) q)) }
-{
-    if q == 0 {
-        return None;
-    }
-    let Some(kind) = nth_kind(log, q as usize - 1) else {
-        return None;
-    };
-    if kind.query && has_committed(log, q) {
-        Some(kind)
-    } else {
-        None
-    }
-}
-
 /// The first positions.
 fn first_positions(alloc: Global, n: usize) -> Result<Vec<u32>, AllocError>
     requires { n < 2 ^ 32 }
@@ -82,32 +73,79 @@ fn first_positions(alloc: Global, n: usize) -> Result<Vec<u32>, AllocError>
     (0..n).map(|i| i as u32).collect(alloc)
 }
 
+/// The order among these updates, of which the first must be seen.
+fn among<M: Metric>(
+    alloc: Global,
+    history: &History<M>,
+    commits: Vec<TxnId>,
+    first: usize,
+) -> Result<Order, AllocError>
+    requires known { All (λ t. t.0 ≤ 65535) commits.items }
+    requires once { AllPairs (λ t u. t.0 ≢ u.0) commits.items }
+    requires few { length commits.items ≤ 65535 }
+    requires keeps { AllPairs (λ u v. is_before history.now.schedule v u ≡ false) (map (λ t. t.0) commits.items) }
+    requires first { first ≤ length commits.items }
+    ensures commits { IfOk result (λ o. o.commits ≡ commits.items) }
+    ensures order { IfOk result (λ o. (q : ℕ) → map (nth (map (λ t. t.0) commits.items)) (range_with_len 0 first) ≡ must history.now.schedule q → IsOrderAmong history.now.schedule q (map (λ t. t.0) commits.items) o) }
+    ensures sparse { IfOk result (λ o. length o.before ≤ 2 * length (filter (λ p. is_among (map (λ t. t.0) commits.items) p.txn) (operations history.now.schedule))) }
+{
+    let _legal = history.log(); // brings the invariant into the proof
+    let places = places_of(alloc, &commits, 65535)?;
+    let steps = steps_of(alloc, history, &commits, &places)?;
+    let rows = by_item(alloc, &steps, history.items())?;
+    let before = pairs_of(alloc, &rows)?;
+    let chains = chains_of(alloc, &rows)?;
+    let must = first_positions(alloc, first)?;
+    Ok(Order {
+        commits,
+        before,
+        must,
+        chains,
+    })
+}
+
 impl Order {
     /// The order of a committed query of a legal history.
     pub fn of<M: Metric>(alloc: Global, history: &History<M>, q: TxnId) -> Result<Order, OrderError>
         ensures ok { IfOk result (λ o. IsOrderOf history.now.schedule q.0 o) }
+        ensures sparse { IfOk result (λ o. length o.before ≤ 2 * length (operations_of history.now.schedule q.0)) }
         ensures refused { IsErrOf result OrderError.NotACommittedQuery ↔ (is_committed_query history.now.schedule q.0 ≡ false) }
     {
-        let log = history.log();
-        let Some(kind) = find_query(log, q.0) else {
+        let _legal = history.log(); // brings the invariant into the proof
+        if !is_committed_query(history, q) {
             return Err(OrderError::NotACommittedQuery);
-        };
-        let updates = are_updates(alloc, log)?;
-        let commits = updates_before(alloc, log, &updates, q.0)?;
-        let places = places_of(alloc, &commits, updates.len())?;
-        let steps = steps_in(alloc, log, &places)?;
-        let before = pairs_of(alloc, &steps, commits.len())?;
-        let chains = chains_of(alloc, &steps, history.items(), commits.len())?;
-        let must = first_positions(alloc, count_must(log, &updates, q.0, kind.strict))?;
-        Ok(Order {
-            commits,
-            before,
-            must,
-            chains,
-        })
+        }
+        let committed = committed(alloc, history)?;
+        let commits = updates_before(alloc, history, &committed, q)?;
+        let first = count_must(alloc, history, &commits, q)?;
+        let order = among(alloc, history, commits, first)?;
+        Ok(order)
     }
 
-    /// The updates that committed before the query did, in commit order.
+    /// The order among the near updates of a committed query of a legal history: those that
+    /// wrote an item that it read, those from which a row of befores leads to such an
+    /// update, and those that it must have seen.
+    pub fn near<M: Metric>(
+        alloc: Global,
+        history: &History<M>,
+        q: TxnId,
+    ) -> Result<Order, OrderError>
+        ensures near { IfOk result (λ o. AreNear history.now.schedule q.0 (map (λ t. t.0) o.commits)) }
+        ensures ok { IfOk result (λ o. IsOrderAmong history.now.schedule q.0 (map (λ t. t.0) o.commits) o) }
+        ensures refused { IsErrOf result OrderError.NotACommittedQuery ↔ (is_committed_query history.now.schedule q.0 ≡ false) }
+    {
+        let _legal = history.log(); // brings the invariant into the proof
+        let whole = Order::of(alloc, history, q)?;
+        let items = items_read(alloc, history, q)?;
+        let mut marks = seeds_of(alloc, &whole, &items)?;
+        mark_back(&mut marks, &whole.before);
+        let commits = kept(alloc, &whole.commits, &marks)?;
+        let order = among(alloc, history, commits, whole.must.len())?;
+        Ok(order)
+    }
+
+    /// The updates of the order, in commit order: those that committed before the query
+    /// did, or the near ones among them.
     pub fn commits(&self) -> &[TxnId]
         ensures { result.now ≡ self.now.commits }
     {
@@ -129,6 +167,15 @@ impl Order {
         ensures { result.now ≡ self.now.must }
     {
         &self.must
+    }
+
+    /// The parts of the order: its updates, the pairs, and the positions that must be seen.
+    pub fn into_parts(self) -> (Vec<TxnId>, Vec<(u32, u32)>, Vec<u32>)
+        ensures commits { result.0.items ≡ self.commits }
+        ensures before { result.1.items ≡ self.before }
+        ensures must { result.2.items ≡ self.must }
+    {
+        (self.commits, self.before, self.must)
     }
 
     /// The updates that wrote the item, if there is one.

@@ -1,21 +1,18 @@
-ghost use Rattle.std.specs.Prelude.{◌≡◌, ℕ, suc, List, Bool, not, ◌==◌, IfOk, Some, slice_get, length, map, if◌then◌else◌};
-ghost use Rattle.std.specs.List.{filter_map, list_any};
-ghost use Rattle.esr_history.specs.declared.event.TxnId.{TxnId};
-ghost use Rattle.esr_history.specs.declared.event.Entry.{Entry};
-ghost use Rattle.esr_history.specs.Events.{is_refusal};
-ghost use Rattle.esr_history.specs.Operations.{answer};
-ghost use Rattle.esr_history.specs.Queries.{begins};
-ghost use Rattle.esr_order.specs.Scans.{scanned, kind_at, commit_at, is_update_of, found_before, found_early, place_of, step_at};
+//! What the entries of a history give, found by its links.
+ghost use Rattle.std.specs.Prelude.{◌≡◌, ◌++◌, ◌∷◌, ℕ, List, true, not, ◌==◌, IfOk, OnOk, slice_get, length, map, filter, count_by, reverse, take};
+ghost use Rattle.std.specs.List.{filter_map, before_first};
+ghost use Rattle.std.specs.List.Sorted.{IsStrictlyIncreasing};
+ghost use Rattle.esr_history.specs.Events.{is_begun, is_update};
+ghost use Rattle.esr_history.specs.Machine.{done};
+ghost use Rattle.esr_history.specs.Operations.{answer, commit_order};
+ghost use Rattle.esr_history.specs.Queries.{before_begin, is_committed_query, is_strict, updates_of, must};
+ghost use Rattle.esr_order.specs.Listing.{IsTableOf};
+ghost use Rattle.esr_order.specs.Scans.{commit_in, is_commit_at, is_strict_begin, has_ended_before, end_in, AreEnds, place_of, step_at};
 
-use esr_history::{Entry, Event, Log, Reply, TxnId};
+use crate::walk::{places_among, places_of_txn};
+use esr_history::{Entry, Event, History, Log, Reply, TxnId};
+use esr_items::Metric;
 use std::alloc::{AllocError, Global};
-
-/// How a transaction began.
-#[derive(Clone, Copy)]
-pub struct Kind {
-    pub query: bool,
-    pub strict: bool,
-}
 
 /// An accepted read or write of an update, which is given by its position in
 /// commit order. The value is the one answered, or the one written.
@@ -27,12 +24,6 @@ pub struct Step {
     pub value: i64,
 }
 
-fn is_refused(reply: Reply) -> bool
-    ensures { result ≡ is_refusal reply }
-{
-    matches!(reply, Reply::Refused(_))
-}
-
 fn answered(reply: Reply) -> i64
     ensures { result ≡ answer reply }
 {
@@ -42,139 +33,195 @@ fn answered(reply: Reply) -> i64
     }
 }
 
-fn kind_in(entry: Entry) -> Option<Kind>
-    ensures { result ≡ kind_at entry }
+/// The transaction that commits in an entry, if that is accepted.
+fn committer_of(entry: Entry) -> Option<TxnId>
+    ensures { result ≡ commit_in entry }
 {
-    if is_refused(entry.reply) {
+    if entry.is_refused() {
         return None;
     }
     match entry.event {
-        Event::BeginUpdate { limit: _ } => Some(Kind {
-            query: false,
-            strict: false,
-        }),
-        Event::BeginQuery { limit: _, strict } => Some(Kind {
-            query: true,
-            strict,
-        }),
+        Event::Commit { txn } => Some(txn),
         _ => None,
     }
 }
 
-fn commit_in(entry: Entry) -> Option<u32>
-    ensures { result ≡ commit_at entry }
+/// The transactions that commit in the entries at these places.
+fn committers_at(alloc: Global, log: &Log, at: &[u64]) -> Result<Vec<TxnId>, AllocError>
+    ensures { IfOk result (λ v. v.items ≡ filter_map commit_in (filter_map (slice_get log.now.entries) at.now)) }
 {
-    if is_refused(entry.reply) {
-        return None;
+    at.iter()
+        .filter_map(|i| log.get(*i as usize))
+        .filter_map(committer_of)
+        .collect(alloc)
+}
+
+fn push_end(ends: &mut Vec<u64>, end: Option<u64>) -> Result<(), AllocError>
+    ensures { OnOk result (ends.new.items ≡ ends.old.items ++ end_in end) }
+{
+    if let Some(place) = end {
+        ends.push(place)?;
     }
-    match entry.event {
-        Event::Commit { txn } => Some(txn.0),
-        _ => None,
+    Ok(())
+}
+
+/// The places at which transactions ended, ascending.
+fn ends_of<M: Metric>(alloc: Global, history: &History<M>) -> Result<Vec<u64>, AllocError>
+    ensures rises { IfOk result (λ v. IsStrictlyIncreasing v.items) }
+    ensures ends { IfOk result (λ v. AreEnds history.now.schedule v.items) }
+{
+    let _legal = history.log(); // brings the invariant into the proof
+    let mut ends = Vec::new(alloc);
+    let mut t = 1;
+    while let Some(facts) = history.facts(TxnId(t)) {
+        push_end(&mut ends, facts.end)?;
+        t += 1;
+    }
+    ends.sort_unstable();
+    ends.dedup();
+    Ok(ends)
+}
+
+/// The transactions that committed, in the order of their commits. It goes over the numbers of
+/// the transactions, not over the log.
+pub fn committed<M: Metric>(alloc: Global, history: &History<M>) -> Result<Vec<TxnId>, AllocError>
+    ensures { IfOk result (λ v. map (λ t. t.0) v.items ≡ commit_order (done history.now.schedule)) }
+{
+    let ends = ends_of(alloc, history)?;
+    let committed = committers_at(alloc, history.log(), &ends)?;
+    Ok(committed)
+}
+
+/// Whether the transaction is an update.
+fn is_update<M: Metric>(history: &History<M>, t: TxnId) -> bool
+    ensures { result ≡ is_update (done history.now.schedule) t.0 }
+{
+    match history.facts(t) {
+        None => false,
+        Some(facts) => !facts.query,
     }
 }
 
-fn is_begin_of(reply: Reply, q: u32) -> bool
-    ensures { result ≡ begins q reply }
+/// Whether the entry at a place, if there is one, is an accepted commit.
+fn is_commit_at(log: &Log, place: Option<u64>) -> bool
+    ensures { result ≡ is_commit_at log.now.entries place }
 {
-    match reply {
-        Reply::Begun(t) => t.0 == q,
+    match place {
+        None => false,
+        Some(i) => log
+            .get(i as usize)
+            .is_some_and(|entry| committer_of(entry).is_some()),
+    }
+}
+
+/// Whether the transaction is a query that has committed.
+pub fn is_committed_query<M: Metric>(history: &History<M>, q: TxnId) -> bool
+    ensures { result ≡ is_committed_query history.now.schedule q.0 }
+{
+    match history.facts(q) {
+        None => false,
+        Some(facts) => facts.query && is_commit_at(history.log(), facts.end),
+    }
+}
+
+/// The updates that committed before the query did, among those that committed.
+pub fn updates_before<M: Metric>(
+    alloc: Global,
+    history: &History<M>,
+    committed: &[TxnId],
+    q: TxnId,
+) -> Result<Vec<TxnId>, AllocError>
+    ensures { IfOk result (λ v. v.items ≡ filter (λ t. is_update (done history.now.schedule) t.0) (before_first (λ t. t.0 == q.0) committed.now)) }
+{
+    committed
+        .iter()
+        .take_while(|t| t.0 != q.0)
+        .filter(|t| is_update(history, **t))
+        .copied()
+        .collect(alloc)
+}
+
+/// Where a transaction began, and whether as a strict query.
+#[derive(Clone, Copy)]
+struct Begin {
+    place: u64,
+    strict: bool,
+}
+
+/// Whether an entry, if there is one, is the begin of a strict query.
+fn is_strict_begin(entry: Option<Entry>) -> bool
+    ensures { result ≡ is_strict_begin entry }
+{
+    match entry {
+        Some(
+            Entry {
+                event: Event::BeginQuery { limit: _, strict },
+                reply: _,
+            },
+        ) => strict,
         _ => false,
     }
 }
 
-fn kind_here(log: &Log, i: usize) -> Option<Kind>
-    ensures { (e : Entry) → slice_get log.now.entries i ≡ Some e → result ≡ kind_at e }
+/// The first of the places that a walk back found.
+fn first_of(places: &[u64]) -> u64
+    ensures { (p : ℕ) (rest : List ℕ) → reverse places.now ≡ p ∷ rest → result ≡ p }
 {
-    match log.get(i) {
-        Some(entry) => kind_in(entry),
-        None => None,
+    match places.last() {
+        None => 0,
+        Some(place) => *place,
     }
 }
 
-/// How the transaction of the k-th accepted begin, counted from 0, began.
-pub fn nth_kind(log: &Log, k: usize) -> Option<Kind>
-    ensures { result ≡ slice_get (filter_map kind_at log.now.entries) k }
+/// The begin of a transaction that has begun.
+fn begin_of<M: Metric>(alloc: Global, history: &History<M>, t: TxnId) -> Result<Begin, AllocError>
+    requires { is_begun (done history.now.schedule) t.0 ≡ true }
+    ensures place { IfOk result (λ b. take b.place history.now.schedule.entries ≡ before_begin history.now.schedule t.0) }
+    ensures strict { IfOk result (λ b. b.strict ≡ is_strict (done history.now.schedule) t.0) }
 {
-    let mut left = k;
-    for i in 0..log.len() {
-        if let Some(kind) = kind_here(log, i) {
-            if left == 0 {
-                return Some(kind);
-            }
-            left -= 1;
-        }
+    let places = places_of_txn(alloc, history, t)?;
+    let log = history.log();
+    let place = first_of(&places);
+    let strict = is_strict_begin(log.get(place as usize));
+    Ok(Begin { place, strict })
+}
+
+/// Whether the transaction ended before a place.
+fn has_ended_before<M: Metric>(history: &History<M>, t: TxnId, place: u64) -> bool
+    ensures { result ≡ has_ended_before history.now.schedule t.0 place }
+{
+    match history.facts(t) {
+        None => false,
+        Some(facts) => facts.end.is_some_and(|end| end < place),
     }
-    None
 }
 
-/// Whether the transaction has committed.
-pub fn has_committed(log: &Log, t: u32) -> bool
-    ensures { result ≡ list_any (λ u. u == t) (filter_map commit_at (scanned log.now.entries)) }
+/// How many of these transactions ended before a place.
+fn count_before<M: Metric>(history: &History<M>, txns: &[TxnId], place: u64) -> usize
+    ensures { result ≡ count_by (λ t. has_ended_before history.now.schedule t.0 place) txns.now }
 {
-    (0..log.len())
-        .filter_map(|i| log.get(i))
-        .filter_map(|entry| commit_in(entry))
-        .any(|u| u == t)
-}
-
-/// Whether each transaction is an update, from transaction 1 on.
-pub fn are_updates(alloc: Global, log: &Log) -> Result<Vec<bool>, AllocError>
-    ensures { IfOk result (λ v. v.items ≡ map (λ k. not k.query) (filter_map kind_at (scanned log.now.entries))) }
-{
-    (0..log.len())
-        .filter_map(|i| log.get(i))
-        .filter_map(|entry| kind_in(entry))
-        .map(|kind| !kind.query)
-        .collect(alloc)
-}
-
-fn is_update(updates: &[bool], t: u32) -> bool
-    ensures { result ≡ is_update_of updates.now t }
-{
-    if t == 0 {
-        return false;
-    }
-    updates.get(t as usize - 1).copied().unwrap_or(false)
-}
-
-/// The updates that committed before the query did, in commit order.
-pub fn updates_before(
-    alloc: Global,
-    log: &Log,
-    updates: &[bool],
-    q: u32,
-) -> Result<Vec<TxnId>, AllocError>
-    ensures { IfOk result (λ v. v.items ≡ map (λ t. record { 0 = t }) (found_before log.now.entries updates.now q)) }
-{
-    (0..log.len())
-        .filter_map(|i| log.get(i))
-        .filter_map(|entry| commit_in(entry))
-        .take_while(|t| *t != q)
-        .filter(|t| is_update(updates, *t))
-        .map(|t| TxnId(t))
-        .collect(alloc)
-}
-
-/// How many updates committed before the query began.
-fn count_early(log: &Log, updates: &[bool], q: u32) -> usize
-    ensures { result ≡ length (found_early log.now.entries updates.now q) }
-{
-    (0..log.len())
-        .filter_map(|i| log.get(i))
-        .take_while(|entry| !is_begin_of(entry.reply, q))
-        .filter_map(|entry| commit_in(entry))
-        .filter(|t| is_update(updates, *t))
+    txns.iter()
+        .filter(|t| has_ended_before(history, **t, place))
         .count()
 }
 
-/// How many updates a query must have seen.
-pub fn count_must(log: &Log, updates: &[bool], q: u32, strict: bool) -> usize
-    ensures { result ≡ (if strict then length (found_early log.now.entries updates.now q) else 0) }
+/// How many of its updates a query must have seen.
+pub fn count_must<M: Metric>(
+    alloc: Global,
+    history: &History<M>,
+    updates: &[TxnId],
+    q: TxnId,
+) -> Result<usize, AllocError>
+    requires begun { is_begun (done history.now.schedule) q.0 ≡ true }
+    requires updates { map (λ t. t.0) updates.now ≡ updates_of history.now.schedule q.0 }
+    ensures { IfOk result (λ n. n ≡ length (must history.now.schedule q.0)) }
 {
-    if strict {
-        count_early(log, updates, q)
+    let _legal = history.log(); // brings the invariant into the proof
+    let begin = begin_of(alloc, history, q)?;
+    if begin.strict {
+        Ok(count_before(history, updates, begin.place))
     } else {
-        0
+        Ok(0)
     }
 }
 
@@ -187,7 +234,7 @@ fn place_in(places: &[Option<u32>], t: u32) -> Option<u32>
 fn step_in(places: &[Option<u32>], entry: Entry) -> Option<Step>
     ensures { result ≡ step_at places.now entry }
 {
-    if is_refused(entry.reply) {
+    if entry.is_refused() {
         return None;
     }
     match entry.event {
@@ -212,12 +259,33 @@ fn step_in(places: &[Option<u32>], entry: Entry) -> Option<Step>
     }
 }
 
-/// The operations of the updates that have a position, in order.
-pub fn steps_in(alloc: Global, log: &Log, places: &[Option<u32>]) -> Result<Vec<Step>, AllocError>
-    ensures { IfOk result (λ v. v.items ≡ filter_map (step_at places.now) (scanned log.now.entries)) }
+/// The operations at these places of updates that have a position, in order.
+fn steps_at(
+    alloc: Global,
+    log: &Log,
+    at: &[u64],
+    places: &[Option<u32>],
+) -> Result<Vec<Step>, AllocError>
+    ensures { IfOk result (λ v. v.items ≡ filter_map (step_at places.now) (filter_map (slice_get log.now.entries) at.now)) }
 {
-    (0..log.len())
-        .filter_map(|i| log.get(i))
+    at.iter()
+        .filter_map(|i| log.get(*i as usize))
         .filter_map(|entry| step_in(places, entry))
         .collect(alloc)
+}
+
+/// The operations of these updates, which have the positions, in order. It goes along their
+/// links.
+pub fn steps_of<M: Metric>(
+    alloc: Global,
+    history: &History<M>,
+    txns: &[TxnId],
+    places: &[Option<u32>],
+) -> Result<Vec<Step>, AllocError>
+    requires { IsTableOf (map (λ t. t.0) txns.now) places.now }
+    ensures { IfOk result (λ v. v.items ≡ filter_map (step_at places.now) history.now.schedule.entries) }
+{
+    let at = places_among(alloc, history, txns)?;
+    let steps = steps_at(alloc, history.log(), &at, places)?;
+    Ok(steps)
 }

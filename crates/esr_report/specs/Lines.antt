@@ -22,6 +22,14 @@ line words = join_with_byte 32 words ++ 10 ∷ []
 abbrev pub item_line : List ℕ → ℤ → List ℕ
 item_line name value = line (codes "item" ∷ name ∷ signed_decimal value ∷ [])
 
+-- a declared item with its weight
+abbrev pub weighted_item_line : List ℕ → ℤ → ℕ → List ℕ
+weighted_item_line name value weight = line (codes "item" ∷ name ∷ signed_decimal value ∷ codes "weight" ∷ decimal weight ∷ [])
+
+-- what begins the lines of a session, with its number
+abbrev pub session_line : ℕ → List ℕ
+session_line number = line (codes "session" ∷ decimal number ∷ [])
+
 -- a transaction that has begun, with its number
 abbrev pub begun_line : List ℕ → ℕ → List ℕ
 begun_line name number = line (codes "begun" ∷ name ∷ decimal number ∷ [])
@@ -86,6 +94,10 @@ audit_words names name distance import before =
 abbrev pub audit_line : (names : List (List ℕ)) (name : List ℕ) (distance import : ℕ) (before : List ℕ) → List ℕ
 audit_line names name distance import before = line (audit_words names name distance import before)
 
+-- the committed updates in a serial order
+abbrev pub order_line : (names : List (List ℕ)) (txns : List ℕ) → List ℕ
+order_line names txns = line (codes "order" ∷ listed names txns ∷ [])
+
 -- what is wrong with a line that makes no event
 abbrev pub error_line : LineError → List ℕ
 error_line error.NotACommand = line (codes "error 1 not a command" ∷ [])
@@ -94,3 +106,4 @@ error_line error.NameInUse = line (codes "error 3 name in use" ∷ [])
 error_line error.ValueOutOfRange = line (codes "error 4 value out of range" ∷ [])
 error_line error.TooManyItems = line (codes "error 5 too many items" ∷ [])
 error_line error.NotACommittedQuery = line (codes "error 6 not a committed query" ∷ [])
+error_line error.WeightOutOfRange = line (codes "error 7 weight out of range" ∷ [])

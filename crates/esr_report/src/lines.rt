@@ -1,10 +1,10 @@
-ghost use Rattle.std.specs.Prelude.{◌≡◌, ◌≤◌, ℕ, List, [], ◌++◌, ◌∷◌, OnOk, OnErr, IsOk, map, take, length};
+ghost use Rattle.std.specs.Prelude.{◌≡◌, ◌≤◌, ℕ, List, [], ◌++◌, ◌∷◌, OnOk, OnErr, IsOk, map, take, length, codes};
 ghost use Rattle.std.specs.List.{join_with_byte};
-ghost use Rattle.esr_report.specs.Lines.{BeginsWith, line, item_line, begun_line, value_line, wrote_line, refusal_line, reply_line, totals_line, listed, audit_words, audit_line, error_line};
+ghost use Rattle.esr_report.specs.Lines.{BeginsWith, line, item_line, weighted_item_line, session_line, begun_line, value_line, wrote_line, refusal_line, reply_line, totals_line, listed, audit_words, audit_line, order_line, error_line};
 ghost use Rattle.esr_report.specs.Subjects.{named_by};
 ghost use Rattle.esr_report.specs.Names.{name_of_transaction};
 
-use crate::names::Names;
+use crate::names::TransactionNames;
 use esr_history::{Refusal, Reply, TxnId};
 use std::alloc::AllocError;
 
@@ -17,6 +17,7 @@ pub enum LineError {
     ValueOutOfRange,
     TooManyItems,
     NotACommittedQuery,
+    WeightOutOfRange,
 }
 
 /// What an event names, for the line that answers it: a transaction, an item and
@@ -78,6 +79,36 @@ pub fn item_line(out: &mut Vec<u8>, name: &str, value: i64) -> Result<(), AllocE
     push_line(out, "item", &[name, digits.format(value)])
 }
 
+/// Appends the line of a declared item with its weight.
+pub fn weighted_item_line(
+    out: &mut Vec<u8>,
+    name: &str,
+    value: i64,
+    weight: u64,
+) -> Result<(), AllocError>
+    ensures ok { OnOk result (out.new.items ≡ out.old.items ++ weighted_item_line name.now value weight) }
+    ensures err { OnErr result (out.new.items ≡ out.old.items) }
+{
+    let mut value_digits = itoa::Buffer::new();
+    let mut weight_digits = itoa::Buffer::new();
+    let words = [
+        name,
+        value_digits.format(value),
+        "weight",
+        weight_digits.format(weight),
+    ];
+    push_line(out, "item", &words)
+}
+
+/// Appends the line that begins what a session answered.
+pub fn session_line(out: &mut Vec<u8>, number: u64) -> Result<(), AllocError>
+    ensures ok { OnOk result (out.new.items ≡ out.old.items ++ session_line number) }
+    ensures err { OnErr result (out.new.items ≡ out.old.items) }
+{
+    let mut digits = itoa::Buffer::new();
+    push_line(out, "session", &[digits.format(number)])
+}
+
 fn begun_line(out: &mut Vec<u8>, name: &str, number: TxnId) -> Result<(), AllocError>
     ensures ok { OnOk result (out.new.items ≡ out.old.items ++ begun_line name.now number.0) }
     ensures err { OnErr result (out.new.items ≡ out.old.items) }
@@ -103,10 +134,10 @@ fn wrote_line(out: &mut Vec<u8>, txn: &str, item: &str, value: i64) -> Result<()
 }
 
 /// The name of a transaction, whose number is one more than its name's position.
-fn name_of_transaction(names: &Names, txn: TxnId) -> &str
-    ensures { result.now ≡ name_of_transaction names.now txn.0 }
+pub fn name_of_transaction<N: TransactionNames>(names: &N, txn: TxnId) -> &str
+    ensures { result.now ≡ name_of_transaction (N.names names.now) txn.0 }
 {
-    match names.name_of(txn.0.saturating_sub(1)) {
+    match names.name_at(txn.0.saturating_sub(1)) {
         Some(name) => name,
         None => "",
     }
@@ -114,8 +145,12 @@ fn name_of_transaction(names: &Names, txn: TxnId) -> &str
 
 /// Appends the line of a refusal. The names are those of the transactions, in the
 /// order of their numbers.
-pub fn refusal_line(out: &mut Vec<u8>, names: &Names, why: Refusal) -> Result<(), AllocError>
-    ensures ok { OnOk result (out.new.items ≡ out.old.items ++ refusal_line names.now why) }
+pub fn refusal_line<N: TransactionNames>(
+    out: &mut Vec<u8>,
+    names: &N,
+    why: Refusal,
+) -> Result<(), AllocError>
+    ensures ok { OnOk result (out.new.items ≡ out.old.items ++ refusal_line (N.names names.now) why) }
     ensures err { OnErr result (out.new.items ≡ out.old.items) }
 {
     match why {
@@ -149,13 +184,13 @@ pub fn refusal_line(out: &mut Vec<u8>, names: &Names, why: Refusal) -> Result<()
 
 /// Appends the line of the machine's reply to an event that names the subject. The
 /// names are those of the transactions, in the order of their numbers.
-pub fn reply_line(
+pub fn reply_line<N: TransactionNames>(
     out: &mut Vec<u8>,
-    names: &Names,
+    names: &N,
     subject: Subject<'_>,
     reply: Reply,
 ) -> Result<(), AllocError>
-    ensures ok { OnOk result (out.new.items ≡ out.old.items ++ reply_line names.now (named_by subject.entry) reply) }
+    ensures ok { OnOk result (out.new.items ≡ out.old.items ++ reply_line (N.names names.now) (named_by subject.entry) reply) }
     ensures err { OnErr result (out.new.items ≡ out.old.items) }
 {
     match reply {
@@ -193,8 +228,12 @@ pub fn totals_line(
 }
 
 /// Appends the names of transactions parted by commas, or a minus where there is none.
-fn push_names(out: &mut Vec<u8>, names: &Names, txns: &[TxnId]) -> Result<(), AllocError>
-    ensures ok { OnOk result (out.new.items ≡ out.old.items ++ listed names.now (map (λ t. t.0) txns.now)) }
+fn push_names<N: TransactionNames>(
+    out: &mut Vec<u8>,
+    names: &N,
+    txns: &[TxnId],
+) -> Result<(), AllocError>
+    ensures ok { OnOk result (out.new.items ≡ out.old.items ++ listed (N.names names.now) (map (λ t. t.0) txns.now)) }
     ensures kept { BeginsWith out.new.items out.old.items }
 {
     let Some((first, rest)) = txns.split_first() else {
@@ -210,15 +249,15 @@ fn push_names(out: &mut Vec<u8>, names: &Names, txns: &[TxnId]) -> Result<(), Al
 }
 
 /// Appends what stands in the line of an audit.
-fn push_audit(
+fn push_audit<N: TransactionNames>(
     out: &mut Vec<u8>,
-    names: &Names,
+    names: &N,
     txn: &str,
     distance: u64,
     import: u64,
     before: &[TxnId],
 ) -> Result<(), AllocError>
-    ensures ok { OnOk result (out.new.items ≡ out.old.items ++ join_with_byte 32 (audit_words names.now txn.now distance import (map (λ t. t.0) before.now))) }
+    ensures ok { OnOk result (out.new.items ≡ out.old.items ++ join_with_byte 32 (audit_words (N.names names.now) txn.now distance import (map (λ t. t.0) before.now))) }
     ensures kept { BeginsWith out.new.items out.old.items }
 {
     let mut distance_digits = itoa::Buffer::new();
@@ -239,19 +278,48 @@ fn push_audit(
 /// Appends the line of what the audit of a query found: its distance, what it
 /// imported, and the updates before its position. The names are those of the
 /// transactions, in the order of their numbers.
-pub fn audit_line(
+pub fn audit_line<N: TransactionNames>(
     out: &mut Vec<u8>,
-    names: &Names,
+    names: &N,
     txn: &str,
     distance: u64,
     import: u64,
     before: &[TxnId],
 ) -> Result<(), AllocError>
-    ensures ok { OnOk result (out.new.items ≡ out.old.items ++ audit_line names.now txn.now distance import (map (λ t. t.0) before.now)) }
+    ensures ok { OnOk result (out.new.items ≡ out.old.items ++ audit_line (N.names names.now) txn.now distance import (map (λ t. t.0) before.now)) }
     ensures err { OnErr result (out.new.items ≡ out.old.items) }
 {
     let mark = out.len();
     let words = push_audit(out, names, txn, distance, import, before);
+    end_line(out, mark, words)
+}
+
+/// Appends what is in the line of a serial order.
+fn push_order<N: TransactionNames>(
+    out: &mut Vec<u8>,
+    names: &N,
+    txns: &[TxnId],
+) -> Result<(), AllocError>
+    ensures ok { OnOk result (out.new.items ≡ out.old.items ++ join_with_byte 32 (codes "order" ∷ listed (N.names names.now) (map (λ t. t.0) txns.now) ∷ [])) }
+    ensures kept { BeginsWith out.new.items out.old.items }
+{
+    push_words(out, "order", &[])?;
+    out.push(b' ')?;
+    push_names(out, names, txns)
+}
+
+/// Appends the line of the committed updates in a serial order. The names are those of the
+/// transactions, in the order of their numbers.
+pub fn order_line<N: TransactionNames>(
+    out: &mut Vec<u8>,
+    names: &N,
+    txns: &[TxnId],
+) -> Result<(), AllocError>
+    ensures ok { OnOk result (out.new.items ≡ out.old.items ++ order_line (N.names names.now) (map (λ t. t.0) txns.now)) }
+    ensures err { OnErr result (out.new.items ≡ out.old.items) }
+{
+    let mark = out.len();
+    let words = push_order(out, names, txns);
     end_line(out, mark, words)
 }
 
@@ -267,5 +335,6 @@ pub fn error_line(out: &mut Vec<u8>, error: LineError) -> Result<(), AllocError>
         LineError::ValueOutOfRange => push_line(out, "error 4 value out of range", &[]),
         LineError::TooManyItems => push_line(out, "error 5 too many items", &[]),
         LineError::NotACommittedQuery => push_line(out, "error 6 not a committed query", &[]),
+        LineError::WeightOutOfRange => push_line(out, "error 7 weight out of range", &[]),
     }
 }

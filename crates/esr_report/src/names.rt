@@ -5,6 +5,16 @@ use indexmap::IndexSet;
 use std::alloc::{AllocError, Global};
 use std::marker::Model;
 
+/// The names of transactions, in the order of their numbers.
+pub trait TransactionNames {
+    /// The names by position, which is one less than the transaction's number.
+    ghost names: { Self → List (List ℕ) };
+
+    /// The name at the position.
+    fn name_at(&self, position: u32) -> Option<&str>
+        ensures { option_map (λ name. name.now) result ≡ slice_get (names self.now) position };
+}
+
 /// A table of names, in the order in which they were bound. No name is bound twice.
 #[derive(Drop)]
 pub struct Names {
@@ -71,5 +81,13 @@ impl Names {
         let text = String::from_str(self.alloc, name)?;
         self.names.insert(text)?;
         Ok(position as u32)
+    }
+}
+
+impl TransactionNames for Names {
+    ghost names = { λ names. names };
+
+    fn name_at(&self, position: u32) -> Option<&str> {
+        self.name_of(position)
     }
 }

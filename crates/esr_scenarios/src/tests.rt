@@ -180,7 +180,7 @@ fn ten_updates_of_one_item(rt: HostRuntime) {
     }
     assert!(rt; play(&mut m, &[commit(1)]));
     let order = order_of(alloc, &m, 1).expect(&rt, "an order");
-    assert!(rt; order.before().len() == 45);
+    assert!(rt; order.before().len() == 9);
     assert!(rt; order.before()[0] == (0, 1));
-    assert!(rt; order.before()[44] == (8, 9));
+    assert!(rt; order.before()[8] == (8, 9));
 }

@@ -14,7 +14,8 @@ use Rattle.esr_audit.specs.Findings.{IsAnswer}
 use Rattle.esr_report.specs.Lines.{audit_line, error_line}
 use Rattle.esr_report.specs.declared.lines.LineError.TheVariants as errors
 use Rattle.esr_script.specs.declared.fault.RunFault.{RunFault}
-use Rattle.esr_script.specs.Text.{State, plain, transaction_called, audit_text}
+use Rattle.esr_items.specs.Weights.{weighted}
+use Rattle.esr_script.specs.Text.{State, transaction_called, audit_text}
 
 module _ (d : Distance) (h : Schedule) (q : ℕ) where
   abbrev pub Answers : Finding → Type 0
@@ -48,7 +49,7 @@ pub said_so : {E : Type 0} (r : Result (Unit {0}) RunFault) (p : Result (Unit {0
     (name : List ℕ) (q : TxnId) (distance import : ℕ) (before out grown : List ℕ)
     → record { items = items; transactions = names; closed = was; history = h0 } ≡ s → (running ≡ true) × (h ≡ h0)
     → q ≡ transaction_called (record { items = items; transactions = names; closed = running; history = h }) name
-    → is_committed_query h q.0 ≡ true → distance ≡ least_cost plain h q.0 → import ≡ import_in (charges_in plain h) q.0 → before ≡ least_set plain h q.0
+    → is_committed_query h q.0 ≡ true → distance ≡ least_cost weighted h q.0 → import ≡ import_in (charges_in weighted h) q.0 → before ≡ least_set weighted h q.0
     → IsOk r ↔ IsOk p → OnOk p (grown ≡ out ++ audit_line names name distance import before)
     → OnOk r ((text : List ℕ) × (answered (record s { closed = true }) (audit_text s name) ≡ answered (record { items = items; transactions = names; closed = running; history = h }) text) × (grown ≡ out ++ text))
 said_so {E} r p items names was running h0 h s name q distance import before out grown seen closed called shown d i b said line =
@@ -61,15 +62,15 @@ said_so {E} r p items names was running h0 h s name q distance import before out
 
     whole : ℕ → List ℕ
     whole n =
-        if is_committed_query h n then audit_line names name (least_cost plain h n) (import_in (charges_in plain h) n) (least_set plain h n)
+        if is_committed_query h n then audit_line names name (least_cost weighted h n) (import_in (charges_in weighted h) n) (least_set weighted h n)
         else error_line errors.NotACommittedQuery
 
     text : audit_text (state was) name ≡ audit_line names name distance import before
     text =
         ap whole (sym (ap (λ (t : TxnId). t.0) called))
-        ∙ ap (λ (c : Bool). if c then audit_line names name (least_cost plain h q.0) (import_in (charges_in plain h) q.0) (least_set plain h q.0) else error_line errors.NotACommittedQuery) shown
-        ∙ ap (λ n. audit_line names name n (import_in (charges_in plain h) q.0) (least_set plain h q.0)) (sym d)
-        ∙ ap (λ n. audit_line names name distance n (least_set plain h q.0)) (sym i)
+        ∙ ap (λ (c : Bool). if c then audit_line names name (least_cost weighted h q.0) (import_in (charges_in weighted h) q.0) (least_set weighted h q.0) else error_line errors.NotACommittedQuery) shown
+        ∙ ap (λ n. audit_line names name n (import_in (charges_in weighted h) q.0) (least_set weighted h q.0)) (sym d)
+        ∙ ap (λ n. audit_line names name distance n (least_set weighted h q.0)) (sym i)
         ∙ ap (λ us. audit_line names name distance import us) (sym b)
 
     ended : (r : Result (Unit {0}) RunFault) (p : Result (Unit {0}) E) → IsOk r ↔ IsOk p → OnOk p (grown ≡ out ++ audit_line names name distance import before)

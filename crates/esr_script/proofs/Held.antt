@@ -113,6 +113,7 @@ held_kept input left out (Err fault.LineTooLong) sent other h = h
 held_kept input left out (Err fault.NoMemory) sent other h = h
 held_kept input left out (Err fault.HistoryFull) sent other h = h
 held_kept input left out (Err fault.TooManyLines) sent other h = h
+held_kept input left out (Err fault.NotACommittedQuery) sent other h = h
 
 -- a run that a read or a write has ended
 pub held_lost : (input : List ℕ) (left : Option (List ℕ)) (out : List ℕ) (r : Result (Unit {0}) RunFault) (sent : List ℕ) → (is_read_fault r || is_write_fault r) ≡ true
@@ -124,6 +125,7 @@ held_lost input left out (Err fault.LineTooLong) sent lost none h = cc
 held_lost input left out (Err fault.NoMemory) sent lost none h = cc
 held_lost input left out (Err fault.HistoryFull) sent lost none h = cc
 held_lost input left out (Err fault.TooManyLines) sent lost none h = cc
+held_lost input left out (Err fault.NotACommittedQuery) sent lost none h = cc
 
 -- a front of what begins a text begins it
 pub begins_part : (text sent out part : List ℕ) → BeginsWith text (sent ++ out) → BeginsWith out part → BeginsWith text (sent ++ part)

@@ -4,8 +4,10 @@ pub mod Blanks
 pub mod Laws
 pub mod Steps
 pub mod Held
+pub mod Replays
 pub mod Spelling
 pub mod Asks
 pub mod Audits
+pub mod Audited
 pub mod Buffers
 pub mod Opens

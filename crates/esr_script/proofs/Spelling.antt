@@ -1,14 +1,15 @@
 -- What a line spells, and what is read from it.
-use Rattle.std.proofs.Common.{◌≡◌, ℕ, suc, ◌<◌, ◌^◌, ℤ, pos, negsuc, nat_abs, List, [], ◌∷◌, inl, inr, Bool, true, false, not, cond, refl, sym, ◌∙◌, ap, subst, arith, nat_eq, Some, None, Option, option_map, option_and_then, codes, decimal, eqb-true}
+use Rattle.std.proofs.Common.{◌≡◌, ℕ, suc, ◌<◌, ◌^◌, ℤ, pos, negsuc, nat_abs, List, [], ◌∷◌, inl, inr, ◌⊎◌, Bool, true, false, not, ◌&&◌, cond, refl, sym, ◌∙◌, ap, subst, arith, nat_eq, Some, None, Option, option_map, option_and_then, codes, decimal, eqb-true}
 use Rattle.std.specs.List.{AllByRecursion, join_with_byte, list_all}
+use Rattle.std.specs.Option.{option_or}
 use Rattle.std.specs.Str.{bytes_eq, all_ascii_digits}
 use Rattle.std.specs.Char.{is_ascii_digit}
 use Rattle.std.specs.Fmt.{signed_decimal}
 use Rattle.std.proofs.lemmas.List.Elements.{All-nil, All-cons}
 use Rattle.std.proofs.lemmas.List.Splits.{join_with_byte-slice_split}
 use Rattle.std.proofs.lemmas.Slice.Eq.{bytes_eq-Decides}
-use Rattle.esr_script.specs.Command.{Command, item, begin_update, begin_query, read, write, commit, abort, audit, totals, words, is_letter, is_name_byte, is_name, IsName, IsLimit, IsCommand, is_skipped, Spells, IsPlainWord}
-use Rattle.esr_script.specs.Reading.{words_of, name_of, limit_of, int_of, one_of, two_of, three_of, both, item_of, begin_of, read_of, write_of, one_name_of, totals_of, command_of, command_by, reading}
+use Rattle.esr_script.specs.Command.{Command, item, weighted_item, begin_update, begin_query, begin_strict_query, read, write, commit, abort, audit, totals, words, is_letter, is_name_byte, is_name, IsName, IsLimit, IsCommand, is_skipped, Spells, IsPlainWord}
+use Rattle.esr_script.specs.Reading.{words_of, name_of, limit_of, int_of, one_of, two_of, three_of, four_of, both, plain_item_of, weighted_item_of, item_of, plain_begin_of, strict_query_of, begin_of, read_of, write_of, one_name_of, totals_of, command_of, command_by, reading}
 use Rattle.esr_script.proofs.Cutting.{which}
 use Rattle.esr_script.proofs.Laws.{and_then_some, map_some, split_join, number_again, number_found, all_digits, int_again, int_found, left}
 
@@ -65,12 +66,20 @@ pub spelled : (line : List ℕ) (c : Command) → Spells line c → reading line
 spelled line (item n v) h =
     found line (codes "item") (n ∷ signed_decimal v ∷ []) (item n v) h.1 (plain_text (codes "item") refl) (word n h.0.0, (plain_int v h.0.1, tt))
     (rw (named n h.0.0, int_again v h.0.1) refl)
+spelled line (weighted_item n v w) h =
+    found line (codes "item") (n ∷ signed_decimal v ∷ codes "weight" ∷ decimal w ∷ []) (weighted_item n v w) h.1 (plain_text (codes "item") refl)
+    (word n h.0.0, (plain_int v h.0.1, (plain_text (codes "weight") refl, (plain_number w h.0.2, tt))))
+    (rw (named n h.0.0, int_again v h.0.1, number_again (10 ^ 19) w (omega arith) h.0.2) refl)
 spelled line (begin_update n l) h =
     found line (codes "begin") (n ∷ codes "update" ∷ decimal l ∷ []) (begin_update n l) h.1 (plain_text (codes "begin") refl)
     (word n h.0.0, (plain_text (codes "update") refl, (plain_number l h.0.1, tt))) (rw (named n h.0.0, number_again (10 ^ 19) l (omega arith) h.0.1) refl)
 spelled line (begin_query n l) h =
     found line (codes "begin") (n ∷ codes "query" ∷ decimal l ∷ []) (begin_query n l) h.1 (plain_text (codes "begin") refl)
     (word n h.0.0, (plain_text (codes "query") refl, (plain_number l h.0.1, tt))) (rw (named n h.0.0, number_again (10 ^ 19) l (omega arith) h.0.1) refl)
+spelled line (begin_strict_query n l) h =
+    found line (codes "begin") (n ∷ codes "query" ∷ decimal l ∷ codes "strict" ∷ []) (begin_strict_query n l) h.1 (plain_text (codes "begin") refl)
+    (word n h.0.0, (plain_text (codes "query") refl, (plain_number l h.0.1, (plain_text (codes "strict") refl, tt))))
+    (rw (named n h.0.0, number_again (10 ^ 19) l (omega arith) h.0.1) refl)
 spelled line (read t x) h =
     found line (codes "read") (t ∷ x ∷ []) (read t x) h.1 (plain_text (codes "read") refl) (word t h.0.0, (word x h.0.1, tt)) (rw (named t h.0.0, named x h.0.1) refl)
 spelled line (write t x v) h =
@@ -113,23 +122,65 @@ three_found (a ∷ b ∷ []) p e = cc
 three_found (a ∷ b ∷ c ∷ []) p e = let given : List ℕ × List ℕ × List ℕ = (a, b, c) in let same : given ≡ p = cc in ap (λ (q : List ℕ × List ℕ × List ℕ). q.0 ∷ q.1 ∷ q.2 ∷ []) same
 three_found (a ∷ b ∷ c ∷ d ∷ ws) p e = cc
 
+four_found : (ws : List (List ℕ)) (p : List ℕ × List ℕ × List ℕ × List ℕ) → four_of ws ≡ Some p → ws ≡ p.0 ∷ p.1 ∷ p.2 ∷ p.3 ∷ []
+four_found [] p e = cc
+four_found (a ∷ []) p e = cc
+four_found (a ∷ b ∷ []) p e = cc
+four_found (a ∷ b ∷ c ∷ []) p e = cc
+four_found (a ∷ b ∷ c ∷ d ∷ []) p e =
+    let given : List ℕ × List ℕ × List ℕ × List ℕ = (a, b, c, d) in let same : given ≡ p = cc in
+    ap (λ (q : List ℕ × List ℕ × List ℕ × List ℕ). q.0 ∷ q.1 ∷ q.2 ∷ q.3 ∷ []) same
+four_found (a ∷ b ∷ c ∷ d ∷ e ∷ ws) p is = cc
+
+or_found : {A : Type 0} (a b : Option A) (c : A) → option_or a b ≡ Some c → (a ≡ Some c) ⊎ (b ≡ Some c)
+or_found None b c e = inr e
+or_found (Some x) b c e = inl e
+
 same_two : {a b x y : List ℕ} → a ≡ x → b ≡ y → a ∷ b ∷ [] ≡ x ∷ y ∷ []
 same_two {a} {b} {x} {y} e f = rw (e, f) refl
 
 same_three : {a b c x y z : List ℕ} → a ≡ x → b ≡ y → c ≡ z → a ∷ b ∷ c ∷ [] ≡ x ∷ y ∷ z ∷ []
 same_three {a} {b} {c} {x} {y} {z} e f g = rw (e, f, g) refl
 
+same_four : {a b c d w x y z : List ℕ} → a ≡ w → b ≡ x → c ≡ y → d ≡ z → a ∷ b ∷ c ∷ d ∷ [] ≡ w ∷ x ∷ y ∷ z ∷ []
+same_four {a} {b} {c} {d} {w} {x} {y} {z} e f g h = rw (e, f, g, h) refl
+
 -- the words behind a first word spell the command
 abbrev Behind : List ℕ → List (List ℕ) → Command → Type 0
 Behind k ws c = IsCommand c × (k ∷ ws ≡ words c)
 
-item_found : (ws : List (List ℕ)) (c : Command) → item_of ws ≡ Some c → Behind (codes "item") ws c
-item_found ws c e =
+plain_item_found : (ws : List (List ℕ)) (c : Command) → plain_item_of ws ≡ Some c → Behind (codes "item") ws c
+plain_item_found ws c e =
     let p = and_then_some (λ (q : List ℕ × List ℕ). both item (name_of q.0) (int_of q.1)) (two_of ws) c e in
     let b = both_found item (name_of p.0.0) (int_of p.0.1) c p.2 in
     let n = name_found p.0.0 b.0 b.2 in
     let v = int_found p.0.1 b.1 b.3 in
     subst (Behind (codes "item") ws) b.4 ((n.0, v.0), ap (λ l. codes "item" ∷ l) (two_found ws p.0 p.1 ∙ same_two n.1 v.1))
+
+weighted_item_found : (ws : List (List ℕ)) (c : Command) → weighted_item_of ws ≡ Some c → Behind (codes "item") ws c
+weighted_item_found ws c e =
+    let p = and_then_some (λ (q : List ℕ × List ℕ × List ℕ × List ℕ). cond (bytes_eq q.2 (codes "weight"))
+    (option_and_then (λ n. both (weighted_item n) (int_of q.1) (limit_of q.3)) (name_of q.0)) None) (four_of ws) c e in
+    elim (which (bytes_eq p.0.2 (codes "weight"))) [
+      | inl t ↦
+          let rest : option_and_then (λ n. both (weighted_item n) (int_of p.0.1) (limit_of p.0.3)) (name_of p.0.0) ≡ Some c = rw t at p.2 in
+          let a = and_then_some (λ n. both (weighted_item n) (int_of p.0.1) (limit_of p.0.3)) (name_of p.0.0) c rest in
+          let b = both_found (weighted_item a.0) (int_of p.0.1) (limit_of p.0.3) c a.2 in
+          let n = name_found p.0.0 a.0 a.1 in
+          let v = int_found p.0.1 b.0 b.2 in
+          let w = number_found (10 ^ 19) p.0.3 b.1 b.3 in
+          subst (Behind (codes "item") ws) b.4 (
+            (n.0, v.0, w.0),
+            ap (λ l. codes "item" ∷ l) (four_found ws p.0 p.1 ∙ same_four n.1 v.1 ((bytes_eq-Decides p.0.2 (codes "weight")).0 t) w.1),
+          )
+      | inr f ↦ let none : None ≡ Some c = rw f at p.2 in cc
+    ]
+
+item_found : (ws : List (List ℕ)) (c : Command) → item_of ws ≡ Some c → Behind (codes "item") ws c
+item_found ws c e = elim (or_found (plain_item_of ws) (weighted_item_of ws) c e) [
+  | inl h ↦ plain_item_found ws c h
+  | inr h ↦ weighted_item_found ws c h
+]
 
 read_found : (ws : List (List ℕ)) (c : Command) → read_of ws ≡ Some c → Behind (codes "read") ws c
 read_found ws c e =
@@ -158,8 +209,8 @@ begin_by kind f ws p c three is_kind e spells =
     let l = number_found (10 ^ 19) p.2 b.1 b.3 in
     subst (Behind (codes "begin") ws) b.4 (spells b.0 b.1 n.0 l.0 (ap (λ l. codes "begin" ∷ l) (three ∙ same_three n.1 ((bytes_eq-Decides p.1 kind).0 is_kind) l.1)))
 
-begin_found : (ws : List (List ℕ)) (c : Command) → begin_of ws ≡ Some c → Behind (codes "begin") ws c
-begin_found ws c e =
+plain_begin_found : (ws : List (List ℕ)) (c : Command) → plain_begin_of ws ≡ Some c → Behind (codes "begin") ws c
+plain_begin_found ws c e =
     let p = and_then_some (λ (q : List ℕ × List ℕ × List ℕ). cond (bytes_eq q.1 (codes "update")) (both begin_update (name_of q.0) (limit_of q.2))
     (cond (bytes_eq q.1 (codes "query")) (both begin_query (name_of q.0) (limit_of q.2)) None)) (three_of ws) c e in
     let three = three_found ws p.0 p.1 in
@@ -172,6 +223,31 @@ begin_found ws c e =
             | inr g ↦ let none : None ≡ Some c = rw g at other in cc
           ]
     ]
+
+strict_query_found : (ws : List (List ℕ)) (c : Command) → strict_query_of ws ≡ Some c → Behind (codes "begin") ws c
+strict_query_found ws c e =
+    let p = and_then_some (λ (q : List ℕ × List ℕ × List ℕ × List ℕ). cond (bytes_eq q.1 (codes "query") && bytes_eq q.3 (codes "strict"))
+    (both begin_strict_query (name_of q.0) (limit_of q.2)) None) (four_of ws) c e in
+    elim (which (bytes_eq p.0.1 (codes "query") && bytes_eq p.0.3 (codes "strict"))) [
+      | inl t ↦
+          let tests = left (bytes_eq p.0.1 (codes "query")) (bytes_eq p.0.3 (codes "strict")) t in
+          let rest : both begin_strict_query (name_of p.0.0) (limit_of p.0.2) ≡ Some c = rw t at p.2 in
+          let b = both_found begin_strict_query (name_of p.0.0) (limit_of p.0.2) c rest in
+          let n = name_found p.0.0 b.0 b.2 in
+          let l = number_found (10 ^ 19) p.0.2 b.1 b.3 in
+          subst (Behind (codes "begin") ws) b.4 (
+            (n.0, l.0),
+            ap (λ l. codes "begin" ∷ l) (four_found ws p.0 p.1
+                ∙ same_four n.1 ((bytes_eq-Decides p.0.1 (codes "query")).0 tests.0) l.1 ((bytes_eq-Decides p.0.3 (codes "strict")).0 tests.1)),
+          )
+      | inr f ↦ let none : None ≡ Some c = rw f at p.2 in cc
+    ]
+
+begin_found : (ws : List (List ℕ)) (c : Command) → begin_of ws ≡ Some c → Behind (codes "begin") ws c
+begin_found ws c e = elim (or_found (plain_begin_of ws) (strict_query_of ws) c e) [
+  | inl h ↦ plain_begin_found ws c h
+  | inr h ↦ strict_query_found ws c h
+]
 
 totals_found : (ws : List (List ℕ)) (c : Command) → totals_of ws ≡ Some c → Behind (codes "totals") ws c
 totals_found [] c e = let same : totals ≡ c = cc in subst (Behind (codes "totals") []) same (tt, refl)
@@ -232,8 +308,10 @@ read_back line c e =
 -- a line that spells a command is not skipped
 pub not_skipped : (line : List ℕ) (c : Command) → Spells line c → is_skipped line ≡ false
 not_skipped line (item n v) h = ap is_skipped h.1
+not_skipped line (weighted_item n v w) h = ap is_skipped h.1
 not_skipped line (begin_update n l) h = ap is_skipped h.1
 not_skipped line (begin_query n l) h = ap is_skipped h.1
+not_skipped line (begin_strict_query n l) h = ap is_skipped h.1
 not_skipped line (read t x) h = ap is_skipped h.1
 not_skipped line (write t x v) h = ap is_skipped h.1
 not_skipped line (commit t) h = ap is_skipped h.1

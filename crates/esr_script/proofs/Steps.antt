@@ -5,7 +5,7 @@ use Rattle.std.specs.Io.KnownBytes.{IsAtEnd, Consumes}
 use Rattle.esr_script.specs.declared.fault.RunFault.{RunFault}
 use Rattle.esr_script.specs.declared.fault.RunFault.TheVariants.{LineTooLong, TooManyLines}
 use Rattle.esr_script.specs.Lines.{lines, whole_lines}
-use Rattle.esr_script.specs.Text.{State, start, answer, Outcome, outcome, outcome_from, outcome_of_lines, behind, stopped, max_lines, max_line_bytes}
+use Rattle.esr_script.specs.Text.{State, start, answer, next_state, state_after, final, Outcome, outcome, outcome_from, outcome_of_lines, behind, stopped, max_lines, max_line_bytes}
 use Rattle.esr_report.specs.Lines.{BeginsWith}
 use Rattle.esr_script.specs.Run.{IsWholeText}
 use Rattle.esr_script.specs.Parts.{line_len, Progress, Standing}
@@ -38,10 +38,20 @@ behind-stopped a f = ap (λ (t : List ℕ). let r : Outcome = record { text = t;
 behind-done : (a : List ℕ) (n : ℕ) (s : State) → behind a (outcome_from n s []) ≡ record { text = a; fault = None }
 behind-done a n s = ap (λ (t : List ℕ). let r : Outcome = record { text = t; fault = None } in r) (append-nil a)
 
+-- ---- the state
+
+next-is : (s s' : State) (line t : List ℕ) → answer s line ≡ Ok (s', t) → next_state s line ≡ s'
+next-is s s' line t is = rw (is, next_state) refl
+
+-- a line more is answered
+pub state-more : (a s s' : State) (ls : List (List ℕ)) (line t : List ℕ) → state_after a ls ≡ s → answer s line ≡ Ok (s', t) → state_after a (ls ++ line ∷ []) ≡ s'
+state-more a s s' [] line t at is = ap (λ z. next_state z line) at ∙ next-is s s' line t is
+state-more a s s' (l ∷ ls) line t at is = state-more (next_state a l) s s' ls line t at is
+
 -- ---- progress
 
 pub begun : (input : List ℕ) → Progress input input 0 start []
-begun input = record { used = []; answered = []; split = refl; counted = refl; cut = λ bytes. refl; cut_whole = λ bytes. refl; ran = λ more. refl }
+begun input = record { used = []; answered = []; split = refl; counted = refl; cut = λ bytes. refl; cut_whole = λ bytes. refl; reached = refl; ran = λ more. refl }
 
 module _ (input : List ℕ) (n : ℕ) (s : State) (w : List ℕ) where
   -- a line more
@@ -61,10 +71,11 @@ module _ (input : List ℕ) (n : ℕ) (s : State) (w : List ℕ) where
       let cut_whole : (b : List ℕ) → whole_lines ((p.used ++ (l ++ 10 ∷ [])) ++ b) ≡ (p.answered ++ l ∷ []) ++ whole_lines b =
       λ b. let moved : (p.used ++ (l ++ 10 ∷ [])) ++ b ≡ p.used ++ (l ++ 10 ∷ b) = simp append_assoc in
       ap whole_lines moved ∙ p.cut_whole (l ++ 10 ∷ b) ∙ ap (λ ls. p.answered ++ ls) (whole-line l b plain) ∙ sym (append_assoc p.answered (l ∷ []) (whole_lines b)) in
+      let reached : state_after start (p.answered ++ l ∷ []) ≡ s' = state-more start s s' p.answered l t p.reached is in
       let ran : (more : List (List ℕ)) → outcome_of_lines ((p.answered ++ l ∷ []) ++ more) ≡ behind (w ++ t) (outcome_from (n + 1) s' more) =
       λ more. ap outcome_of_lines (append_assoc p.answered (l ∷ []) more) ∙ p.ran (l ∷ more)
       ∙ ap (behind w) (outcome-line n s s' l t more few size is) ∙ behind-behind w t (outcome_from (n + 1) s' more) in
-      record { used = p.used ++ (l ++ 10 ∷ []); answered = p.answered ++ l ∷ []; split = split; counted = counted; cut = cut; cut_whole = cut_whole; ran = ran }
+      record { used = p.used ++ (l ++ 10 ∷ []); answered = p.answered ++ l ∷ []; split = split; counted = counted; cut = cut; cut_whole = cut_whole; reached = reached; ran = ran }
 
   -- the outcome of all of the input, by the lines of what is left
   pub whole : (unread : List ℕ) (ls : List (List ℕ)) → Progress input unread n s w → lines unread ≡ ls → outcome input ≡ behind w (outcome_from n s ls)
@@ -80,6 +91,14 @@ module _ (input : List ℕ) (n : ℕ) (s : State) (w : List ℕ) where
       let front : take (length p.answered) (lines input) ≡ p.answered = ap (take (length p.answered)) cut ∙ take-append_seam p.answered (lines unread) in
       let text : outcome_of_lines p.answered ≡ record { text = w; fault = None } = ap outcome_of_lines (sym (append-nil p.answered)) ∙ p.ran [] ∙ behind-done w n s in
       (length p.answered, (omega (arith, lengths)), ap outcome_of_lines front ∙ text)
+
+  -- where no line is left
+  pub done_state : (unread : List ℕ) → Progress input unread n s w → lines unread ≡ [] → final input ≡ s
+  done_state unread p e = ap final p.split ∙ ap (state_after start) (p.cut unread ∙ ap (λ m. p.answered ++ m) e ∙ append-nil p.answered) ∙ p.reached
+
+  -- where one line is left
+  pub last_state : (unread line : List ℕ) → Progress input unread n s w → lines unread ≡ line ∷ [] → (s' : State) (t : List ℕ) → answer s line ≡ Ok (s', t) → final input ≡ s'
+  last_state unread line p e s' t is = ap final p.split ∙ ap (state_after start) (p.cut unread ∙ ap (λ m. p.answered ++ m) e) ∙ state-more start s s' p.answered line t p.reached is
 
 -- ---- with the reader
 
@@ -144,6 +163,16 @@ module _ (input : List ℕ) (left : Option (List ℕ)) (bytes : List ℕ) (n : �
   at_done here end none =
       let nothing : bytes ++ here.rest ≡ [] = ap (λ b. b ++ here.rest) none ∙ at_end left here.rest here.known end in
       whole input n s w (bytes ++ here.rest) [] here.progress (ap lines nothing) ∙ behind-done w n s
+
+  pub state_at_done : Standing input left bytes n s w → IsAtEnd left → bytes ≡ [] → final input ≡ s
+  state_at_done here end none =
+      let nothing : bytes ++ here.rest ≡ [] = ap (λ b. b ++ here.rest) none ∙ at_end left here.rest here.known end in
+      done_state input n s w (bytes ++ here.rest) here.progress (ap lines nothing)
+
+  pub state_at_last : Standing input left bytes n s w → IsAtEnd left → line_len bytes ≡ length bytes → 0 < length bytes → (s' : State) (t : List ℕ) → answer s bytes ≡ Ok (s', t) → final input ≡ s'
+  state_at_last here end plain some s' t is =
+      let all : bytes ++ here.rest ≡ bytes = ap (λ r. bytes ++ r) (at_end left here.rest here.known end) ∙ append-nil bytes in
+      last_state input n s w (bytes ++ here.rest) bytes here.progress (ap lines all ∙ lines-last bytes plain some) s' t is
 
   last_line : Standing input left bytes n s w → IsAtEnd left → line_len bytes ≡ length bytes → 0 < length bytes → outcome input ≡ behind w (outcome_from n s (bytes ∷ []))
   last_line here end plain some =

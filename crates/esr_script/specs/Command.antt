@@ -6,8 +6,10 @@ use Rattle.std.specs.Fmt.{signed_decimal}
 -- what a line that is not skipped may ask for
 pub data Command : Type 0 where
   item : (name : List ℕ) (value : ℤ) → Command
+  weighted_item : (name : List ℕ) (value : ℤ) (weight : ℕ) → Command
   begin_update : (name : List ℕ) (limit : ℕ) → Command
   begin_query : (name : List ℕ) (limit : ℕ) → Command
+  begin_strict_query : (name : List ℕ) (limit : ℕ) → Command
   read : (txn item : List ℕ) → Command
   write : (txn item : List ℕ) (value : ℤ) → Command
   commit : (txn : List ℕ) → Command
@@ -18,8 +20,10 @@ pub data Command : Type 0 where
 -- the words of a command
 abbrev pub words : Command → List (List ℕ)
 words (item n v) = codes "item" ∷ n ∷ signed_decimal v ∷ []
+words (weighted_item n v w) = codes "item" ∷ n ∷ signed_decimal v ∷ codes "weight" ∷ decimal w ∷ []
 words (begin_update n l) = codes "begin" ∷ n ∷ codes "update" ∷ decimal l ∷ []
 words (begin_query n l) = codes "begin" ∷ n ∷ codes "query" ∷ decimal l ∷ []
+words (begin_strict_query n l) = codes "begin" ∷ n ∷ codes "query" ∷ decimal l ∷ codes "strict" ∷ []
 words (read t x) = codes "read" ∷ t ∷ x ∷ []
 words (write t x v) = codes "write" ∷ t ∷ x ∷ signed_decimal v ∷ []
 words (commit t) = codes "commit" ∷ t ∷ []
@@ -27,7 +31,7 @@ words (abort t) = codes "abort" ∷ t ∷ []
 words (audit t) = codes "audit" ∷ t ∷ []
 words totals = codes "totals" ∷ []
 
--- its words, parted by single blanks
+-- its words, separated by single blanks
 abbrev pub spelling : Command → List ℕ
 spelling c = join_with_byte 32 (words c)
 
@@ -59,8 +63,10 @@ IsLimit n = n < 10 ^ 19
 -- what can be spelled
 abbrev pub IsCommand : Command → Type 0
 IsCommand (item n v) = IsName n × IsInt v
+IsCommand (weighted_item n v w) = IsName n × IsInt v × IsLimit w
 IsCommand (begin_update n l) = IsName n × IsLimit l
 IsCommand (begin_query n l) = IsName n × IsLimit l
+IsCommand (begin_strict_query n l) = IsName n × IsLimit l
 IsCommand (read t x) = IsName t × IsName x
 IsCommand (write t x v) = IsName t × IsName x × IsInt v
 IsCommand (commit t) = IsName t

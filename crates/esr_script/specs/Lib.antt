@@ -4,6 +4,9 @@ pub mod Reading
 pub mod View
 pub mod Text
 pub mod Run
+pub mod Certify
+pub mod Audit
+pub mod Replays
 pub mod Stages
 pub mod Parts
 pub mod Worked

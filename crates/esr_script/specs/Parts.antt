@@ -8,7 +8,7 @@ use Rattle.esr_script.specs.declared.pending.Next.{Next}
 use Rattle.esr_script.specs.declared.pending.Next.TheVariants as next
 use Rattle.esr_script.specs.Lines.{lines, whole_lines}
 use Rattle.esr_script.specs.Run.{IsRunBy}
-use Rattle.esr_script.specs.Text.{State, outcome, outcome_of_lines, outcome_from, behind, max_line_bytes}
+use Rattle.esr_script.specs.Text.{State, start, state_after, outcome, outcome_of_lines, outcome_from, behind, max_line_bytes}
 
 -- how many bytes stand before the first line feed
 abbrev pub line_len : List ℕ → ℕ
@@ -29,6 +29,7 @@ is_read_fault (Err fault.LineTooLong) = false
 is_read_fault (Err fault.NoMemory) = false
 is_read_fault (Err fault.HistoryFull) = false
 is_read_fault (Err fault.TooManyLines) = false
+is_read_fault (Err fault.NotACommittedQuery) = false
 
 abbrev pub is_write_fault : {T : Type 0} → Result T RunFault → Bool
 is_write_fault (Ok done) = false
@@ -38,6 +39,7 @@ is_write_fault (Err fault.LineTooLong) = false
 is_write_fault (Err fault.NoMemory) = false
 is_write_fault (Err fault.HistoryFull) = false
 is_write_fault (Err fault.TooManyLines) = false
+is_write_fault (Err fault.NotACommittedQuery) = false
 
 -- A run over the input that has answered or skipped count lines, wrote this, and has these bytes before it.
 pub record Progress (input : List ℕ) (unread : List ℕ) (count : ℕ) (state : State) (written : List ℕ) : Type 0 where
@@ -47,6 +49,7 @@ pub record Progress (input : List ℕ) (unread : List ℕ) (count : ℕ) (state 
   pub counted : length answered ≡ count
   pub cut : (bytes : List ℕ) → lines (used ++ bytes) ≡ answered ++ lines bytes
   pub cut_whole : (bytes : List ℕ) → whole_lines (used ++ bytes) ≡ answered ++ whole_lines bytes
+  pub reached : state_after start answered ≡ state
   pub ran : (more : List (List ℕ)) → outcome_of_lines (answered ++ more) ≡ behind written (outcome_from count state more)
 
 -- the same, where the bytes before it are these ahead and those that the reader has left

@@ -1,9 +1,10 @@
 -- The command that a line spells, found by its words.
 use Rattle.std.specs.Prelude.{ℕ, ◌+◌, ◌-◌, ◌*◌, ◌^◌, ℤ, pos, neg_ℤ, List, [], ◌∷◌, Bool, ◌&&◌, nat_eq, nat_lt, cond, Option, Some, None, codes, decimal, option_and_then, option_map, if◌then◌else◌}
 use Rattle.std.specs.List.{slice_split}
+use Rattle.std.specs.Option.{option_or}
 use Rattle.std.specs.Borrow.{Bor}
 use Rattle.std.specs.Str.{bytes_eq}
-use Rattle.esr_script.specs.Command.{Command, item, begin_update, begin_query, read, write, commit, abort, audit, totals, is_name}
+use Rattle.esr_script.specs.Command.{Command, item, weighted_item, begin_update, begin_query, begin_strict_query, read, write, commit, abort, audit, totals, is_name}
 
 abbrev pub is_blank : ℕ → Bool
 is_blank b = nat_eq b 32
@@ -53,20 +54,42 @@ abbrev pub three_of : List (List ℕ) → Option (List ℕ × List ℕ × List �
 three_of (a ∷ b ∷ c ∷ []) = Some (a, b, c)
 three_of ws = None
 
+abbrev pub four_of : List (List ℕ) → Option (List ℕ × List ℕ × List ℕ × List ℕ)
+four_of (a ∷ b ∷ c ∷ d ∷ []) = Some (a, b, c, d)
+four_of ws = None
+
 -- both, or none
 abbrev pub both : {A B C : Type 0} → (A → B → C) → Option A → Option B → Option C
 both f a b = option_and_then (λ x. option_map (f x) b) a
 
 -- the words behind each first word
-abbrev pub item_of : List (List ℕ) → Option Command
-item_of ws = option_and_then (λ p. both item (name_of p.0) (int_of p.1)) (two_of ws)
+abbrev pub plain_item_of : List (List ℕ) → Option Command
+plain_item_of ws = option_and_then (λ p. both item (name_of p.0) (int_of p.1)) (two_of ws)
 
-abbrev pub begin_of : List (List ℕ) → Option Command
-begin_of ws =
+abbrev pub weighted_item_of : List (List ℕ) → Option Command
+weighted_item_of ws =
+    option_and_then (λ p.
+    if bytes_eq p.2 (codes "weight") then option_and_then (λ n. both (weighted_item n) (int_of p.1) (limit_of p.3)) (name_of p.0)
+    else None) (four_of ws)
+
+abbrev pub item_of : List (List ℕ) → Option Command
+item_of ws = option_or (plain_item_of ws) (weighted_item_of ws)
+
+abbrev pub strict_query_of : List (List ℕ) → Option Command
+strict_query_of ws =
+    option_and_then (λ p.
+    if bytes_eq p.1 (codes "query") && bytes_eq p.3 (codes "strict") then both begin_strict_query (name_of p.0) (limit_of p.2)
+    else None) (four_of ws)
+
+abbrev pub plain_begin_of : List (List ℕ) → Option Command
+plain_begin_of ws =
     option_and_then (λ p.
     if bytes_eq p.1 (codes "update") then both begin_update (name_of p.0) (limit_of p.2)
     else if bytes_eq p.1 (codes "query") then both begin_query (name_of p.0) (limit_of p.2)
     else None) (three_of ws)
+
+abbrev pub begin_of : List (List ℕ) → Option Command
+begin_of ws = option_or (plain_begin_of ws) (strict_query_of ws)
 
 abbrev pub read_of : List (List ℕ) → Option Command
 read_of ws = option_and_then (λ p. both read (name_of p.0) (name_of p.1)) (two_of ws)

@@ -30,3 +30,5 @@ IsRunBy input left (Err fault.NoMemory) written =
 IsRunBy input left (Err fault.LineTooLong) written = IsTextBefore (outcome input) fault.LineTooLong written
 IsRunBy input left (Err fault.HistoryFull) written = IsTextBefore (outcome input) fault.HistoryFull written
 IsRunBy input left (Err fault.TooManyLines) written = IsTextBefore (outcome input) fault.TooManyLines written
+-- a run certifies nothing
+IsRunBy input left (Err fault.NotACommittedQuery) written = ⊥

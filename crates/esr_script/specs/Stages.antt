@@ -1,4 +1,4 @@
--- The items before the machine is made, and the machine.
+-- Either items still being declared, or the running machine.
 use Rattle.std.specs.Prelude.{⊤, [], Bool, true, false}
 use Rattle.esr_history.specs.Machine.{Schedule}
 use Rattle.esr_history.specs.declared.event.Event.{Event}
@@ -7,12 +7,12 @@ use Rattle.esr_script.specs.declared.stage.Stage.{Stage}
 use Rattle.esr_script.specs.declared.stage.Stage.TheVariants as stage
 
 abbrev pub is_running : Stage → Bool
-is_running (stage.Open values) = false
+is_running (stage.Open values weights) = false
 is_running (stage.Running machine) = true
 
 -- the history that the values open, or the machine's
 abbrev pub history_of : Stage → Schedule
-history_of (stage.Open values) = record { opening = values.items; weights = []; entries = [] }
+history_of (stage.Open values weights) = record { opening = values.items; weights = weights.items; entries = [] }
 history_of (stage.Running machine) = machine
 
 -- whether an event begins a transaction

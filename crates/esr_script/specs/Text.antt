@@ -1,24 +1,26 @@
 -- The text of a script: what a run over its lines writes, and how it ends.
 use Rattle.std.specs.Prelude.{ℕ, ◌+◌, ◌==◌, ℤ, pos, List, [], ◌∷◌, ◌++◌, Bool, true, false, not, nat_lt, nat_eq, cond, Option, Some, None, Result, Ok, Err, length, unwrap_or, if◌then◌else◌}
 use Rattle.std.specs.Option.{option_map_or}
-use Rattle.esr_items.specs.Values.{gap, is_value}
+use Rattle.esr_items.specs.Values.{is_value}
+use Rattle.esr_items.specs.Weights.{is_weight, weighted}
 use Rattle.esr_items.specs.declared.metric.ItemId.{ItemId}
 use Rattle.esr_history.specs.declared.event.TxnId.{TxnId}
 use Rattle.esr_history.specs.declared.event.Event.{Event}
 use Rattle.esr_history.specs.declared.event.Event.TheVariants as event
 use Rattle.esr_history.specs.declared.event.Reply.{Reply}
 use Rattle.esr_history.specs.declared.event.Reply.TheVariants as reply
-use Rattle.esr_history.specs.Machine.{Schedule, Distance, reply_to, extended, charges_in, import_in}
+use Rattle.esr_history.specs.Machine.{Schedule, reply_to, extended, charges_in, import_in}
 use Rattle.esr_history.specs.Queries.{is_committed_query}
 use Rattle.esr_history.specs.Totals.{all_imports, all_exports}
 use Rattle.esr_order.specs.Least.{least_set, least_cost}
-use Rattle.esr_report.specs.declared.lines.LineError.TheVariants.{NotACommand, ItemsAreClosed, NameInUse, ValueOutOfRange, TooManyItems, NotACommittedQuery}
+use Rattle.esr_report.specs.declared.lines.LineError.{LineError}
+use Rattle.esr_report.specs.declared.lines.LineError.TheVariants.{NotACommand, ItemsAreClosed, NameInUse, ValueOutOfRange, TooManyItems, NotACommittedQuery, WeightOutOfRange}
 use Rattle.esr_report.specs.Names.{position_of, is_bound}
-use Rattle.esr_report.specs.Lines.{Named, item_line, reply_line, totals_line, audit_line, error_line}
+use Rattle.esr_report.specs.Lines.{Named, item_line, weighted_item_line, reply_line, totals_line, audit_line, error_line}
 use Rattle.esr_script.specs.declared.fault.RunFault.{RunFault}
 use Rattle.esr_script.specs.declared.fault.RunFault.TheVariants as fault
 use Rattle.esr_script.specs.Lines.{lines}
-use Rattle.esr_script.specs.Command.{Command, item, begin_update, begin_query, read, write, commit, abort, audit, totals, is_skipped}
+use Rattle.esr_script.specs.Command.{Command, item, weighted_item, begin_update, begin_query, begin_strict_query, read, write, commit, abort, audit, totals, is_skipped}
 use Rattle.esr_script.specs.Reading.{reading}
 
 abbrev pub max_lines : ℕ
@@ -32,10 +34,6 @@ max_entries = 1000000
 
 abbrev pub max_items : ℕ
 max_items = 4096
-
--- the distance of two values is their difference
-abbrev pub plain : Distance
-plain weights x a b = gap a b
 
 -- what a run keeps of the lines so far
 pub record State : Type 0 where
@@ -70,7 +68,7 @@ bound names name (reply.Refused why) = names
 abbrev pub ask : State → Named → Event → Result (State × List ℕ) RunFault
 ask s named e =
     if length s.history.entries == max_entries then Err fault.HistoryFull
-    else (let r = reply_to plain s.history e in let names = bound s.transactions named.txn r in
+    else (let r = reply_to weighted s.history e in let names = bound s.transactions named.txn r in
     Ok (record s { closed = true; transactions = names; history = extended s.history e r }, reply_line names named r))
 
 -- a begin, whose name may not be bound already
@@ -79,32 +77,50 @@ begin s name e =
     if is_bound s.transactions name then Ok (record s { closed = true }, error_line NameInUse)
     else ask s (record { txn = name; item = []; value = pos 0 }) e
 
-abbrev pub declare : State → List ℕ → ℤ → State × List ℕ
-declare s name value =
-    if s.closed then (s, error_line ItemsAreClosed)
-    else if is_bound s.items name then (s, error_line NameInUse)
-    else if not (is_value value) then (s, error_line ValueOutOfRange)
-    else if length s.items == max_items then (s, error_line TooManyItems)
-    else (record s { items = s.items ++ name ∷ []; history = record s.history { opening = s.history.opening ++ value ∷ [] } }, item_line name value)
+-- the state with one more item
+abbrev pub with_item : State → List ℕ → ℤ → ℕ → State
+with_item s name value weight =
+    let h = s.history in
+    record s { items = s.items ++ name ∷ []; history = record h { opening = h.opening ++ value ∷ []; weights = h.weights ++ weight ∷ [] } }
+
+-- what is wrong with the declaration of an item, if something is
+abbrev pub item_error : State → List ℕ → ℤ → ℕ → Option LineError
+item_error s name value weight =
+    if s.closed then Some ItemsAreClosed
+    else if is_bound s.items name then Some NameInUse
+    else if not (is_value value) then Some ValueOutOfRange
+    else if length s.items == max_items then Some TooManyItems
+    else if not (is_weight weight) then Some WeightOutOfRange
+    else None
+
+-- an item is declared, which is answered by the line, or the error is
+abbrev pub declare_or : Option LineError → State → List ℕ → ℤ → ℕ → List ℕ → State × List ℕ
+declare_or None s name value weight line = (with_item s name value weight, line)
+declare_or (Some error) s name value weight line = (s, error_line error)
+
+abbrev pub declare : State → List ℕ → ℤ → ℕ → List ℕ → State × List ℕ
+declare s name value weight line = declare_or (item_error s name value weight) s name value weight line
 
 -- the line of what the audit of a transaction finds: its least distance, its import, and the smallest least set
 abbrev pub audit_text : State → List ℕ → List ℕ
 audit_text s name =
     let h = s.history in let q = (transaction_called s name).0 in
-    if is_committed_query h q then audit_line s.transactions name (least_cost plain h q) (import_in (charges_in plain h) q) (least_set plain h q)
+    if is_committed_query h q then audit_line s.transactions name (least_cost weighted h q) (import_in (charges_in weighted h) q) (least_set weighted h q)
     else error_line NotACommittedQuery
 
 -- the state after a command, and its line
 abbrev pub obey : State → Command → Result (State × List ℕ) RunFault
-obey s (item name value) = Ok (declare s name value)
+obey s (item name value) = Ok (declare s name value 1 (item_line name value))
+obey s (weighted_item name value weight) = Ok (declare s name value weight (weighted_item_line name value weight))
 obey s (begin_update name limit) = begin s name (event.BeginUpdate limit)
 obey s (begin_query name limit) = begin s name (event.BeginQuery limit false)
+obey s (begin_strict_query name limit) = begin s name (event.BeginQuery limit true)
 obey s (read txn x) = ask s (record { txn = txn; item = x; value = pos 0 }) (event.Read (transaction_called s txn) (item_called s x))
 obey s (write txn x value) = ask s (record { txn = txn; item = x; value = value }) (event.Write (transaction_called s txn) (item_called s x) value)
 obey s (commit txn) = ask s (record { txn = txn; item = []; value = pos 0 }) (event.Commit (transaction_called s txn))
 obey s (abort txn) = ask s (record { txn = txn; item = []; value = pos 0 }) (event.Abort (transaction_called s txn))
 obey s (audit txn) = Ok (record s { closed = true }, audit_text s txn)
-obey s totals = Ok (record s { closed = true }, totals_line (all_imports plain s.history) (all_exports plain s.history) (length s.history.entries))
+obey s totals = Ok (record s { closed = true }, totals_line (all_imports weighted s.history) (all_exports weighted s.history) (length s.history.entries))
 
 -- the state after a line, and its answer
 abbrev pub answer : State → List ℕ → Result (State × List ℕ) RunFault
@@ -145,3 +161,17 @@ outcome_of_lines ls = outcome_from 0 start ls
 -- the run over the bytes
 abbrev pub outcome : List ℕ → Outcome
 outcome bytes = outcome_of_lines (lines bytes)
+
+-- ---- the state that a run leads to
+
+-- after a line; one that ends the run changes nothing
+abbrev pub next_state : State → List ℕ → State
+next_state s line = elim (answer s line) [ Ok next ↦ next.0 | Err f ↦ s ]
+
+abbrev pub state_after : State → List (List ℕ) → State
+state_after s [] = s
+state_after s (line ∷ more) = state_after (next_state s line) more
+
+-- after all lines of the bytes
+abbrev pub final : List ℕ → State
+final bytes = state_after start (lines bytes)

@@ -4,13 +4,15 @@ use Rattle.esr_script.specs.declared.parse.Line.{Line}
 use Rattle.esr_script.specs.declared.parse.Line.TheVariants as line
 use Rattle.esr_script.specs.declared.parse.Parsed.{Parsed}
 use Rattle.esr_script.specs.declared.parse.Parsed.TheVariants as parsed
-use Rattle.esr_script.specs.Command.{Command, item, begin_update, begin_query, read, write, commit, abort, audit, totals, is_skipped}
+use Rattle.esr_script.specs.Command.{Command, item, weighted_item, begin_update, begin_query, begin_strict_query, read, write, commit, abort, audit, totals, is_skipped}
 use Rattle.esr_script.specs.Reading.{reading}
 
 abbrev pub view : Line → Command
 view (line.Item name value) = item name.now value
+view (line.WeightedItem name value weight) = weighted_item name.now value weight
 view (line.BeginUpdate name limit) = begin_update name.now limit
 view (line.BeginQuery name limit) = begin_query name.now limit
+view (line.BeginStrictQuery name limit) = begin_strict_query name.now limit
 view (line.Read txn x) = read txn.now x.now
 view (line.Write txn x value) = write txn.now x.now value
 view (line.Commit txn) = commit txn.now

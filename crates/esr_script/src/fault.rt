@@ -1,6 +1,6 @@
 use thiserror::Error;
 
-/// Why a run ended before the end of its input.
+/// Why a run ended before the end of its input, or a query was not certified.
 #[derive(Clone, Copy, Debug, PartialEq, Eq, Error)]
 pub enum RunFault {
     /// A read failed, in whatever way.
@@ -20,4 +20,7 @@ pub enum RunFault {
     /// There are more than 2,000,000 lines.
     #[error("too many lines")]
     TooManyLines,
+    /// The name is that of no committed query.
+    #[error("not a committed query")]
+    NotACommittedQuery,
 }

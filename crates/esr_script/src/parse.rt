@@ -2,10 +2,10 @@
 
 ghost use Rattle.std.specs.Prelude.{◌≡◌, ◌↔◌, Option, Some, option_map, IsTrue};
 ghost use Rattle.esr_script.specs.Command.{Command, is_skipped, Spells};
-ghost use Rattle.esr_script.specs.Reading.{words_of, words_after, totals_of, item_of, begin_of, read_of, write_of, one_name_of, command_by, reading};
+ghost use Rattle.esr_script.specs.Reading.{words_of, words_after, totals_of, plain_item_of, weighted_item_of, item_of, plain_begin_of, strict_query_of, begin_of, read_of, write_of, one_name_of, command_by, reading};
 ghost use Rattle.esr_script.specs.View.{view, command_in, IsReadingOf};
 
-use crate::words::{cut_word, int, limit, name, one_word, three_words, two_words};
+use crate::words::{cut_word, four_words, int, limit, name, one_word, three_words, two_words};
 
 /// A command, with its names as text of the line that spells it.
 #[derive(Clone, Copy, Debug, PartialEq, Eq)]
@@ -15,6 +15,12 @@ pub enum Line<'a> {
         name: &'a str,
         value: i64,
     },
+    /// `item NAME INT weight LIMIT`
+    WeightedItem {
+        name: &'a str,
+        value: i64,
+        weight: u64,
+    },
     /// `begin NAME update LIMIT`
     BeginUpdate {
         name: &'a str,
@@ -22,6 +28,11 @@ pub enum Line<'a> {
     },
     /// `begin NAME query LIMIT`
     BeginQuery {
+        name: &'a str,
+        limit: u64,
+    },
+    /// `begin NAME query LIMIT strict`
+    BeginStrictQuery {
         name: &'a str,
         limit: u64,
     },
@@ -72,8 +83,8 @@ fn is_skipped(line: &[u8]) -> bool
     }
 }
 
-fn item(words: &[u8]) -> Option<Line<'_>>
-    ensures { option_map view result ≡ item_of (words_of words.now) }
+fn plain_item(words: &[u8]) -> Option<Line<'_>>
+    ensures { option_map view result ≡ plain_item_of (words_of words.now) }
 {
     let (first, second) = two_words(words)?;
     let name = name(first)?;
@@ -81,8 +92,34 @@ fn item(words: &[u8]) -> Option<Line<'_>>
     Some(Line::Item { name, value })
 }
 
-fn begin(words: &[u8]) -> Option<Line<'_>>
-    ensures { option_map view result ≡ begin_of (words_of words.now) }
+fn weighted_item(words: &[u8]) -> Option<Line<'_>>
+    ensures { option_map view result ≡ weighted_item_of (words_of words.now) }
+{
+    let (first, second, kind, last) = four_words(words)?;
+    if kind != b"weight".as_slice() {
+        return None;
+    }
+    let name = name(first)?;
+    let value = int(second)?;
+    let weight = limit(last)?;
+    Some(Line::WeightedItem {
+        name,
+        value,
+        weight,
+    })
+}
+
+fn item(words: &[u8]) -> Option<Line<'_>>
+    ensures { option_map view result ≡ item_of (words_of words.now) }
+{
+    match plain_item(words) {
+        Some(line) => Some(line),
+        None => weighted_item(words),
+    }
+}
+
+fn plain_begin(words: &[u8]) -> Option<Line<'_>>
+    ensures { option_map view result ≡ plain_begin_of (words_of words.now) }
 {
     let (first, kind, last) = three_words(words)?;
     if kind == b"update".as_slice() {
@@ -95,6 +132,28 @@ fn begin(words: &[u8]) -> Option<Line<'_>>
         Some(Line::BeginQuery { name, limit })
     } else {
         None
+    }
+}
+
+fn strict_query(words: &[u8]) -> Option<Line<'_>>
+    ensures { option_map view result ≡ strict_query_of (words_of words.now) }
+{
+    let (first, kind, second, last) = four_words(words)?;
+    if kind == b"query".as_slice() && last == b"strict".as_slice() {
+        let name = name(first)?;
+        let limit = limit(second)?;
+        Some(Line::BeginStrictQuery { name, limit })
+    } else {
+        None
+    }
+}
+
+fn begin(words: &[u8]) -> Option<Line<'_>>
+    ensures { option_map view result ≡ begin_of (words_of words.now) }
+{
+    match plain_begin(words) {
+        Some(line) => Some(line),
+        None => strict_query(words),
     }
 }
 

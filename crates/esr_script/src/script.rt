@@ -1,24 +1,31 @@
 //! What a run keeps of the lines so far, and its answer to a line.
 
-ghost use Rattle.std.specs.Prelude.{◌≡◌, ℕ, ◌+◌, ◌<◌, ◌≤◌, ◌⊎◌, List, [], ◌++◌, Ok, Err, None, OnErr, OnOk, IfErr, IsOk, ◌↔◌, length, pos};
+ghost use Rattle.std.specs.Prelude.{◌≡◌, ℕ, ◌+◌, ◌<◌, ◌≤◌, ◌⊎◌, List, [], ◌++◌, Ok, Err, None, OnErr, OnOk, IfOk, IfErr, IsErrOf, IsOk, false, ◌↔◌, length, pos};
 ghost use Rattle.esr_report.specs.Names.{position_of};
 ghost use Rattle.esr_report.specs.Subjects.{named_by};
-ghost use Rattle.esr_script.specs.Text.{start, transaction_called, item_called, declare, begin, ask, obey, answer};
+ghost use Rattle.esr_script.specs.Text.{start, transaction_called, item_called, item_error, with_item, begin, ask, obey, answer};
 ghost use Rattle.esr_script.specs.Command as command;
 ghost use Rattle.esr_script.specs.Stages.{IsBegin};
+ghost use Rattle.esr_script.specs.Certify.{IsFound};
+ghost use Rattle.esr_script.specs.Audit.{audit_output};
+ghost use Rattle.esr_cert.specs.Views.{certificate_of};
+ghost use Rattle.esr_history.specs.Queries.{is_committed_query};
 ghost use Rattle.esr_script.specs.View.{view};
 
+use crate::book::push_audit;
 use crate::fault::RunFault;
 use crate::parse::{Line, Parsed, parse_line};
 use crate::stage::Stage;
-use esr_audit::AuditError;
+use esr_audit::{AuditError, Finding};
 use esr_history::{Event, Reply, TxnId};
-use esr_items::{ItemId, LARGEST_VALUE, MOST_ITEMS};
+use esr_items::{ItemId, LARGEST_VALUE, LARGEST_WEIGHT, MOST_ITEMS};
 use esr_report::{
     LineError, Names, Subject, audit_line, error_line, item_line, reply_line, totals_line,
+    weighted_item_line,
 };
 use std::alloc::{AllocError, Global};
 use std::marker::Model;
+use std::thread::Threads;
 
 /// The names that are bound, and the items or the machine.
 #[derive(Drop)]
@@ -50,7 +57,10 @@ impl Script {
             alloc,
             items: Names::new(alloc),
             transactions: Names::new(alloc),
-            stage: Stage::Open(Vec::new(alloc)),
+            stage: Stage::Open {
+                values: Vec::new(alloc),
+                weights: Vec::new(alloc),
+            },
         }
     }
 
@@ -74,28 +84,76 @@ impl Script {
         }
     }
 
-    /// Declares an item.
+    /// What is wrong with the declaration of an item, if something is.
+    fn item_error(&self, name: &str, value: i64, weight: u64) -> Option<LineError>
+        ensures { result ≡ item_error self.now name.now value weight }
+    {
+        if let Stage::Running(_) = &self.stage {
+            return Some(LineError::ItemsAreClosed);
+        }
+        if self.items.number_of(name).is_some() {
+            return Some(LineError::NameInUse);
+        }
+        if value.unsigned_abs() > LARGEST_VALUE {
+            return Some(LineError::ValueOutOfRange);
+        }
+        if self.items.len() == MOST_ITEMS {
+            return Some(LineError::TooManyItems);
+        }
+        if weight == 0 || weight > u64::from(LARGEST_WEIGHT) {
+            return Some(LineError::WeightOutOfRange);
+        }
+        None
+    }
+
+    /// Adds an item, with the declaration of which nothing is wrong.
+    fn add_item(&mut self, name: &str, value: i64, weight: u64) -> Result<(), RunFault>
+        requires { item_error self.old name.now value weight ≡ None }
+        ensures ok { OnOk result (self.new ≡ with_item self.old name.now value weight) }
+        ensures faults { IfErr result (λ e. e ≡ RunFault.NoMemory) }
+    {
+        let Stage::Open { values, weights } = &mut self.stage else {
+            unreachable!()
+        };
+        if values.push(value).is_err()
+            || weights.push(weight as u32).is_err()
+            || self.items.bind(name).is_err()
+        {
+            return Err(RunFault::NoMemory);
+        }
+        Ok(())
+    }
+
+    /// Declares an item of weight 1.
     fn declare(&mut self, name: &str, value: i64, out: &mut Vec<u8>) -> Result<(), RunFault>
-        ensures ok { OnOk result ((text : List ℕ) × (declare self.old name.now value ≡ (self.new, text)) × (out.new.items ≡ out.old.items ++ text)) }
+        ensures ok { OnOk result ((text : List ℕ) × (obey self.old (command.item name.now value) ≡ Ok (self.new, text)) × (out.new.items ≡ out.old.items ++ text)) }
         ensures err { OnErr result (out.new.items ≡ out.old.items) }
         ensures faults { IfErr result (λ e. e ≡ RunFault.NoMemory) }
     {
-        let Stage::Open(values) = &mut self.stage else {
-            return said(error_line(out, LineError::ItemsAreClosed));
-        };
-        if self.items.number_of(name).is_some() {
-            return said(error_line(out, LineError::NameInUse));
+        if let Some(error) = self.item_error(name, value, 1) {
+            return said(error_line(out, error));
         }
-        if value.unsigned_abs() > LARGEST_VALUE {
-            return said(error_line(out, LineError::ValueOutOfRange));
-        }
-        if self.items.len() >= MOST_ITEMS {
-            return said(error_line(out, LineError::TooManyItems));
-        }
-        if self.items.bind(name).is_err() || values.push(value).is_err() {
-            return Err(RunFault::NoMemory);
-        }
+        self.add_item(name, value, 1)?;
         said(item_line(out, name, value))
+    }
+
+    /// Declares an item with a weight.
+    fn declare_weighted(
+        &mut self,
+        name: &str,
+        value: i64,
+        weight: u64,
+        out: &mut Vec<u8>,
+    ) -> Result<(), RunFault>
+        ensures ok { OnOk result ((text : List ℕ) × (obey self.old (command.weighted_item name.now value weight) ≡ Ok (self.new, text)) × (out.new.items ≡ out.old.items ++ text)) }
+        ensures err { OnErr result (out.new.items ≡ out.old.items) }
+        ensures faults { IfErr result (λ e. e ≡ RunFault.NoMemory) }
+    {
+        if let Some(error) = self.item_error(name, value, weight) {
+            return said(error_line(out, error));
+        }
+        self.add_item(name, value, weight)?;
+        said(weighted_item_line(out, name, value, weight))
     }
 
     /// Gives the machine an event, and answers with its reply.
@@ -221,6 +279,7 @@ impl Script {
                 return said(error_line(out, LineError::NotACommittedQuery));
             }
             Err(AuditError::NoMemory) => return Err(RunFault::NoMemory),
+            Err(AuditError::WorkersOutOfRange) => unreachable!(),
         };
         said(audit_line(
             out,
@@ -232,6 +291,39 @@ impl Script {
         ))
     }
 
+    /// What the audit of the query of that name finds.
+    pub fn find(&mut self, name: &str) -> Result<Finding, RunFault>
+        ensures found { IfOk result (λ f. IsFound self.old.history (transaction_called self.old name.now).0 f.problem (certificate_of f.certificate)) }
+        ensures refused { IsErrOf result RunFault.NotACommittedQuery → is_committed_query self.old.history (transaction_called self.old name.now).0 ≡ false }
+        ensures faults { IfErr result (λ e. (e ≡ RunFault.NoMemory) ⊎ (e ≡ RunFault.NotACommittedQuery)) }
+    {
+        let q = self.transaction(name);
+        self.stage.close(self.alloc)?;
+        match self.stage.audit(self.alloc, q) {
+            Ok(found) => Ok(found),
+            Err(AuditError::NotACommittedQuery) => Err(RunFault::NotACommittedQuery),
+            Err(AuditError::NoMemory) => Err(RunFault::NoMemory),
+            Err(AuditError::WorkersOutOfRange) => unreachable!(),
+        }
+    }
+
+    /// Appends the audit of the whole history, by so many workers. After an error the output is spoiled.
+    pub fn audit_all<T: Threads + Sync>(
+        &mut self,
+        rt: &T,
+        workers: u64,
+        out: &mut Vec<u8>,
+    ) -> Result<(), RunFault>
+        requires { (1 ≤ workers) × (workers ≤ 64) }
+        ensures ok { OnOk result (out.new.items ≡ out.old.items ++ audit_output self.old) }
+        ensures faults { IfErr result (λ e. e ≡ RunFault.NoMemory) }
+    {
+        self.stage.close(self.alloc)?;
+        let book = self.stage.audit_all(rt, self.alloc, workers)?;
+        let totals = self.stage.totals();
+        said(push_audit(out, &self.transactions, &book, totals))
+    }
+
     /// Obeys a command.
     fn obey(&mut self, line: Line<'_>, out: &mut Vec<u8>) -> Result<(), RunFault>
         ensures ok { OnOk result ((text : List ℕ) × (obey self.old (view line.entry) ≡ Ok (self.new, text)) × (out.new.items ≡ out.old.items ++ text)) }
@@ -241,6 +333,11 @@ impl Script {
     {
         match line {
             Line::Item { name, value } => self.declare(name, value, out),
+            Line::WeightedItem {
+                name,
+                value,
+                weight,
+            } => self.declare_weighted(name, value, weight, out),
             Line::BeginUpdate { name, limit } => self.begin(
                 name,
                 Event::BeginUpdate { limit },
@@ -250,6 +347,13 @@ impl Script {
                 let event = Event::BeginQuery {
                     limit,
                     strict: false,
+                };
+                self.begin(name, event, out)
+            }
+            Line::BeginStrictQuery { name, limit } => {
+                let event = Event::BeginQuery {
+                    limit,
+                    strict: true,
                 };
                 self.begin(name, event, out)
             }

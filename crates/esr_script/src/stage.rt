@@ -1,25 +1,30 @@
-//! The items before the machine is made, and the machine.
+//! Either items still being declared, or the running machine.
 
-ghost use Rattle.std.specs.Prelude.{◌≡◌, ◌≢◌, ◌⊎◌, true, false, length, map, IfOk, OnOk, OnErr, IfErr, IsErrOf};
+ghost use Rattle.std.specs.Prelude.{◌≡◌, ◌≢◌, ◌≤◌, ◌⊎◌, true, false, length, map, IfOk, OnOk, OnErr, IfErr, IsErrOf};
 ghost use Rattle.esr_history.specs.Machine.{reply_to, extended, charges_in, import_in};
+ghost use Rattle.esr_history.specs.Serial.{committed_updates};
 ghost use Rattle.esr_history.specs.Totals.{all_imports, all_exports};
 ghost use Rattle.esr_history.specs.Queries.{is_committed_query};
+ghost use Rattle.esr_cert.specs.Views.{certificate_of};
 ghost use Rattle.esr_order.specs.Least.{least_set, least_cost};
-ghost use Rattle.esr_script.specs.Text.{plain};
+ghost use Rattle.esr_audit.specs.Findings.{IsShown, told, told_of, committed_queries};
+ghost use Rattle.esr_items.specs.Weights.{weighted};
 
 use crate::fault::RunFault;
-use esr_audit::{AuditError, Finding, audit_query};
+use esr_audit::{AuditError, Book, Finding, audit_query};
+use esr_board::{NoGate, audit_parallel};
 use esr_core::{Machine, StepError, Totals};
 use esr_history::{Event, Reply, TxnId};
-use esr_items::{Plain, Store};
+use esr_items::{Store, Weighted};
 use std::alloc::Global;
 use std::mem;
+use std::thread::Threads;
 
-/// The values of the items, while more may be declared, and then the machine.
+/// The opening values and the weights of the items, while more may be declared, and then the machine.
 #[derive(Drop)]
 pub enum Stage {
-    Open(Vec<i64>),
-    Running(Machine<Plain>),
+    Open { values: Vec<i64>, weights: Vec<u32> },
+    Running(Machine<Weighted>),
 }
 
 impl Stage {
@@ -31,14 +36,18 @@ impl Stage {
         ensures err { OnErr result ((history_of self.new).entries ≡ (history_of self.old).entries) }
         ensures faults { IfErr result (λ e. e ≡ RunFault.NoMemory) }
     {
-        let Stage::Open(values) = self else {
+        let Stage::Open { values, weights } = self else {
             return Ok(());
         };
         let values = mem::replace(values, Vec::new(alloc));
+        let weights = mem::replace(weights, Vec::new(alloc));
         let Ok(store) = Store::new(alloc, values) else {
             return Err(RunFault::NoMemory);
         };
-        let Ok(machine) = Machine::new(alloc, store, Plain) else {
+        let Ok(metric) = Weighted::new(weights) else {
+            return Err(RunFault::NoMemory);
+        };
+        let Ok(machine) = Machine::new(alloc, store, metric) else {
             return Err(RunFault::NoMemory);
         };
         *self = Stage::Running(machine);
@@ -49,7 +58,7 @@ impl Stage {
     pub fn step(&mut self, event: Event) -> Result<Reply, RunFault>
         requires { is_running self.old ≡ true }
         ensures room { OnOk result (length (history_of self.old).entries ≢ 1000000) }
-        ensures reply { IfOk result (λ reply. reply ≡ reply_to plain (history_of self.old) event) }
+        ensures reply { IfOk result (λ reply. reply ≡ reply_to weighted (history_of self.old) event) }
         ensures added { IfOk result (λ reply. history_of self.new ≡ extended (history_of self.old) event reply) }
         ensures running { is_running self.new ≡ true }
         ensures err { OnErr result (history_of self.new ≡ history_of self.old) }
@@ -61,20 +70,21 @@ impl Stage {
                 Ok(reply) => Ok(reply),
                 Err(StepError::HistoryFull) => Err(RunFault::HistoryFull),
                 Err(StepError::NoMemory) => Err(RunFault::NoMemory),
+                Err(StepError::EngineClosed) => unreachable!(),
             },
-            Stage::Open(_) => Err(RunFault::NoMemory),
+            Stage::Open { .. } => unreachable!(),
         }
     }
 
     /// The imports and exports together, and the length of the history.
     pub fn totals(&self) -> Totals
-        ensures import { result.import ≡ all_imports plain (history_of self.now) }
-        ensures export { result.export ≡ all_exports plain (history_of self.now) }
+        ensures import { result.import ≡ all_imports weighted (history_of self.now) }
+        ensures export { result.export ≡ all_exports weighted (history_of self.now) }
         ensures entries { result.entries ≡ length (history_of self.now).entries }
     {
         match self {
             Stage::Running(machine) => machine.totals(),
-            Stage::Open(_) => Totals {
+            Stage::Open { .. } => Totals {
                 import: 0,
                 export: 0,
                 entries: 0,
@@ -86,15 +96,42 @@ impl Stage {
     #[tactic(auto, using(crate::proofs::Audits::distance_is, crate::proofs::Audits::import_is, crate::proofs::Audits::before_is, crate::proofs::Audits::committed))]
     pub fn audit(&self, alloc: Global, q: TxnId) -> Result<Finding, AuditError>
         requires { is_running self.now ≡ true }
-        ensures distance { IfOk result (λ f. f.distance ≡ least_cost plain (history_of self.now) q.0) }
-        ensures import { IfOk result (λ f. f.import ≡ import_in (charges_in plain (history_of self.now)) q.0) }
-        ensures before { IfOk result (λ f. map (λ t. t.0) f.before.items ≡ least_set plain (history_of self.now) q.0) }
+        ensures distance { IfOk result (λ f. f.distance ≡ least_cost weighted (history_of self.now) q.0) }
+        ensures import { IfOk result (λ f. f.import ≡ import_in (charges_in weighted (history_of self.now)) q.0) }
+        ensures before { IfOk result (λ f. map (λ t. t.0) f.before.items ≡ least_set weighted (history_of self.now) q.0) }
         ensures committed { IfOk result (λ f. is_committed_query (history_of self.now) q.0 ≡ true) }
+        ensures shown { IfOk result (λ f. IsShown weighted (history_of self.now) q.0 f.distance (map (λ t. t.0) f.before.items) f.problem (certificate_of f.certificate)) }
         ensures refused { IsErrOf result AuditError.NotACommittedQuery → is_committed_query (history_of self.now) q.0 ≡ false }
+        ensures workers { ¬ IsErrOf result AuditError.WorkersOutOfRange }
     {
         match self {
             Stage::Running(machine) => audit_query(alloc, machine.history(), q),
-            Stage::Open(_) => Err(AuditError::NoMemory),
+            Stage::Open { .. } => unreachable!(),
+        }
+    }
+
+    /// What the audit of the whole history by so many workers finds.
+    pub fn audit_all<T: Threads + Sync>(
+        &self,
+        rt: &T,
+        alloc: Global,
+        workers: u64,
+    ) -> Result<Book, RunFault>
+        requires running { is_running self.now ≡ true }
+        requires workers { (1 ≤ workers) × (workers ≤ 64) }
+        ensures order { IfOk result (λ b. map (λ t. t.0) b.order.items ≡ committed_updates (history_of self.now)) }
+        ensures told { IfOk result (λ b. map told b.findings.items
+            ≡ map (told_of weighted (history_of self.now)) (committed_queries (history_of self.now))) }
+        ensures faults { IfErr result (λ e. e ≡ RunFault.NoMemory) }
+    {
+        let Stage::Running(machine) = self else {
+            unreachable!()
+        };
+        match audit_parallel(rt, alloc, machine.history(), workers, &NoGate) {
+            Ok(book) => Ok(book),
+            Err(AuditError::NoMemory) => Err(RunFault::NoMemory),
+            Err(AuditError::NotACommittedQuery) => unreachable!(),
+            Err(AuditError::WorkersOutOfRange) => unreachable!(),
         }
     }
 }

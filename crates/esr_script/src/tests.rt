@@ -1,3 +1,5 @@
+mod audited;
+mod certified;
 mod failing;
 mod large;
 mod rows;
@@ -38,6 +40,7 @@ fn faults_show_their_texts(rt: HostRuntime) -> Result<(), Fail> {
         (RunFault::NoMemory, "out of memory"),
         (RunFault::HistoryFull, "history full"),
         (RunFault::TooManyLines, "too many lines"),
+        (RunFault::NotACommittedQuery, "not a committed query"),
     ];
     for (fault, text) in &shown {
         let shown = fault.to_string(rt.alloc())?;

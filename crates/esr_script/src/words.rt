@@ -4,12 +4,11 @@ ghost use Rattle.std.specs.Prelude.{◌≡◌, ◌∷◌, ◌<◌, ◌≤◌, �
 ghost use Rattle.std.specs.Str.{all_ascii_digits};
 ghost use Rattle.std.specs.List.{position, list_all};
 ghost use Rattle.esr_script.specs.Command.{is_letter, is_name_byte, is_name};
-ghost use Rattle.esr_script.specs.Reading.{value_from, number_below, is_blank, words_of, words_after, name_of, limit_of, int_of, one_of, two_of, three_of};
+ghost use Rattle.esr_script.specs.Reading.{value_from, number_below, is_blank, words_of, words_after, name_of, limit_of, int_of, one_of, two_of, three_of, four_of};
 
 use std::str::from_utf8;
 
 /// One above the largest number of 18 digits.
-
 const INT_END: u64 = 1_000_000_000_000_000_000;
 
 fn find_blank(bytes: &[u8]) -> Option<usize>
@@ -54,6 +53,15 @@ pub fn three_words(bytes: &[u8]) -> Option<(&[u8], &[u8], &[u8])>
     let (first, more) = cut_word(bytes);
     let (second, third) = two_words(more?)?;
     Some((first, second, third))
+}
+
+/// The words, where there are four.
+pub fn four_words(bytes: &[u8]) -> Option<(&[u8], &[u8], &[u8], &[u8])>
+    ensures { option_map (λ p. (p.0.now, p.1.now, p.2.now, p.3.now)) result ≡ four_of (words_of bytes.now) }
+{
+    let (first, more) = cut_word(bytes);
+    let (second, third, fourth) = three_words(more?)?;
+    Some((first, second, third, fourth))
 }
 
 fn is_letter(byte: u8) -> bool

@@ -1,10 +1,10 @@
-use Rattle.std.proofs.Common.{[], ◌≡◌, refl, sym, subst}
+use Rattle.std.proofs.Common.{[], ◌≡◌, Some, None, Result, Ok}
 use Rattle.clap.specs.Words.{HasKind}
 use Rattle.clap.specs.Walk.{texts}
 use Rattle.clap.proofs.FaultLemmas.{failed_up}
-use Rattle.esr_cli.specs.Job.{Asks}
-use Rattle.esr_cli.specs.declared.Job.TheVariants as job
-use Rattle.esr_cli.proofs.Faultless.{faultless_asks, found_by_program, of_program, spelled}
+use Rattle.clap.specs.declared.error.Error.{Error}
+use Rattle.esr_cli.specs.declared.Job.{Job}
+use Rattle.esr_cli.proofs.Faultless.{found_by_program, job_found, no_ok, of_program, spelled}
 use Rattle.esr_cli.proofs.command.Goals as goal
 
 pub returns-in_err-matches-clause-errors : goal.returns-in_err-matches-clause-errors
@@ -14,19 +14,33 @@ returns-in_err-matches-clause-errors c =
     failed_up _ e _ _ c.from_residual-in_err-matches.ensures.1 has
 
 pub returns-in_err-matches-clause-asked : goal.returns-in_err-matches-clause-asked
-returns-in_err-matches-clause-asked c wanted spells = spelled _ _ wanted spells (returns-in_err-matches-clause-errors c)
+returns-in_err-matches-clause-asked c wanted spells =
+    let r : Result Job Error = c.from_residual-in_err-matches.result in
+    spelled r _ wanted spells (returns-in_err-matches-clause-errors c) (no_ok r _ _ c.from_residual-in_err-matches.ensures.1)
 
 pub unreachable-requires : goal.unreachable-requires
 unreachable-requires c =
     let words = texts c.args.words.now in
     let none = of_program (λ kinds. kinds ≡ []) _ words c.in_ok-program.ensures c.in_ok-matches.ensures.kinds in
     let found = found_by_program _ words c.in_ok-matches.matches c.in_ok-program.ensures c.in_ok-matches.ensures.matches in
-    c.in-None.ensures.none refl job.Run (subst (λ f. Asks f job.Run) (sym found) (faultless_asks words none))
+    job_found None words c.in_ok-matches.matches c.in-None.ensures found none
 
 pub returns-clause-job : goal.returns-clause-job
 returns-clause-job c =
-    let found = found_by_program _ (texts c.args.words.now) c.in_ok-matches.matches c.in_ok-program.ensures c.in_ok-matches.ensures.matches in
-    subst (λ f. Asks f c.in-Some.job) found c.in-Some.ensures.job
+    let words = texts c.args.words.now in
+    let none = of_program (λ kinds. kinds ≡ []) _ words c.in_ok-program.ensures c.in_ok-matches.ensures.kinds in
+    let found = found_by_program _ words c.in_ok-matches.matches c.in_ok-program.ensures c.in_ok-matches.ensures.matches in
+    (job_found (Some c.in-Some.job) words c.in_ok-matches.matches c.in-Some.ensures found none).0
+
+pub returns-clause-workers : goal.returns-clause-workers
+returns-clause-workers c =
+    let words = texts c.args.words.now in
+    let none = of_program (λ kinds. kinds ≡ []) _ words c.in_ok-program.ensures c.in_ok-matches.ensures.kinds in
+    let found = found_by_program _ words c.in_ok-matches.matches c.in_ok-program.ensures c.in_ok-matches.ensures.matches in
+    (job_found (Some c.in-Some.job) words c.in_ok-matches.matches c.in-Some.ensures found none).1
 
 pub returns-clause-errors : goal.returns-clause-errors
 returns-clause-errors c = of_program (λ kinds. kinds ≡ []) _ (texts c.args.words.now) c.in_ok-program.ensures c.in_ok-matches.ensures.kinds
+
+pub returns-clause-asked : goal.returns-clause-asked
+returns-clause-asked c wanted spells = spelled (Ok c.in-Some.job) _ wanted spells (returns-clause-errors c) (returns-clause-job c)

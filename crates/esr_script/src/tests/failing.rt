@@ -1,12 +1,13 @@
 //! Readers and writers that fail.
 
-use crate::{RunFault, run};
+use crate::{RunFault, audit, run};
 use esr_history::Watched;
 use std::alloc::{AllocError, Global};
 use std::io;
 use std::io::{Read, Write};
 use std::process::Abort;
 use std::test::Fail;
+use std::thread::Threads;
 
 /// Lines, and the text of each.
 const LINES: [(&str, &str); 6] = [
@@ -35,9 +36,9 @@ fn text_of_whole_lines(alloc: Global, read: usize) -> Result<Vec<u8>, AllocError
 
 /// Gives a byte at a time, and fails at one call.
 #[derive(Drop)]
-struct Cut<'a> {
-    rest: &'a [u8],
-    left: usize,
+pub struct Cut<'a> {
+    pub rest: &'a [u8],
+    pub left: usize,
 }
 
 impl Read for Cut<'_> {
@@ -58,17 +59,17 @@ impl Read for Cut<'_> {
 
 /// How a writer fails.
 #[derive(Clone, Copy, PartialEq, Eq)]
-enum Way {
+pub enum Way {
     Errs,
     TakesNone,
 }
 
 /// Takes up to three bytes at a time, and fails at one call.
 #[derive(Drop)]
-struct Narrow {
-    taken: Vec<u8>,
-    left: usize,
-    way: Way,
+pub struct Narrow {
+    pub taken: Vec<u8>,
+    pub left: usize,
+    pub way: Way,
 }
 
 impl Write for Narrow {
@@ -140,4 +141,56 @@ fn each_write_fails_in_turn(rt: HostRuntime) -> Result<(), Fail> {
     }
     assert!(rt; written);
     Ok(())
+}
+
+/// The audit of the script.
+const AUDIT: &str = "order u\ntotals import 0 export 0 entries 4\n";
+
+#[test]
+fn each_read_of_an_audit_fails_in_turn(rt: HostRuntime) {
+    let alloc = rt.alloc();
+    for left in 0..SCRIPT.len() + 1 {
+        let mut reader = Watched::new(Cut {
+            rest: SCRIPT.as_bytes(),
+            left,
+        });
+        let mut writer = Watched::new(Vec::new(alloc));
+        let ended = audit(&rt, alloc, &mut reader, &mut writer, 2);
+        assert!(rt; ended == Err(RunFault::Read) && reader.failed() && !writer.failed());
+        assert!(rt; writer.inner().is_empty());
+    }
+}
+
+/// Whether the audit ends well over a writer that fails at this call.
+fn audit_is_written<R: Abort + Threads + Sync>(
+    rt: &R,
+    alloc: Global,
+    left: usize,
+    way: Way,
+) -> bool {
+    let mut reader = Watched::new(SCRIPT.as_bytes());
+    let mut writer = Watched::new(Narrow {
+        taken: Vec::new(alloc),
+        left,
+        way,
+    });
+    let ended = audit(rt, alloc, &mut reader, &mut writer, 2);
+    let output = writer.inner().taken.as_slice();
+    assert!(rt; ended == Ok(()) || ended == Err(RunFault::Write));
+    assert!(rt; writer.failed() == (ended != Ok(())) && !reader.failed());
+    assert!(rt; AUDIT.as_bytes().starts_with(output));
+    assert!(rt; ended != Ok(()) || output.len() == AUDIT.len());
+    ended == Ok(())
+}
+
+#[test]
+fn each_write_of_an_audit_fails_in_turn(rt: HostRuntime) {
+    let alloc = rt.alloc();
+    let mut written = true;
+    for left in 0..30 {
+        written = audit_is_written(&rt, alloc, left, Way::Errs);
+        let taken = audit_is_written(&rt, alloc, left, Way::TakesNone);
+        assert!(rt; left > 0 || !(written || taken));
+    }
+    assert!(rt; written);
 }

@@ -9,7 +9,7 @@ pub struct Row {
     pub ended: Result<(), RunFault>,
 }
 
-pub const ROWS: [Row; 32] = [
+pub const ROWS: [Row; 39] = [
     Row {
         name: "empty_input",
         script: "",
@@ -200,6 +200,48 @@ pub const ROWS: [Row; 32] = [
         name: "totals_close_the_items",
         script: "item a 1\ntotals\nitem b 2\ntotals now\nbegin q query 1 strict\nweight a 2\n",
         text: "item a 1\ntotals import 0 export 0 entries 0\nerror 2 items are closed\nerror 1 not a command\nerror 1 not a command\nerror 1 not a command\n",
+        ended: Ok(()),
+    },
+    Row {
+        name: "weighted_report_beside_a_writer",
+        script: "item a 100 weight 3\nbegin u update 50\nbegin q query 21\nwrite u a 107\nread q a\ncommit u\ncommit q\naudit q\ntotals\n",
+        text: "item a 100 weight 3\nbegun u 1\nbegun q 2\nwrote u a 107\nq a 107\ncommitted u\ncommitted q\naudit q distance 0 import 21 before u\ntotals import 21 export 21 entries 6\n",
+        ended: Ok(()),
+    },
+    Row {
+        name: "weighted_aborted_write_was_read",
+        script: "item a 100 weight 3\nbegin u update 50\nbegin q query 21\nwrite u a 107\nread q a\nabort u\ncommit q\naudit q\ntotals\n",
+        text: "item a 100 weight 3\nbegun u 1\nbegun q 2\nwrote u a 107\nq a 107\naborted u\ncommitted q\naudit q distance 21 import 21 before -\ntotals import 21 export 21 entries 6\n",
+        ended: Ok(()),
+    },
+    Row {
+        name: "weighted_import_limit",
+        script: "item a 100 weight 3\nbegin u update 50\nbegin q query 20\nwrite u a 107\nread q a\n",
+        text: "item a 100 weight 3\nbegun u 1\nbegun q 2\nwrote u a 107\nblocked 10 import q\n",
+        ended: Ok(()),
+    },
+    Row {
+        name: "weights_at_fault",
+        script: "item a 0 weight 0\nitem a 0 weight 1001\nitem a 1000000000001 weight 0\nitem a 0 weight 01\nitem a 0 weight 1\nitem b 0 weight 1000\nitem a 0 weight 0\nitem c 0 heavy 2\nitem c 0 weight\nitem c 0 weight -1\n",
+        text: "error 7 weight out of range\nerror 7 weight out of range\nerror 4 value out of range\nerror 1 not a command\nitem a 0 weight 1\nitem b 0 weight 1000\nerror 3 name in use\nerror 1 not a command\nerror 1 not a command\nerror 1 not a command\n",
+        ended: Ok(()),
+    },
+    Row {
+        name: "report_that_is_not_strict",
+        script: "item a 0\nbegin u update 9\nwrite u a 5\ncommit u\nbegin q query 9\nbegin v update 9\nwrite v a 0\nread q a\nabort v\ncommit q\naudit q\n",
+        text: "item a 0\nbegun u 1\nwrote u a 5\ncommitted u\nbegun q 2\nbegun v 3\nwrote v a 0\nq a 0\naborted v\ncommitted q\naudit q distance 0 import 5 before -\n",
+        ended: Ok(()),
+    },
+    Row {
+        name: "strict_report",
+        script: "item a 0\nbegin u update 9\nwrite u a 5\ncommit u\nbegin q query 9 strict\nbegin v update 9\nwrite v a 0\nread q a\nabort v\ncommit q\naudit q\n",
+        text: "item a 0\nbegun u 1\nwrote u a 5\ncommitted u\nbegun q 2\nbegun v 3\nwrote v a 0\nq a 0\naborted v\ncommitted q\naudit q distance 5 import 5 before u\n",
+        ended: Ok(()),
+    },
+    Row {
+        name: "words_that_are_not_strict",
+        script: "item a 0\nbegin u update 0 strict\nbegin q query 0 Strict\nbegin q query 0 strict strict\nbegin q query 0 strict\n",
+        text: "item a 0\nerror 1 not a command\nerror 1 not a command\nerror 1 not a command\nbegun q 1\n",
         ended: Ok(()),
     },
 ];

@@ -7,18 +7,17 @@ use Rattle.esr_history.specs.Events.{is_query, is_committed}
 use Rattle.esr_history.specs.Legal.{along}
 use Rattle.esr_history.specs.Machine.{Distance, Schedule, IsLegal, done}
 use Rattle.esr_history.specs.Queries.{is_committed_query}
-use Rattle.esr_history.proofs.Laws.{audit_stays}
 use Rattle.esr_audit.specs.declared.finding.Finding.{Finding}
 use Rattle.esr_audit.specs.declared.finding.AuditError.{AuditError}
 use Rattle.esr_audit.specs.Findings.{IsAnswer}
-use Rattle.esr_audit.proofs.Stays.{answer_stays}
+use Rattle.esr_audit.proofs.Stays as answer
 use Rattle.esr_audit.proofs.audit.audit_query.Goals as goal
 
 -- where there is an answer, it stays
 stays : (d : Distance) (h : Schedule) (q : ℕ) (r : Result Finding AuditError) → is_committed (done h) q ≡ true
     → IfOk r (λ f. IsAnswer d h q f.distance f.import (map (λ (t : TxnId). t.0) f.before.items))
     → IfOk r (λ f. (rest : List Entry) → IsLegal d (along h rest) → IsAnswer d (along h rest) q f.distance f.import (map (λ (t : TxnId). t.0) f.before.items))
-stays d h q (Ok f) committed a = λ rest legal. answer_stays d h (along h rest) q (audit_stays d h rest q legal committed) legal f.distance f.import (map (λ (t : TxnId). t.0) f.before.items) a
+stays d h q (Ok f) committed a = answer.stays d h q f.distance f.import (map (λ (t : TxnId). t.0) f.before.items) committed a
 stays d h q (Err e) committed a = tt
 
 pub returns-clause-stays : goal.returns-clause-stays

@@ -3,6 +3,7 @@ use Rattle.std.proofs.lemmas.Option.{unwrap_or-slice_get}
 use Rattle.esr_report.proofs.lines.name_of_transaction.Goals as goal
 
 pub returns-in-None : goal.returns-in-None
-returns-in-None c =
+returns-in-None g c =
+    let names = g.N.TransactionNames.names c.args.names.now in
     let size = c.saturating_sub.ensures in
-    ap (λ o. unwrap_or o []) c.in-None.ensures ∙ unwrap_or-slice_get c.args.names.now c.saturating_sub.result [] ∙ ap (λ n. get_or c.args.names.now n []) size
+    ap (λ o. unwrap_or o []) c.in-None.ensures ∙ unwrap_or-slice_get names c.saturating_sub.result [] ∙ ap (λ n. get_or names n []) size

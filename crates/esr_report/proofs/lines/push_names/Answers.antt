@@ -15,16 +15,16 @@ all_listed names out first rest txns after split stood =
     ∙ ap (λ ts. out ++ listed names (map (λ (t : TxnId). t.0) ts)) (sym split)
 
 pub loop-txn-preserved : goal.loop-txn-preserved
-loop-txn-preserved c =
+loop-txn-preserved g c =
     let so_far = c.loop-txn.invariant in (
       so_far.0,
       so_far.1,
-      one_more (λ (t : TxnId). name_of_transaction c.args.names.now t.0) 44 _ _ _ _ _ _ _ _ _ c.loop-txn-test.true so_far.2
+      one_more (λ (t : TxnId). name_of_transaction (g.N.TransactionNames.names c.args.names.now) t.0) 44 _ _ _ _ _ _ _ _ _ c.loop-txn-test.true so_far.2
           (c.as_bytes-in-loop-txn.ensures.value ∙ c.name_of_transaction-in-loop-txn.ensures) c.in_ok-push-2.ensures.items c.in_ok-extend_from_slice-2.ensures.items,
     )
 
 pub returns-clause-ok : goal.returns-clause-ok
-returns-clause-ok c =
+returns-clause-ok g c =
     let so_far = c.loop-txn.invariant in
-    all_listed c.args.names.now c.args.out.now.items so_far.0 _ _ _ so_far.1
-    (all_joined (λ (t : TxnId). name_of_transaction c.args.names.now t.0) 44 _ _ _ _ _ c.loop-txn-test.false so_far.2)
+    all_listed (g.N.TransactionNames.names c.args.names.now) c.args.out.now.items so_far.0 _ _ _ so_far.1
+    (all_joined (λ (t : TxnId). name_of_transaction (g.N.TransactionNames.names c.args.names.now) t.0) 44 _ _ _ _ _ c.loop-txn-test.false so_far.2)

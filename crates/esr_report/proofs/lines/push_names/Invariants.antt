@@ -5,6 +5,6 @@ use Rattle.esr_report.specs.Names.{name_of_transaction}
 use Rattle.esr_report.proofs.lines.push_names.Given as goal
 
 abbrev pub invariant-loop-txn : goal.invariant-loop-txn
-invariant-loop-txn l =
+invariant-loop-txn g l =
     (first : TxnId) × (l.txns ≡ first ∷ l.rest)
-    × (l.out.items ≡ l.fn.out.items ++ join_with_byte 44 (name_of_transaction l.fn.names first.0 ∷ map (λ (t : TxnId). name_of_transaction l.fn.names t.0) (take l.txn-index l.rest)))
+    × (l.out.items ≡ l.fn.out.items ++ join_with_byte 44 (name_of_transaction (g.N.TransactionNames.names l.fn.names) first.0 ∷ map (λ (t : TxnId). name_of_transaction (g.N.TransactionNames.names l.fn.names) t.0) (take l.txn-index l.rest)))

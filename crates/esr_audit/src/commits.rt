@@ -1,0 +1,54 @@
+//! The transactions that committed: the updates, and the queries.
+ghost use Rattle.std.specs.Prelude.{◌≡◌, ◌≤◌, not, filter, map, All, IfOk, IsTrue, vec_len};
+ghost use Rattle.esr_history.specs.Events.{is_query};
+ghost use Rattle.esr_history.specs.Machine.{done};
+ghost use Rattle.esr_history.specs.Queries.{is_committed_query};
+ghost use Rattle.esr_history.specs.Serial.{committed_updates};
+ghost use Rattle.esr_audit.specs.Findings.{committed_queries};
+
+use crate::reads::is_query;
+use esr_history::{History, NoMemory, TxnId};
+use esr_items::Metric;
+use esr_order::committed;
+use std::alloc::{AllocError, Global};
+
+/// The transactions that committed, each kind in the order of its commits.
+#[derive(Drop)]
+pub struct CommitLists {
+    pub updates: Vec<TxnId>,
+    pub queries: Vec<TxnId>,
+}
+
+/// The transactions that are queries, and the others.
+fn lists_among<M: Metric>(
+    alloc: Global,
+    history: &History<M>,
+    txns: &[TxnId],
+) -> Result<CommitLists, AllocError>
+    ensures updates { IfOk result (λ lists. lists.updates.items ≡ filter (λ t. not (is_query (done history.now.schedule) t.0)) txns.now) }
+    ensures queries { IfOk result (λ lists. lists.queries.items ≡ filter (λ t. is_query (done history.now.schedule) t.0) txns.now) }
+{
+    let mut updates = Vec::new(alloc);
+    let mut queries = Vec::new(alloc);
+    for t in txns {
+        if is_query(history, *t) {
+            queries.push(*t)?;
+        } else {
+            updates.push(*t)?;
+        }
+    }
+    Ok(CommitLists { updates, queries })
+}
+
+/// The committed updates and the committed queries of a history, each in commit order.
+pub fn commit_lists<M: Metric>(alloc: Global, history: &History<M>) -> Result<CommitLists, NoMemory>
+    ensures updates { IfOk result (λ lists. map (λ t. t.0) lists.updates.items ≡ committed_updates history.now.schedule) }
+    ensures queries { IfOk result (λ lists. map (λ t. t.0) lists.queries.items ≡ committed_queries history.now.schedule) }
+    ensures committed { IfOk result (λ lists. All (λ t. IsTrue (is_committed_query history.now.schedule t.0)) lists.queries.items) }
+    ensures few { IfOk result (λ lists. vec_len lists.queries ≤ 65535) }
+{
+    let _legal = history.log(); // brings the invariant into the proof
+    let txns = committed(alloc, history)?;
+    let lists = lists_among(alloc, history, &txns)?;
+    Ok(lists)
+}

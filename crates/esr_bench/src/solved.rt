@@ -1,0 +1,127 @@
+ghost use Rattle.std.specs.Prelude.{◌<◌};
+
+use anyhow::Result;
+use esr_cert::{BundleFault, Chain, Problem};
+use esr_history::TxnId;
+use esr_items::ItemId;
+use std::alloc::Global;
+
+/// Numbers that follow from one another from a fixed seed.
+#[derive(Drop)]
+struct Draws {
+    state: u64,
+}
+
+impl Draws {
+    /// The next number, below the bound where that is above 0.
+    fn next(&mut self, below: u32) -> u32
+        ensures { 0 < below → result < below }
+    {
+        self.state = self
+            .state
+            .wrapping_mul(6364136223846793005)
+            .wrapping_add(1442695040888963407);
+        let high = (self.state >> 33) as u32;
+        if below == 0 { 0 } else { high % below }
+    }
+}
+
+/// The cost of each version of an item that was read `reads` times.
+fn costs(
+    alloc: Global,
+    draws: &mut Draws,
+    writers: usize,
+    reads: u32,
+    values: u32,
+) -> Result<Vec<u64>> {
+    let mut seen = Vec::new(alloc);
+    for _ in 0..reads {
+        seen.push(draws.next(values))?;
+    }
+    let mut costs = Vec::new(alloc);
+    for version in 0..=writers {
+        let value = if version == 0 { 0 } else { draws.next(values) };
+        let cost = seen.iter().fold(
+            0u64,
+            |sum, read| sum.saturating_add(u64::from(read.abs_diff(value))),
+        );
+        costs.push(cost)?;
+    }
+    Ok(costs)
+}
+
+/// A problem of these writers for each item, each two neighbours of which are a pair,
+/// beside the pairs given.
+fn problem(
+    alloc: Global,
+    updates: u32,
+    rows: Vec<Vec<u32>>,
+    mut pairs: Vec<(u32, u32)>,
+    reads: u32,
+    values: u32,
+) -> Result<Problem> {
+    let mut draws = Draws { state: 12345 };
+    let mut numbers = Vec::new(alloc);
+    for u in 0..updates.min(65535) {
+        numbers.push(TxnId(u + 1))?;
+    }
+    let mut chains = Vec::new(alloc);
+    let mut item = 0u32;
+    for writers in rows {
+        for (u, v) in writers.iter().zip(writers.iter().skip(1)) {
+            pairs.push((*u, *v))?;
+        }
+        let costs = costs(alloc, &mut draws, writers.len(), reads, values)?;
+        chains.push(Chain {
+            item: ItemId(item),
+            writers,
+            costs,
+        })?;
+        item = item.saturating_add(1);
+    }
+    pairs.sort()?;
+    pairs.dedup();
+    match Problem::new(alloc, numbers, pairs, chains, Vec::new(alloc)) {
+        Ok(problem) => Ok(problem),
+        Err(fault) => Err(anyhow::anyhow!("no problem: {fault:?}")),
+    }
+}
+
+/// Updates in one line, each before the next, and for each hundred of them an item
+/// that every hundredth writes.
+pub fn line(alloc: Global, updates: u32) -> Result<Problem> {
+    let items = (updates / 100).max(1);
+    let mut rows = Vec::new(alloc);
+    for item in 0..items {
+        let mut writers = Vec::new(alloc);
+        for u in 0..updates {
+            if u % items == item {
+                writers.push(u)?;
+            }
+        }
+        rows.push(writers)?;
+    }
+    let mut pairs = Vec::new(alloc);
+    for u in 1..updates {
+        pairs.push((u - 1, u))?;
+    }
+    problem(alloc, updates, rows, pairs, 5, 1000)
+}
+
+/// Updates that write four of a thousand items each.
+pub fn scattered(alloc: Global, updates: u32) -> Result<Problem> {
+    let mut draws = Draws { state: 54321 };
+    let mut rows: Vec<Vec<u32>> = Vec::new(alloc);
+    for _ in 0..1000 {
+        rows.push(Vec::new(alloc))?;
+    }
+    for u in 0..updates {
+        for quarter in 0..4u32 {
+            let item = quarter * 250 + draws.next(250);
+            if let Some(writers) = rows.get_mut(item as usize) {
+                writers.push(u)?;
+            }
+        }
+    }
+    problem(alloc, updates, rows, Vec::new(alloc), 1, 1_000_000)
+}

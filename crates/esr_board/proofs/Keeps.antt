@@ -1,0 +1,176 @@
+-- Each step of a board keeps its rule.
+use Rattle.std.proofs.Common.{◌≡◌, ℕ, zero, suc, ◌+◌, ◌-◌, ◌%◌, ◌^◌, ◌<◌, ◌≤◌, ◌≢◌, cond, eqb, leb, ltb, List, [], ◌∷◌, ◌++◌, length, get_or, set, sym, refl, ap, ◌∙◌, subst, ⊎_elim, arith, sum_by, All, length-set, get_or-set_same, get_or-set_other, lt-ltb, le-ltb, eq-eqb, ne_eqb, false-eqb, true, false, length-append}
+use mathlib.Core.Option.{none, some, some-injective, some-ne-none}
+use lib.ListN.{get_elem?}
+use Rattle.std.proofs.lemmas.Bool.{cases_lt}
+use Rattle.std.proofs.lemmas.List.Sums.{sum_by-cons, sum_by-append, sum_by_push, sum_by-le-sum_by}
+use Rattle.atomic_table.specs.Table.{Me, step, keeps, stepped, Allows, Splits, Joins}
+use Rattle.atomic_table.proofs.Lists.{at_set, at_snoc, set_else}
+use Rattle.esr_board.specs.declared.hand.Hand.{Hand}
+use Rattle.esr_board.specs.declared.hand.Plan.{Plan}
+use Rattle.esr_board.specs.Claims.{times, count_past, below, passes_of, IdleIsEmpty, IsFair, IsKept, first_hand, with_claim, Claimed, with_one_less, one_pass, joined, spent}
+use Rattle.esr_board.proofs.Weights.{sum_set, part_le, ones, length-below, past_yes, past_no, count_past_push, count_past-below, times-below-none, times_at}
+
+-- the word never passes the jobs by more than the seats
+pub word_le : (jobs seats word : ℕ) (hands : List Hand) → IsFair jobs seats word hands → word ≤ jobs + seats
+word_le jobs seats word hands r =
+    let all = r.0 (λ x. cond {A = ℕ} (leb jobs x) 1 0) in
+    let past = count_past-below jobs word in
+    let le = sum_by-le-sum_by (λ (h : Hand). count_past jobs h.drawn) (passes_of jobs) hands (λ h. omega arith) in
+    let is = r.1 in omega arith
+
+-- a list of numbers drawn is no longer than the word
+pub drawn_le : (jobs seats word : ℕ) (hands : List Hand) (id : ℕ) (v : Hand) → IsFair jobs seats word hands → get_elem? hands id ≡ some v → length v.drawn ≤ word
+drawn_le jobs seats word hands id v r at =
+    let part = part_le (λ (h : Hand). sum_by (λ (_ : ℕ). 1) h.drawn) hands id v at in
+    let all = r.0 (λ _. 1) in
+    let a = ones (below word) in let b = ones v.drawn in let c = length-below word in omega arith
+
+-- each number drawn is below the word
+pub drawn_below : (jobs seats word : ℕ) (hands : List Hand) (id : ℕ) (v : Hand) → IsFair jobs seats word hands → get_elem? hands id ≡ some v → All (λ x. x < word) v.drawn
+drawn_below jobs seats word hands id v r at k d h =
+    let x : ℕ = get_or v.drawn k d in
+    ⊎_elim (λ (l : x < word). l)
+    (λ (g : word ≤ x).
+    let part = part_le (λ (h : Hand). times x h.drawn) hands id v at in
+    let all = r.0 (λ y. cond {A = ℕ} (eqb y x) 1 0) in
+    let none_there = times-below-none x word g in
+    let one = times_at v.drawn k d h in absurd (omega arith))
+    (cases_lt x word)
+
+pub passes-claim : (v : Hand) (n : ℕ) → 0 < v.passes → passes_of v.jobs (with_claim v n) ≡ passes_of v.jobs v
+passes-claim v n some_pass = let p = count_past_push v.jobs v.drawn n in
+    ⊎_elim (λ (l : n < v.jobs). let z = past_no v.jobs n l in let c : cond {A = ℕ} (ltb n v.jobs) v.passes (v.passes - 1) ≡ v.passes = ap (λ b. cond b v.passes (v.passes - 1)) (lt-ltb n v.jobs l) in omega arith)
+    (λ (g : v.jobs ≤ n). let z = past_yes v.jobs n g in let c : cond {A = ℕ} (ltb n v.jobs) v.passes (v.passes - 1) ≡ v.passes - 1 = ap (λ b. cond b v.passes (v.passes - 1)) (le-ltb n v.jobs g) in omega arith)
+    (cases_lt n v.jobs)
+
+fair-claim : (v : Hand) (seats word : ℕ) (hands : List Hand) (id : ℕ) → 0 < v.passes → IsFair v.jobs seats word hands → get_elem? hands id ≡ some v → IsFair v.jobs seats (suc word) (set hands id (with_claim v word))
+fair-claim v seats word hands id some_pass r at = let w : Hand = with_claim v word in let kept = passes-claim v word some_pass in (
+  (λ weight.
+      let change = sum_set (λ (h : Hand). sum_by weight h.drawn) hands id v w at in
+      let longer = sum_by_push weight v.drawn word in
+      let more = sum_by_push weight (below word) word in
+      let was = r.0 weight in omega arith),
+  (let change = sum_set (passes_of v.jobs) hands id v w at in let was = r.1 in omega arith),
+  (λ j h there idle. ⊎_elim
+      (λ (t : (j ≡ id) × (w ≡ h)). let same : passes_of v.jobs w ≡ passes_of v.jobs h = ap (passes_of v.jobs) t.1 in absurd (omega arith))
+      (λ (t : (j ≢ id) × (get_elem? hands j ≡ some h)). r.2 j h t.1 idle)
+      (at_set hands id j w h there)),
+)
+
+has_pass : (p : ℕ) → false ≡ eqb p 0 → 0 < p
+has_pass p e = let n = false-eqb p 0 e in omega arith
+
+-- one number is claimed
+pub claims : (plan : Plan) (slots id : ℕ) (me : Me (Unit {0}) Hand) → me.0.jobs ≡ plan.jobs → plan.jobs ≤ 65535 → plan.seats ≤ 64 → 0 < me.0.passes
+    → Allows (IsKept plan) slots id me 0 (λ n. (n + 1) % 2 ^ 64) (Claimed (step slots 0 1 0 none) me)
+claims plan slots id me its few_jobs few_seats some_pass s r _ at fits =
+    let word : ℕ = get_or s.words 0 0 in let v : Hand = me.0 in let w : Hand = with_claim v word in
+    let fair : IsFair v.jobs plan.seats word s.views = subst (λ (j : ℕ). IsFair j plan.seats word s.views) (sym its) r.3 in
+    let le = word_le v.jobs plan.seats word s.views fair in
+    let next : suc word ≡ (word + 1) % 18446744073709551616 = omega arith in
+    let wide : length s.words ≡ 3 = r.0 in
+    let now : IsKept plan (stepped s 0 (suc word) id me.1 w keeps) = (
+      length-set s.words 0 (suc word) ∙ wide,
+      get_or-set_other s.words 0 1 (suc word) 0 (omega arith) ∙ r.1,
+      get_or-set_other s.words 0 2 (suc word) 0 (omega arith) ∙ r.2,
+      subst (λ (n : ℕ). IsFair plan.jobs plan.seats n (set s.views id w)) (sym (get_or-set_same s.words 0 (suc word) 0 (omega arith)))
+          (subst (λ (j : ℕ). IsFair j plan.seats (suc word) (set s.views id w)) its (fair-claim v plan.seats word s.views id some_pass fair at)),
+    ) in (
+      w,
+      keeps,
+      tt,
+      subst (λ (n : ℕ). IsKept plan (stepped s 0 n id me.1 w keeps)) next now,
+      (refl, drawn_below v.jobs plan.seats word s.views id v fair at, drawn_le v.jobs plan.seats word s.views id v fair at, omega arith),
+    )
+
+pub opens : (plan : Plan) → IsKept plan record { words = 0 ∷ plan.jobs ∷ plan.seats ∷ []; homes = []; views = first_hand plan ∷ [] }
+opens plan = (refl, refl, refl, ((λ weight. refl), sum_by-cons (passes_of plan.jobs) (first_hand plan) [] ∙ omega arith, idle))
+  where
+    idle : IdleIsEmpty plan.jobs (first_hand plan ∷ [])
+    idle zero h e _ = ap (λ (z : Hand). z.drawn) (sym (some-injective (first_hand plan) h e))
+    idle (suc id) h e _ = absurd (some-ne-none h (sym e))
+
+-- one pass goes to a new seat
+pub splits : (plan : Plan) (id : ℕ) (v : Hand) → v.jobs ≡ plan.jobs → 0 < v.passes → v.drawn ≡ [] → Splits (IsKept plan) id v (with_one_less v) (one_pass v)
+splits plan id v its some_pass nothing s r at = let l : Hand = with_one_less v in let n : Hand = one_pass v in (
+  r.0,
+  r.1,
+  r.2,
+  (
+    (λ weight.
+        let change = sum_set (λ (h : Hand). sum_by weight h.drawn) s.views id v l at in
+        let longer = sum_by_push (λ (h : Hand). sum_by weight h.drawn) (set s.views id l) n in
+        let was = r.3.0 weight in omega arith),
+    (let change = sum_set (passes_of plan.jobs) s.views id v l at in
+        let longer = sum_by_push (passes_of plan.jobs) (set s.views id l) n in let was = r.3.1 in omega arith),
+    (λ j h there idle. ⊎_elim
+        (λ (kept : get_elem? (set s.views id l) j ≡ some h). ⊎_elim
+        (λ (t : (j ≡ id) × (l ≡ h)). subst (λ (z : Hand). z.drawn ≡ []) t.1 nothing)
+        (λ (t : (j ≢ id) × (get_elem? s.views j ≡ some h)). r.3.2 j h t.1 idle)
+        (at_set s.views id j l h kept))
+        (λ (new : n ≡ h). ap (λ (z : Hand). z.drawn) (sym new))
+        (at_snoc (set s.views id l) n h j there)),
+  ),
+)
+
+-- a seat gets what another has
+pub joins : (plan : Plan) (id : ℕ) (v : Hand) (other : ℕ) (w : Hand) → Joins (IsKept plan) id v other w (joined v w) spent
+joins plan id v other w s r at apart there = let b : Hand = joined v w in let first : List Hand = set s.views id b in
+    let w_at : get_elem? s.views other ≡ some w = sym (set_else s.views id other b apart) ∙ there in
+    let parts : (weight : ℕ → ℕ) → sum_by weight b.drawn ≡ sum_by weight v.drawn + sum_by weight w.drawn = λ weight. sum_by-append weight v.drawn w.drawn in (
+      r.0,
+      r.1,
+      r.2,
+      (
+        (λ weight.
+            let one = sum_set (λ (h : Hand). sum_by weight h.drawn) s.views id v b at in
+            let two = sum_set (λ (h : Hand). sum_by weight h.drawn) first other w spent there in
+            let part = parts weight in
+            let was = r.3.0 weight in omega arith),
+        (let one = sum_set (passes_of plan.jobs) s.views id v b at in
+            let two = sum_set (passes_of plan.jobs) first other w spent there in
+            let part = parts (λ n. cond {A = ℕ} (leb plan.jobs n) 1 0) in
+            let was = r.3.1 in omega arith),
+        (λ j h here idle. ⊎_elim
+            (λ (t : (j ≡ other) × (spent ≡ h)). ap (λ (z : Hand). z.drawn) (sym t.1))
+            (λ (t : (j ≢ other) × (get_elem? first j ≡ some h)). ⊎_elim
+            (λ (u : (j ≡ id) × (b ≡ h)).
+            let part = parts (λ n. cond {A = ℕ} (leb plan.jobs n) 1 0) in
+            let none_left : passes_of plan.jobs b ≡ 0 = ap (passes_of plan.jobs) u.1 ∙ idle in
+            let v_none : v.drawn ≡ [] = r.3.2 id v at (omega arith) in
+            let w_none : w.drawn ≡ [] = r.3.2 other w w_at (omega arith) in
+            let both : b.drawn ≡ [] = (λ i. v_none i ++ w_none i) in
+            subst (λ (z : Hand). z.drawn ≡ []) u.1 both)
+            (λ (u : (j ≢ id) × (get_elem? s.views j ≡ some h)). r.3.2 j h u.1 idle)
+            (at_set s.views id j b h t.1))
+            (at_set first other j spent h here)),
+      ),
+    )
+
+-- what a claim leaves in its seat
+abbrev pub M : Type 0
+M = Me (Unit {0}) Hand
+
+pub counted-claim : (m m' : M) (n k : ℕ) → m' ≡ (with_claim m.0 n, m.1) → k ≡ length m.0.drawn → k + 1 ≡ length m'.0.drawn
+counted-claim m m' n k e is = subst (λ (z : M). k + 1 ≡ length z.0.drawn) (sym e) (let a = length-append m.0.drawn (n ∷ []) in omega arith)
+
+pub one_pass-claim : (m m' : M) (n : ℕ) → m' ≡ (with_claim m.0 n, m.1) → false ≡ eqb m.0.passes 0 → passes_of m.0.jobs m.0 ≡ 1 → passes_of m'.0.jobs m'.0 ≡ 1
+one_pass-claim m m' n e has one = subst (λ (z : M). passes_of z.0.jobs z.0 ≡ 1) (sym e) (let p = passes-claim m.0 n (has_pass m.0.passes has) in p ∙ one)
+
+pub ended-claim : (m m' : M) (n : ℕ) → m' ≡ (with_claim m.0 n, m.1) → false ≡ eqb m.0.passes 0 → passes_of m.0.jobs m.0 ≡ 1 → (m.0.jobs ≤ n → true ≡ eqb m'.0.passes 0) × (n < m.0.jobs → false ≡ eqb m'.0.passes 0)
+ended-claim m m' n e has one =
+    let p = has_pass m.0.passes has in
+    subst (λ (z : M). (m.0.jobs ≤ n → true ≡ eqb z.0.passes 0) × (n < m.0.jobs → false ≡ eqb z.0.passes 0)) (sym e) (
+      (λ g. let c : cond {A = ℕ} (ltb n m.0.jobs) m.0.passes (m.0.passes - 1) ≡ m.0.passes - 1 = ap (λ b. cond {A = ℕ} b m.0.passes (m.0.passes - 1)) (le-ltb n m.0.jobs g) in
+          sym (eq-eqb _ 0 (omega arith))),
+      (λ l. let c : cond {A = ℕ} (ltb n m.0.jobs) m.0.passes (m.0.passes - 1) ≡ m.0.passes = ap (λ b. cond {A = ℕ} b m.0.passes (m.0.passes - 1)) (lt-ltb n m.0.jobs l) in
+          sym (ne_eqb _ 0 (λ z. omega arith))),
+    )
+
+pub past-claim : (m m' : M) (n : ℕ) → m' ≡ (with_claim m.0 n, m.1) → m.0.jobs ≤ n → 0 < count_past m.0.jobs m'.0.drawn
+past-claim m m' n e g = subst (λ (z : M). 0 < count_past m.0.jobs z.0.drawn) (sym e) (let p = count_past_push m.0.jobs m.0.drawn n in let z = past_yes m.0.jobs n g in omega arith)
+
+-- a seat that has its pass drew nothing past the jobs
+pub not_ended : (jobs : ℕ) (v : Hand) → v.jobs ≡ jobs → false ≡ eqb v.passes 0 → passes_of v.jobs v ≡ 1 → 0 < count_past jobs v.drawn → ⊥
+not_ended jobs v its has one past = let p = has_pass v.passes has in let same : count_past v.jobs v.drawn ≡ count_past jobs v.drawn = ap (λ (j : ℕ). count_past j v.drawn) its in omega arith

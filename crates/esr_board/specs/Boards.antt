@@ -1,0 +1,27 @@
+-- What callers see of a board and its seats.
+use Rattle.std.specs.Prelude.{◌≡◌, ℕ, List, flat_map}
+use Rattle.esr_board.specs.declared.hand.Hand.{Hand}
+use Rattle.esr_board.specs.declared.board.Board.{Board}
+use Rattle.esr_board.specs.declared.board.BoardSeat.{BoardSeat}
+
+-- how many jobs a board has, and how many seats
+abbrev pub jobs_of : Board → ℕ
+jobs_of b = b.jobs
+
+abbrev pub seats_of : Board → ℕ
+seats_of b = b.seats
+
+-- what a seat knows, and the numbers that it drew, in order
+abbrev pub hand_of : BoardSeat → Hand
+hand_of s = s.seat.me.0
+
+abbrev pub drawn : BoardSeat → List ℕ
+drawn s = s.seat.me.0.drawn
+
+-- the numbers that the seats drew
+abbrev pub all_drawn : List BoardSeat → List ℕ
+all_drawn seats = flat_map drawn seats
+
+-- the seat is one of the board's
+abbrev pub IsSeatOf : Board → BoardSeat → Type 0
+IsSeatOf b s = (s.seat.table_id ≡ b.table.shared.table_id) × (s.seat.me.0.jobs ≡ b.jobs)

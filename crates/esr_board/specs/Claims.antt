@@ -1,0 +1,81 @@
+-- What the seats of a board know, what is true of all of them between two steps, and what each kind of step does.
+use Rattle.std.specs.Prelude.{◌≡◌, ℕ, zero, suc, ◌+◌, ◌-◌, ◌<◌, ◌≤◌, List, [], ◌∷◌, ◌++◌, length, slice_index, if◌then◌else◌, nat_eq, nat_lt, nat_le, All, sum_by, count_by, filter}
+use mathlib.Core.Option.{some}
+use lib.ListN.{get_elem?}
+use Rattle.atomic_table.specs.Table.{State, Me, Step}
+use Rattle.esr_board.specs.declared.hand.Hand.{Hand}
+use Rattle.esr_board.specs.declared.hand.Plan.{Plan}
+
+abbrev pub hand : ℕ → ℕ → List ℕ → Hand
+hand jobs passes drawn = record { jobs = jobs; passes = passes; drawn = drawn }
+
+-- how often n occurs in the list
+abbrev pub times : ℕ → List ℕ → ℕ
+times n xs = count_by (λ m. nat_eq m n) xs
+
+-- how many numbers of the list are no jobs
+abbrev pub count_past : ℕ → List ℕ → ℕ
+count_past jobs xs = count_by (λ n. nat_le jobs n) xs
+
+-- each number below the word occurs exactly once in the list, and no other number does
+abbrev pub EachOnceBelow : ℕ → List ℕ → Type 0
+EachOnceBelow word xs = (n : ℕ) → times n xs ≡ (if nat_lt n word then 1 else 0)
+
+-- the numbers below n, in order
+abbrev pub below : ℕ → List ℕ
+below zero = []
+below (suc n) = below n ++ n ∷ []
+
+-- The numbers below the word were drawn, each once, and no other: however numbers are weighed, those in the lists weigh what these weigh.
+abbrev pub HoldsEachOnce : ℕ → List Hand → Type 0
+HoldsEachOnce word hands = (weight : ℕ → ℕ) → sum_by (λ h. sum_by weight h.drawn) hands ≡ sum_by weight (below word)
+
+-- the passes that are left, and the numbers past the jobs, each of which used one up
+abbrev pub passes_of : ℕ → Hand → ℕ
+passes_of jobs h = h.passes + count_past jobs h.drawn
+
+-- who never had a pass has drawn nothing
+abbrev pub IdleIsEmpty : ℕ → List Hand → Type 0
+IdleIsEmpty jobs hands = (id : ℕ) (h : Hand) → get_elem? hands id ≡ some h → passes_of jobs h ≡ 0 → h.drawn ≡ []
+
+-- what holds of all hands of a board between two steps
+abbrev pub IsFair : ℕ → ℕ → ℕ → List Hand → Type 0
+IsFair jobs seats word hands = HoldsEachOnce word hands × (sum_by (passes_of jobs) hands ≡ seats) × IdleIsEmpty jobs hands
+
+-- Word 0 is the next number. Words 1 and 2 are the plan, and never change.
+abbrev pub IsKept : Plan → State (Unit {0}) Hand → Type 0
+IsKept plan s = (length s.words ≡ 3) × (slice_index s.words 1 ≡ plan.jobs) × (slice_index s.words 2 ≡ plan.seats) × IsFair plan.jobs plan.seats (slice_index s.words 0) s.views
+
+-- as the board is made, one seat has a pass for each seat
+abbrev pub first_hand : Plan → Hand
+first_hand plan = hand plan.jobs plan.seats []
+
+-- a claim: the hand after it drew n
+abbrev pub with_claim : Hand → ℕ → Hand
+with_claim h n = hand h.jobs (if nat_lt n h.jobs then h.passes else h.passes - 1) (h.drawn ++ n ∷ [])
+
+-- what a claim tells: the number found is above all in the seat's list, at least as large as their count, and the word has room
+abbrev pub Claimed : Step (Unit {0}) → Me (Unit {0}) Hand → ℕ → Me (Unit {0}) Hand → Type 0
+Claimed st m n m' = (m' ≡ (with_claim m.0 n, m.1)) × All (λ x. x < n) m.0.drawn × (length m.0.drawn ≤ n) × (n + 1 < 18446744073709551616)
+
+-- a split: one pass goes to a new seat
+abbrev pub with_one_less : Hand → Hand
+with_one_less h = hand h.jobs (h.passes - 1) h.drawn
+
+abbrev pub one_pass : Hand → Hand
+one_pass h = hand h.jobs 1 []
+
+-- a join: two hands in one, and what is left of the second
+abbrev pub joined : Hand → Hand → Hand
+joined h k = hand h.jobs (h.passes + k.passes) (h.drawn ++ k.drawn)
+
+abbrev pub spent : Hand
+spent = hand 0 0 []
+
+-- at this word, these hands and those of the seats that were not given are all hands of the board
+abbrev pub IsBoardAt : ℕ → ℕ → List Hand → ℕ → Type 0
+IsBoardAt jobs seats hands word = (kept : List Hand) × IsFair jobs seats word (hands ++ kept)
+
+-- the list grew, and the jobs among the new numbers are js, in order
+abbrev pub Drew : ℕ → List ℕ → List ℕ → List ℕ → Type 0
+Drew jobs old new js = (more : List ℕ) × (new ≡ old ++ more) × (filter (λ n. nat_lt n jobs) more ≡ js)

@@ -1,0 +1,57 @@
+//! The board and its seats.
+ghost use Rattle.std.specs.Prelude.{◌≡◌, ◌+◌, ◌≤◌, [], length, nat_eq};
+ghost use Rattle.esr_board.specs.Claims.{passes_of};
+
+use crate::hand::{Hand, Plan};
+use crate::rule::Fair;
+use atomic_table::{Seat, Table};
+use std::alloc::Global;
+
+mod calls;
+
+/// The most jobs that a board has.
+pub const MOST_JOBS: u64 = 65_535;
+
+/// The most seats that a board has.
+pub const MOST_SEATS: u64 = 64;
+
+/// The numbers from 0 on, which seats claim.
+#[derive(Drop)]
+pub struct Board {
+    table: Table<(), Hand, Plan, Fair, Global>,
+    jobs: u64,
+    seats: u64,
+    ghost words: { table.shared.table_id.words ≡ 3 },
+    ghost slots: { table.shared.table_id.slots ≡ 0 },
+    ghost jobs_told: { table.shared.key.jobs ≡ jobs },
+    ghost seats_told: { table.shared.key.seats ≡ seats },
+    ghost few_jobs: { jobs ≤ 65535 },
+    ghost few_seats: { seats ≤ 64 },
+}
+
+/// The right to claim numbers of one board, until a claim gave none.
+#[derive(Drop)]
+pub struct BoardSeat {
+    seat: Seat<(), Hand>,
+    claims: u64,
+    ended: bool,
+    ghost counted: { claims ≡ length seat.me.0.drawn },
+    ghost one_pass: { passes_of seat.me.0.jobs seat.me.0 ≡ 1 },
+    ghost ended_without: { ended ≡ nat_eq seat.me.0.passes 0 },
+    ghost no_slot: { seat.me.1 ≡ [] },
+}
+
+/// Why a board was not made.
+#[derive(Clone, Copy, PartialEq, Eq, Debug)]
+pub enum BoardError {
+    /// A board has at most 65,535 jobs.
+    TooManyJobs = 1,
+    /// A board has 1 to 64 seats.
+    SeatsOutOfRange = 2,
+    /// Out of memory.
+    NoMemory = 3,
+}
+
+/// A seat that drew a number was not given back.
+#[derive(Clone, Copy, PartialEq, Eq, Debug)]
+pub struct ClaimsMissing;

@@ -1,0 +1,162 @@
+//! What can be done with a board.
+ghost use Rattle.std.specs.Prelude.{◌≡◌, ℕ, ◌+◌, ◌<◌, ◌≤◌, ◌↔◌, ◌⊎◌, [], ◌∷◌, ◌++◌, map, All, IfSome, IfNone, IfOk, OnOk, OnErr, MatchResult, length, vec_len};
+ghost use Rattle.esr_board.specs.Claims.{count_past, Drew, hand, EachOnceBelow, IsBoardAt};
+ghost use Rattle.esr_board.specs.Boards.{IsSeatOf, drawn, hand_of, all_drawn, jobs_of, seats_of};
+
+use super::{Board, BoardError, BoardSeat, ClaimsMissing, MOST_JOBS, MOST_SEATS};
+use crate::hand::{Hand, Plan};
+use crate::rule::{Admit, Claim, Fair, Gather};
+use atomic_table::{Seat, Table};
+use std::alloc::{AllocError, Global};
+
+/// A seat that has drawn nothing.
+fn fresh(seat: Seat<(), Hand>) -> BoardSeat
+    requires { (seat.me.0.passes ≡ 1) × (seat.me.0.drawn ≡ []) × (seat.me.1 ≡ []) }
+    ensures { result.seat ≡ seat }
+{
+    BoardSeat {
+        seat,
+        claims: 0,
+        ended: false,
+    }
+}
+
+/// The seats of a table whose only seat so far has all passes.
+fn admitted(
+    alloc: Global,
+    table: &Table<(), Hand, Plan, Fair, Global>,
+    mut first: Seat<(), Hand>,
+    seats: u64,
+) -> Result<Vec<BoardSeat>, AllocError>
+    requires table { (first.table_id ≡ table.now.shared.table_id) × (table.now.shared.table_id.words ≡ 3) }
+    requires passes { (first.me ≡ (hand table.now.shared.key.jobs seats [], [])) × (0 < seats) }
+    ensures len { IfOk result (λ made. vec_len made ≡ seats) }
+    ensures each { IfOk result (λ made. All (λ s. (s.seat.table_id ≡ table.now.shared.table_id) × (hand_of s ≡ hand table.now.shared.key.jobs 1 [])) made.items) }
+{
+    let mut made = Vec::with_capacity(alloc, seats as usize)?;
+    for _ in 1..seats {
+        made.push(fresh(table.shared.split_seat::<Admit>(&mut first)))?;
+    }
+    made.push(fresh(first))?;
+    Ok(made)
+}
+
+impl Board {
+    /// A board of so many jobs, and its seats, of which no more are made later.
+    ///
+    /// # Errors
+    /// `TooManyJobs` exactly where there are more than 65,535 jobs, and else `SeatsOutOfRange` exactly
+    /// where there are no seats or more than 64. `NoMemory` if allocation fails.
+    pub fn new(alloc: Global, jobs: u64, seats: u64) -> Result<(Board, Vec<BoardSeat>), BoardError>
+        ensures board { IfOk result (λ made. (jobs_of made.0 ≡ jobs) × (seats_of made.0 ≡ seats)) }
+        ensures seats { IfOk result (λ made. (vec_len made.1 ≡ seats) × All (λ s. IsSeatOf made.0 s × (drawn s ≡ [])) made.1.items) }
+        ensures too_many_jobs { (result ≡ Err BoardError.TooManyJobs) ↔ (65535 < jobs) }
+        ensures seats_out_of_range { (result ≡ Err BoardError.SeatsOutOfRange)
+            ↔ ((jobs ≤ 65535) × ((seats ≡ 0) ⊎ (64 < seats))) }
+    {
+        if jobs > MOST_JOBS {
+            return Err(BoardError::TooManyJobs);
+        }
+        if seats == 0 || seats > MOST_SEATS {
+            return Err(BoardError::SeatsOutOfRange);
+        }
+        let plan = Plan { jobs, seats };
+        let Ok((table, first)) = Table::of_words(alloc, &[0, jobs, seats], &plan) else {
+            return Err(BoardError::NoMemory);
+        };
+        let Ok(made) = admitted(alloc, &table, first, seats) else {
+            return Err(BoardError::NoMemory);
+        };
+        let board = Board { table, jobs, seats };
+        Ok((board, made))
+    }
+
+    /// The next number, if it is that of a job: no other claim of any seat has it. `None` says that no
+    /// job is left, and a seat that had none makes no further step. One step on one word, with no lock
+    /// and no memory.
+    pub fn claim(&self, seat: &mut BoardSeat) -> Option<u64>
+        requires { IsSeatOf self.now seat.old }
+        ensures seat { IsSeatOf self.now seat.new }
+        ensures job { IfSome result (λ n. (n < jobs_of self.now)
+            × (drawn seat.new ≡ drawn seat.old ++ n ∷ []) × All (λ m. m < n) (drawn seat.old)) }
+        ensures rising { IfSome result (λ n. length (drawn seat.old) ≤ n) }
+        ensures again { 0 < count_past (jobs_of self.now) (drawn seat.old) → drawn seat.new ≡ drawn seat.old }
+        ensures none { IfNone result ((0 < count_past (jobs_of self.now) (drawn seat.new))
+            × Drew (jobs_of self.now) (drawn seat.old) (drawn seat.new) []) }
+    {
+        if seat.ended {
+            return None;
+        }
+        let n = self.table.shared.fetch_add::<Claim>(&mut seat.seat, 0, 1);
+        seat.claims += 1;
+        if n < self.jobs {
+            return Some(n);
+        }
+        seat.ended = true;
+        None
+    }
+
+    /// Whether the seats hold every number that was claimed: then each number below their count is in
+    /// their lists exactly once, and no other number is.
+    ///
+    /// # Errors
+    /// `ClaimsMissing` exactly where the seats drew fewer numbers than the board handed out; never where
+    /// all seats of the board are given.
+    pub fn close(self, seats: Vec<BoardSeat>) -> Result<(), ClaimsMissing>
+        requires { All (IsSeatOf self) seats.items }
+        ensures once { OnOk result (EachOnceBelow (length (all_drawn seats.items)) (all_drawn seats.items)) }
+        ensures word { (word : ℕ) × IsBoardAt (jobs_of self) (seats_of self) (map hand_of seats.items) word
+            × MatchResult result (λ _. length (all_drawn seats.items) ≡ word) (λ _. length (all_drawn seats.items) < word) }
+        ensures missing { OnErr result (vec_len seats < seats_of self) }
+    {
+        let (counted, word) = self.settled(seats);
+        if counted == u128::from(word) {
+            Ok(())
+        } else {
+            Err(ClaimsMissing)
+        }
+    }
+
+    /// How many numbers the seats drew, and the word.
+    fn settled(self, mut seats: Vec<BoardSeat>) -> (u128, u64)
+        requires { All (IsSeatOf self) seats.items }
+        ensures count { result.0 ≡ length (all_drawn seats.items) }
+        ensures word { IsBoardAt (jobs_of self) (seats_of self) (map hand_of seats.items) result.1 }
+    {
+        let Some(last) = seats.pop() else {
+            let Board {
+                table,
+                jobs: _,
+                seats: _,
+            } = self;
+            let closed = table.close();
+            let word = closed.word(0);
+            closed.free();
+            return (0, word);
+        };
+        let BoardSeat {
+            seat: mut all,
+            claims,
+            ended: _,
+        } = last;
+        let mut counted = u128::from(claims);
+        while let Some(next) = seats.pop() {
+            let BoardSeat {
+                seat,
+                claims,
+                ended: _,
+            } = next;
+            self.table.shared.join_seat::<Gather>(&mut all, seat);
+            counted += u128::from(claims);
+        }
+        let Board {
+            table,
+            jobs: _,
+            seats: _,
+        } = self;
+        let closed = table.close_with(all);
+        let word = closed.word(0);
+        closed.free();
+        (counted, word)
+    }
+}

@@ -1,0 +1,208 @@
+//! The audit of a whole history by several workers.
+ghost use Rattle.std.specs.Prelude.{◌≡◌, ℕ, ◌+◌, ◌<◌, ◌≤◌, ◌↔◌, ◌⊎◌, [], length, map, All, IfOk, IfErr, vec_len, slice_index_or, None};
+ghost use Rattle.esr_history.specs.Serial.{committed_updates};
+ghost use Rattle.esr_audit.specs.Findings.{IsFinding, committed_queries, told, told_of};
+ghost use Rattle.esr_board.specs.Claims.{times, count_past};
+ghost use Rattle.esr_board.specs.Boards.{IsSeatOf, drawn, all_drawn, jobs_of};
+ghost use Rattle.esr_board.specs.Shares.{AreCommitted, AreFound, IsWorked, IsFilled, AreRight};
+
+use crate::board::{Board, BoardError, BoardSeat, MOST_SEATS};
+use crate::gate::Gate;
+use crate::worker::{Share, Worked, worked};
+use esr_audit::{AuditError, Book, CommitLists, Finding, commit_lists};
+use esr_history::{History, TxnId};
+use esr_items::Metric;
+use std::alloc::{AllocError, Global};
+use std::thread;
+use std::thread::Threads;
+
+/// Puts each finding of a share at the place of its job.
+fn put_in_order<M: Metric>(
+    history: &History<M>,
+    jobs: &[TxnId],
+    slots: &mut Vec<Option<Finding>>,
+    share: Share,
+)
+    requires share { AreFound M.distance_by history.now.schedule jobs.now (vec_len slots.old) share.found.items }
+    requires right { AreRight M.distance_by history.now.schedule jobs.now slots.old.items }
+    ensures len { vec_len slots.new ≡ vec_len slots.old }
+    ensures right { AreRight M.distance_by history.now.schedule jobs.now slots.new.items }
+    ensures kept { (k : ℕ) → IsFilled slots.old.items k → IsFilled slots.new.items k }
+    ensures filled { (k : ℕ) → 0 < times k (map (λ p. p.0) share.found.items) → IsFilled slots.new.items k }
+{
+    let Share { mut found } = share;
+    while let Some((job, finding)) = found.pop() {
+        slots[job as usize] = Some(finding);
+    }
+}
+
+/// The share of each worker, on a thread of its own.
+fn shares<M: Metric + Sync, R: Threads + Sync, G: Gate + Sync>(
+    rt: &R,
+    alloc: Global,
+    history: &History<M>,
+    jobs: &[TxnId],
+    board: &Board,
+    seats: Vec<BoardSeat>,
+    gate: &G,
+) -> Result<Vec<Worked>, AllocError>
+    requires seats { All (λ s. IsSeatOf board.now s × (drawn s ≡ [])) seats.items }
+    requires jobs { (length jobs.now ≡ jobs_of board.now) × AreCommitted history.now.schedule jobs.now }
+    ensures { IfOk result (λ v. (vec_len v ≡ vec_len seats) × All (IsWorked M.distance_by history.now.schedule jobs.now board.now) v.items) }
+{
+    thread::map_vec(
+        rt,
+        seats,
+        &|seat: BoardSeat| -> Worked
+            requires { IsSeatOf board.now seat × (drawn seat ≡ []) × (length jobs.now ≡ jobs_of board.now) × AreCommitted history.now.schedule jobs.now }
+            ensures { IsWorked M.distance_by history.entry.now.schedule jobs.entry.now board.entry.now result }
+        { worked(alloc, history, jobs, board, seat, gate) },
+    )
+}
+
+/// The findings at the places of their jobs, and the seats.
+#[derive(Drop)]
+struct Gathered {
+    slots: Vec<Option<Finding>>,
+    seats: Vec<BoardSeat>,
+}
+
+/// So many places with nothing in them.
+fn vacant(alloc: Global, count: usize) -> Result<Vec<Option<Finding>>, AllocError>
+    ensures { IfOk result (λ v. (vec_len v ≡ count) × ((k : ℕ) → slice_index_or v.items k None ≡ None)) }
+{
+    let mut slots = Vec::with_capacity(alloc, count)?;
+    for _ in 0..count {
+        slots.push(None)?;
+    }
+    Ok(slots)
+}
+
+/// Puts the findings of all shares at the places of their jobs, and collects the seats.
+fn gather<M: Metric>(
+    alloc: Global,
+    history: &History<M>,
+    jobs: &[TxnId],
+    board: &Board,
+    mut all: Vec<Worked>,
+) -> Result<Gathered, AuditError>
+    requires all { All (IsWorked M.distance_by history.now.schedule jobs.now board.now) all.items }
+    requires len { length jobs.now ≡ jobs_of board.now }
+    ensures seats { IfOk result (λ g. (vec_len g.seats ≡ vec_len all) × All (λ s. IsSeatOf board.now s × (0 < count_past (jobs_of board.now) (drawn s))) g.seats.items) }
+    ensures slots { IfOk result (λ g. (vec_len g.slots ≡ length jobs.now) × AreRight M.distance_by history.now.schedule jobs.now g.slots.items) }
+    ensures filled { IfOk result (λ g. (k : ℕ) → k < jobs_of board.now → 0 < times k (all_drawn g.seats.items) → IsFilled g.slots.items k) }
+    ensures err { IfErr result (λ e. e ≡ AuditError.NoMemory) }
+{
+    let Ok(mut slots) = vacant(alloc, jobs.len()) else {
+        return Err(AuditError::NoMemory);
+    };
+    let mut seats = Vec::new(alloc);
+    while let Some(next) = all.pop() {
+        let Worked { share, seat } = next;
+        let share = match share {
+            Ok(share) => share,
+            Err(failed) => return Err(failed),
+        };
+        put_in_order(history, jobs, &mut slots, share);
+        if seats.push(seat).is_err() {
+            return Err(AuditError::NoMemory);
+        }
+    }
+    Ok(Gathered { slots, seats })
+}
+
+/// The findings out of their places, which are all filled.
+fn unwrapped<M: Metric>(
+    alloc: Global,
+    history: &History<M>,
+    jobs: &[TxnId],
+    mut slots: Vec<Option<Finding>>,
+) -> Result<Vec<Finding>, AuditError>
+    requires len { vec_len slots ≡ length jobs.now }
+    requires right { AreRight M.distance_by history.now.schedule jobs.now slots.items }
+    requires filled { (k : ℕ) → k < vec_len slots → IsFilled slots.items k }
+    ensures queries { IfOk result (λ v. map (λ f. f.query) v.items ≡ jobs.now) }
+    ensures findings { IfOk result (λ v. All (IsFinding M.distance_by history.now.schedule) v.items) }
+    ensures err { IfErr result (λ e. e ≡ AuditError.NoMemory) }
+{
+    let mut found = Vec::new(alloc);
+    for k in 0..slots.len() {
+        let Some(finding) = slots[k].take() else {
+            unreachable!()
+        };
+        if found.push(finding).is_err() {
+            return Err(AuditError::NoMemory);
+        }
+    }
+    Ok(found)
+}
+
+/// What is found of each of these committed queries, by so many workers, in order.
+fn findings_by<M: Metric + Sync, R: Threads + Sync, G: Gate + Sync>(
+    rt: &R,
+    alloc: Global,
+    history: &History<M>,
+    jobs: &[TxnId],
+    workers: u64,
+    gate: &G,
+) -> Result<Vec<Finding>, AuditError>
+    requires jobs { (length jobs.now ≤ 65535) × AreCommitted history.now.schedule jobs.now }
+    requires workers { (1 ≤ workers) × (workers ≤ 64) }
+    ensures queries { IfOk result (λ v. map (λ f. f.query) v.items ≡ jobs.now) }
+    ensures findings { IfOk result (λ v. All (IsFinding M.distance_by history.now.schedule) v.items) }
+    ensures err { IfErr result (λ e. e ≡ AuditError.NoMemory) }
+{
+    let (board, seats) = match Board::new(alloc, jobs.len() as u64, workers) {
+        Ok(made) => made,
+        Err(BoardError::NoMemory) => return Err(AuditError::NoMemory),
+        Err(BoardError::TooManyJobs) => unreachable!(),
+        Err(BoardError::SeatsOutOfRange) => unreachable!(),
+    };
+    let Ok(all) = shares(rt, alloc, history, jobs, &board, seats, gate) else {
+        return Err(AuditError::NoMemory);
+    };
+    let Gathered { slots, seats } = match gather(alloc, history, jobs, &board, all) {
+        Ok(gathered) => gathered,
+        Err(failed) => return Err(failed),
+    };
+    match board.close(seats) {
+        Ok(()) => unwrapped(alloc, history, jobs, slots),
+        Err(_) => unreachable!(),
+    }
+}
+
+/// The audit of a history by so many workers, each on a thread of its own: what `audit_history`
+/// finds, up to the choice of a flow in the certificates. It calls `enter` of the gate before the
+/// audit of the k-th committed query, with k, counted from 0.
+///
+/// # Errors
+/// `WorkersOutOfRange` exactly where there are no workers or more than 64. `NoMemory` if allocation
+/// fails or a thread cannot be started.
+pub fn audit_parallel<M: Metric + Sync, R: Threads + Sync, G: Gate + Sync>(
+    rt: &R,
+    alloc: Global,
+    history: &History<M>,
+    workers: u64,
+    gate: &G,
+) -> Result<Book, AuditError>
+    ensures order { IfOk result (λ b. map (λ t. t.0) b.order.items ≡ committed_updates history.now.schedule) }
+    ensures queries { IfOk result (λ b. map (λ f. f.query.0) b.findings.items ≡ committed_queries history.now.schedule) }
+    ensures findings { IfOk result (λ b. All (IsFinding M.distance_by history.now.schedule) b.findings.items) }
+    ensures told { IfOk result (λ b. map told b.findings.items ≡ map (told_of M.distance_by history.now.schedule) (committed_queries history.now.schedule)) }
+    ensures workers { (result ≡ Err AuditError.WorkersOutOfRange) ↔ ((workers ≡ 0) ⊎ (64 < workers)) }
+    ensures err { IfErr result (λ e. (e ≡ AuditError.NoMemory) ⊎ (e ≡ AuditError.WorkersOutOfRange)) }
+{
+    if workers == 0 || workers > MOST_SEATS {
+        return Err(AuditError::WorkersOutOfRange);
+    }
+    let Ok(CommitLists { updates, queries }) = commit_lists(alloc, history) else {
+        return Err(AuditError::NoMemory);
+    };
+    match findings_by(rt, alloc, history, &queries, workers, gate) {
+        Ok(findings) => Ok(Book {
+            order: updates,
+            findings,
+        }),
+        Err(failed) => Err(failed),
+    }
+}

@@ -1,0 +1,39 @@
+//! The rule of a board's table, and what its steps tell.
+ghost use Rattle.esr_board.specs.Claims.{IsKept, first_hand, Claimed, with_one_less, one_pass, joined, spent};
+
+use crate::hand::{Hand, Plan};
+use atomic_table::{Join, Play, Split, TableRule};
+
+/// Each number below the word was drawn once, and the seats hold the passes between them.
+pub struct Fair;
+
+impl TableRule<(), Hand, Plan> for Fair {
+    ghost holds = { IsKept };
+
+    ghost first = { first_hand };
+}
+
+/// A seat draws the number that it finds.
+pub(crate) struct Claim;
+
+impl Play<(), Hand> for Claim {
+    ghost then = { Claimed };
+}
+
+/// A seat gives one of its passes to a new seat.
+pub(crate) struct Admit;
+
+impl Split<Hand> for Admit {
+    ghost left = { with_one_less };
+
+    ghost right = { one_pass };
+}
+
+/// A seat takes over what another knows.
+pub(crate) struct Gather;
+
+impl Join<Hand> for Gather {
+    ghost both = { joined };
+
+    ghost spent = { spent };
+}

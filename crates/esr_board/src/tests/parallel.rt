@@ -1,0 +1,233 @@
+//! Audits by several workers.
+
+use crate::{Board, Gate, NoGate, audit_parallel, work};
+use esr_audit::{AuditError, Book, Finding};
+use esr_core::Machine;
+use esr_history::{Event, History, Reply, TxnId};
+use esr_items::{ItemId, Plain, Store};
+use std::alloc::Global;
+use std::process::Abort;
+use std::sync::atomic::Ordering::SeqCst;
+use std::sync::atomic::{AtomicBool, AtomicU64};
+use std::test::Fail;
+use std::thread::Threads;
+
+const MOST_TURNS: u32 = 100_000_000;
+
+/// A report reads a and b, and between its reads two updates commit.
+const TWO_UPDATES_OVER_A_REPORT: [Event; 11] = [
+    Event::BeginQuery {
+        limit: 100,
+        strict: false,
+    },
+    Event::BeginUpdate { limit: 100 },
+    Event::BeginUpdate { limit: 100 },
+    Event::Read {
+        txn: TxnId(1),
+        item: ItemId(0),
+    },
+    Event::Write {
+        txn: TxnId(2),
+        item: ItemId(0),
+        value: 10,
+    },
+    Event::Commit { txn: TxnId(2) },
+    Event::Write {
+        txn: TxnId(3),
+        item: ItemId(0),
+        value: 1,
+    },
+    Event::Write {
+        txn: TxnId(3),
+        item: ItemId(1),
+        value: 8,
+    },
+    Event::Commit { txn: TxnId(3) },
+    Event::Read {
+        txn: TxnId(1),
+        item: ItemId(1),
+    },
+    Event::Commit { txn: TxnId(1) },
+];
+
+/// A second report reads a.
+const A_SECOND_REPORT: [Event; 3] = [
+    Event::BeginQuery {
+        limit: 100,
+        strict: false,
+    },
+    Event::Read {
+        txn: TxnId(4),
+        item: ItemId(0),
+    },
+    Event::Commit { txn: TxnId(4) },
+];
+
+/// A machine with the items a and b.
+fn machine(rt: &impl Abort, alloc: Global) -> Machine<Plain> {
+    let Ok(values) = [0i64, 0].to_vec(alloc) else {
+        panic!(rt; "two values")
+    };
+    let Ok(items) = Store::new(alloc, values) else {
+        panic!(rt; "two items")
+    };
+    let Ok(machine) = Machine::new(alloc, items, Plain) else {
+        panic!(rt; "a machine")
+    };
+    machine
+}
+
+/// Gives the machine the events, which it accepts.
+fn play(rt: &impl Abort, machine: &mut Machine<Plain>, events: &[Event]) {
+    for event in events {
+        let reply = machine.step(*event);
+        assert!(rt;
+            reply.is_ok_and(|r| !matches!(r, Reply::Refused(_))),
+            "an event is accepted"
+        );
+    }
+}
+
+/// The audit of a history by so many workers.
+fn audited<G: Gate + Sync, R: Threads + Abort + Sync>(
+    rt: &R,
+    alloc: Global,
+    history: &History<Plain>,
+    workers: u64,
+    gate: &G,
+) -> Book {
+    let Ok(book) = audit_parallel(rt, alloc, history, workers, gate) else {
+        panic!(rt; "{} workers audit", workers)
+    };
+    book
+}
+
+/// What there is to find of the first report.
+fn is_of_the_first_report(found: &Finding) -> bool {
+    found.query == TxnId(1)
+        && found.distance == 1
+        && found.import == 19
+        && found.before.as_slice() == [TxnId(2), TxnId(3)].as_slice()
+}
+
+#[test]
+fn each_number_of_workers_finds_the_same(rt: HostRuntime) {
+    let mut m = machine(&rt, rt.alloc());
+    play(&rt, &mut m, &TWO_UPDATES_OVER_A_REPORT);
+    for workers in [1, 2, 64] {
+        let book = audited(&rt, rt.alloc(), m.history(), workers, &NoGate);
+        assert!(rt; book.order.as_slice() == [TxnId(2), TxnId(3)].as_slice());
+        assert!(rt; book.findings.len() == 1 && is_of_the_first_report(&book.findings[0]));
+    }
+}
+
+#[test]
+fn an_audit_has_1_to_64_workers(rt: HostRuntime) {
+    let mut m = machine(&rt, rt.alloc());
+    play(&rt, &mut m, &TWO_UPDATES_OVER_A_REPORT);
+    for workers in [0, 65] {
+        let refused = audit_parallel(&rt, rt.alloc(), m.history(), workers, &NoGate);
+        assert!(rt; refused.is_err_and(|e| e == AuditError::WorkersOutOfRange));
+    }
+}
+
+#[test]
+fn an_empty_history_has_no_findings(rt: HostRuntime) {
+    let m = machine(&rt, rt.alloc());
+    let book = audited(&rt, rt.alloc(), m.history(), 4, &NoGate);
+    assert!(rt; book.order.is_empty() && book.findings.is_empty());
+}
+
+/// Holds job 0 until job 1 has entered, for so many turns, and counts how often each job came.
+#[derive(Drop)]
+struct Meeting {
+    first: AtomicU64,
+    second: AtomicU64,
+    gave_up: AtomicBool,
+}
+
+impl Gate for Meeting {
+    fn enter(&self, job: u64) {
+        if job == 1 {
+            self.second.fetch_add(1, SeqCst);
+            return;
+        }
+        self.first.fetch_add(1, SeqCst);
+        for _ in 0..MOST_TURNS {
+            if self.second.load(SeqCst) > 0 {
+                return;
+            }
+        }
+        self.gave_up.store(true, SeqCst);
+    }
+}
+
+#[test]
+fn two_workers_at_once(rt: HostRuntime) {
+    let mut m = machine(&rt, rt.alloc());
+    play(&rt, &mut m, &TWO_UPDATES_OVER_A_REPORT);
+    play(&rt, &mut m, &A_SECOND_REPORT);
+    let gate = Meeting {
+        first: AtomicU64::new(0),
+        second: AtomicU64::new(0),
+        gave_up: AtomicBool::new(false),
+    };
+    let book = audited(&rt, rt.alloc(), m.history(), 2, &gate);
+    assert!(rt; book.findings.len() == 2 && is_of_the_first_report(&book.findings[0]));
+    assert!(rt; book.findings.len() == 2 && book.findings[1].query == TxnId(4));
+    assert!(rt; !gate.gave_up.load(SeqCst), "no gate ran out of turns");
+    assert!(rt;
+        gate.first.load(SeqCst) == 1 && gate.second.load(SeqCst) == 1,
+        "each job came once"
+    );
+}
+
+#[test]
+fn a_worker_refuses_what_is_no_committed_query(rt: HostRuntime) -> Result<(), Fail> {
+    let mut m = machine(&rt, rt.alloc());
+    play(&rt, &mut m, &TWO_UPDATES_OVER_A_REPORT);
+    let Ok((board, mut seats)) = Board::new(rt.alloc(), 2, 1) else {
+        panic!(rt; "a board of two jobs")
+    };
+    let Some(mut seat) = seats.pop() else {
+        panic!(rt; "one seat")
+    };
+    let jobs = [TxnId(1), TxnId(2)];
+    let share = work(rt.alloc(), m.history(), &jobs, &board, &mut seat, &NoGate);
+    assert!(rt; share.is_err_and(|e| e == AuditError::NotACommittedQuery));
+
+    // The seat has drawn both jobs, and a second call finds nothing more to do.
+    let Ok(rest) = work(rt.alloc(), m.history(), &jobs, &board, &mut seat, &NoGate) else {
+        panic!(rt; "no job is left")
+    };
+    assert!(rt; rest.found.is_empty());
+    let mut given = Vec::new(rt.alloc());
+    given.push(seat)?;
+    assert!(rt; board.close(given) == Ok(()));
+    Ok(())
+}
+
+#[test]
+fn a_worker_alone_does_all_jobs(rt: HostRuntime) {
+    let mut m = machine(&rt, rt.alloc());
+    play(&rt, &mut m, &TWO_UPDATES_OVER_A_REPORT);
+    let Ok((board, mut seats)) = Board::new(rt.alloc(), 1, 1) else {
+        panic!(rt; "a board of one job")
+    };
+    let Some(mut seat) = seats.pop() else {
+        panic!(rt; "one seat")
+    };
+    let Ok(share) = work(
+        rt.alloc(),
+        m.history(),
+        &[TxnId(1)],
+        &board,
+        &mut seat,
+        &NoGate,
+    ) else {
+        panic!(rt; "the report is audited")
+    };
+    assert!(rt;
+        share.found.len() == 1 && share.found[0].0 == 0 && is_of_the_first_report(&share.found[0].1)
+    );
+}

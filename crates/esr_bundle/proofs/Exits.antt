@@ -1,0 +1,20 @@
+-- What is known where a call's error is handed on, and of a list one element of which fails a test.
+use Rattle.std.proofs.Common.{◌≡◌, ◌≢◌, ℕ, ◌+◌, ◌<◌, List, [], ◌∷◌, ◌++◌, Bool, true, false, Result, Ok, Err, IfErr, map, take, length, get_or, refl, sym, ap, ◌∙◌, subst, arith, true≢false}
+use Rattle.std.specs.Result.{IsErrAnd}
+use Rattle.std.specs.List.{list_all}
+use Rattle.std.proofs.lemmas.Bool.{false_from_ne_true}
+use Rattle.std.proofs.lemmas.List.{length-map, take-map, map_more}
+use Rattle.esr_cert.proofs.Steps.{get_or_map_read}
+use Rattle.esr_cert.proofs.Distinct.{all_at}
+
+pub passes : {T E : Type 0} (P : E → Type 0) (r : Result T E) (x : E) → IsErrAnd r (λ e. e ≡ x) → P x → IfErr r P
+passes P (Ok t) x h p = tt
+passes P (Err e) x h p = subst P (sym h) p
+
+pub no_at : {X Y : Type 0} (p : Y → Bool) (f : X → Y) (xs : List X) (i : ℕ) (x : X) → i < length xs → x ≡ get_or xs i x → p (f x) ≡ false → list_all p (map f xs) ≡ false
+no_at p f xs i x l e n =
+    false_from_ne_true (list_all p (map f xs)) (λ h. true≢false (sym (all_at p (map f xs) h i (f x) (rw length-map l)) ∙ ap p (get_or_map_read f xs i x l e) ∙ n))
+
+pub take_map_more : {X Y : Type 0} (f : X → Y) (xs : List X) (i : ℕ) (x : X) → i < length xs → x ≡ get_or xs i x → take (i + 1) (map f xs) ≡ take i (map f xs) ++ f x ∷ []
+take_map_more f xs i x l e =
+    take-map f (i + 1) xs ∙ map_more f xs i x l ∙ ap (λ y. map f (take i xs) ++ f y ∷ []) (sym e) ∙ ap (λ ys. ys ++ f x ∷ []) (sym (take-map f i xs))

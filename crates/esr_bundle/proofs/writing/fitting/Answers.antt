@@ -1,0 +1,5 @@
+use Rattle.esr_bundle.proofs.Wide.{fitting}
+use Rattle.esr_bundle.proofs.writing.fitting.Goals as goal
+
+pub returns-clause-fits : goal.returns-clause-fits
+returns-clause-fits c = fitting c.args.list.now c.type_inv.list

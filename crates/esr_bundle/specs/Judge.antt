@@ -1,0 +1,67 @@
+-- The verdict on the bytes of a bundle, the line that is written for it, and how a judgement ends.
+use Rattle.std.specs.Prelude.{◌≡◌, ℕ, ◌<◌, ◌≤◌, List, [], ◌∷◌, ◌++◌, length, codes, decimal, Bool, true, false, Option, Some, None, Result, Ok, Err}
+use Rattle.std.specs.Io.KnownBytes.{Consumes}
+use Rattle.esr_cert.specs.Problem.{Problem}
+use Rattle.esr_cert.specs.Certificate.{Certificate, fault}
+use Rattle.esr_cert.specs.Faults.{fault_number, bundle_fault_number}
+use Rattle.esr_cert.specs.declared.certificate.Fault.{Fault}
+use Rattle.esr_cert.specs.declared.problem.BundleFault.{BundleFault}
+use Rattle.esr_bundle.specs.declared.judging.Verdict.{Verdict}
+use Rattle.esr_bundle.specs.declared.judging.Verdict.TheVariants.{Valid, Invalid, Bad}
+use Rattle.esr_bundle.specs.declared.judging.JudgeFault.{JudgeFault}
+use Rattle.esr_bundle.specs.declared.judging.JudgeFault.TheVariants as ends
+use Rattle.esr_bundle.specs.Reading.{Means}
+
+-- ---- the verdict
+
+-- of a certificate of such a worth, that has this fault
+abbrev pub verdict_for : ℕ → Option Fault → Verdict
+verdict_for worth None = Valid worth
+verdict_for worth (Some f) = Invalid (fault_number f)
+
+abbrev pub verdict_on : Result (Problem × Certificate) BundleFault → Verdict
+verdict_on (Ok b) = verdict_for b.1.worth (fault b.0 b.1)
+verdict_on (Err f) = Bad (bundle_fault_number f)
+
+-- the verdict on what the bytes mean
+abbrev pub IsVerdictOf : List ℕ → Verdict → Type 0
+IsVerdictOf bytes v = (b : Result (Problem × Certificate) BundleFault) × Means bytes b × (v ≡ verdict_on b)
+
+abbrev pub verdict_line : Verdict → List ℕ
+verdict_line (Valid worth) = codes "valid " ++ decimal worth ++ 10 ∷ []
+verdict_line (Invalid fault) = codes "invalid " ++ decimal fault ++ 10 ∷ []
+verdict_line (Bad fault) = codes "bad " ++ decimal fault ++ 10 ∷ []
+
+-- ---- how it ends
+
+abbrev pub max_bytes : ℕ
+max_bytes = 64000000
+
+-- the second is a prefix of the whole
+abbrev pub BeginsWith : List ℕ → List ℕ → Type 0
+BeginsWith whole start = (rest : List ℕ) × (whole ≡ start ++ rest)
+
+-- A judgement that was given the input, left these bytes of it and ended so wrote this.
+abbrev pub IsJudgedBy : List ℕ → Option (List ℕ) → Result Verdict JudgeFault → List ℕ → Type 0
+-- the input was read to its end, and the line of its verdict was written
+IsJudgedBy input left (Ok v) written = Consumes (Some input) left input × (length input ≤ max_bytes) × IsVerdictOf input v × (written ≡ verdict_line v)
+IsJudgedBy input left (Err ends.Read) written = written ≡ []
+-- a prefix of the line of its verdict
+IsJudgedBy input left (Err ends.Write) written = (length input ≤ max_bytes) × (v : Verdict) × IsVerdictOf input v × BeginsWith (verdict_line v) written
+IsJudgedBy input left (Err ends.TooLong) written = (max_bytes < length input) × (written ≡ [])
+IsJudgedBy input left (Err ends.NoMemory) written = written ≡ []
+
+-- whether a read failed, and whether a write did
+abbrev pub is_read_fault : {T : Type 0} → Result T JudgeFault → Bool
+is_read_fault (Ok done) = false
+is_read_fault (Err ends.Read) = true
+is_read_fault (Err ends.Write) = false
+is_read_fault (Err ends.TooLong) = false
+is_read_fault (Err ends.NoMemory) = false
+
+abbrev pub is_write_fault : {T : Type 0} → Result T JudgeFault → Bool
+is_write_fault (Ok done) = false
+is_write_fault (Err ends.Read) = false
+is_write_fault (Err ends.Write) = true
+is_write_fault (Err ends.TooLong) = false
+is_write_fault (Err ends.NoMemory) = false

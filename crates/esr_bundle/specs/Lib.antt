@@ -1,0 +1,7 @@
+pub mod Fields
+pub mod Bundle
+pub mod Members
+pub mod Drafts
+pub mod Reading
+pub mod Judge
+pub mod Worked

@@ -1,0 +1,45 @@
+-- Trees of bundles with what they stand for.
+use Rattle.std.specs.Prelude.{◌≡◌, ℕ, List, [], ◌∷◌, Some, None, Ok, Err, codes, refl}
+use Rattle.serde_json.specs.Data.{Data, object, no_members, array, no_items}
+use Rattle.esr_cert.specs.Problem.{Problem, Chain}
+use Rattle.esr_cert.specs.Certificate.{Certificate}
+use Rattle.esr_cert.specs.declared.problem.BundleFault.TheVariants.{Shape, Range}
+use Rattle.esr_bundle.specs.Bundle.{bundle_data, stands_for}
+
+abbrev two_updates : Problem
+two_updates = record { updates = 2 ∷ 3 ∷ []; before = (0, 1) ∷ []; chains = record { item = 0; writers = 0 ∷ 1 ∷ []; costs = 0 ∷ 10 ∷ 1 ∷ [] } ∷ record { item = 1; writers = 1 ∷ []; costs = 8 ∷ 0 ∷ [] } ∷ []; must = [] }
+
+abbrev after_both : Certificate
+after_both = record { set = 0 ∷ 1 ∷ []; chain_flow = (0 ∷ 0 ∷ 1 ∷ []) ∷ (1 ∷ 0 ∷ []) ∷ []; back_flow = 0 ∷ []; must_flow = []; worth = 1; augmentations = None }
+
+abbrev strict : Problem
+strict = record { updates = 1 ∷ []; before = []; chains = record { item = 0; writers = 0 ∷ []; costs = 0 ∷ 5 ∷ [] } ∷ []; must = 0 ∷ [] }
+
+abbrev held : Certificate
+held = record { set = 0 ∷ []; chain_flow = (0 ∷ 5 ∷ []) ∷ []; back_flow = []; must_flow = 5 ∷ []; worth = 5; augmentations = Some 12 }
+
+a_bundle : stands_for (bundle_data two_updates after_both) ≡ Ok (two_updates, after_both)
+a_bundle = refl
+
+optional_keys : stands_for (bundle_data strict held) ≡ Ok (strict, held)
+optional_keys = refl
+
+no_keys : stands_for (object no_members) ≡ Err Shape
+no_keys = refl
+
+no_object : stands_for (array no_items) ≡ Err Shape
+no_object = refl
+
+-- neighbours of a chain that are no pair
+no_pair : stands_for (bundle_data (record two_updates { before = [] }) after_both) ≡ Err Shape
+no_pair = refl
+
+no_transaction : stands_for (bundle_data (record two_updates { updates = 2 ∷ 0 ∷ [] }) after_both) ≡ Err Range
+no_transaction = refl
+
+-- the shape comes first
+both_broken : stands_for (bundle_data (record two_updates { before = []; updates = 2 ∷ 0 ∷ [] }) after_both) ≡ Err Shape
+both_broken = refl
+
+large_position : stands_for (bundle_data two_updates (record after_both { set = 4294967296 ∷ [] })) ≡ Err Range
+large_position = refl

@@ -1,0 +1,159 @@
+//! Fields of a JSON tree: numbers and lists of them, and the members of an object.
+ghost use Rattle.std.specs.Prelude.{◌≡◌, ◌≢◌, ◌++◌, ◌≤◌, Some, None, IfOk, IfErr, map, option_map};
+ghost use Rattle.serde_json.specs.Find.{get};
+ghost use Rattle.serde_json.specs.View.{view, items_view};
+ghost use Rattle.esr_bundle.specs.Fields.{number_of, numbers_of, pair_of, pairs_of, rows_of, has_keys, one_if, field, numbers_if, number_if};
+
+use esr_cert::BundleFault;
+use serde_json::Value;
+use std::alloc::Global;
+
+/// A list of numbers.
+pub fn numbers(alloc: Global, value: &Value) -> Result<Vec<u64>, BundleFault>
+    ensures ok { IfOk result (λ v. numbers_of (view value.now) ≡ Some v.items) }
+    ensures err { IfErr result (λ e. e ≢ BundleFault.NoMemory → (e ≡ BundleFault.Shape) × (numbers_of (view value.now) ≡ None)) }
+{
+    let Some(items) = value.as_array() else {
+        return Err(BundleFault::Shape);
+    };
+    let mut found = Vec::new(alloc);
+    for item in items {
+        let Some(number) = item.as_u64() else {
+            return Err(BundleFault::Shape);
+        };
+        if found.push(number).is_err() {
+            return Err(BundleFault::NoMemory);
+        }
+    }
+    Ok(found)
+}
+
+fn pair(value: &Value) -> Option<(u64, u64)>
+    ensures { result ≡ pair_of (view value.now) }
+{
+    let items = value.as_array()?;
+    let [first, second] = items.as_slice() else {
+        return None;
+    };
+    Some((first.as_u64()?, second.as_u64()?))
+}
+
+/// A list of pairs of numbers.
+pub fn pairs(alloc: Global, value: &Value) -> Result<Vec<(u64, u64)>, BundleFault>
+    ensures ok { IfOk result (λ v. pairs_of (view value.now) ≡ Some v.items) }
+    ensures err { IfErr result (λ e. e ≢ BundleFault.NoMemory → (e ≡ BundleFault.Shape) × (pairs_of (view value.now) ≡ None)) }
+{
+    let Some(items) = value.as_array() else {
+        return Err(BundleFault::Shape);
+    };
+    let mut found = Vec::new(alloc);
+    for item in items {
+        let Some(two) = pair(item) else {
+            return Err(BundleFault::Shape);
+        };
+        if found.push(two).is_err() {
+            return Err(BundleFault::NoMemory);
+        }
+    }
+    Ok(found)
+}
+
+/// A list of lists of numbers.
+pub fn rows(alloc: Global, value: &Value) -> Result<Vec<Vec<u64>>, BundleFault>
+    ensures ok { IfOk result (λ v. rows_of (view value.now) ≡ Some (map (λ r. r.items) v.items)) }
+    ensures err { IfErr result (λ e. e ≢ BundleFault.NoMemory → (e ≡ BundleFault.Shape) × (rows_of (view value.now) ≡ None)) }
+{
+    let Some(items) = value.as_array() else {
+        return Err(BundleFault::Shape);
+    };
+    let mut found = Vec::new(alloc);
+    for item in items {
+        let row = numbers(alloc, item)?;
+        if found.push(row).is_err() {
+            return Err(BundleFault::NoMemory);
+        }
+    }
+    Ok(found)
+}
+
+/// Whether it is an object with so many keys.
+pub fn has_keys(value: &Value, count: usize) -> bool
+    ensures { result ≡ has_keys count (view value.now) }
+{
+    match value.as_object() {
+        Some(members) => members.len() == count,
+        None => false,
+    }
+}
+
+/// One where an object has the key.
+pub fn one_if(value: &Value, key: &str) -> usize
+    ensures value { result ≡ one_if (get key.now (view value.now)) }
+    ensures small { result ≤ 1 }
+{
+    match value.get(key) {
+        Some(_) => 1,
+        None => 0,
+    }
+}
+
+/// The value at a key.
+pub fn at<'a>(value: &'a Value, key: &str) -> Result<&'a Value, BundleFault>
+    ensures ok { IfOk result (λ v. get key.now (view value.now) ≡ Some (view v.now)) }
+    ensures err { IfErr result (λ e. (e ≡ BundleFault.Shape) × (get key.now (view value.now) ≡ None)) }
+{
+    match value.get(key) {
+        Some(found) => Ok(found),
+        None => Err(BundleFault::Shape),
+    }
+}
+
+/// The number at a key.
+pub fn number_at(value: &Value, key: &str) -> Result<u64, BundleFault>
+    ensures ok { IfOk result (λ n. field number_of key.now (view value.now) ≡ Some n) }
+    ensures err { IfErr result (λ e. (e ≡ BundleFault.Shape) × (field number_of key.now (view value.now) ≡ None)) }
+{
+    let Some(found) = value.get(key) else {
+        return Err(BundleFault::Shape);
+    };
+    match found.as_u64() {
+        Some(number) => Ok(number),
+        None => Err(BundleFault::Shape),
+    }
+}
+
+/// The list of numbers at a key.
+pub fn numbers_at(alloc: Global, value: &Value, key: &str) -> Result<Vec<u64>, BundleFault>
+    ensures ok { IfOk result (λ v. field numbers_of key.now (view value.now) ≡ Some v.items) }
+    ensures err { IfErr result (λ e. e ≢ BundleFault.NoMemory → (e ≡ BundleFault.Shape) × (field numbers_of key.now (view value.now) ≡ None)) }
+{
+    let Some(found) = value.get(key) else {
+        return Err(BundleFault::Shape);
+    };
+    numbers(alloc, found)
+}
+
+/// The list of numbers at a key, and no numbers where there is no such key.
+pub fn numbers_if(alloc: Global, value: &Value, key: &str) -> Result<Vec<u64>, BundleFault>
+    ensures ok { IfOk result (λ v. numbers_if (get key.now (view value.now)) ≡ Some v.items) }
+    ensures err { IfErr result (λ e. e ≢ BundleFault.NoMemory → (e ≡ BundleFault.Shape) × (numbers_if (get key.now (view value.now)) ≡ None)) }
+{
+    match value.get(key) {
+        Some(found) => numbers(alloc, found),
+        None => Ok(Vec::new(alloc)),
+    }
+}
+
+/// The number at a key, where there is such a key.
+pub fn number_if(value: &Value, key: &str) -> Result<Option<u64>, BundleFault>
+    ensures ok { IfOk result (λ n. number_if (get key.now (view value.now)) ≡ Some n) }
+    ensures err { IfErr result (λ e. (e ≡ BundleFault.Shape) × (number_if (get key.now (view value.now)) ≡ None)) }
+{
+    let Some(found) = value.get(key) else {
+        return Ok(None);
+    };
+    match found.as_u64() {
+        Some(number) => Ok(Some(number)),
+        None => Err(BundleFault::Shape),
+    }
+}

@@ -1,0 +1,138 @@
+//! From bytes to a problem and a certificate.
+ghost use Rattle.std.specs.Prelude.{◌≡◌, ◌≢◌, ◌++◌, Some, None, IfOk, IfErr, map};
+ghost use Rattle.serde_json.specs.View.{view};
+ghost use Rattle.esr_bundle.specs.Fields.{list_of};
+ghost use Rattle.esr_bundle.specs.Bundle.{chain_of, problem_of, certificate_of, parts_of};
+ghost use Rattle.esr_bundle.specs.Drafts.{drafted_chain, drafted_problem, drafted_certificate};
+ghost use Rattle.esr_bundle.specs.Reading.{IsTree, HasNoTree, IsReadingOf};
+
+use crate::draft::{CertificateDraft, ChainDraft, ProblemDraft};
+use crate::fields::{
+    at, has_keys, number_at, number_if, numbers_at, numbers_if, one_if, pairs, rows,
+};
+use crate::sound::finished;
+use esr_cert::{BundleFault, Certificate, Problem};
+use serde_json::Value;
+use std::alloc::Global;
+
+fn chain(alloc: Global, value: &Value) -> Result<ChainDraft, BundleFault>
+    ensures ok { IfOk result (λ k. chain_of (view value.now) ≡ Some (drafted_chain k)) }
+    ensures err { IfErr result (λ e. e ≢ BundleFault.NoMemory → (e ≡ BundleFault.Shape) × (chain_of (view value.now) ≡ None)) }
+{
+    if !has_keys(value, 3) {
+        return Err(BundleFault::Shape);
+    }
+    let costs = numbers_at(alloc, value, "costs")?;
+    let item = number_at(value, "item")?;
+    let writers = numbers_at(alloc, value, "writers")?;
+    Ok(ChainDraft {
+        item,
+        writers,
+        costs,
+    })
+}
+
+fn chains(alloc: Global, value: &Value) -> Result<Vec<ChainDraft>, BundleFault>
+    ensures ok { IfOk result (λ v. list_of chain_of (view value.now) ≡ Some (map drafted_chain v.items)) }
+    ensures err { IfErr result (λ e. e ≢ BundleFault.NoMemory → (e ≡ BundleFault.Shape) × (list_of chain_of (view value.now) ≡ None)) }
+{
+    let Some(items) = value.as_array() else {
+        return Err(BundleFault::Shape);
+    };
+    let mut found = Vec::new(alloc);
+    for item in items {
+        let one = chain(alloc, item)?;
+        if found.push(one).is_err() {
+            return Err(BundleFault::NoMemory);
+        }
+    }
+    Ok(found)
+}
+
+fn problem(alloc: Global, value: &Value) -> Result<ProblemDraft, BundleFault>
+    ensures ok { IfOk result (λ p. problem_of (view value.now) ≡ Some (drafted_problem p)) }
+    ensures err { IfErr result (λ e. e ≢ BundleFault.NoMemory → (e ≡ BundleFault.Shape) × (problem_of (view value.now) ≡ None)) }
+{
+    if !has_keys(value, 3 + one_if(value, "must")) {
+        return Err(BundleFault::Shape);
+    }
+    let before = pairs(alloc, at(value, "before")?)?;
+    let chains = chains(alloc, at(value, "chains")?)?;
+    let must = numbers_if(alloc, value, "must")?;
+    let updates = numbers_at(alloc, value, "updates")?;
+    Ok(ProblemDraft {
+        updates,
+        before,
+        chains,
+        must,
+    })
+}
+
+fn certificate(alloc: Global, value: &Value) -> Result<CertificateDraft, BundleFault>
+    ensures ok { IfOk result (λ c. certificate_of (view value.now) ≡ Some (drafted_certificate c)) }
+    ensures err { IfErr result (λ e. e ≢ BundleFault.NoMemory → (e ≡ BundleFault.Shape) × (certificate_of (view value.now) ≡ None)) }
+{
+    if !has_keys(
+        value,
+        4 + one_if(value, "augmentations") + one_if(value, "must_flow"),
+    ) {
+        return Err(BundleFault::Shape);
+    }
+    let augmentations = number_if(value, "augmentations")?;
+    let back_flow = numbers_at(alloc, value, "back_flow")?;
+    let chain_flow = rows(alloc, at(value, "chain_flow")?)?;
+    let must_flow = numbers_if(alloc, value, "must_flow")?;
+    let set = numbers_at(alloc, value, "set")?;
+    let worth = number_at(value, "worth")?;
+    Ok(CertificateDraft {
+        set,
+        chain_flow,
+        back_flow,
+        must_flow,
+        worth,
+        augmentations,
+    })
+}
+
+/// The numbers of a bundle.
+fn parts(alloc: Global, value: &Value) -> Result<(ProblemDraft, CertificateDraft), BundleFault>
+    ensures ok { IfOk result (λ b. parts_of (view value.now) ≡ Some (drafted_problem b.0, drafted_certificate b.1)) }
+    ensures err { IfErr result (λ e. e ≢ BundleFault.NoMemory → (e ≡ BundleFault.Shape) × (parts_of (view value.now) ≡ None)) }
+{
+    if !has_keys(value, 2) {
+        return Err(BundleFault::Shape);
+    }
+    let certificate = certificate(alloc, at(value, "certificate")?)?;
+    let problem = problem(alloc, at(value, "problem")?)?;
+    Ok((problem, certificate))
+}
+
+/// The tree of the bytes.
+fn tree(alloc: Global, bytes: &[u8]) -> Result<Value, BundleFault>
+    ensures ok { IfOk result (λ v. IsTree bytes.now (view v)) }
+    ensures err { IfErr result (λ e. e ≢ BundleFault.NoMemory → (e ≡ BundleFault.Json) × HasNoTree bytes.now) }
+{
+    match Value::from_slice(alloc, bytes) {
+        Ok(tree) => Ok(tree),
+        Err(error) => {
+            if error.is_memory() {
+                Err(BundleFault::NoMemory)
+            } else {
+                Err(BundleFault::Json)
+            }
+        }
+    }
+}
+
+/// The problem and the certificate of a bundle.
+///
+/// `Json` where the bytes are no JSON, `Shape` where the object is none of a bundle or a rule of shape is broken over
+/// all of it, and `Range` where only a number is out of its range. `NoMemory` may come in place of each.
+pub fn from_json(alloc: Global, bytes: &[u8]) -> Result<(Problem, Certificate), BundleFault>
+    ensures { IsReadingOf bytes.now result }
+{
+    let tree = tree(alloc, bytes)?;
+    let (problem, certificate) = parts(alloc, &tree)?;
+    drop(tree);
+    finished(alloc, problem, certificate)
+}

@@ -1,0 +1,11 @@
+pub mod Cuts
+pub mod Calling
+pub mod Placing
+pub mod Adding
+pub mod Jobs
+pub mod Texts
+pub mod Noting
+pub mod Telling
+pub mod Told
+pub mod Rows
+pub mod Worked

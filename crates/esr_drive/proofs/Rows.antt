@@ -1,0 +1,42 @@
+-- Drive files with what they ask for.
+use Rattle.std.proofs.Common.{◌≡◌, refl, [], ◌∷◌, Ok, Err}
+use Rattle.std.specs.Prelude.{codes, pos}
+use Rattle.std.specs.Fmt.{digits}
+use Rattle.esr_script.specs.Command.{begin_update, begin_query, read, write, commit, abort}
+use Rattle.esr_drive.specs.declared.fault.DriveFault.TheVariants.{BadScript}
+use Rattle.esr_drive.specs.Plan.{plan_of}
+
+begin_before_a_session : plan_of (codes "item a 0\nbegin u update 0\n") ≡ Err (BadScript 2 1)
+unfolding digits
+begin_before_a_session = refl
+
+item_in_a_block : plan_of (codes "session\nitem a 0\n") ≡ Err (BadScript 2 2)
+unfolding digits
+item_in_a_block = refl
+
+name_in_two_blocks : plan_of (codes "session\nbegin u update 0\nsession\nbegin u update 0") ≡ Err (BadScript 4 3)
+unfolding digits
+name_in_two_blocks = refl
+
+one_block : plan_of (codes "item a 0\n\nsession\nbegin u update 0\nwrite u a 5\n# note\ncommit u\n")
+    ≡ Ok (record {
+      names = codes "a" ∷ [];
+      values = pos 0 ∷ [];
+      blocks = (begin_update (codes "u") 0 ∷ write (codes "u") (codes "a") (pos 5) ∷ commit (codes "u") ∷ []) ∷ [];
+    })
+unfolding digits
+one_block = refl
+
+too_many_sessions : plan_of (codes "session\nsession\nsession\nsession\nsession\nsession\nsession\nsession\nsession\nsession\nsession\nsession\nsession\nsession\nsession\nsession\nsession\nsession\nsession\nsession\nsession\nsession\nsession\nsession\nsession\nsession\nsession\nsession\nsession\nsession\nsession\nsession\nsession\nsession\nsession\nsession\nsession\nsession\nsession\nsession\nsession\nsession\nsession\nsession\nsession\nsession\nsession\nsession\nsession\nsession\nsession\nsession\nsession\nsession\nsession\nsession\nsession\nsession\nsession\nsession\nsession\nsession\nsession\nsession\nsession\n") ≡ Err (BadScript 65 7)
+unfolding digits
+too_many_sessions = refl
+
+file_of_two_blocks : plan_of (codes "item a 0\nsession\nbegin u update 0\nwrite u a 5\ncommit u\nsession\nbegin q query 100\ncommit q\nread u a\n")
+    ≡ Ok (record {
+      names = codes "a" ∷ [];
+      values = pos 0 ∷ [];
+      blocks = (begin_update (codes "u") 0 ∷ write (codes "u") (codes "a") (pos 5) ∷ commit (codes "u") ∷ [])
+          ∷ (begin_query (codes "q") 100 ∷ commit (codes "q") ∷ read (codes "u") (codes "a") ∷ []) ∷ [];
+    })
+unfolding digits
+file_of_two_blocks = refl

@@ -1,0 +1,143 @@
+-- From the parts of a drive to its text.
+use Rattle.std.proofs.Common.{◌≡◌, ℕ, ℤ, zero, suc, All, arith, ◌+◌, Bool, true, false, cond, ◌⊎◌, inl, inr, List, [], ◌∷◌, ◌++◌, length, map, Option, Some, None, Result, Ok, Err, Vec, Global, refl, ap, sym, subst, ◌∙◌, nat_eq, if◌then◌else◌}
+use Rattle.std.specs.Prelude.{nat_lt}
+use Rattle.esr_items.specs.Values.{opened}
+use Rattle.esr_items.specs.declared.store.Versions.{Versions}
+use Rattle.esr_history.specs.declared.event.Reply.{Reply}
+use Rattle.esr_history.specs.Machine.{Schedule}
+use Rattle.esr_core.proofs.Replayed.{first, opened_values}
+use Rattle.esr_script.specs.Command.{Command}
+use Rattle.esr_script.specs.Lines.{lines}
+use Rattle.esr_drive.specs.declared.fault.DriveFault.{DriveFault}
+use Rattle.esr_drive.specs.declared.fault.DriveFault.TheVariants as fault
+use Rattle.esr_drive.specs.declared.sheet.Sheet.{Sheet}
+use Rattle.esr_drive.specs.declared.call.Call.{Call}
+use Rattle.esr_drive.specs.Calls.{command_of, AreResolved}
+use Rattle.esr_drive.specs.Plan.{Plan, plan_of, plan_from, cut_fault, with_line, nothing}
+use Rattle.esr_script.specs.Text.{max_lines, max_line_bytes}
+use Rattle.esr_drive.specs.Drafts.{commands_in}
+use Rattle.esr_drive.specs.Sheets.{plan_in, IsSound}
+use Rattle.esr_drive.specs.Blocks.{commands_of}
+use Rattle.esr_drive.specs.Driven.{IsDriven, all_answers}
+use Rattle.esr_drive.specs.Drive.{IsDriveText, text_of}
+use Rattle.esr_drive.specs.Faults.{IsTextFault, is_engine_fault}
+
+map_twice : {X Y Z : Type 0} (f : Y → Z) (g : X → Y) (xs : List X) → map f (map g xs) ≡ map (λ x. f (g x)) xs
+map_twice f g [] = refl
+map_twice f g (x ∷ xs) = ap (λ l. f (g x) ∷ l) (map_twice f g xs)
+
+-- the machine's first history
+pub opened_as : (items : List Versions) (vs : List ℤ) (h : Schedule) → items ≡ map opened vs → h.opening ≡ vs → h.weights ≡ []
+    → record { opening = map (λ (w : Versions). w.committed) items; weights = []; entries = [] } ≡ first h 0
+opened_as items vs h is opening weights =
+    let values : map (λ (w : Versions). w.committed) items ≡ h.opening = ap (map (λ (w : Versions). w.committed)) is ∙ (opened_values vs ∙ sym opening) in
+    ap (λ (o : List ℤ). start o []) values ∙ ap (start h.opening) (sym weights)
+  where
+    start : List ℤ → List ℕ → Schedule
+    start o w = record { opening = o; weights = w; entries = [] }
+
+-- the values of opened items
+pub driven_over : (items : List Versions) (vs : List ℤ) (blocks : List (List Call)) (h : Schedule) (replies : List (List Reply))
+    → items ≡ map opened vs → IsDriven (map (λ (w : Versions). w.committed) items) blocks h replies → IsDriven vs blocks h replies
+driven_over items vs blocks h replies is d =
+    subst (λ (o : List ℤ). IsDriven o blocks h replies) (ap (map (λ (w : Versions). w.committed)) is ∙ opened_values vs) d
+
+all_items : (P : List Call → Type 0) (bs : List (Vec Call Global)) → All (λ b. P b.items) bs → All P (map (λ b. b.items) bs)
+all_items P [] all i x lt = absurd (omega (arith, lt))
+all_items P (b ∷ bs) all zero x lt = all 0 b (omega arith)
+all_items P (b ∷ bs) all (suc i) x lt = all_items P bs (λ j y below. all (suc j) y (omega (arith, below))) i x (omega (arith, lt))
+
+-- the text of what was driven is one of the file
+pub drive_text : (bytes : List ℕ) (s : Sheet) (h : Schedule) (replies : List (List Reply)) (out : List ℕ)
+    → plan_of bytes ≡ Ok (plan_in s) → IsSound s → IsDriven s.values.items (map (λ b. b.items) s.blocks.items) h replies
+    → out ≡ text_of (plan_in s) h (all_answers (map (λ b. b.items) s.blocks.items) replies) → IsDriveText bytes out
+drive_text bytes s h replies out planned sound d text = record {
+  plan = plan_in s;
+  planned = planned;
+  is_text = record {
+    history = h;
+    blocks = all_answers (map (λ b. b.items) s.blocks.items) replies;
+    receipts = d.receipts;
+    legal = d.legal;
+    opening = d.opening_is;
+    weights = d.weights;
+    commands = d.commands ∙ map_twice (map command_of) (λ (b : Vec Call Global). b.items) s.blocks.items;
+    runs = d.runs s.names (all_items (AreResolved s.names) s.blocks.items sound.resolved);
+    matching = d.matching;
+    text_is = text;
+  };
+}
+
+-- ---- which faults a plan has
+
+abbrev IsPlanFault : DriveFault → Type 0
+IsPlanFault fault.Read = ⊥
+IsPlanFault fault.Write = ⊥
+IsPlanFault fault.LineTooLong = Unit {0}
+IsPlanFault fault.NoMemory = ⊥
+IsPlanFault fault.HistoryFull = ⊥
+IsPlanFault fault.TooManyLines = Unit {0}
+IsPlanFault (fault.BadScript line error) = Unit {0}
+IsPlanFault fault.Close = ⊥
+
+abbrev IsFine : {X : Type 0} → Result X DriveFault → Type 0
+IsFine (Ok p) = Unit {0}
+IsFine (Err e) = IsPlanFault e
+
+abbrev IsCutFault : Option DriveFault → Type 0
+IsCutFault None = Unit {0}
+IsCutFault (Some e) = IsPlanFault e
+
+chosen : (b : Bool) (e : DriveFault) (o : Option DriveFault) → IsPlanFault e → IsCutFault o → IsCutFault (if b then Some e else o)
+chosen true e o p q = p
+chosen false e o p q = q
+
+cut_fine : (count : ℕ) (ls : List (List ℕ)) → IsCutFault (cut_fault count ls)
+cut_fine count [] = tt
+cut_fine count (l ∷ ls) =
+    chosen (nat_eq count max_lines) fault.TooManyLines _ tt (chosen (nat_lt max_line_bytes (length l)) fault.LineTooLong _ tt (cut_fine (count + 1) ls))
+
+from_fine : (number : ℕ) (p : Plan) (ls : List (List ℕ)) → IsFine (plan_from number p ls)
+from_fine number p [] = tt
+from_fine number p (l ∷ ls) = at (with_line p l) (λ next. from_fine (number + 1) next ls)
+  where
+    at : (r : Result Plan ℕ) → ((next : Plan) → IsFine (plan_from (number + 1) next ls)) → IsFine (elim r [ Ok next ↦ plan_from (number + 1) next ls | Err error ↦ Err (fault.BadScript number error) ])
+    at (Ok next) more = more next
+    at (Err error) more = tt
+
+plan_fine : (bytes : List ℕ) → IsFine (plan_of bytes)
+plan_fine bytes = at (cut_fault 0 (lines bytes)) (cut_fine 0 (lines bytes))
+  where
+    at : (o : Option DriveFault) → IsCutFault o → IsFine (elim o [ Some e ↦ Err e | None ↦ plan_from 1 nothing (lines bytes) ])
+    at None p = from_fine 1 nothing (lines bytes)
+    at (Some e) p = p
+
+fault_is : (bytes : List ℕ) (e : DriveFault) → IsPlanFault e → plan_of bytes ≡ Err e → IsTextFault bytes e
+fault_is bytes fault.Read p is = p
+fault_is bytes fault.Write p is = p
+fault_is bytes fault.LineTooLong p is = is
+fault_is bytes fault.NoMemory p is = tt
+fault_is bytes fault.HistoryFull p is = absurd p
+fault_is bytes fault.TooManyLines p is = is
+fault_is bytes (fault.BadScript line error) p is = is
+fault_is bytes fault.Close p is = absurd p
+
+pub text_fault : (bytes : List ℕ) (e : DriveFault) → (e ≡ fault.NoMemory) ⊎ (plan_of bytes ≡ Err e) → IsTextFault bytes e
+text_fault bytes e (inl is) = subst (λ (f : DriveFault). IsTextFault bytes f) (sym is) tt
+text_fault bytes e (inr is) = fault_is bytes e (subst (λ (r : Result Plan DriveFault). IsFine r) is (plan_fine bytes)) is
+
+-- a fault of the engine, where the file has a plan
+pub engine_fault : (bytes : List ℕ) (p : Plan) (e : DriveFault) → plan_of bytes ≡ Ok p → is_engine_fault e ≡ true → IsTextFault bytes e
+engine_fault bytes p fault.Read planned is = cc
+engine_fault bytes p fault.Write planned is = cc
+engine_fault bytes p fault.LineTooLong planned is = cc
+engine_fault bytes p fault.NoMemory planned is = tt
+engine_fault bytes p fault.HistoryFull planned is = (p, planned)
+engine_fault bytes p fault.TooManyLines planned is = cc
+engine_fault bytes p (fault.BadScript line error) planned is = cc
+engine_fault bytes p fault.Close planned is = (p, planned)
+
+-- four parts, one after another
+pub four_parts : (o0 o1 o2 o3 o4 a b c d : List ℕ) → o0 ≡ [] → o1 ≡ o0 ++ a → o2 ≡ o1 ++ b → o3 ≡ o2 ++ c → o4 ≡ o3 ++ d → o4 ≡ a ++ b ++ c ++ d
+four_parts o0 o1 o2 o3 o4 a b c d e0 e1 e2 e3 e4 =
+    e4 ∙ ap (λ l. l ++ d) (e3 ∙ ap (λ l. l ++ c) (e2 ∙ ap (λ l. l ++ b) (e1 ∙ ap (λ l. l ++ a) e0)))

@@ -1,0 +1,12 @@
+use Rattle.std.proofs.Common.{◌≡◌, ◌≤◌, ℕ, List, length, take, vec_len}
+use Rattle.std.specs.Vec.{vec_capacity}
+use Rattle.esr_drive.specs.Blocks.{AreRuns}
+use Rattle.esr_drive.specs.Calls.{answers_of, AreResolved}
+use Rattle.esr_drive.proofs.run.call_all.Given as goal
+
+-- the calls so far have their runs
+abbrev pub invariant-loop-i : goal.invariant-loop-i
+invariant-loop-i g l =
+    (vec_len l.replies ≡ l.i)
+    × (length l.calls ≤ vec_capacity l.replies)
+    × ((names : List (List ℕ)) → AreResolved names l.calls → AreRuns names (answers_of (take l.i l.calls) l.replies.items) l.session)

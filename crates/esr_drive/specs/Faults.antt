@@ -1,0 +1,79 @@
+-- Which faults are those of the reader and of the writer.
+use Rattle.std.specs.Prelude.{◌≡◌, ℕ, List, Bool, true, false, Option, Some, None, Result, Ok, Err, unwrap_or, if◌then◌else◌}
+use Rattle.std.specs.List.{list_any}
+use Rattle.esr_core.specs.declared.machine.StepError.{StepError}
+use Rattle.esr_core.specs.declared.machine.StepError.TheVariants as error
+use Rattle.esr_drive.specs.Plan.{Plan, plan_of}
+use Rattle.esr_drive.specs.declared.fault.DriveFault.{DriveFault}
+use Rattle.esr_drive.specs.declared.fault.DriveFault.TheVariants as fault
+
+abbrev pub is_write_fault : {T : Type 0} → Result T DriveFault → Bool
+is_write_fault (Ok done) = false
+is_write_fault (Err fault.Read) = false
+is_write_fault (Err fault.Write) = true
+is_write_fault (Err fault.LineTooLong) = false
+is_write_fault (Err fault.NoMemory) = false
+is_write_fault (Err fault.HistoryFull) = false
+is_write_fault (Err fault.TooManyLines) = false
+is_write_fault (Err (fault.BadScript line error)) = false
+is_write_fault (Err fault.Close) = false
+
+-- the faults of the engine, and of memory
+abbrev pub is_engine_fault : DriveFault → Bool
+is_engine_fault fault.Read = false
+is_engine_fault fault.Write = false
+is_engine_fault fault.LineTooLong = false
+is_engine_fault fault.NoMemory = true
+is_engine_fault fault.HistoryFull = true
+is_engine_fault fault.TooManyLines = false
+is_engine_fault (fault.BadScript line error) = false
+is_engine_fault fault.Close = true
+
+-- the fault of a drive of these bytes, where neither reading nor writing failed
+abbrev pub IsTextFault : List ℕ → DriveFault → Type 0
+IsTextFault bytes fault.Read = ⊥
+IsTextFault bytes fault.Write = ⊥
+IsTextFault bytes fault.LineTooLong = plan_of bytes ≡ Err fault.LineTooLong
+IsTextFault bytes fault.NoMemory = Unit {0}
+IsTextFault bytes fault.HistoryFull = (p : Plan) × (plan_of bytes ≡ Ok p)
+IsTextFault bytes fault.TooManyLines = plan_of bytes ≡ Err fault.TooManyLines
+IsTextFault bytes (fault.BadScript line error) = plan_of bytes ≡ Err (fault.BadScript line error)
+IsTextFault bytes fault.Close = (p : Plan) × (plan_of bytes ≡ Ok p)
+
+abbrev pub is_outcome : {V : Type 0} → (StepError → Bool) → Result V StepError → Bool
+is_outcome is (Ok v) = false
+is_outcome is (Err e) = is e
+
+abbrev pub is_memory : StepError → Bool
+is_memory error.NoMemory = true
+is_memory error.HistoryFull = false
+is_memory error.EngineClosed = false
+
+abbrev pub is_full : StepError → Bool
+is_full error.NoMemory = false
+is_full error.HistoryFull = true
+is_full error.EngineClosed = false
+
+abbrev pub is_closed : StepError → Bool
+is_closed error.NoMemory = false
+is_closed error.HistoryFull = false
+is_closed error.EngineClosed = true
+
+abbrev pub first_of : Bool → Bool → Bool → Option DriveFault
+first_of memory full closed =
+    if memory then Some fault.NoMemory
+    else if full then Some fault.HistoryFull
+    else if closed then Some fault.Close
+    else None
+
+-- the fault that is told of blocks that ended so: out of memory before a full history, and that before a closed engine
+abbrev pub told_fault : {V : Type 0} → List (Result V StepError) → Option DriveFault
+told_fault outcomes =
+    first_of (list_any (is_outcome is_memory) outcomes) (list_any (is_outcome is_full) outcomes) (list_any (is_outcome is_closed) outcomes)
+
+-- the fault that is told after one more error
+abbrev pub worse : Option DriveFault → StepError → DriveFault
+worse told error.NoMemory = fault.NoMemory
+worse (Some fault.NoMemory) error.HistoryFull = fault.NoMemory
+worse _ error.HistoryFull = fault.HistoryFull
+worse told error.EngineClosed = unwrap_or told fault.Close

@@ -1,0 +1,40 @@
+-- A file that is being read, line by line.
+use Rattle.std.specs.Prelude.{◌≡◌, ℕ, ◌<◌, ◌≤◌, List, ◌++◌, Option, Some, Err, IfSome, length, drop}
+use Rattle.esr_script.specs.Lines.{lines}
+use Rattle.esr_drive.specs.Plan.{cut_fault, plan_of}
+use Rattle.esr_drive.specs.declared.reading.Mark.{Mark}
+use Rattle.esr_drive.specs.declared.fault.DriveFault.{DriveFault}
+use Rattle.esr_drive.specs.declared.fault.DriveFault.TheVariants as fault
+
+-- the bytes from the first line on that is not whole yet
+abbrev pub rest_from : List ℕ → Mark → List ℕ
+rest_from bytes m = drop m.start bytes
+
+-- whatever bytes follow, the lines from the mark on are at fault as all are
+abbrev pub IsMark : List ℕ → Mark → Type 0
+IsMark bytes m =
+    (m.start ≤ length bytes)
+    × (m.lines ≤ 2000000)
+    × ((rest : List ℕ) → cut_fault 0 (lines (bytes ++ rest)) ≡ cut_fault m.lines (lines (rest_from bytes m ++ rest)))
+
+-- the fault of a line of so many bytes, after so many lines
+abbrev pub IsLineFault : ℕ → ℕ → DriveFault → Type 0
+IsLineFault count len fault.TooManyLines = count ≡ 2000000
+IsLineFault count len fault.LineTooLong = (count ≡ 2000000 → ⊥) × (200 < len)
+IsLineFault count len fault.Read = ⊥
+IsLineFault count len fault.Write = ⊥
+IsLineFault count len fault.NoMemory = ⊥
+IsLineFault count len fault.HistoryFull = ⊥
+IsLineFault count len (fault.BadScript line error) = ⊥
+IsLineFault count len fault.Close = ⊥
+
+-- how reading may end before the end, by all bytes that there are
+abbrev pub IsReadFault : Option (List ℕ) → DriveFault → Type 0
+IsReadFault known fault.Read = Unit {0}
+IsReadFault known fault.Write = ⊥
+IsReadFault known fault.LineTooLong = IfSome known (λ input. plan_of input ≡ Err fault.LineTooLong)
+IsReadFault known fault.NoMemory = Unit {0}
+IsReadFault known fault.HistoryFull = ⊥
+IsReadFault known fault.TooManyLines = IfSome known (λ input. plan_of input ≡ Err fault.TooManyLines)
+IsReadFault known (fault.BadScript line error) = ⊥
+IsReadFault known fault.Close = ⊥

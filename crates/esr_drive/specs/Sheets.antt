@@ -1,0 +1,16 @@
+-- A plan as contracts see it.
+use Rattle.std.specs.Prelude.{◌≡◌, ◌≤◌, All, length, map}
+use Rattle.esr_drive.specs.declared.sheet.Sheet.{Sheet}
+use Rattle.esr_drive.specs.Calls.{AreResolved}
+use Rattle.esr_drive.specs.Drafts.{commands_in}
+use Rattle.esr_drive.specs.Plan.{Plan}
+
+abbrev pub plan_in : Sheet → Plan
+plan_in s = record { names = s.names; values = s.values.items; blocks = map (λ b. commands_in b.items) s.blocks.items }
+
+-- as many values as names, no more of either than items may be, at most 64 blocks, and what each call names
+pub record IsSound (s : Sheet) : Type 0 where
+  pub values : length s.values.items ≡ length s.names
+  pub items : length s.names ≤ 4096
+  pub blocks : length s.blocks.items ≤ 64
+  pub resolved : All (λ b. AreResolved s.names b.items) s.blocks.items

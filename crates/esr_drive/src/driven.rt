@@ -1,0 +1,127 @@
+//! One engine for all blocks.
+
+ghost use Rattle.std.specs.Prelude.{◌≡◌, ◌≤◌, [], true, IfOk, IfErr, All, length, map, vec_len};
+ghost use Rattle.esr_drive.specs.Driven.{IsDriven};
+ghost use Rattle.esr_drive.specs.Faults.{is_engine_fault};
+
+use crate::call::Call;
+use crate::fault::DriveFault;
+use crate::threads::{Gathered, Job, gather, run_blocks};
+use esr_board::Gate;
+use esr_history::{History, NoMemory, Reply};
+use esr_items::{Plain, Store};
+use esr_session::{CloseError, Engine, Naming, Session};
+use std::alloc::{AllocError, Global};
+use std::marker::Brand;
+use std::sync::Wait;
+use std::sync::ledger::Blank;
+use std::thread::Threads;
+
+/// What the engine leaves: the history, and the last replies of each block.
+#[derive(Drop)]
+pub struct Driven {
+    pub history: History<Plain>,
+    pub replies: Vec<Vec<Reply>>,
+}
+
+/// A session for each of so many blocks.
+fn sessions_for<N: Naming>(
+    alloc: Global,
+    engine: &mut Engine<Plain, N>,
+    blocks: usize,
+) -> Result<Vec<Session<Plain, N>>, NoMemory>
+    requires number { blocks ≤ 64 }
+    requires first { engine.old.opened ≡ 0 }
+    ensures { IfOk result (λ sessions. (vec_len sessions ≡ blocks) × All (λ session. session ≡ []) sessions.items) }
+{
+    if blocks == 0 {
+        return Ok(Vec::new(alloc));
+    }
+    engine.open_sessions(blocks)
+}
+
+/// Each session with its block.
+fn jobs_of<'a, 't, N: Naming>(
+    alloc: Global,
+    blocks: &'a [Vec<Call<'t>>],
+    sessions: Vec<Session<Plain, N>>,
+) -> Result<Vec<Job<'a, 't, N>>, AllocError>
+    requires { (length blocks.now ≡ vec_len sessions) × All (λ session. session ≡ []) sessions.items }
+    ensures len { IfOk result (λ v. vec_len v ≡ length blocks.now) }
+    ensures calls { IfOk result (λ v. map (λ job. job.calls.now) v.items ≡ map (λ b. b.items) blocks.entry.now) }
+    ensures fresh { IfOk result (λ v. All (λ job. job.session ≡ []) v.items) }
+{
+    let mut sessions = sessions;
+    let mut jobs = Vec::with_capacity(alloc, blocks.len())?;
+    for i in 0..blocks.len() {
+        match sessions.pop() {
+            Some(session) => jobs.push_reserved(Job {
+                session,
+                number: i as u64,
+                calls: blocks[i].as_slice(),
+            }),
+            None => unreachable!(),
+        }
+    }
+    Ok(jobs)
+}
+
+/// Runs the blocks on one engine, which N names.
+fn drive_blocks<N: Naming + Send + Sync, R: Threads + Wait + Sync, G: Gate + Sync>(
+    rt: &R,
+    alloc: Global,
+    blank: Blank,
+    items: Store,
+    blocks: &[Vec<Call<'_>>],
+    gate: &G,
+) -> Result<Driven, DriveFault>
+    requires name { blank.name ≡ N.name }
+    requires parts { (blank.parts ≡ N.parts) × (blank.parts ≡ 65) }
+    requires opening { map (λ w. w.committed) items ≡ N.opening }
+    requires weights { [] ≡ N.weights }
+    requires blocks { length blocks.now ≤ 64 }
+    ensures faults { IfErr result (λ e. is_engine_fault e ≡ true) }
+    ensures driven { IfOk result (λ d. IsDriven (map (λ w. w.committed) items) (map (λ b. b.items) blocks.now) d.history.schedule (map (λ r. r.items) d.replies.items)) }
+{
+    let Ok(mut engine) = Engine::<Plain, N>::new(alloc, blank, items, Plain) else {
+        return Err(DriveFault::NoMemory);
+    };
+    let Ok(sessions) = sessions_for(alloc, &mut engine, blocks.len()) else {
+        return Err(DriveFault::NoMemory);
+    };
+    let Ok(jobs) = jobs_of(alloc, blocks, sessions) else {
+        return Err(DriveFault::NoMemory);
+    };
+    let Ok(all) = run_blocks(rt, alloc, jobs, gate) else {
+        return Err(DriveFault::NoMemory);
+    };
+    let Gathered { sessions, replies } = match gather(alloc, all) {
+        Ok(gathered) => gathered,
+        Err(fault) => return Err(fault),
+    };
+    match engine.close(rt, sessions) {
+        Ok(closed) => Ok(Driven {
+            history: closed.history,
+            replies,
+        }),
+        Err(refused) => match refused.error {
+            CloseError::NoMemory => Err(DriveFault::NoMemory),
+            _ => Err(DriveFault::Close),
+        },
+    }
+}
+
+/// Runs the blocks on an engine of their own.
+pub fn run_plan<R: Threads + Wait + Sync, G: Gate + Sync>(
+    rt: &R,
+    alloc: Global,
+    items: Store,
+    blocks: &[Vec<Call<'_>>],
+    gate: &G,
+) -> Result<Driven, DriveFault>
+    requires { length blocks.now ≤ 64 }
+    ensures faults { IfErr result (λ e. is_engine_fault e ≡ true) }
+    ensures driven { IfOk result (λ d. IsDriven (map (λ w. w.committed) items) (map (λ b. b.items) blocks.now) d.history.schedule (map (λ r. r.items) d.replies.items)) }
+{
+    drive_blocks::<Brand, R, G>(rt, alloc, Blank::new(65), items, blocks, gate)
+}

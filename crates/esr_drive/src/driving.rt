@@ -1,0 +1,116 @@
+//! A drive, from its reader to its writer.
+
+ghost use Rattle.std.specs.Prelude.{◌≡◌, ℕ, List, ◌≤◌, ◌↔◌, false, None, map, IfOk, IfErr, IfSome, IsErrOf, IsTrue};
+ghost use Rattle.esr_script.specs.Lines.{lines};
+ghost use Rattle.std.specs.Io.KnownBytes.{Appends};
+ghost use Rattle.esr_history.specs.Watch.{inner, failed};
+ghost use Rattle.esr_drive.specs.Drive.{IsDriveBy, IsDriveText, text_of};
+ghost use Rattle.esr_drive.specs.Driven.{IsDriven, all_answers};
+ghost use Rattle.esr_drive.specs.Faults.{IsTextFault};
+ghost use Rattle.esr_drive.specs.Sheets.{plan_in, IsSound};
+ghost use Rattle.esr_drive.specs.Plan.{cut_fault};
+
+use crate::driven::{Driven, run_plan};
+use crate::fault::DriveFault;
+use crate::reading::read_all;
+use crate::sending::send_all;
+use crate::sheet::{Sheet, sheet_of};
+use crate::table::begun_names;
+use crate::text::{push_blocks, push_findings, push_items, push_totals};
+use esr_board::Gate;
+use esr_history::Watched;
+use esr_items::Store;
+use std::alloc::{AllocError, Global};
+use std::io::{Read, Write};
+use std::sync::Wait;
+use std::thread::Threads;
+
+/// Reads a drive file to its end, runs each of its blocks by a session on a thread of its own, and
+/// writes what came of them.
+pub fn drive<R: Threads + Wait + Sync, I: Read, O: Write, G: Gate + Sync>(
+    rt: &R,
+    alloc: Global,
+    reader: &mut Watched<I>,
+    writer: &mut Watched<O>,
+    workers: u64,
+    gate: &G,
+) -> Result<(), DriveFault>
+    requires reader { failed reader.old ≡ false }
+    requires writer { failed writer.old ≡ false }
+    requires workers { (1 ≤ workers) × (workers ≤ 64) }
+    ensures text { IfSome (I.remaining (inner reader.old)) (λ input. (written : List ℕ)
+        × Appends (O.contents (inner writer.old)) (O.contents (inner writer.new)) written
+        × IsDriveBy input (I.remaining (inner reader.new)) result written) }
+
+    // Where a read or a write has failed, the drive ends so.
+    ensures reader { IsTrue (failed reader.new) ↔ IsErrOf result DriveFault.Read }
+    ensures writer { IsTrue (failed writer.new) ↔ IsErrOf result DriveFault.Write }
+{
+    let bytes = match read_all(alloc, reader) {
+        Ok(bytes) => bytes,
+        Err(fault) => return Err(fault),
+    };
+    let mut out = match text_in(rt, alloc, &bytes, workers, gate) {
+        Ok(out) => out,
+        Err(fault) => return Err(fault),
+    };
+    send_all(&mut out, writer)
+}
+
+/// The text of the file.
+fn text_in<R: Threads + Wait + Sync, G: Gate + Sync>(
+    rt: &R,
+    alloc: Global,
+    bytes: &[u8],
+    workers: u64,
+    gate: &G,
+) -> Result<Vec<u8>, DriveFault>
+    requires read { cut_fault 0 (lines bytes.now) ≡ None }
+    requires workers { (1 ≤ workers) × (workers ≤ 64) }
+    ensures text { IfOk result (λ out. IsDriveText bytes.now out.items) }
+    ensures faults { IfErr result (IsTextFault bytes.now) }
+{
+    let sheet = match sheet_of(alloc, bytes) {
+        Ok(sheet) => sheet,
+        Err(fault) => return Err(fault),
+    };
+    let Ok(values) = sheet.values.as_slice().to_vec(alloc) else {
+        return Err(DriveFault::NoMemory);
+    };
+    let Ok(items) = Store::new(alloc, values) else {
+        return Err(DriveFault::NoMemory);
+    };
+    let driven = match run_plan(rt, alloc, items, sheet.blocks.as_slice(), gate) {
+        Ok(driven) => driven,
+        Err(fault) => return Err(fault),
+    };
+    match text_from(rt, alloc, workers, &sheet, &driven) {
+        Ok(out) => Ok(out),
+        Err(_) => Err(DriveFault::NoMemory),
+    }
+}
+
+/// The text of what the blocks of a plan left.
+fn text_from<R: Threads + Sync>(
+    rt: &R,
+    alloc: Global,
+    workers: u64,
+    sheet: &Sheet<'_>,
+    driven: &Driven,
+) -> Result<Vec<u8>, AllocError>
+    requires sound { IsSound sheet.now }
+    requires driven { IsDriven sheet.now.values.items (map (λ b. b.items) sheet.now.blocks.items) driven.now.history.schedule (map (λ r. r.items) driven.now.replies.items) }
+    ensures { IfOk result (λ out. out.items ≡ text_of (plan_in sheet.now) driven.now.history.schedule
+        (all_answers (map (λ b. b.items) sheet.now.blocks.items) (map (λ r. r.items) driven.now.replies.items))) }
+{
+    let blocks = sheet.blocks.as_slice();
+    let replies = driven.replies.as_slice();
+    let values = sheet.values.as_slice();
+    let names = begun_names(alloc, &driven.history, blocks, replies)?;
+    let mut out = Vec::new(alloc);
+    push_items(&mut out, &sheet.names, values)?;
+    push_blocks(&mut out, &names, blocks, replies)?;
+    push_findings(rt, alloc, &mut out, &driven.history, &names, workers)?;
+    push_totals(alloc, &mut out, values, &driven.history)?;
+    Ok(out)
+}

@@ -1,0 +1,29 @@
+use thiserror::Error;
+
+/// Why a drive ended without its whole text.
+#[derive(Clone, Copy, Debug, PartialEq, Eq, Error)]
+pub enum DriveFault {
+    /// A read failed, in whatever way.
+    #[error("read failed")]
+    Read,
+    /// A write or a flush failed, or a write took none of some bytes.
+    #[error("write failed")]
+    Write,
+    /// A line has more than 200 bytes.
+    #[error("line too long")]
+    LineTooLong,
+    #[error("out of memory")]
+    NoMemory,
+    /// The history has 1,000,000 entries, and a line makes one more event.
+    #[error("history full")]
+    HistoryFull,
+    /// There are more than 2,000,000 lines.
+    #[error("too many lines")]
+    TooManyLines,
+    /// The first line at fault, counted from 1, and the number of what is wrong with it.
+    #[error("line {line}: error {error}")]
+    BadScript { line: u64, error: u32 },
+    /// The receipts of the sessions do not match the history.
+    #[error("receipts do not match")]
+    Close,
+}

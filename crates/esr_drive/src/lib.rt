@@ -1,0 +1,22 @@
+//! Drive files: sessions on threads of their own, one for each block, and the text of what came of them.
+#![tactic(auto)]
+
+mod call;
+mod draft;
+mod driven;
+mod driving;
+mod fault;
+mod reading;
+mod replay;
+mod run;
+mod sending;
+mod sheet;
+mod table;
+#[cfg(test)]
+mod tests;
+mod text;
+mod threads;
+
+pub use driving::drive;
+pub use esr_board::{Gate, NoGate};
+pub use fault::DriveFault;

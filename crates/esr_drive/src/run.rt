@@ -1,0 +1,60 @@
+//! Runs the blocks of a plan, each by a session on a thread of its own.
+
+ghost use Rattle.std.specs.Prelude.{◌≡◌, [], IfOk};
+ghost use Rattle.esr_drive.specs.Runs.{IsBlockRun};
+
+use crate::call::{Call, event_of};
+use esr_core::StepError;
+use esr_history::Reply;
+use esr_items::Plain;
+use esr_session::{Naming, Session};
+use std::alloc::Global;
+use std::sync::Wait;
+
+/// The most calls for one line.
+const TURNS: u32 = 100;
+
+/// A session after its block, with the last reply to each call, or why the block was not run to its end.
+#[derive(Drop)]
+pub struct Ran<N: Naming> {
+    pub session: Session<Plain, N>,
+    pub outcome: Result<Vec<Reply>, StepError>,
+}
+
+/// Runs a block by a session that has made no call.
+pub fn run_block<N: Naming, R: Wait>(
+    rt: &R,
+    alloc: Global,
+    calls: &[Call<'_>],
+    session: Session<Plain, N>,
+) -> Ran<N>
+    requires { session ≡ [] }
+    ensures { IfOk result.outcome (λ replies. IsBlockRun calls.now replies.items result.session) }
+{
+    let mut session = session;
+    let outcome = call_all(rt, alloc, calls, &mut session);
+    Ran { session, outcome }
+}
+
+/// The last replies to the calls.
+fn call_all<N: Naming, R: Wait>(
+    rt: &R,
+    alloc: Global,
+    calls: &[Call<'_>],
+    session: &mut Session<Plain, N>,
+) -> Result<Vec<Reply>, StepError>
+    requires { session.old ≡ [] }
+    ensures { IfOk result (λ replies. IsBlockRun calls.now replies.items session.new) }
+{
+    let Ok(mut replies) = Vec::with_capacity(alloc, calls.len()) else {
+        return Err(StepError::NoMemory);
+    };
+    for i in 0..calls.len() {
+        let event = event_of(&replies, calls[i]);
+        match session.call_patient(rt, event, TURNS) {
+            Ok(receipt) => replies.push_reserved(receipt.reply),
+            Err(error) => return Err(error),
+        }
+    }
+    Ok(replies)
+}

@@ -1,0 +1,212 @@
+mod failing;
+mod gates;
+
+use crate::{DriveFault, NoGate, drive};
+use esr_history::Watched;
+use std::process::Abort;
+use std::sync::Wait;
+use std::test::Fail;
+use std::thread::Threads;
+
+/// A drive file, how its drive ends, and what is written.
+struct Row {
+    name: &'static str,
+    file: &'static str,
+    ended: Result<(), DriveFault>,
+    text: &'static str,
+}
+
+const ROWS: [Row; 20] = [
+    Row {
+        name: "one block",
+        file: "item a 0\nsession\nbegin u update 0\nwrite u a 5\ncommit u\nbegin q query 0\nread q a\ncommit q\n",
+        ended: Ok(()),
+        text: "item a 0\nsession 0\nbegun u 1\nwrote u a 5\ncommitted u\nbegun q 2\nq a 5\ncommitted q\n\
+            audit q distance 0 import 0 before u\ntotals import 0 export 0 entries 6\n",
+    },
+    Row {
+        name: "a block that reads a name that begins in no block, and an item that is not declared",
+        file: "item a -7\n\n# a note\nsession\nread t a\nbegin t update 0\nread t b\nread t a\nabort t\nsession\n",
+        ended: Ok(()),
+        text: "item a -7\nsession 0\nrefused 1 no such transaction\nbegun t 1\nrefused 3 no such item\nt a -7\naborted t\n\
+            session 1\ntotals import 0 export 0 entries 5\n",
+    },
+    Row {
+        name: "a query that waits for an update of its own block",
+        file: "item a 0\nsession\nbegin u update 9\nbegin q query 4\nwrite u a 5\nread q a\ncommit u\nread q a\ncommit q",
+        ended: Ok(()),
+        text: "item a 0\nsession 0\nbegun u 1\nbegun q 2\nwrote u a 5\nblocked 10 import q\ncommitted u\nq a 5\ncommitted q\n\
+            audit q distance 0 import 0 before u\ntotals import 0 export 0 entries 106\n",
+    },
+    Row {
+        name: "no line",
+        file: "",
+        ended: Ok(()),
+        text: "totals import 0 export 0 entries 0\n",
+    },
+    Row {
+        name: "items alone",
+        file: "item a 1\nitem b -2",
+        ended: Ok(()),
+        text: "item a 1\nitem b -2\ntotals import 0 export 0 entries 0\n",
+    },
+    Row {
+        name: "a line of a block before the first session",
+        file: "item a 0\nbegin u update 0\n",
+        ended: Err(DriveFault::BadScript { line: 2, error: 1 }),
+        text: "",
+    },
+    Row {
+        name: "an item after the first session",
+        file: "session\nitem a 0\n",
+        ended: Err(DriveFault::BadScript { line: 2, error: 2 }),
+        text: "",
+    },
+    Row {
+        name: "a transaction's name in two begins",
+        file: "session\nbegin u update 0\nsession\nbegin u query 0\n",
+        ended: Err(DriveFault::BadScript { line: 4, error: 3 }),
+        text: "",
+    },
+    Row {
+        name: "a session too many",
+        file: "session\nsession\nsession\nsession\nsession\nsession\nsession\nsession\nsession\nsession\nsession\nsession\n\
+            session\nsession\nsession\nsession\nsession\nsession\nsession\nsession\nsession\nsession\nsession\nsession\n\
+            session\nsession\nsession\nsession\nsession\nsession\nsession\nsession\nsession\nsession\nsession\nsession\n\
+            session\nsession\nsession\nsession\nsession\nsession\nsession\nsession\nsession\nsession\nsession\nsession\n\
+            session\nsession\nsession\nsession\nsession\nsession\nsession\nsession\nsession\nsession\nsession\nsession\n\
+            session\nsession\nsession\nsession\nsession\n",
+        ended: Err(DriveFault::BadScript { line: 65, error: 7 }),
+        text: "",
+    },
+    Row {
+        name: "an item's name declared twice",
+        file: "item a 0\n\nitem a 0\n",
+        ended: Err(DriveFault::BadScript { line: 3, error: 3 }),
+        text: "",
+    },
+    Row {
+        name: "a value out of range",
+        file: "item a 1000000000000001\n",
+        ended: Err(DriveFault::BadScript { line: 1, error: 4 }),
+        text: "",
+    },
+    Row {
+        name: "an audit in a block",
+        file: "session\naudit q\n",
+        ended: Err(DriveFault::BadScript { line: 2, error: 1 }),
+        text: "",
+    },
+    Row {
+        name: "the first of two lines at fault",
+        file: "session\nhello\nitem a 0\n",
+        ended: Err(DriveFault::BadScript { line: 2, error: 1 }),
+        text: "",
+    },
+    Row {
+        name: "one block with CRLF",
+        file: "item a 0\r\nsession\r\nbegin u update 0\r\nwrite u a 5\r\ncommit u\r\n",
+        ended: Err(DriveFault::BadScript { line: 1, error: 1 }),
+        text: "",
+    },
+    Row {
+        name: "a session with CRLF",
+        file: "# a note\r\nsession\r\n",
+        ended: Err(DriveFault::BadScript { line: 2, error: 1 }),
+        text: "",
+    },
+    Row {
+        name: "an item with CRLF after the first session",
+        file: "session\nitem a 0\r\n",
+        ended: Err(DriveFault::BadScript { line: 2, error: 1 }),
+        text: "",
+    },
+    Row {
+        name: "two begins of a name with CRLF",
+        file: "session\nbegin u update 0\nsession\nbegin u query 0\r\n",
+        ended: Err(DriveFault::BadScript { line: 4, error: 1 }),
+        text: "",
+    },
+    Row {
+        name: "an empty line with CRLF",
+        file: "item a 0\n\r\n",
+        ended: Err(DriveFault::BadScript { line: 2, error: 1 }),
+        text: "",
+    },
+    Row {
+        name: "a line of 201 bytes, after a line at fault",
+        file: "hello\n#123456789012345678901234567890123456789012345678901234567890123456789012345678901234567890123456789\
+            0123456789012345678901234567890123456789012345678901234567890123456789012345678901234567890123456789x\n",
+        ended: Err(DriveFault::LineTooLong),
+        text: "",
+    },
+    Row {
+        name: "a line of 200 bytes",
+        file: "#123456789012345678901234567890123456789012345678901234567890123456789012345678901234567890123456789\
+            0123456789012345678901234567890123456789012345678901234567890123456789012345678901234567890123456789\n",
+        ended: Ok(()),
+        text: "totals import 0 export 0 entries 0\n",
+    },
+];
+
+#[test]
+fn files_give_their_texts(rt: HostRuntime) {
+    for row in &ROWS {
+        let mut reader = Watched::new(row.file.as_bytes());
+        let mut writer = Watched::new(Vec::new(rt.alloc()));
+        let ended = drive(&rt, rt.alloc(), &mut reader, &mut writer, 1, &NoGate);
+        assert!(rt; ended == row.ended, "{} ends so", row.name);
+        assert!(rt;
+            writer.inner().as_slice() == row.text.as_bytes(),
+            "{} writes its text",
+            row.name
+        );
+    }
+}
+
+const TWO_BLOCKS: &str = "item a 0\nsession\nbegin u update 0\nwrite u a 5\ncommit u\n\
+    session\nbegin q query 100\ncommit q\nread u a\n";
+
+/// The texts of the two blocks, by which of them begins first.
+const TWO_TEXTS: [&str; 2] = [
+    "item a 0\nsession 0\nbegun u 1\nwrote u a 5\ncommitted u\n\
+        session 1\nbegun q 2\ncommitted q\nrefused 1 no such transaction\n\
+        audit q distance 0 import 0 before -\ntotals import 0 export 0 entries 6\n",
+    "item a 0\nsession 0\nbegun u 2\nwrote u a 5\ncommitted u\n\
+        session 1\nbegun q 1\ncommitted q\nrefused 1 no such transaction\n\
+        audit q distance 0 import 0 before -\ntotals import 0 export 0 entries 6\n",
+];
+
+#[test]
+fn two_blocks_begin_in_one_of_two_orders(rt: HostRuntime) {
+    for workers in 1..4 {
+        let mut reader = Watched::new(TWO_BLOCKS.as_bytes());
+        let mut writer = Watched::new(Vec::new(rt.alloc()));
+        let ended = drive(&rt, rt.alloc(), &mut reader, &mut writer, workers, &NoGate);
+        assert!(rt; ended == Ok(()));
+        let text = writer.inner().as_slice();
+        assert!(rt; text == TWO_TEXTS[0].as_bytes() || text == TWO_TEXTS[1].as_bytes());
+    }
+}
+
+#[test]
+fn faults_show_their_texts(rt: HostRuntime) -> Result<(), Fail> {
+    let shown = [
+        (DriveFault::Read, "read failed"),
+        (DriveFault::Write, "write failed"),
+        (DriveFault::LineTooLong, "line too long"),
+        (DriveFault::NoMemory, "out of memory"),
+        (DriveFault::HistoryFull, "history full"),
+        (DriveFault::TooManyLines, "too many lines"),
+        (
+            DriveFault::BadScript { line: 65, error: 7 },
+            "line 65: error 7",
+        ),
+        (DriveFault::Close, "receipts do not match"),
+    ];
+    for (fault, text) in &shown {
+        let shown = fault.to_string(rt.alloc())?;
+        assert!(rt; shown.as_str() == *text);
+    }
+    Ok(())
+}

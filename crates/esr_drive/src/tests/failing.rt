@@ -1,0 +1,118 @@
+//! Readers and writers that fail, and readers that do not end.
+
+use crate::{DriveFault, NoGate, drive};
+use esr_history::Watched;
+use std::alloc::Global;
+use std::io;
+use std::io::{Read, Write};
+use std::test::Fail;
+
+const FILE: &str = "item a 0\nsession\nbegin u update 0\nwrite u a 5\ncommit u\n";
+
+const TEXT: &str =
+    "item a 0\nsession 0\nbegun u 1\nwrote u a 5\ncommitted u\ntotals import 0 export 0 entries 3\n";
+
+/// Gives ten bytes at a time, and fails at one call.
+#[derive(Drop)]
+struct Cut<'a> {
+    rest: &'a [u8],
+    left: usize,
+}
+
+impl Read for Cut<'_> {
+    fn read(&mut self, buf: &mut [u8]) -> io::Result<usize> {
+        if self.left == 0 {
+            return Err(io::Error::from(io::ErrorKind::BrokenPipe));
+        }
+        self.left -= 1;
+        let count = buf.len().min(10);
+        self.rest.read(&mut buf[..count])
+    }
+}
+
+/// Takes up to twenty bytes at a time, and fails at one call.
+#[derive(Drop)]
+struct Narrow {
+    taken: Vec<u8>,
+    left: usize,
+}
+
+impl Write for Narrow {
+    fn write(&mut self, buf: &[u8]) -> io::Result<usize> {
+        if self.left == 0 {
+            return Ok(0);
+        }
+        self.left -= 1;
+        let count = buf.len().min(20);
+        self.taken.extend_from_slice(&buf[..count])?;
+        Ok(count)
+    }
+
+    fn flush(&mut self) -> io::Result<()> {
+        if self.left == 0 {
+            return Err(io::Error::from(io::ErrorKind::BrokenPipe));
+        }
+        self.left -= 1;
+        Ok(())
+    }
+}
+
+/// Gives one byte again and again.
+#[derive(Clone, Copy)]
+struct Endless {
+    byte: u8,
+}
+
+impl Read for Endless {
+    fn read(&mut self, buf: &mut [u8]) -> io::Result<usize> {
+        buf.fill(self.byte);
+        Ok(buf.len())
+    }
+}
+
+#[test]
+fn a_failed_read_leaves_nothing_written(rt: HostRuntime) {
+    let alloc = rt.alloc();
+    for left in 0..7 {
+        let mut reader = Watched::new(Cut {
+            rest: FILE.as_bytes(),
+            left,
+        });
+        let mut writer = Watched::new(Vec::new(alloc));
+        let ended = drive(&rt, alloc, &mut reader, &mut writer, 1, &NoGate);
+        assert!(rt; ended == Err(DriveFault::Read) && reader.failed() && !writer.failed());
+        assert!(rt; writer.inner().is_empty());
+    }
+}
+
+#[test]
+fn a_failed_write_ends_the_text(rt: HostRuntime) {
+    let alloc = rt.alloc();
+    for left in 0..7 {
+        let mut reader = Watched::new(FILE.as_bytes());
+        let mut writer = Watched::new(Narrow {
+            taken: Vec::new(alloc),
+            left,
+        });
+        let ended = drive(&rt, alloc, &mut reader, &mut writer, 1, &NoGate);
+        let fine = left == 6;
+        assert!(rt; (ended == Ok(())) == fine && writer.failed() != fine && !reader.failed());
+        assert!(rt; fine || ended == Err(DriveFault::Write));
+        let text = writer.inner().taken.as_slice();
+        assert!(rt; text.len() == TEXT.len().min(left * 20) && TEXT.as_bytes().starts_with(text));
+    }
+}
+
+#[test]
+fn a_stream_without_end_is_not_read_to_its_end(rt: HostRuntime) {
+    let streams = [
+        (b'#', DriveFault::LineTooLong),
+        (b'\n', DriveFault::TooManyLines),
+    ];
+    for (byte, fault) in streams {
+        let mut reader = Watched::new(Endless { byte });
+        let mut writer = Watched::new(Vec::new(rt.alloc()));
+        let ended = drive(&rt, rt.alloc(), &mut reader, &mut writer, 1, &NoGate);
+        assert!(rt; ended == Err(fault) && writer.inner().is_empty());
+    }
+}

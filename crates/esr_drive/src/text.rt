@@ -1,0 +1,170 @@
+//! The text of a drive, part by part.
+
+ghost use Rattle.std.specs.Prelude.{◌≡◌, ◌<◌, ◌≤◌, slice_index_or, ◌++◌, [], OnOk, All, length, map};
+ghost use Rattle.std.specs.List.{flat_map};
+ghost use Rattle.esr_history.specs.Totals.{all_imports, all_exports};
+ghost use Rattle.esr_audit.specs.Findings.{IsFinding};
+ghost use Rattle.esr_report.specs.Lines.{reply_line, totals_line};
+ghost use Rattle.esr_drive.specs.Plain.{plain};
+ghost use Rattle.esr_drive.specs.Calls.{command_of, answers_of};
+ghost use Rattle.esr_drive.specs.Drive.{items_text, subject_of, replies_text, blocks_text, finding_text, findings_text};
+ghost use Rattle.esr_drive.specs.Driven.{AreAnswered, all_answers};
+ghost use Rattle.esr_drive.specs.Tables.{names_in};
+
+use crate::call::Call;
+use crate::replay::replayed;
+use crate::table::BegunNames;
+use esr_audit::Finding;
+use esr_board::{NoGate, audit_parallel};
+use esr_history::{History, Reply};
+use esr_items::Plain;
+use esr_report::{
+    Names, audit_line, item_line, name_of_transaction, reply_line, session_line, totals_line,
+};
+use std::alloc::{AllocError, Global};
+use std::thread::Threads;
+
+/// The name at a place.
+fn name_at(names: &Names, place: usize) -> &str
+    requires { place < 4096 }
+    ensures { result.now ≡ slice_index_or names.now place [] }
+{
+    match names.name_of(place as u32) {
+        Some(name) => name,
+        None => "",
+    }
+}
+
+/// Appends the lines of the items.
+pub fn push_items(out: &mut Vec<u8>, names: &Names, values: &[i64]) -> Result<(), AllocError>
+    requires { (length values.now ≡ length names.now) × (length values.now ≤ 4096) }
+    ensures { OnOk result (out.new.items ≡ out.old.items ++ items_text names.now values.now) }
+{
+    for i in 0..values.len() {
+        item_line(out, name_at(names, i), values[i])?;
+    }
+    Ok(())
+}
+
+/// Appends the line of the last reply to a call.
+fn push_reply(
+    out: &mut Vec<u8>,
+    names: &BegunNames<'_>,
+    call: &Call<'_>,
+    reply: &Reply,
+) -> Result<(), AllocError>
+    ensures { OnOk result (out.new.items ≡ out.old.items
+        ++ reply_line (names_in names.now) (subject_of (command_of call.now)) reply.now) }
+{
+    reply_line(out, names, call.subject(), *reply)
+}
+
+/// Appends the lines of the last replies to the calls of a block.
+fn push_replies(
+    out: &mut Vec<u8>,
+    names: &BegunNames<'_>,
+    calls: &[Call<'_>],
+    replies: &[Reply],
+) -> Result<(), AllocError>
+    requires { length replies.now ≡ length calls.now }
+    ensures { OnOk result (out.new.items ≡ out.old.items ++ replies_text (names_in names.now) (answers_of calls.now replies.now)) }
+{
+    for i in 0..calls.len() {
+        push_reply(out, names, &calls[i], &replies[i])?;
+    }
+    Ok(())
+}
+
+/// Appends the lines of the blocks.
+pub fn push_blocks(
+    out: &mut Vec<u8>,
+    names: &BegunNames<'_>,
+    blocks: &[Vec<Call<'_>>],
+    replies: &[Vec<Reply>],
+) -> Result<(), AllocError>
+    requires { AreAnswered (map (λ b. b.items) blocks.now) (map (λ r. r.items) replies.now) }
+    ensures { OnOk result (out.new.items ≡ out.old.items
+        ++ blocks_text (names_in names.now) 0 (all_answers (map (λ b. b.items) blocks.now) (map (λ r. r.items) replies.now))) }
+{
+    for i in 0..blocks.len() {
+        session_line(out, i as u64)?;
+        push_replies(out, names, blocks[i].as_slice(), replies[i].as_slice())?;
+    }
+    Ok(())
+}
+
+/// Appends the line of what was found of a query.
+fn push_finding(
+    out: &mut Vec<u8>,
+    history: &History<Plain>,
+    names: &BegunNames<'_>,
+    finding: &Finding,
+) -> Result<(), AllocError>
+    requires { IsFinding plain history.now.schedule finding.now }
+    ensures { OnOk result (out.new.items ≡ out.old.items
+        ++ finding_text history.now.schedule (names_in names.now) finding.now.query.0) }
+{
+    let name = name_of_transaction(names, finding.query);
+    audit_line(
+        out,
+        names,
+        name,
+        finding.distance,
+        finding.import,
+        finding.before.as_slice(),
+    )
+}
+
+/// Appends the lines of what was found of queries.
+fn push_each(
+    out: &mut Vec<u8>,
+    history: &History<Plain>,
+    names: &BegunNames<'_>,
+    findings: &[Finding],
+) -> Result<(), AllocError>
+    requires { All (IsFinding plain history.now.schedule) findings.now }
+    ensures { OnOk result (out.new.items ≡ out.old.items
+        ++ flat_map (λ f. finding_text history.now.schedule (names_in names.now) f.query.0) findings.now) }
+{
+    for finding in findings {
+        push_finding(out, history, names, finding)?;
+    }
+    Ok(())
+}
+
+/// Appends the lines of what so many workers find of the committed queries.
+pub fn push_findings<R: Threads + Sync>(
+    rt: &R,
+    alloc: Global,
+    out: &mut Vec<u8>,
+    history: &History<Plain>,
+    names: &BegunNames<'_>,
+    workers: u64,
+) -> Result<(), AllocError>
+    ensures { OnOk result (out.new.items ≡ out.old.items
+        ++ findings_text history.now.schedule (names_in names.now)) }
+{
+    let Ok(book) = audit_parallel(rt, alloc, history, workers, &NoGate) else {
+        return Err(AllocError);
+    };
+    push_each(out, history, names, book.findings.as_slice())
+}
+
+/// Appends the line of the totals.
+pub fn push_totals(
+    alloc: Global,
+    out: &mut Vec<u8>,
+    values: &[i64],
+    history: &History<Plain>,
+) -> Result<(), AllocError>
+    requires opening { history.now.schedule.opening ≡ values.now }
+    requires weights { history.now.schedule.weights ≡ [] }
+    ensures { OnOk result (out.new.items ≡ out.old.items
+        ++ totals_line (all_imports plain history.now.schedule) (all_exports plain history.now.schedule) (length history.now.schedule.entries)) }
+{
+    let Ok(machine) = replayed(alloc, values, history) else {
+        return Err(AllocError);
+    };
+    let totals = machine.totals();
+    totals_line(out, totals.import, totals.export, totals.entries)
+}

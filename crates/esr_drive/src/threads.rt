@@ -1,0 +1,103 @@
+//! Blocks on threads of their own.
+
+ghost use Rattle.std.specs.Prelude.{◌≡◌, ◌⊎◌, [], true, Ok, Some, IfOk, IfErr, All, map, vec_len};
+ghost use Rattle.esr_drive.specs.Faults.{is_engine_fault, told_fault, worse};
+ghost use Rattle.esr_drive.specs.Runs.{IsBlockRun, AllPairs};
+
+use crate::call::Call;
+use crate::fault::DriveFault;
+use crate::run::{Ran, run_block};
+use esr_board::Gate;
+use esr_core::StepError;
+use esr_history::Reply;
+use esr_items::Plain;
+use esr_session::{Naming, Session};
+use std::alloc::{AllocError, Global};
+use std::sync::Wait;
+use std::thread;
+use std::thread::Threads;
+
+/// A session that has made no call, and the block that it is to run.
+#[derive(Drop)]
+pub struct Job<'a, 't, N: Naming> {
+    pub session: Session<Plain, N>,
+    pub number: u64,
+    pub calls: &'a [Call<'t>],
+}
+
+/// Runs each block by its session, on a thread of its own.
+pub fn run_blocks<'a, 't, N: Naming + Send + Sync, R: Threads + Wait + Sync, G: Gate + Sync>(
+    rt: &R,
+    alloc: Global,
+    jobs: Vec<Job<'a, 't, N>>,
+    gate: &G,
+) -> Result<Vec<Ran<N>>, AllocError>
+    requires { All (λ job. job.session ≡ []) jobs.items }
+    ensures len { IfOk result (λ v. vec_len v ≡ vec_len jobs.entry) }
+    ensures runs { IfOk result (λ v. AllPairs (λ job ran.
+        IfOk ran.outcome (λ replies. IsBlockRun job.calls.now replies.items ran.session)) jobs.entry.items v.items) }
+{
+    thread::map_vec(
+        rt,
+        jobs,
+        &|job: Job<'_, '_, N>| -> Ran<N>
+            requires { job.session ≡ [] }
+            ensures { IfOk result.outcome (λ replies. IsBlockRun job.entry.calls.now replies.items result.session) }
+        {
+            gate.enter(job.number);
+            run_block(rt, alloc, job.calls, job.session)
+        },
+    )
+}
+
+/// The sessions after their blocks, with the last replies of each.
+#[derive(Drop)]
+pub struct Gathered<N: Naming> {
+    pub sessions: Vec<Session<Plain, N>>,
+    pub replies: Vec<Vec<Reply>>,
+}
+
+/// Takes apart what came of the blocks. Where blocks were not run to their ends, the answer is the
+/// first of out of memory, a full history and a closed engine that one of them ended by.
+pub fn gather<N: Naming>(alloc: Global, all: Vec<Ran<N>>) -> Result<Gathered<N>, DriveFault>
+    ensures sessions { IfOk result (λ g. g.sessions.items ≡ map (λ ran. ran.session) all.items) }
+    ensures replies { IfOk result (λ g. map (λ ran. ran.outcome) all.items ≡ map (λ r. Ok r) g.replies.items) }
+    ensures engine { IfErr result (λ e. is_engine_fault e ≡ true) }
+    ensures told { IfErr result (λ e. (e ≡ DriveFault.NoMemory) ⊎ (told_fault (map (λ ran. ran.outcome) all.items) ≡ Some e)) }
+{
+    let mut sessions = Vec::new(alloc);
+    let mut replies = Vec::new(alloc);
+    let mut worst = None;
+    for ran in all {
+        let Ran { session, outcome } = ran;
+        if sessions.push(session).is_err() {
+            return Err(DriveFault::NoMemory);
+        }
+        match outcome {
+            Ok(list) => {
+                if replies.push(list).is_err() {
+                    return Err(DriveFault::NoMemory);
+                }
+            }
+            Err(error) => worst = Some(worse(worst, error)),
+        }
+    }
+    match worst {
+        Some(fault) => Err(fault),
+        None => Ok(Gathered { sessions, replies }),
+    }
+}
+
+/// The fault that is told after one more error.
+fn worse(told: Option<DriveFault>, error: StepError) -> DriveFault
+    ensures { result ≡ worse told error }
+{
+    match error {
+        StepError::NoMemory => DriveFault::NoMemory,
+        StepError::HistoryFull => match told {
+            Some(DriveFault::NoMemory) => DriveFault::NoMemory,
+            _ => DriveFault::HistoryFull,
+        },
+        StepError::EngineClosed => told.unwrap_or(DriveFault::Close),
+    }
+}

@@ -1,0 +1,128 @@
+-- The accepted entries of a legal history are on its items and of transactions that have begun, and its begins are numbered one after another.
+use Rattle.std.proofs.Common.{◌≡◌, ℕ, ◌+◌, ◌<◌, ◌≤◌, true, false, not, [], ◌∷◌, ◌++◌, length, refl, sym, ◌∙◌, ap, arith, Option, Some, None, eqb, inl, inr}
+use Rattle.std.specs.Prelude.{nat_le, if◌then◌else◌}
+use Rattle.std.proofs.lemmas.Bool.{true≢false, not-false, leb-false, ne_eqb, cases_Bool}
+use Rattle.esr_history.specs.declared.event.Event.{Event}
+use Rattle.esr_history.specs.declared.event.Event.TheVariants.{BeginUpdate, BeginQuery, Read, Write, Commit, Abort}
+use Rattle.esr_history.specs.declared.event.Reply.{Reply}
+use Rattle.esr_history.specs.declared.event.Refusal.{Refusal}
+use Rattle.esr_history.specs.declared.event.Refusal.TheVariants.{NoSuchTransaction, NoSuchItem}
+use Rattle.esr_history.specs.Events.{is_refusal, beginnings, is_begun}
+use Rattle.esr_history.specs.Machine.{Distance, Schedule, done, reply_to, reasons, refusal, acceptance, answered, not_begun, no_item, IsLegal}
+use Rattle.esr_history.specs.Legal.{legal_induction}
+use Rattle.esr_history.specs.Links.{item_of, txn_of, ender, begun_by, begun_count, accepted_item, accepted_txn, accepted_end, is_key, IsFit, IsNumbered}
+use Rattle.esr_history.proofs.Lawful.{NoneApplies, none_applies, when_none, begun_number}
+use Rattle.esr_history.proofs.Linking.{last_same, count_refused, count_same, count_more}
+
+-- an accepted reply is the acceptance, and no reason to refuse applies
+pub accepts : (d : Distance) (h : Schedule) (e : Event) (r : Reply) → r ≡ reply_to d h e → is_refusal r ≡ false → NoneApplies (reasons d h e) × (r ≡ acceptance h e)
+accepts d h e r is yes_it_is = at (refusal d h e) refl is
+  where
+    at : (o : Option Refusal) → refusal d h e ≡ o → r ≡ answered o (acceptance h e) → NoneApplies (reasons d h e) × (r ≡ acceptance h e)
+    at None none same = (none_applies (reasons d h e) none, same)
+    at (Some why) some same = absurd (true≢false (sym (ap is_refusal same) ∙ yes_it_is))
+
+begun_below : (h : Schedule) (t : ℕ) → not_begun h t ≡ None → t < 1 + length (beginnings (done h))
+begun_below h t none = (begun_number (done h) t (not-false (is_begun (done h) t) (when_none (not (is_begun (done h) t)) NoSuchTransaction none))).1
+
+item_below : (h : Schedule) (x : ℕ) → no_item h x ≡ None → x < length h.opening
+item_below h x none = leb-false (length h.opening) x (when_none (nat_le (length h.opening) x) NoSuchItem none)
+
+pub numbered : (d : Distance) (h : Schedule) (e : Event) (r : Reply) → r ≡ reply_to d h e → IsNumbered h.entries e r
+numbered d h (BeginUpdate l) r is = λ ok. ap begun_by (accepts d h (BeginUpdate l) r is ok).1
+numbered d h (BeginQuery l s) r is = λ ok. ap begun_by (accepts d h (BeginQuery l s) r is ok).1
+numbered d h (Read t x) r is = tt
+numbered d h (Write t x v) r is = tt
+numbered d h (Commit t) r is = tt
+numbered d h (Abort t) r is = tt
+
+-- which keys an accepted event has
+record Keys (h : Schedule) (e : Event) (r : Reply) : Type 0 where
+  item : (x : ℕ) → length h.opening ≤ x → is_key (item_of e) x ≡ false
+  txn : (t : ℕ) → begun_count (h.entries ++ record { event = e; reply = r } ∷ []) < t → (is_key (txn_of e r) t ≡ false) × (is_key (ender e) t ≡ false) × (begun_count h.entries < t)
+
+other : (k m : ℕ) → k < m → eqb k m ≡ false
+other k m l = ne_eqb k m (λ e. absurd (omega (arith, e, l)))
+
+keys : (d : Distance) (h : Schedule) (e : Event) (r : Reply) → r ≡ reply_to d h e → is_refusal r ≡ false → Keys h e r
+keys d h (BeginUpdate l) r is ok =
+    let n : begun_by r ≡ Some (begun_count h.entries + 1) = numbered d h (BeginUpdate l) r is ok in
+    record {
+      item = λ x m. refl;
+      txn = λ t m.
+          let more : begun_count (h.entries ++ record { event = BeginUpdate l; reply = r } ∷ []) ≡ begun_count h.entries + 1 = count_more h.entries (record { event = BeginUpdate l; reply = r }) (record { query = false; strict = false; limit = l }) ok refl in
+          let above : begun_count h.entries + 1 < t = omega (arith, more, m) in
+          (ap (λ o. is_key o t) n ∙ other (begun_count h.entries + 1) t above, refl, omega (arith, above));
+    }
+keys d h (BeginQuery l s) r is ok =
+    let n : begun_by r ≡ Some (begun_count h.entries + 1) = numbered d h (BeginQuery l s) r is ok in
+    record {
+      item = λ x m. refl;
+      txn = λ t m.
+          let more : begun_count (h.entries ++ record { event = BeginQuery l s; reply = r } ∷ []) ≡ begun_count h.entries + 1 = count_more h.entries (record { event = BeginQuery l s; reply = r }) (record { query = true; strict = s; limit = l }) ok refl in
+          let above : begun_count h.entries + 1 < t = omega (arith, more, m) in
+          (ap (λ o. is_key o t) n ∙ other (begun_count h.entries + 1) t above, refl, omega (arith, above));
+    }
+keys d h (Read u y) r is ok =
+    let p = (accepts d h (Read u y) r is ok).0 in
+    let low : u.0 < 1 + begun_count h.entries = begun_below h u.0 p.0 in
+    let inside : y.0 < length h.opening = item_below h y.0 p.1.1.0 in
+    record {
+      item = λ x m. other y.0 x (omega (arith, inside, m));
+      txn = λ t m. let same : begun_count (h.entries ++ record { event = Read u y; reply = r } ∷ []) ≡ begun_count h.entries = count_same h.entries (record { event = Read u y; reply = r }) ok refl in
+          (other u.0 t (omega (arith, low, same, m)), refl, omega (arith, same, m));
+    }
+keys d h (Write u y v) r is ok =
+    let p = (accepts d h (Write u y v) r is ok).0 in
+    let low : u.0 < 1 + begun_count h.entries = begun_below h u.0 p.0 in
+    let inside : y.0 < length h.opening = item_below h y.0 p.1.1.0 in
+    record {
+      item = λ x m. other y.0 x (omega (arith, inside, m));
+      txn = λ t m. let same : begun_count (h.entries ++ record { event = Write u y v; reply = r } ∷ []) ≡ begun_count h.entries = count_same h.entries (record { event = Write u y v; reply = r }) ok refl in
+          (other u.0 t (omega (arith, low, same, m)), refl, omega (arith, same, m));
+    }
+keys d h (Commit u) r is ok =
+    let low : u.0 < 1 + begun_count h.entries = begun_below h u.0 (accepts d h (Commit u) r is ok).0.0 in
+    record {
+      item = λ x m. refl;
+      txn = λ t m. let same : begun_count (h.entries ++ record { event = Commit u; reply = r } ∷ []) ≡ begun_count h.entries = count_same h.entries (record { event = Commit u; reply = r }) ok refl in
+          (other u.0 t (omega (arith, low, same, m)), other u.0 t (omega (arith, low, same, m)), omega (arith, same, m));
+    }
+keys d h (Abort u) r is ok =
+    let low : u.0 < 1 + begun_count h.entries = begun_below h u.0 (accepts d h (Abort u) r is ok).0.0 in
+    record {
+      item = λ x m. refl;
+      txn = λ t m. let same : begun_count (h.entries ++ record { event = Abort u; reply = r } ∷ []) ≡ begun_count h.entries = count_same h.entries (record { event = Abort u; reply = r }) ok refl in
+          (other u.0 t (omega (arith, low, same, m)), other u.0 t (omega (arith, low, same, m)), omega (arith, same, m));
+    }
+
+fit_next : (d : Distance) (h : Schedule) (e : Event) (r : Reply) → r ≡ reply_to d h e → IsFit (length h.opening) h.entries → IsFit (length h.opening) (h.entries ++ record { event = e; reply = r } ∷ [])
+fit_next d h e r is fit = elim (cases_Bool (is_refusal r)) [ inl refused ↦ at_refusal refused | inr ok ↦ at_accept ok ]
+  where
+    none_at : (key : Option ℕ) (k : ℕ) → is_refusal r ≡ true → is_key (if is_refusal r then None else key) k ≡ false
+    none_at key k refused = ap (λ b. is_key (if b then None else key) k) refused
+
+    some_at : (key : Option ℕ) (k : ℕ) → is_refusal r ≡ false → is_key key k ≡ false → is_key (if is_refusal r then None else key) k ≡ false
+    some_at key k ok not_it = ap (λ b. is_key (if b then None else key) k) ok ∙ not_it
+
+    at_refusal : is_refusal r ≡ true → IsFit (length h.opening) (h.entries ++ record { event = e; reply = r } ∷ [])
+    at_refusal refused =
+        let same : begun_count (h.entries ++ record { event = e; reply = r } ∷ []) ≡ begun_count h.entries = count_refused h.entries (record { event = e; reply = r }) refused in
+        record {
+          items = λ x l. last_same accepted_item x h.entries (record { event = e; reply = r }) (none_at (item_of e) x refused) ∙ fit.items x l;
+          txns = λ t l. let m : begun_count h.entries < t = omega (arith, same, l) in last_same accepted_txn t h.entries (record { event = e; reply = r }) (none_at (txn_of e r) t refused) ∙ fit.txns t m;
+          ends = λ t l. let m : begun_count h.entries < t = omega (arith, same, l) in last_same accepted_end t h.entries (record { event = e; reply = r }) (none_at (ender e) t refused) ∙ fit.ends t m;
+        }
+
+    at_accept : is_refusal r ≡ false → IsFit (length h.opening) (h.entries ++ record { event = e; reply = r } ∷ [])
+    at_accept ok =
+        let k = keys d h e r is ok in
+        record {
+          items = λ x l. last_same accepted_item x h.entries (record { event = e; reply = r }) (some_at (item_of e) x ok (k.item x l)) ∙ fit.items x l;
+          txns = λ t l. let p = k.txn t l in last_same accepted_txn t h.entries (record { event = e; reply = r }) (some_at (txn_of e r) t ok p.0) ∙ fit.txns t p.2;
+          ends = λ t l. let p = k.txn t l in last_same accepted_end t h.entries (record { event = e; reply = r }) (some_at (ender e) t ok p.1) ∙ fit.ends t p.2;
+        }
+
+pub legal_fit : (d : Distance) (h : Schedule) → IsLegal d h → IsFit (length h.opening) h.entries
+legal_fit d h legal =
+    legal_induction d (λ h. IsFit (length h.opening) h.entries) (λ h e r is fit. fit_next d h e r is fit) h (record { items = λ x l. refl; txns = λ t l. refl; ends = λ t l. refl }) legal

@@ -1,0 +1,160 @@
+-- The table of imports, entry after entry.
+use Rattle.std.proofs.Common.{◌≡◌, ℕ, zero, suc, ◌+◌, ◌<◌, ◌≤◌, ◌^◌, true, false, List, [], ◌∷◌, ◌++◌, length, refl, sym, ◌∙◌, ap, subst, arith, map, Option, Some, None, inl, inr, ⊎_elim}
+use Rattle.std.specs.Prelude.{slice_index_or, unwrap_or, nat_lt}
+use Rattle.std.specs.List.{range_with_len, slice_get, cons_option, AllByRecursion}
+use Rattle.std.specs.Option.{option_map}
+use Rattle.std.proofs.lemmas.Bool.{ltb-false, cases_Bool, cases_lt}
+use Rattle.std.proofs.lemmas.List.{length-map}
+use Rattle.esr_history.specs.declared.event.TxnId.{TxnId}
+use Rattle.esr_history.specs.declared.event.Event.{Event}
+use Rattle.esr_history.specs.declared.event.Event.TheVariants.{BeginUpdate, BeginQuery, Read, Write, Commit, Abort}
+use Rattle.esr_history.specs.declared.event.Reply.{Reply}
+use Rattle.esr_history.specs.declared.event.Refusal.TheVariants.{LimitOutOfRange}
+use Rattle.esr_history.specs.Events.{Beginning, is_refusal, beginnings, beginning_of, limit_of}
+use Rattle.esr_history.specs.Machine.{Distance, Schedule, done, extended, charges_in, charges, due_in, distance_in, import_in, limit_too_high, reply_to, reasons, IsLegal}
+use Rattle.esr_history.specs.Legal.{legal_induction, IsLegal-extended}
+use Rattle.esr_history.specs.Links.{begun_count}
+use Rattle.esr_history.specs.Imports.{imported, with_number, AreImports, AreDue}
+use Rattle.esr_history.proofs.Lists.{filter_map_push}
+use Rattle.esr_history.proofs.Lawful.{NoneApplies, when_none}
+use Rattle.esr_history.proofs.Membership.{Each-append}
+use Rattle.esr_history.proofs.Charges.{import-push, legal_within_limits}
+use Rattle.esr_history.proofs.Linking.{accepted_push, accepted_refused, count_refused, count_same, count_more, get_none, mapped_get, mapped_past}
+use Rattle.esr_history.proofs.Fitting.{accepts}
+
+-- a table by its values
+table_is : (f : ℕ → ℕ) (a : ℕ) (l : List ℕ) → ((k : ℕ) → k < length l → slice_index_or l k 0 ≡ f (a + k)) → l ≡ map f (range_with_len a (length l))
+table_is f a [] same = refl
+table_is f a (x ∷ l) same =
+    let z : a + 0 ≡ a = omega arith in
+    ap (λ v. v ∷ l) (same 0 (omega arith) ∙ ap f z)
+    ∙ ap (λ t. f a ∷ t) (table_is f (a + 1) l (λ k m. let e : a + suc k ≡ a + 1 + k = omega arith in same (suc k) (omega arith) ∙ ap f e))
+
+length_range : (a n : ℕ) → length (range_with_len a n) ≡ n
+length_range a zero = refl
+length_range a (suc n) = ap suc (length_range (a + 1) n)
+
+-- limits are at most 10^18
+abbrev AreLow : List Event → Type 0
+AreLow events = AllByRecursion (λ (b : Beginning). b.limit ≤ 10 ^ 18) (beginnings events)
+
+low_next : (d : Distance) (h : Schedule) (e : Event) (r : Reply) → r ≡ reply_to d h e → AreLow (done h) → AreLow (done (extended h e r))
+low_next d h e r is low =
+    elim (cases_Bool (is_refusal r)) [
+      | inl refused ↦ subst AreLow (sym (accepted_refused h.entries (record { event = e; reply = r }) refused)) low
+      | inr ok ↦
+          subst AreLow (sym (accepted_push h.entries (record { event = e; reply = r }) ok))
+          (subst (AllByRecursion (λ (b : Beginning). b.limit ≤ 10 ^ 18)) (sym (filter_map_push beginning_of (done h) e))
+          (Each-append (λ (b : Beginning). b.limit ≤ 10 ^ 18) (beginnings (done h)) (cons_option (beginning_of e) []) low (last e (accepts d h e r is ok).0)))
+    ]
+  where
+    low_limit : (l : ℕ) → limit_too_high l ≡ None → l ≤ 10 ^ 18
+    low_limit l none = ltb-false (10 ^ 18) l (when_none (nat_lt (10 ^ 18) l) LimitOutOfRange none)
+
+    last : (e : Event) → NoneApplies (reasons d h e) → AllByRecursion (λ (b : Beginning). b.limit ≤ 10 ^ 18) (cons_option (beginning_of e) [])
+    last (BeginUpdate l) none = (low_limit l none.0, tt)
+    last (BeginQuery l s) none = (low_limit l none.0, tt)
+    last (Read t x) none = tt
+    last (Write t x v) none = tt
+    last (Commit t) none = tt
+    last (Abort t) none = tt
+
+low_limits : (events : List Event) → AreLow events → (t : ℕ) → limit_of events t ≤ 10 ^ 18
+low_limits events low zero = omega arith
+low_limits events low (suc k) = at (beginnings events) k low
+  where
+    at : (bs : List Beginning) (k : ℕ) → AllByRecursion (λ (b : Beginning). b.limit ≤ 10 ^ 18) bs → unwrap_or (option_map (λ (b : Beginning). b.limit) (slice_get bs k)) 0 ≤ 10 ^ 18
+    at [] k all = omega arith
+    at (b ∷ bs) zero all = all.0
+    at (b ∷ bs) (suc k) all = at bs k all.1
+
+module _ (d : Distance) (h : Schedule) (legal : IsLegal d h) where
+  import_low : (t : ℕ) → import_in (charges_in d h) t ≤ 10 ^ 18
+  import_low t =
+      let within : import_in (charges_in d h) t ≤ limit_of (done h) t = (legal_within_limits d h legal).imports t in
+      let low : limit_of (done h) t ≤ 10 ^ 18 = low_limits (done h) (legal_induction d (λ g. AreLow (done g)) (low_next d) h tt legal) t in
+      omega arith
+
+  -- who has not begun has imported nothing
+  import_none : (t : ℕ) → begun_count h.entries < t → import_in (charges_in d h) t ≡ 0
+  import_none t past =
+      let within : import_in (charges_in d h) t ≤ limit_of (done h) t = (legal_within_limits d h legal).imports t in
+      let none : limit_of (done h) t ≡ 0 = unbegun t past in
+      omega arith
+    where
+      unbegun : (t : ℕ) → begun_count h.entries < t → limit_of (done h) t ≡ 0
+      unbegun zero past = refl
+      unbegun (suc k) past = ap (λ (b : Option Beginning). unwrap_or (option_map (λ c. c.limit) b) 0) (get_none (beginnings (done h)) k (omega arith))
+
+  pub import_at : (table : List ℕ) → AreImports d h table → (t : ℕ) → slice_index_or table t 0 ≡ import_in (charges_in d h) t
+  import_at table are t =
+      ap (λ l. slice_index_or l t 0) are
+      ∙ ⊎_elim
+      (λ l. let z : 0 + t ≡ t = omega arith in mapped_get (λ t. import_in (charges_in d h) t) 0 (begun_count h.entries + 1) t l ∙ ap (λ k. import_in (charges_in d h) k) z)
+      (λ g. let past : begun_count h.entries < t = omega arith in mapped_past (λ t. import_in (charges_in d h) t) 0 (begun_count h.entries + 1) t g ∙ sym (import_none t past))
+      (cases_lt t (begun_count h.entries + 1))
+
+module _ (d : Distance) (h : Schedule) (legal : IsLegal d h) (e : Event) (r : Reply) (is : r ≡ reply_to d h e) where
+  more : is_refusal r ≡ false → (t : ℕ) → import_in (charges_in d (extended h e r)) t ≡ import_in (charges_in d h) t + import_in (due_in d h e) t
+  more ok t = ap (λ (es : List Event). import_in (charges (distance_in d h) h.opening es) t) (accepted_push h.entries (record { event = e; reply = r }) ok) ∙ import-push (distance_in d h) h.opening (done h) e t
+
+  -- the sums fit 64 bits
+  pub import_fits : (table : List ℕ) → AreImports d h table → (charges : List (TxnId × ℕ)) → AreDue d h e r charges → is_refusal r ≡ false → (t : ℕ) → slice_index_or table t 0 + imported charges t < 2 ^ 64
+  import_fits table are charges due ok t =
+      let low : import_in (charges_in d (extended h e r)) t ≤ 10 ^ 18 = import_low d (extended h e r) (IsLegal-extended d h e r legal is) t in
+      omega (arith, low, import_at d h legal table are t, due ok t, more ok t)
+
+  pub imports_refused : is_refusal r ≡ true → (table : List ℕ) → AreImports d h table → AreImports d (extended h e r) table
+  imports_refused refused table are =
+      are
+      ∙ (ap (λ (es : List Event). map (λ t. import_in (charges (distance_in d h) h.opening es) t) (range_with_len 0 (begun_count h.entries + 1))) (sym (accepted_refused h.entries (record { event = e; reply = r }) refused))
+      ∙ ap (λ n. map (λ t. import_in (charges_in d (extended h e r)) t) (range_with_len 0 (n + 1))) (sym (count_refused h.entries (record { event = e; reply = r }) refused)))
+
+  pub imports_accepted : is_refusal r ≡ false → (table raised : List ℕ) (charges : List (TxnId × ℕ)) → AreDue d h e r charges → AreImports d h table → length raised ≡ length (with_number table e)
+      → ((t : ℕ) → t < length (with_number table e) → slice_index_or raised t 0 ≡ slice_index_or (with_number table e) t 0 + imported charges t) → AreImports d (extended h e r) raised
+  imports_accepted ok table raised charges due are len sums =
+      table_is (λ t. import_in (charges_in d (extended h e r)) t) 0 raised (λ k l.
+      let z : 0 + k ≡ k = omega arith in
+      sums k (subst (λ n. k < n) len l)
+      ∙ (ap (λ n. n + imported charges k) (opened_at k)
+      ∙ (ap (λ n. import_in (charges_in d h) k + n) (due ok k)
+      ∙ (sym (more ok k) ∙ ap (λ t. import_in (charges_in d (extended h e r)) t) (sym z)))))
+      ∙ ap (λ n. map (λ t. import_in (charges_in d (extended h e r)) t) (range_with_len 0 n)) (len ∙ opened_length e refl)
+    where
+      is_table : length table ≡ begun_count h.entries + 1
+      is_table = ap length are ∙ (length-map (range_with_len 0 (begun_count h.entries + 1)) (λ t. import_in (charges_in d h) t) ∙ length_range 0 (begun_count h.entries + 1))
+
+      more_zero : (l : List ℕ) (k : ℕ) → slice_index_or (l ++ 0 ∷ []) k 0 ≡ slice_index_or l k 0
+      more_zero [] zero = refl
+      more_zero [] (suc k) = refl
+      more_zero (x ∷ l) zero = refl
+      more_zero (x ∷ l) (suc k) = more_zero l k
+
+      opened_zero : (f : Event) (k : ℕ) → slice_index_or (with_number table f) k 0 ≡ slice_index_or table k 0
+      opened_zero (BeginUpdate l) k = more_zero table k
+      opened_zero (BeginQuery l s) k = more_zero table k
+      opened_zero (Read t x) k = refl
+      opened_zero (Write t x v) k = refl
+      opened_zero (Commit t) k = refl
+      opened_zero (Abort t) k = refl
+
+      opened_at : (k : ℕ) → slice_index_or (with_number table e) k 0 ≡ import_in (charges_in d h) k
+      opened_at k = opened_zero e k ∙ import_at d h legal table are k
+
+      one_more : (l : List ℕ) → length (l ++ 0 ∷ []) ≡ length l + 1
+      one_more [] = refl
+      one_more (x ∷ l) = let c : length (l ++ 0 ∷ []) ≡ length l + 1 = one_more l in omega (arith, c)
+
+      same_length : (f : Event) → e ≡ f → beginning_of f ≡ None → length table ≡ begun_count (extended h e r).entries + 1
+      same_length f same none = is_table ∙ ap (λ n. n + 1) (sym (count_same h.entries (record { event = e; reply = r }) ok (ap beginning_of same ∙ none)))
+
+      more_length : (f : Event) (b : Beginning) → e ≡ f → beginning_of f ≡ Some b → length (table ++ 0 ∷ []) ≡ begun_count (extended h e r).entries + 1
+      more_length f b same some = one_more table ∙ ap (λ n. n + 1) (is_table ∙ sym (count_more h.entries (record { event = e; reply = r }) b ok (ap beginning_of same ∙ some)))
+
+      opened_length : (f : Event) → e ≡ f → length (with_number table f) ≡ begun_count (extended h e r).entries + 1
+      opened_length (BeginUpdate l) same = more_length (BeginUpdate l) (record { query = false; strict = false; limit = l }) same refl
+      opened_length (BeginQuery l s) same = more_length (BeginQuery l s) (record { query = true; strict = s; limit = l }) same refl
+      opened_length (Read t x) same = same_length (Read t x) same refl
+      opened_length (Write t x v) same = same_length (Write t x v) same refl
+      opened_length (Commit t) same = same_length (Commit t) same refl
+      opened_length (Abort t) same = same_length (Abort t) same refl

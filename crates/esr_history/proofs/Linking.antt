@@ -1,0 +1,305 @@
+-- Tables of places, entry after entry.
+use Rattle.std.proofs.Common.{◌≡◌, ℕ, zero, suc, ◌+◌, ◌-◌, ◌<◌, ◌≤◌, Bool, true, false, not, List, [], ◌∷◌, ◌++◌, length, take, get_or, refl, sym, ◌∙◌, ap, arith, ⊎_elim, filter, cond, map, Option, Some, None, slice_set, add-one, append-nil, replicate}
+use Rattle.std.specs.Prelude.{slice_index_or, if◌then◌else◌}
+use Rattle.std.specs.List.{last_or, range_with_len, slice_get, cons_option}
+use Rattle.std.specs.Option.{option_map}
+use Rattle.std.proofs.Math.Seq.{take-append_seam}
+use Rattle.std.proofs.lemmas.Bool.{cases_lt, eq-eqb, ne_eqb}
+use Rattle.std.proofs.lemmas.List.{length-append, length-map, map-append, take-append-le}
+use Rattle.std.proofs.lemmas.List.Elements.{filter-append, filter_map-append}
+use Rattle.esr_history.specs.declared.event.Event.{Event}
+use Rattle.esr_history.specs.declared.event.Event.TheVariants.{BeginUpdate, BeginQuery, Read, Write, Commit, Abort}
+use Rattle.esr_history.specs.declared.event.Reply.{Reply}
+use Rattle.esr_history.specs.declared.event.Entry.{Entry}
+use Rattle.esr_history.specs.declared.links.Begin.{Begin}
+use Rattle.esr_history.specs.declared.links.Facts.{Facts}
+use Rattle.esr_history.specs.declared.links.Links.{Links}
+use Rattle.esr_history.specs.Events.{Beginning, is_refusal, accepted, beginnings, beginning_of}
+use Rattle.esr_history.specs.Links.{item_of, txn_of, ender, item_in, txn_in, accepted_item, accepted_txn, accepted_end, facts_by, facts_of, is_key, places_from, last_place, last_of_key, earlier, earlier_at, coded, decoded, key_at, links_by, lasts_by, begin_of, begun_count, AreLinks, IsFit, with_key, txns_after, ends_after, begins_after, IsNumbered}
+use Rattle.esr_history.proofs.Charges.{range-push}
+use Rattle.esr_history.proofs.Membership.{get_seam}
+
+pub decoded_coded : (o : Option ℕ) → decoded (coded o) ≡ o
+decoded_coded None = refl
+decoded_coded (Some k) = ap decoded (add-one k)
+
+last_more : (o : Option ℕ) (xs : List ℕ) (x : ℕ) → last_or o (xs ++ x ∷ []) ≡ Some x
+last_more o [] x = refl
+last_more o (y ∷ xs) x = last_more (Some y) xs x
+
+pub places_push : (key : Entry → Option ℕ) (k n : ℕ) (es : List Entry) (e : Entry) → places_from key k n (es ++ e ∷ []) ≡ places_from key k n es ++ cond (is_key (key e) k) ((n + length es) ∷ []) []
+places_push key k n [] e = let z : n ≡ n + 0 = omega arith in ap (λ m. cond (is_key (key e) k) (m ∷ []) []) z
+places_push key k n (f ∷ es) e = at (is_key (key f) k) (places_push key k (n + 1) es e)
+  where
+    shift : n + 1 + length es ≡ n + suc (length es)
+    shift = omega arith
+
+    at : (b : Bool) → places_from key k (n + 1) (es ++ e ∷ []) ≡ places_from key k (n + 1) es ++ cond (is_key (key e) k) ((n + 1 + length es) ∷ []) []
+        → cond b (n ∷ places_from key k (n + 1) (es ++ e ∷ [])) (places_from key k (n + 1) (es ++ e ∷ [])) ≡ cond b (n ∷ places_from key k (n + 1) es) (places_from key k (n + 1) es) ++ cond (is_key (key e) k) ((n + suc (length es)) ∷ []) []
+    at true rest = ap (λ l. n ∷ l) (rest ∙ ap (λ m. places_from key k (n + 1) es ++ cond (is_key (key e) k) (m ∷ []) []) shift)
+    at false rest = rest ∙ ap (λ m. places_from key k (n + 1) es ++ cond (is_key (key e) k) (m ∷ []) []) shift
+
+pub last_same : (key : Entry → Option ℕ) (k : ℕ) (es : List Entry) (e : Entry) → is_key (key e) k ≡ false → last_place key k (es ++ e ∷ []) ≡ last_place key k es
+last_same key k es e no_key = ap (last_or None) (places_push key k 0 es e ∙ (ap (λ b. places_from key k 0 es ++ cond b ((0 + length es) ∷ []) []) no_key ∙ append-nil (places_from key k 0 es)))
+
+pub last_here : (key : Entry → Option ℕ) (k : ℕ) (es : List Entry) (e : Entry) → is_key (key e) k ≡ true → last_place key k (es ++ e ∷ []) ≡ Some (length es)
+last_here key k es e has_key =
+    let z : 0 + length es ≡ length es = omega arith in
+    ap (last_or None) (places_push key k 0 es e ∙ ap (λ b. places_from key k 0 es ++ cond b ((0 + length es) ∷ []) []) has_key) ∙ (last_more None (places_from key k 0 es) (0 + length es) ∙ ap Some z)
+
+-- ---- tables by key
+pub mapped_get : (f : ℕ → ℕ) (a n k : ℕ) → k < n → slice_index_or (map f (range_with_len a n)) k 0 ≡ f (a + k)
+mapped_get f a zero k l = absurd (omega arith)
+mapped_get f a (suc n) zero l = let e : a ≡ a + 0 = omega arith in ap f e
+mapped_get f a (suc n) (suc k) l = let e : a + 1 + k ≡ a + suc k = omega arith in mapped_get f (a + 1) n k (omega arith) ∙ ap f e
+
+pub mapped_past : (f : ℕ → ℕ) (a n k : ℕ) → n ≤ k → slice_index_or (map f (range_with_len a n)) k 0 ≡ 0
+mapped_past f a zero k l = refl
+mapped_past f a (suc n) zero l = absurd (omega arith)
+mapped_past f a (suc n) (suc k) l = mapped_past f (a + 1) n k (omega arith)
+
+pub at_key_is : (key : Entry → Option ℕ) (es : List Entry) (n : ℕ) → ((k : ℕ) → n ≤ k → last_place key k es ≡ None) → (own : Option ℕ) → key_at (lasts_by key es n) own ≡ coded (last_of_key key own es)
+at_key_is key es n past None = refl
+at_key_is key es n past (Some k) =
+    ⊎_elim
+    (λ l. let z : 0 + k ≡ k = omega arith in mapped_get (λ k. coded (last_place key k es)) 0 n k l ∙ ap (λ m. coded (last_place key m es)) z)
+    (λ g. mapped_past (λ k. coded (last_place key k es)) 0 n k g ∙ sym (ap coded (past k g)))
+    (cases_lt k n)
+
+mapped_agree : (f g : ℕ → ℕ) (a n : ℕ) → ((i : ℕ) → a ≤ i → i < a + n → f i ≡ g i) → map f (range_with_len a n) ≡ map g (range_with_len a n)
+mapped_agree f g a zero same = refl
+mapped_agree f g a (suc n) same = ap (λ v. v ∷ map f (range_with_len (a + 1) n)) (same a (omega arith) (omega arith)) ∙ ap (λ l. g a ∷ l) (mapped_agree f g (a + 1) n (λ i l m. same i (omega arith) (omega arith)))
+
+mapped_set : (f g : ℕ → ℕ) (a n j : ℕ) → ((i : ℕ) → (i ≡ a + j → ⊥) → f i ≡ g i) → map f (range_with_len a n) ≡ slice_set (map g (range_with_len a n)) j (f (a + j))
+mapped_set f g a zero j same = refl
+mapped_set f g a (suc n) zero same =
+    let e : a ≡ a + 0 = omega arith in
+    ap (λ v. v ∷ map f (range_with_len (a + 1) n)) (ap f e) ∙ ap (λ l. f (a + 0) ∷ l) (mapped_agree f g (a + 1) n (λ i l m. same i (λ is. absurd (omega (arith, is, l)))))
+mapped_set f g a (suc n) (suc j) same =
+    let e : a + 1 + j ≡ a + suc j = omega arith in
+    ap (λ v. v ∷ map f (range_with_len (a + 1) n)) (same a (λ is. absurd (omega (arith, is))))
+    ∙ ap (λ l. g a ∷ l) (mapped_set f g (a + 1) n j (λ i ne. same i (λ is. ne (is ∙ sym e))) ∙ ap (λ m. slice_set (map g (range_with_len (a + 1) n)) j (f m)) e)
+
+-- a table after an entry with no key, and after one with a key
+pub lasts_agree : (key : Entry → Option ℕ) (es : List Entry) (e : Entry) (n : ℕ) → ((k : ℕ) → k < n → is_key (key e) k ≡ false) → lasts_by key (es ++ e ∷ []) n ≡ lasts_by key es n
+lasts_agree key es e n none = mapped_agree (λ k. coded (last_place key k (es ++ e ∷ []))) (λ k. coded (last_place key k es)) 0 n (λ k l m. ap coded (last_same key k es e (none k (omega arith))))
+
+pub lasts_none : (key : Entry → Option ℕ) (es : List Entry) (e : Entry) (n : ℕ) → key e ≡ None → lasts_by key (es ++ e ∷ []) n ≡ lasts_by key es n
+lasts_none key es e n none = lasts_agree key es e n (λ k l. ap (λ o. is_key o k) none)
+
+pub lasts_some : (key : Entry → Option ℕ) (es : List Entry) (e : Entry) (n k : ℕ) → key e ≡ Some k → lasts_by key (es ++ e ∷ []) n ≡ slice_set (lasts_by key es n) k (length es + 1)
+lasts_some key es e n k is =
+    let z : 0 + k ≡ k = omega arith in
+    mapped_set (λ k. coded (last_place key k (es ++ e ∷ []))) (λ k. coded (last_place key k es)) 0 n k
+    (λ i ne. ap coded (last_same key i es e (ap (λ o. is_key o i) is ∙ ne_eqb k i (λ f. ne (sym f ∙ sym z)))))
+    ∙ ap (slice_set (lasts_by key es n) k) (ap (λ m. coded (last_place key m (es ++ e ∷ []))) z ∙ ap coded (last_here key k es e (ap (λ o. is_key o k) is ∙ eq-eqb k k refl)))
+
+pub lasts_grow : (key : Entry → Option ℕ) (es : List Entry) (n : ℕ) → lasts_by key es (n + 1) ≡ lasts_by key es n ++ coded (last_place key n es) ∷ []
+lasts_grow key es n =
+    let z : 0 + n ≡ n = omega arith in
+    ap (map (λ k. coded (last_place key k es))) (range-push 0 n) ∙ (map-append (λ k. coded (last_place key k es)) (range_with_len 0 n) ((0 + n) ∷ []) ∙ ap (λ m. lasts_by key es n ++ coded (last_place key m es) ∷ []) z)
+
+-- ---- links by place
+get_left : {X : Type 0} (xs : List X) (x : X) (i : ℕ) → i < length xs → slice_get (xs ++ x ∷ []) i ≡ slice_get xs i
+get_left [] x i l = absurd (omega arith)
+get_left (y ∷ xs) x zero l = refl
+get_left (y ∷ xs) x (suc i) l = get_left xs x i (omega arith)
+
+pub get_none : {X : Type 0} (xs : List X) (i : ℕ) → length xs ≤ i → slice_get xs i ≡ None
+get_none [] i l = refl
+get_none (x ∷ xs) zero l = absurd (omega arith)
+get_none (x ∷ xs) (suc i) l = get_none xs i (omega arith)
+
+pub links_push : (key own : Entry → Option ℕ) (es : List Entry) (e : Entry) → links_by key own (es ++ e ∷ []) ≡ links_by key own es ++ coded (last_of_key key (own e) es) ∷ []
+links_push key own es e =
+    let len : length (es ++ e ∷ []) ≡ length es + 1 = length-append es (e ∷ []) in
+    let z : 0 + length es ≡ length es = omega arith in
+    ap (λ n. map (λ i. coded (earlier key own (es ++ e ∷ []) i)) (range_with_len 0 n)) len
+    ∙ (ap (map (λ i. coded (earlier key own (es ++ e ∷ []) i))) (range-push 0 (length es))
+    ∙ (map-append (λ i. coded (earlier key own (es ++ e ∷ []) i)) (range_with_len 0 (length es)) ((0 + length es) ∷ [])
+    ∙ (ap (λ l. l ++ coded (earlier key own (es ++ e ∷ []) (0 + length es)) ∷ [])
+    (mapped_agree (λ i. coded (earlier key own (es ++ e ∷ []) i)) (λ i. coded (earlier key own es i)) 0 (length es) (λ i l m.
+    let inside : i < length es = omega arith in
+    ap (λ o. coded (earlier_at key (option_map own o) (take i (es ++ e ∷ [])))) (get_left es e i inside)
+    ∙ ap (λ t. coded (earlier_at key (option_map own (slice_get es i)) t)) (take-append-le i es (e ∷ []) (omega arith))))
+    ∙ ap (λ c. links_by key own es ++ c ∷ [])
+    (ap (λ m. coded (earlier key own (es ++ e ∷ []) m)) z
+    ∙ (ap (λ o. coded (earlier_at key (option_map own o) (take (length es) (es ++ e ∷ [])))) (get_seam es e [])
+    ∙ ap (λ t. coded (last_of_key key (own e) t)) (take-append_seam es (e ∷ [])))))))
+
+pub link_at : (key own : Entry → Option ℕ) (es : List Entry) (i : ℕ) → decoded (slice_index_or (links_by key own es) i 0) ≡ earlier key own es i
+link_at key own es i =
+    ⊎_elim
+    (λ l. let z : 0 + i ≡ i = omega arith in ap decoded (mapped_get (λ i. coded (earlier key own es i)) 0 (length es) i l ∙ ap (λ m. coded (earlier key own es m)) z) ∙ decoded_coded (earlier key own es i))
+    (λ g. ap decoded (mapped_past (λ i. coded (earlier key own es i)) 0 (length es) i g) ∙ sym (ap (λ o. earlier_at key (option_map own o) (take i es)) (get_none es i g)))
+    (cases_lt i (length es))
+
+pub links_length : (key own : Entry → Option ℕ) (es : List Entry) → length (links_by key own es) ≡ length es
+links_length key own es = at 0 (length es)
+  where
+    at : (a n : ℕ) → length (map (λ i. coded (earlier key own es i)) (range_with_len a n)) ≡ n
+    at a zero = refl
+    at a (suc n) = ap suc (at (a + 1) n)
+
+-- ---- what one more entry changes
+pub accepted_push : (es : List Entry) (e : Entry) → is_refusal e.reply ≡ false → accepted (es ++ e ∷ []) ≡ accepted es ++ e.event ∷ []
+accepted_push es e is =
+    ap (map (λ (m : Entry). m.event)) (filter-append (λ (m : Entry). not (is_refusal m.reply)) es (e ∷ []) ∙ ap (λ b. filter (λ (m : Entry). not (is_refusal m.reply)) es ++ cond (not b) (e ∷ []) []) is)
+    ∙ map-append (λ (m : Entry). m.event) (filter (λ (m : Entry). not (is_refusal m.reply)) es) (e ∷ [])
+
+pub accepted_refused : (es : List Entry) (e : Entry) → is_refusal e.reply ≡ true → accepted (es ++ e ∷ []) ≡ accepted es
+accepted_refused es e is =
+    ap (map (λ (m : Entry). m.event)) (filter-append (λ (m : Entry). not (is_refusal m.reply)) es (e ∷ []) ∙ (ap (λ b. filter (λ (m : Entry). not (is_refusal m.reply)) es ++ cond (not b) (e ∷ []) []) is ∙ append-nil (filter (λ (m : Entry). not (is_refusal m.reply)) es)))
+
+begins_push : (es : List Entry) (e : Entry) → is_refusal e.reply ≡ false → beginnings (accepted (es ++ e ∷ [])) ≡ beginnings (accepted es) ++ cons_option (beginning_of e.event) []
+begins_push es e is = ap beginnings (accepted_push es e is) ∙ filter_map-append beginning_of (accepted es) (e.event ∷ [])
+
+pub count_refused : (es : List Entry) (e : Entry) → is_refusal e.reply ≡ true → begun_count (es ++ e ∷ []) ≡ begun_count es
+count_refused es e is = ap (λ l. length (beginnings l)) (accepted_refused es e is)
+
+pub count_same : (es : List Entry) (e : Entry) → is_refusal e.reply ≡ false → beginning_of e.event ≡ None → begun_count (es ++ e ∷ []) ≡ begun_count es
+count_same es e is none = ap length (begins_push es e is ∙ (ap (λ o. beginnings (accepted es) ++ cons_option o []) none ∙ append-nil (beginnings (accepted es))))
+
+pub count_more : (es : List Entry) (e : Entry) (b : Beginning) → is_refusal e.reply ≡ false → beginning_of e.event ≡ Some b → begun_count (es ++ e ∷ []) ≡ begun_count es + 1
+count_more es e b is some = ap length (begins_push es e is ∙ ap (λ o. beginnings (accepted es) ++ cons_option o []) some) ∙ length-append (beginnings (accepted es)) (b ∷ [])
+
+begins_same : (es : List Entry) (e : Entry) → is_refusal e.reply ≡ false → beginning_of e.event ≡ None → map begin_of (beginnings (accepted (es ++ e ∷ []))) ≡ map begin_of (beginnings (accepted es))
+begins_same es e is none = ap (map begin_of) (begins_push es e is ∙ (ap (λ o. beginnings (accepted es) ++ cons_option o []) none ∙ append-nil (beginnings (accepted es))))
+
+begins_more : (es : List Entry) (e : Entry) (b : Beginning) → is_refusal e.reply ≡ false → beginning_of e.event ≡ Some b → map begin_of (beginnings (accepted (es ++ e ∷ []))) ≡ map begin_of (beginnings (accepted es)) ++ begin_of b ∷ []
+begins_more es e b is some = ap (map begin_of) (begins_push es e is ∙ ap (λ o. beginnings (accepted es) ++ cons_option o []) some) ∙ map-append begin_of (beginnings (accepted es)) (b ∷ [])
+
+-- the tables of keys after an accepted entry
+items_after : (es : List Entry) (e : Entry) (n : ℕ) → is_refusal e.reply ≡ false → lasts_by accepted_item (es ++ e ∷ []) n ≡ with_key (lasts_by accepted_item es n) (item_of e.event) (length es + 1)
+items_after es e n is = at (item_of e.event) (ap (λ b. if b then None else item_of e.event) is)
+  where
+    at : (o : Option ℕ) → accepted_item e ≡ o → lasts_by accepted_item (es ++ e ∷ []) n ≡ with_key (lasts_by accepted_item es n) o (length es + 1)
+    at None key = lasts_none accepted_item es e n key
+    at (Some k) key = lasts_some accepted_item es e n k key
+
+-- the tables by transactions after one more entry of a transaction that has begun
+module _ (es : List Entry) (e : Entry) (is : is_refusal e.reply ≡ false) (none : beginning_of e.event ≡ None) where
+  txns_known : (t : ℕ) → txn_of e.event e.reply ≡ Some t → lasts_by accepted_txn (es ++ e ∷ []) (begun_count (es ++ e ∷ []) + 1) ≡ slice_set (lasts_by accepted_txn es (begun_count es + 1)) t (length es + 1)
+  txns_known t own =
+      ap (λ n. lasts_by accepted_txn (es ++ e ∷ []) (n + 1)) (count_same es e is none)
+      ∙ lasts_some accepted_txn es e (begun_count es + 1) t (ap (λ b. if b then None else txn_of e.event e.reply) is ∙ own)
+
+  ends_known : (t : ℕ) → ender e.event ≡ Some t → lasts_by accepted_end (es ++ e ∷ []) (begun_count (es ++ e ∷ []) + 1) ≡ slice_set (lasts_by accepted_end es (begun_count es + 1)) t (length es + 1)
+  ends_known t own =
+      ap (λ n. lasts_by accepted_end (es ++ e ∷ []) (n + 1)) (count_same es e is none)
+      ∙ lasts_some accepted_end es e (begun_count es + 1) t (ap (λ b. if b then None else ender e.event) is ∙ own)
+
+  ends_none : ender e.event ≡ None → lasts_by accepted_end (es ++ e ∷ []) (begun_count (es ++ e ∷ []) + 1) ≡ lasts_by accepted_end es (begun_count es + 1)
+  ends_none own =
+      ap (λ n. lasts_by accepted_end (es ++ e ∷ []) (n + 1)) (count_same es e is none)
+      ∙ lasts_none accepted_end es e (begun_count es + 1) (ap (λ b. if b then None else ender e.event) is ∙ own)
+
+-- and after a begin
+module _ (es : List Entry) (e : Entry) (is : is_refusal e.reply ≡ false) (b : Beginning) (some : beginning_of e.event ≡ Some b) where
+  count : begun_count (es ++ e ∷ []) ≡ begun_count es + 1
+  count = count_more es e b is some
+
+  txns_begun : txn_of e.event e.reply ≡ Some (begun_count es + 1) → lasts_by accepted_txn (es ++ e ∷ []) (begun_count (es ++ e ∷ []) + 1) ≡ lasts_by accepted_txn es (begun_count es + 1) ++ (length es + 1) ∷ []
+  txns_begun own =
+      let key : accepted_txn e ≡ Some (begun_count es + 1) = ap (λ b. if b then None else txn_of e.event e.reply) is ∙ own in
+      ap (λ n. lasts_by accepted_txn (es ++ e ∷ []) (n + 1)) count
+      ∙ (lasts_grow accepted_txn (es ++ e ∷ []) (begun_count es + 1)
+      ∙ (ap (λ l. l ++ coded (last_place accepted_txn (begun_count es + 1) (es ++ e ∷ [])) ∷ [])
+      (lasts_agree accepted_txn es e (begun_count es + 1) (λ k l. ap (λ o. is_key o k) key ∙ ne_eqb (begun_count es + 1) k (λ f. absurd (omega (arith, f, l)))))
+      ∙ ap (λ o. lasts_by accepted_txn es (begun_count es + 1) ++ coded o ∷ []) (last_here accepted_txn (begun_count es + 1) es e (ap (λ o. is_key o (begun_count es + 1)) key ∙ eq-eqb (begun_count es + 1) (begun_count es + 1) refl))))
+
+  ends_begun : (n : ℕ) → ender e.event ≡ None → IsFit n es → lasts_by accepted_end (es ++ e ∷ []) (begun_count (es ++ e ∷ []) + 1) ≡ lasts_by accepted_end es (begun_count es + 1) ++ 0 ∷ []
+  ends_begun n own fit =
+      let key : accepted_end e ≡ None = ap (λ b. if b then None else ender e.event) is ∙ own in
+      let past : begun_count es < begun_count es + 1 = omega arith in
+      ap (λ m. lasts_by accepted_end (es ++ e ∷ []) (m + 1)) count
+      ∙ (lasts_grow accepted_end (es ++ e ∷ []) (begun_count es + 1)
+      ∙ (ap (λ l. l ++ coded (last_place accepted_end (begun_count es + 1) (es ++ e ∷ [])) ∷ []) (lasts_none accepted_end es e (begun_count es + 1) key)
+      ∙ ap (λ o. lasts_by accepted_end es (begun_count es + 1) ++ coded o ∷ []) (last_same accepted_end (begun_count es + 1) es e (ap (λ o. is_key o (begun_count es + 1)) key) ∙ fit.ends (begun_count es + 1) past)))
+
+txns_after_entry : (es : List Entry) (ev : Event) (r : Reply) → is_refusal r ≡ false → IsNumbered es ev r
+    → lasts_by accepted_txn (es ++ record { event = ev; reply = r } ∷ []) (begun_count (es ++ record { event = ev; reply = r } ∷ []) + 1) ≡ txns_after (lasts_by accepted_txn es (begun_count es + 1)) ev (length es + 1)
+txns_after_entry es (BeginUpdate l) r is num = txns_begun es (record { event = BeginUpdate l; reply = r }) is (record { query = false; strict = false; limit = l }) refl (num is)
+txns_after_entry es (BeginQuery l s) r is num = txns_begun es (record { event = BeginQuery l s; reply = r }) is (record { query = true; strict = s; limit = l }) refl (num is)
+txns_after_entry es (Read t x) r is num = txns_known es (record { event = Read t x; reply = r }) is refl t.0 refl
+txns_after_entry es (Write t x v) r is num = txns_known es (record { event = Write t x v; reply = r }) is refl t.0 refl
+txns_after_entry es (Commit t) r is num = txns_known es (record { event = Commit t; reply = r }) is refl t.0 refl
+txns_after_entry es (Abort t) r is num = txns_known es (record { event = Abort t; reply = r }) is refl t.0 refl
+
+ends_after_entry : (n : ℕ) (es : List Entry) (ev : Event) (r : Reply) → is_refusal r ≡ false → IsFit n es
+    → lasts_by accepted_end (es ++ record { event = ev; reply = r } ∷ []) (begun_count (es ++ record { event = ev; reply = r } ∷ []) + 1) ≡ ends_after (lasts_by accepted_end es (begun_count es + 1)) ev (length es + 1)
+ends_after_entry n es (BeginUpdate l) r is fit = ends_begun es (record { event = BeginUpdate l; reply = r }) is (record { query = false; strict = false; limit = l }) refl n refl fit
+ends_after_entry n es (BeginQuery l s) r is fit = ends_begun es (record { event = BeginQuery l s; reply = r }) is (record { query = true; strict = s; limit = l }) refl n refl fit
+ends_after_entry n es (Read t x) r is fit = ends_none es (record { event = Read t x; reply = r }) is refl refl
+ends_after_entry n es (Write t x v) r is fit = ends_none es (record { event = Write t x v; reply = r }) is refl refl
+ends_after_entry n es (Commit t) r is fit = ends_known es (record { event = Commit t; reply = r }) is refl t.0 refl
+ends_after_entry n es (Abort t) r is fit = ends_known es (record { event = Abort t; reply = r }) is refl t.0 refl
+
+begins_after_entry : (es : List Entry) (ev : Event) (r : Reply) → is_refusal r ≡ false
+    → map begin_of (beginnings (accepted (es ++ record { event = ev; reply = r } ∷ []))) ≡ begins_after (map begin_of (beginnings (accepted es))) ev
+begins_after_entry es (BeginUpdate l) r is = begins_more es (record { event = BeginUpdate l; reply = r }) (record { query = false; strict = false; limit = l }) is refl
+begins_after_entry es (BeginQuery l s) r is = begins_more es (record { event = BeginQuery l s; reply = r }) (record { query = true; strict = s; limit = l }) is refl
+begins_after_entry es (Read t x) r is = begins_same es (record { event = Read t x; reply = r }) is refl
+begins_after_entry es (Write t x v) r is = begins_same es (record { event = Write t x v; reply = r }) is refl
+begins_after_entry es (Commit t) r is = begins_same es (record { event = Commit t; reply = r }) is refl
+begins_after_entry es (Abort t) r is = begins_same es (record { event = Abort t; reply = r }) is refl
+
+-- the links of an entry, from the tables before it
+module _ (n : ℕ) (es : List Entry) (l : Links) (are : AreLinks n es l) (fit : IsFit n es) (e : Entry) where
+  pub item_link : key_at l.items.items (item_in e) ≡ coded (last_of_key accepted_item (item_in e) es)
+  item_link = ap (λ t. key_at t (item_in e)) are.items ∙ at_key_is accepted_item es n fit.items (item_in e)
+
+  pub txn_link : key_at l.txns.items (txn_in e) ≡ coded (last_of_key accepted_txn (txn_in e) es)
+  txn_link = ap (λ t. key_at t (txn_in e)) are.txns ∙ at_key_is accepted_txn es (begun_count es + 1) (λ k m. let past : begun_count es < k = omega arith in fit.txns k past) (txn_in e)
+
+  pub on_item_more : l.on_item.items ++ key_at l.items.items (item_in e) ∷ [] ≡ links_by accepted_item item_in (es ++ e ∷ [])
+  on_item_more = ap (λ t. t ++ key_at l.items.items (item_in e) ∷ []) are.on_item ∙ (ap (λ c. links_by accepted_item item_in es ++ c ∷ []) item_link ∙ sym (links_push accepted_item item_in es e))
+
+  pub of_txn_more : l.of_txn.items ++ key_at l.txns.items (txn_in e) ∷ [] ≡ links_by accepted_txn txn_in (es ++ e ∷ [])
+  of_txn_more = ap (λ t. t ++ key_at l.txns.items (txn_in e) ∷ []) are.of_txn ∙ (ap (λ c. links_by accepted_txn txn_in es ++ c ∷ []) txn_link ∙ sym (links_push accepted_txn txn_in es e))
+
+  pub refused_more : (m : Links) → is_refusal e.reply ≡ true → m.on_item.items ≡ l.on_item.items ++ key_at l.items.items (item_in e) ∷ [] → m.of_txn.items ≡ l.of_txn.items ++ key_at l.txns.items (txn_in e) ∷ []
+      → m.items ≡ l.items → m.txns ≡ l.txns → m.ends ≡ l.ends → m.begins ≡ l.begins → AreLinks n (es ++ e ∷ []) m
+  refused_more m is a b c d f g =
+      let none : (o : Option ℕ) → (if is_refusal e.reply then None else o) ≡ None = λ o. ap (λ b. if b then None else o) is in record {
+        on_item = a ∙ on_item_more;
+        of_txn = b ∙ of_txn_more;
+        items = ap (λ v. v.items) c ∙ (are.items ∙ sym (lasts_none accepted_item es e n (none (item_in e))));
+        txns = ap (λ v. v.items) d ∙ (are.txns ∙ sym (ap (λ k. lasts_by accepted_txn (es ++ e ∷ []) (k + 1)) (count_refused es e is) ∙ lasts_none accepted_txn es e (begun_count es + 1) (none (txn_in e))));
+        ends = ap (λ v. v.items) f ∙ (are.ends ∙ sym (ap (λ k. lasts_by accepted_end (es ++ e ∷ []) (k + 1)) (count_refused es e is) ∙ lasts_none accepted_end es e (begun_count es + 1) (none (ender e.event))));
+        begins = ap (λ v. v.items) g ∙ (are.begins ∙ sym (ap (λ l. map begin_of (beginnings l)) (accepted_refused es e is)));
+      }
+
+  pub accepted_more : (m : Links) (code : ℕ) → is_refusal e.reply ≡ false → IsNumbered es e.event e.reply → code ≡ length es + 1 → m.on_item.items ≡ l.on_item.items ++ key_at l.items.items (item_in e) ∷ [] → m.of_txn.items ≡ l.of_txn.items ++ key_at l.txns.items (txn_in e) ∷ []
+      → m.items.items ≡ with_key l.items.items (item_of e.event) code → m.txns.items ≡ txns_after l.txns.items e.event code → m.ends.items ≡ ends_after l.ends.items e.event code → m.begins.items ≡ begins_after l.begins.items e.event → AreLinks n (es ++ e ∷ []) m
+  accepted_more m code is num at a b c d f g = record {
+    on_item = a ∙ on_item_more;
+    of_txn = b ∙ of_txn_more;
+    items = c ∙ (ap (λ t. with_key t (item_of e.event) code) are.items ∙ (ap (with_key (lasts_by accepted_item es n) (item_of e.event)) at ∙ sym (items_after es e n is)));
+    txns = d ∙ (ap (λ t. txns_after t e.event code) are.txns ∙ (ap (txns_after (lasts_by accepted_txn es (begun_count es + 1)) e.event) at ∙ sym (txns_after_entry es e.event e.reply is num)));
+    ends = f ∙ (ap (λ t. ends_after t e.event code) are.ends ∙ (ap (ends_after (lasts_by accepted_end es (begun_count es + 1)) e.event) at ∙ sym (ends_after_entry n es e.event e.reply is fit)));
+    begins = g ∙ (ap (λ t. begins_after t e.event) are.begins ∙ sym (begins_after_entry es e.event e.reply is));
+  }
+
+-- what is known of a transaction that has begun
+found : (bs : List Beginning) (k : ℕ) (b : Begin) (end : Option ℕ) → k < length bs → b ≡ get_or (map begin_of bs) k b → Some (record { query = b.query; limit = b.limit; end = end }) ≡ facts_by (slice_get bs k) end
+found [] k b end l is = absurd (omega arith)
+found (c ∷ bs) zero b end l is = ap (λ (b : Begin). let f : Facts = record { query = b.query; limit = b.limit; end = end } in Some f) is
+found (c ∷ bs) (suc k) b end l is = found bs k b end (omega arith) is
+
+pub facts_are : (es : List Entry) (t : ℕ) (begins : List Begin) (b : Begin) (end : Option ℕ) → begins ≡ map begin_of (beginnings (accepted es)) → (t ≡ 0 → ⊥) → t - 1 < length begins → b ≡ get_or begins (t - 1) b → end ≡ last_place accepted_end t es
+    → Some (record { query = b.query; limit = b.limit; end = end }) ≡ facts_of es t
+facts_are es zero begins b end are some l is at = absurd (some refl)
+facts_are es (suc k) begins b end are some l is at =
+    let e : suc k - 1 ≡ k = omega arith in
+    let len : length (map begin_of (beginnings (accepted es))) ≡ length (beginnings (accepted es)) = length-map (beginnings (accepted es)) begin_of in
+    let inside : k < length (beginnings (accepted es)) = omega (arith, l, ap length are, len, e) in
+    found (beginnings (accepted es)) k b end inside (is ∙ (ap (λ m. get_or begins m b) e ∙ ap (λ l. get_or l k b) are))
+    ∙ ap (facts_by (slice_get (beginnings (accepted es)) k)) at
+
+pub zeros : (n : ℕ) → replicate n 0 ≡ lasts_by accepted_item [] n
+zeros n = at 0 n
+  where
+    at : (a n : ℕ) → replicate n 0 ≡ map (λ k. coded (last_place accepted_item k [])) (range_with_len a n)
+    at a zero = refl
+    at a (suc n) = ap (λ l. 0 ∷ l) (at (a + 1) n)

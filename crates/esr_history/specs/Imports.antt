@@ -1,0 +1,28 @@
+-- What the transactions of a history have imported, by their numbers.
+use Rattle.std.specs.Prelude.{◌≡◌, ℕ, false, ◌+◌, ◌==◌, List, [], ◌∷◌, ◌++◌, map, sum_by, if◌then◌else◌}
+use Rattle.std.specs.List.{range_with_len}
+use Rattle.esr_history.specs.declared.event.TxnId.{TxnId}
+use Rattle.esr_history.specs.declared.event.Event.{Event}
+use Rattle.esr_history.specs.declared.event.Event.TheVariants.{BeginUpdate, BeginQuery}
+use Rattle.esr_history.specs.declared.event.Reply.{Reply}
+use Rattle.esr_history.specs.Events.{is_refusal}
+use Rattle.esr_history.specs.Machine.{Distance, Schedule, charges_in, due_in, import_in}
+use Rattle.esr_history.specs.Links.{begun_count}
+
+-- what these charges import to transaction t
+abbrev pub imported : List (TxnId × ℕ) → ℕ → ℕ
+imported charges t = sum_by (λ c. if c.0.0 == t then c.1 else 0) charges
+
+-- where the event is accepted, the charges import what is due for it
+abbrev pub AreDue : Distance → Schedule → Event → Reply → List (TxnId × ℕ) → Type 0
+AreDue d h event reply charges = is_refusal reply ≡ false → (t : ℕ) → imported charges t ≡ import_in (due_in d h event) t
+
+-- the imports of the transactions, by their numbers from 0, which is nobody's
+abbrev pub AreImports : Distance → Schedule → List ℕ → Type 0
+AreImports d h imports = imports ≡ map (λ t. import_in (charges_in d h) t) (range_with_len 0 (begun_count h.entries + 1))
+
+-- a table with a place for the transaction that begins
+abbrev pub with_number : List ℕ → Event → List ℕ
+with_number table (BeginUpdate limit) = table ++ 0 ∷ []
+with_number table (BeginQuery limit strict) = table ++ 0 ∷ []
+with_number table _ = table

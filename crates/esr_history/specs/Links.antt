@@ -1,0 +1,168 @@
+-- The places of earlier entries of a log, as a scan of it gives them.
+use Rattle.std.specs.Prelude.{◌≡◌, ℕ, zero, suc, ◌+◌, ◌^◌, ◌<◌, ◌≤◌, Bool, true, false, ◌==◌, List, [], ◌∷◌, ◌++◌, Option, None, Some, map, take, slice_get, slice_index_or, slice_set, length, ⊤, vec_capacity, if◌then◌else◌}
+use Rattle.std.specs.List.{last_or, range_with_len}
+use Rattle.std.specs.Option.{option_map}
+use Rattle.esr_history.specs.declared.event.Event.{Event}
+use Rattle.esr_history.specs.declared.event.Event.TheVariants.{BeginUpdate, BeginQuery, Read, Write, Commit, Abort}
+use Rattle.esr_history.specs.declared.event.Reply.{Reply}
+use Rattle.esr_history.specs.declared.event.Reply.TheVariants.{Begun}
+use Rattle.esr_history.specs.declared.event.Entry.{Entry}
+use Rattle.esr_history.specs.declared.links.Facts.{Facts}
+use Rattle.esr_history.specs.declared.links.Begin.{Begin}
+use Rattle.esr_history.specs.declared.links.Links.{Links}
+use Rattle.esr_history.specs.Events.{Beginning, is_refusal, accepted, beginnings, beginning}
+
+-- the item that an event is on
+abbrev pub item_of : Event → Option ℕ
+item_of (Read t x) = Some x.0
+item_of (Write t x v) = Some x.0
+item_of _ = None
+
+-- the transaction of an event; of an accepted begin the one that begins
+abbrev pub begun_by : Reply → Option ℕ
+begun_by (Begun t) = Some t.0
+begun_by _ = None
+
+abbrev pub txn_of : Event → Reply → Option ℕ
+txn_of (BeginUpdate limit) r = begun_by r
+txn_of (BeginQuery limit strict) r = begun_by r
+txn_of (Read t x) r = Some t.0
+txn_of (Write t x v) r = Some t.0
+txn_of (Commit t) r = Some t.0
+txn_of (Abort t) r = Some t.0
+
+-- the transaction that an event ends
+abbrev pub ender : Event → Option ℕ
+ender (Commit t) = Some t.0
+ender (Abort t) = Some t.0
+ender _ = None
+
+abbrev pub item_in : Entry → Option ℕ
+item_in e = item_of e.event
+
+abbrev pub txn_in : Entry → Option ℕ
+txn_in e = txn_of e.event e.reply
+
+-- the item of an accepted operation, the transaction of an accepted entry, and the one that an accepted entry ends
+abbrev pub accepted_item : Entry → Option ℕ
+accepted_item e = if is_refusal e.reply then None else item_in e
+
+abbrev pub accepted_txn : Entry → Option ℕ
+accepted_txn e = if is_refusal e.reply then None else txn_in e
+
+abbrev pub accepted_end : Entry → Option ℕ
+accepted_end e = if is_refusal e.reply then None else ender e.event
+
+abbrev pub is_key : Option ℕ → ℕ → Bool
+is_key None k = false
+is_key (Some m) k = m == k
+
+-- the places, counted from n, of the entries that have the key
+abbrev pub places_from : (Entry → Option ℕ) → ℕ → ℕ → List Entry → List ℕ
+places_from key k n [] = []
+places_from key k n (e ∷ es) = if is_key (key e) k then n ∷ places_from key k (n + 1) es else places_from key k (n + 1) es
+
+-- the last of the places of the entries that have the key
+abbrev pub last_place : (Entry → Option ℕ) → ℕ → List Entry → Option ℕ
+last_place key k es = last_or None (places_from key k 0 es)
+
+abbrev pub last_of_key : (Entry → Option ℕ) → Option ℕ → List Entry → Option ℕ
+last_of_key key None es = None
+last_of_key key (Some k) es = last_place key k es
+
+-- the last entry before place i that has the key of the entry there
+abbrev pub earlier_at : (Entry → Option ℕ) → Option (Option ℕ) → List Entry → Option ℕ
+earlier_at key None es = None
+earlier_at key (Some own) es = last_of_key key own es
+
+abbrev pub earlier : (Entry → Option ℕ) → (Entry → Option ℕ) → List Entry → ℕ → Option ℕ
+earlier key own es i = earlier_at key (option_map own (slice_get es i)) (take i es)
+
+-- what is known of a transaction
+abbrev pub facts_by : Option Beginning → Option ℕ → Option Facts
+facts_by None end = None
+facts_by (Some b) end = Some (record { query = b.query; limit = b.limit; end = end })
+
+abbrev pub facts_of : List Entry → ℕ → Option Facts
+facts_of es t = facts_by (beginning (accepted es) t) (last_place accepted_end t es)
+
+-- A place in a table: 0 where there is none, else one more.
+abbrev pub coded : Option ℕ → ℕ
+coded None = 0
+coded (Some k) = k + 1
+
+abbrev pub decoded : ℕ → Option ℕ
+decoded zero = None
+decoded (suc k) = Some k
+
+-- what a table has at a key, 0 where there is no key or no such place
+abbrev pub key_at : List ℕ → Option ℕ → ℕ
+key_at table None = 0
+key_at table (Some k) = slice_index_or table k 0
+
+abbrev pub links_by : (Entry → Option ℕ) → (Entry → Option ℕ) → List Entry → List ℕ
+links_by key own es = map (λ i. coded (earlier key own es i)) (range_with_len 0 (length es))
+
+abbrev pub lasts_by : (Entry → Option ℕ) → List Entry → ℕ → List ℕ
+lasts_by key es n = map (λ k. coded (last_place key k es)) (range_with_len 0 n)
+
+abbrev pub begin_of : Beginning → Begin
+begin_of b = record { query = b.query; limit = b.limit }
+
+-- how many transactions have begun
+abbrev pub begun_count : List Entry → ℕ
+begun_count es = length (beginnings (accepted es))
+
+-- the tables are those of the entries, over n items
+pub record AreLinks (n : ℕ) (es : List Entry) (l : Links) : Type 0 where
+  pub on_item : l.on_item.items ≡ links_by accepted_item item_in es
+  pub of_txn : l.of_txn.items ≡ links_by accepted_txn txn_in es
+  pub items : l.items.items ≡ lasts_by accepted_item es n
+  pub txns : l.txns.items ≡ lasts_by accepted_txn es (begun_count es + 1)
+  pub ends : l.ends.items ≡ lasts_by accepted_end es (begun_count es + 1)
+  pub begins : l.begins.items ≡ map begin_of (beginnings (accepted es))
+
+-- accepted entries are on items below n, and of transactions that have begun
+pub record IsFit (n : ℕ) (es : List Entry) : Type 0 where
+  pub items : (x : ℕ) → n ≤ x → last_place accepted_item x es ≡ None
+  pub txns : (t : ℕ) → begun_count es < t → last_place accepted_txn t es ≡ None
+  pub ends : (t : ℕ) → begun_count es < t → last_place accepted_end t es ≡ None
+
+-- there is room for one more begin, and for one more entry, whose place has a code of 32 bits
+abbrev pub HasRoomToBegin : Links → Type 0
+HasRoomToBegin l = (length l.txns.items < vec_capacity l.txns) × (length l.ends.items < vec_capacity l.ends) × (length l.begins.items < vec_capacity l.begins)
+
+abbrev pub HasRoom : Links → Type 0
+HasRoom l = (length l.on_item.items + 1 < 2 ^ 32) × (length l.on_item.items < vec_capacity l.on_item) × (length l.of_txn.items < vec_capacity l.of_txn) × HasRoomToBegin l
+
+-- What an accepted event leaves of the tables, where its place has the code.
+
+abbrev pub with_key : List ℕ → Option ℕ → ℕ → List ℕ
+with_key table None code = table
+with_key table (Some k) code = slice_set table k code
+
+abbrev pub txns_after : List ℕ → Event → ℕ → List ℕ
+txns_after table (BeginUpdate limit) code = table ++ code ∷ []
+txns_after table (BeginQuery limit strict) code = table ++ code ∷ []
+txns_after table (Read t x) code = slice_set table t.0 code
+txns_after table (Write t x v) code = slice_set table t.0 code
+txns_after table (Commit t) code = slice_set table t.0 code
+txns_after table (Abort t) code = slice_set table t.0 code
+
+abbrev pub ends_after : List ℕ → Event → ℕ → List ℕ
+ends_after table (BeginUpdate limit) code = table ++ 0 ∷ []
+ends_after table (BeginQuery limit strict) code = table ++ 0 ∷ []
+ends_after table (Commit t) code = slice_set table t.0 code
+ends_after table (Abort t) code = slice_set table t.0 code
+ends_after table _ code = table
+
+abbrev pub begins_after : List Begin → Event → List Begin
+begins_after table (BeginUpdate limit) = table ++ record { query = false; limit = limit } ∷ []
+begins_after table (BeginQuery limit strict) = table ++ record { query = true; limit = limit } ∷ []
+begins_after table _ = table
+
+-- an accepted begin has the next number
+abbrev pub IsNumbered : List Entry → Event → Reply → Type 0
+IsNumbered es (BeginUpdate limit) r = (is_refusal r ≡ false) → begun_by r ≡ Some (begun_count es + 1)
+IsNumbered es (BeginQuery limit strict) r = (is_refusal r ≡ false) → begun_by r ≡ Some (begun_count es + 1)
+IsNumbered es _ r = ⊤

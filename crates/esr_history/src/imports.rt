@@ -1,0 +1,73 @@
+//! What each transaction has imported, summed as charges come.
+ghost use Rattle.std.specs.Prelude.{◌≡◌, ◌+◌, ◌<◌, ◌^◌, ◌++◌, ◌∷◌, [], ℕ, List, false, length, slice_index_or, vec_capacity, IfOk};
+ghost use Rattle.esr_history.specs.declared.event.Entry.{Entry};
+ghost use Rattle.esr_history.specs.Events.{is_refusal};
+ghost use Rattle.esr_history.specs.Imports.{imported, with_number, AreImports, AreDue};
+ghost use Rattle.esr_history.specs.Machine.{Distance, Schedule, IsLegal, extended, reply_to};
+
+use crate::event::{Entry, Event, TxnId};
+use std::alloc::{AllocError, Global};
+
+/// The table before the first transaction.
+pub fn no_imports(alloc: Global) -> Result<Vec<u64>, AllocError>
+    ensures { IfOk result (λ v. v.items ≡ 0 ∷ []) }
+{
+    let mut imports = Vec::new(alloc);
+    imports.push(0)?;
+    Ok(imports)
+}
+
+/// Makes a place for the import of a transaction that begins, where there is room for it.
+fn open(imports: &mut Vec<u64>, event: Event)
+    requires { length imports.old.items < vec_capacity imports.old }
+    ensures { imports.new.items ≡ with_number imports.old.items event }
+{
+    match event {
+        Event::BeginUpdate { limit: _ } => {
+            let _ = imports.push(0);
+        }
+        Event::BeginQuery {
+            limit: _,
+            strict: _,
+        } => {
+            let _ = imports.push(0);
+        }
+        _ => {}
+    }
+}
+
+/// Adds to the import of each transaction what the charges import to it.
+fn add_charges(imports: &mut Vec<u64>, charges: &[(TxnId, u64)])
+    requires { (t : ℕ) → slice_index_or imports.old.items t 0 + imported charges.now t < 2 ^ 64 }
+    ensures len { length imports.new.items ≡ length imports.old.items }
+    ensures sums { (t : ℕ) → t < length imports.old.items
+        → slice_index_or imports.new.items t 0 ≡ slice_index_or imports.old.items t 0 + imported charges.now t }
+{
+    for charge in charges {
+        let (t, amount) = *charge;
+        if (t.0 as usize) < imports.len() {
+            imports[t.0 as usize] += amount;
+        }
+    }
+}
+
+/// Adds what an entry imports, with its charges, where there is room for one more transaction.
+pub fn note(imports: &mut Vec<u64>, entry: Entry, charges: &[(TxnId, u64)])
+    requires room { length imports.old.items < vec_capacity imports.old }
+    requires fits { is_refusal entry.reply ≡ false → (t : ℕ) → slice_index_or imports.old.items t 0 + imported charges.now t < 2 ^ 64 }
+    ensures { (d : Distance) (h : Schedule) → IsLegal d h → entry.reply ≡ reply_to d h entry.event → AreDue d h entry.event entry.reply charges.now
+        → AreImports d h imports.old.items → AreImports d (extended h entry.event entry.reply) imports.new.items }
+{
+    if entry.is_refused() {
+        return;
+    }
+    open(imports, entry.event);
+    add_charges(imports, charges);
+}
+
+/// What the table has for a transaction, 0 past its end.
+pub fn import_of(imports: &[u64], t: TxnId) -> u64
+    ensures { result ≡ slice_index_or imports.now t.0 0 }
+{
+    imports.get(t.0 as usize).copied().unwrap_or(0)
+}

@@ -1,0 +1,280 @@
+//! Places of earlier entries: of the same item, and of the same transaction.
+ghost use Rattle.std.specs.Prelude.{◌≡◌, ◌+◌, ◌^◌, ◌<◌, ◌≤◌, ◌++◌, ◌∷◌, [], ℕ, List, Some, None, length, map, slice_get, slice_index_or, slice_set, IfOk, OnOk, OnErr, vec_capacity};
+ghost use Rattle.std.specs.Option.{option_map};
+ghost use Rattle.esr_history.specs.declared.event.Entry.{Entry};
+ghost use Rattle.esr_history.specs.declared.event.Reply.TheVariants.{Begun};
+ghost use Rattle.esr_history.specs.Links.{with_key, txns_after, ends_after, begins_after, IsNumbered, item_of, begun_by, txn_of, key_at, decoded, AreLinks, IsFit, HasRoom, HasRoomToBegin, begun_count, last_place, earlier, facts_of, accepted_item, accepted_txn, item_in, txn_in};
+
+use crate::event::{Entry, Event, Reply};
+use std::alloc::{AllocError, Global};
+
+/// What is known of a transaction: how it began, and the place of its accepted commit or abort.
+#[derive(Clone, Copy, PartialEq, Eq, Debug)]
+pub struct Facts {
+    pub query: bool,
+    pub limit: u64,
+    pub end: Option<u64>,
+}
+
+#[derive(Clone, Copy)]
+struct Begin {
+    query: bool,
+    limit: u64,
+}
+
+/// For each entry the place of the accepted operation before it on the same item, and of the
+/// accepted entry before it of the same transaction; for each item and each transaction the
+/// last such place; and how each transaction began and where it ended. In a table, 0 stands
+/// for no place, and each place for one more.
+#[derive(Drop)]
+pub struct Links {
+    on_item: Vec<u32>,
+    of_txn: Vec<u32>,
+    items: Vec<u32>,
+    txns: Vec<u32>,
+    ends: Vec<u32>,
+    begins: Vec<Begin>,
+}
+
+/// The most places that have a code of 32 bits.
+const MOST_PLACES: usize = 4_294_967_294;
+
+fn item_of(event: Event) -> Option<u32>
+    ensures { result ≡ item_of event }
+{
+    match event {
+        Event::Read { txn: _, item } => Some(item.0),
+        Event::Write {
+            txn: _,
+            item,
+            value: _,
+        } => Some(item.0),
+        _ => None,
+    }
+}
+
+fn begun_by(reply: Reply) -> Option<u32>
+    ensures { result ≡ begun_by reply }
+{
+    match reply {
+        Reply::Begun(t) => Some(t.0),
+        _ => None,
+    }
+}
+
+fn txn_of(event: Event, reply: Reply) -> Option<u32>
+    ensures { result ≡ txn_of event reply }
+{
+    match event {
+        Event::BeginUpdate { limit: _ } => begun_by(reply),
+        Event::BeginQuery {
+            limit: _,
+            strict: _,
+        } => begun_by(reply),
+        Event::Read { txn, item: _ } => Some(txn.0),
+        Event::Write {
+            txn,
+            item: _,
+            value: _,
+        } => Some(txn.0),
+        Event::Commit { txn } => Some(txn.0),
+        Event::Abort { txn } => Some(txn.0),
+    }
+}
+
+/// What a table has at a key, 0 where there is no key or no such place.
+fn at_key(table: &[u32], key: Option<u32>) -> u32
+    ensures { result ≡ key_at table.now key }
+{
+    match key {
+        None => 0,
+        Some(k) => table.get(k as usize).copied().unwrap_or(0),
+    }
+}
+
+/// Sets what a table has at a key, if it has that key.
+fn set_key(table: &mut [u32], key: u32, code: u32)
+    ensures { table.new ≡ slice_set table.old key code }
+{
+    if (key as usize) < table.len() {
+        table[key as usize] = code;
+    }
+}
+
+/// The place that stands in a table.
+fn place(code: u32) -> Option<u64>
+    ensures { result ≡ decoded code }
+{
+    if code == 0 {
+        None
+    } else {
+        Some(u64::from(code - 1))
+    }
+}
+
+impl Links {
+    /// The tables of no entries.
+    pub fn new(alloc: Global, items: usize) -> Result<Links, AllocError>
+        requires { items ≤ 4096 }
+        ensures { IfOk result (λ l. AreLinks items [] l) }
+    {
+        let mut txns = Vec::new(alloc);
+        txns.push(0)?;
+        let mut ends = Vec::new(alloc);
+        ends.push(0)?;
+        Ok(Links {
+            on_item: Vec::new(alloc),
+            of_txn: Vec::new(alloc),
+            items: vec![in alloc; 0; items]?,
+            txns,
+            ends,
+            begins: Vec::new(alloc),
+        })
+    }
+
+    /// Makes room for one more entry, whatever its event. An error leaves the tables as they were;
+    /// it is given too where no further place has a code of 32 bits.
+    pub fn reserve(&mut self) -> Result<(), AllocError>
+        ensures same { (n : ℕ) (es : List Entry) → AreLinks n es self.old → AreLinks n es self.new }
+        ensures room { HasRoom self.old → HasRoom self.new }
+        ensures ok { OnOk result (HasRoom self.new) }
+    {
+        if self.on_item.len() >= MOST_PLACES {
+            return Err(AllocError);
+        }
+        self.on_item.reserve(1)?;
+        self.of_txn.reserve(1)?;
+        self.txns.reserve(1)?;
+        self.ends.reserve(1)?;
+        self.begins.reserve(1)?;
+        Ok(())
+    }
+
+    /// Notes an accepted begin.
+    fn add_begin(&mut self, query: bool, limit: u64, code: u32)
+        requires { HasRoomToBegin self.old }
+        ensures on_item { self.new.on_item ≡ self.old.on_item }
+        ensures of_txn { self.new.of_txn ≡ self.old.of_txn }
+        ensures items { self.new.items ≡ self.old.items }
+        ensures txns { self.new.txns.items ≡ self.old.txns.items ++ code ∷ [] }
+        ensures ends { self.new.ends.items ≡ self.old.ends.items ++ 0 ∷ [] }
+        ensures begins { self.new.begins.items ≡ self.old.begins.items ++ (record { query = query; limit = limit }) ∷ [] }
+    {
+        let _ = self.txns.push(code);
+        let _ = self.ends.push(0);
+        let _ = self.begins.push(Begin { query, limit });
+    }
+
+    /// Notes an accepted event, whose place has the code.
+    fn note(&mut self, event: Event, code: u32)
+        requires { HasRoomToBegin self.old }
+        ensures on_item { self.new.on_item ≡ self.old.on_item }
+        ensures of_txn { self.new.of_txn ≡ self.old.of_txn }
+        ensures items { self.new.items.items ≡ with_key self.old.items.items (item_of event) code }
+        ensures txns { self.new.txns.items ≡ txns_after self.old.txns.items event code }
+        ensures ends { self.new.ends.items ≡ ends_after self.old.ends.items event code }
+        ensures begins { self.new.begins.items ≡ begins_after self.old.begins.items event }
+    {
+        match event {
+            Event::BeginUpdate { limit } => self.add_begin(false, limit, code),
+            Event::BeginQuery { limit, strict: _ } => self.add_begin(true, limit, code),
+            Event::Read { txn, item } => {
+                set_key(&mut self.items, item.0, code);
+                set_key(&mut self.txns, txn.0, code);
+            }
+            Event::Write {
+                txn,
+                item,
+                value: _,
+            } => {
+                set_key(&mut self.items, item.0, code);
+                set_key(&mut self.txns, txn.0, code);
+            }
+            Event::Commit { txn } => {
+                set_key(&mut self.txns, txn.0, code);
+                set_key(&mut self.ends, txn.0, code);
+            }
+            Event::Abort { txn } => {
+                set_key(&mut self.txns, txn.0, code);
+                set_key(&mut self.ends, txn.0, code);
+            }
+        }
+    }
+
+    /// The links of the next entry, and the code of its place.
+    fn next(&self, entry: Entry) -> (u32, u32, u32)
+        requires { length self.now.on_item.items + 1 < 2 ^ 32 }
+        ensures item { result.0 ≡ key_at self.now.items.items (item_in entry) }
+        ensures txn { result.1 ≡ key_at self.now.txns.items (txn_in entry) }
+        ensures code { result.2 ≡ length self.now.on_item.items + 1 }
+    {
+        let on_item = at_key(&self.items, item_of(entry.event));
+        let of_txn = at_key(&self.txns, txn_of(entry.event, entry.reply));
+        (on_item, of_txn, self.on_item.len() as u32 + 1)
+    }
+
+    /// Adds an entry, for which there is room.
+    pub fn add(&mut self, entry: Entry)
+        requires { HasRoom self.old }
+        ensures { (n : ℕ) (es : List Entry) → AreLinks n es self.old → IsFit n es → IsNumbered es entry.event entry.reply → AreLinks n (es ++ entry ∷ []) self.new }
+    {
+        let (on_item, of_txn, code) = self.next(entry);
+        let _ = self.on_item.push(on_item);
+        let _ = self.of_txn.push(of_txn);
+        if !entry.is_refused() {
+            self.note(entry.event, code);
+        }
+    }
+
+    /// The place of the accepted operation before the one at a place, on the same item.
+    pub fn earlier_on_item(&self, i: u64) -> Option<u64>
+        ensures { (n : ℕ) (es : List Entry) → AreLinks n es self.now → result ≡ earlier accepted_item item_in es i }
+    {
+        place(at(&self.on_item, i))
+    }
+
+    /// The place of the accepted entry before the one at a place, of the same transaction.
+    pub fn earlier_of_txn(&self, i: u64) -> Option<u64>
+        ensures { (n : ℕ) (es : List Entry) → AreLinks n es self.now → result ≡ earlier accepted_txn txn_in es i }
+    {
+        place(at(&self.of_txn, i))
+    }
+
+    /// The place of the last accepted operation on an item.
+    pub fn last_on_item(&self, x: u32) -> Option<u64>
+        ensures { (n : ℕ) (es : List Entry) → AreLinks n es self.now → IsFit n es → result ≡ last_place accepted_item x es }
+    {
+        place(at_key(&self.items, Some(x)))
+    }
+
+    /// The place of the last accepted entry of a transaction.
+    pub fn last_of_txn(&self, t: u32) -> Option<u64>
+        ensures { (n : ℕ) (es : List Entry) → AreLinks n es self.now → IsFit n es → result ≡ last_place accepted_txn t es }
+    {
+        place(at_key(&self.txns, Some(t)))
+    }
+
+    /// What is known of a transaction, if it has begun.
+    pub fn facts(&self, t: u32) -> Option<Facts>
+        ensures { (n : ℕ) (es : List Entry) → AreLinks n es self.now → IsFit n es → result ≡ facts_of es t }
+    {
+        if t == 0 {
+            return None;
+        }
+        match self.begins.get(t as usize - 1) {
+            None => None,
+            Some(begin) => Some(Facts {
+                query: begin.query,
+                limit: begin.limit,
+                end: place(at_key(&self.ends, Some(t))),
+            }),
+        }
+    }
+}
+
+/// What a table has at a place, 0 past its end.
+fn at(table: &[u32], i: u64) -> u32
+    ensures { result ≡ slice_index_or table.now i 0 }
+{
+    table.get(i as usize).copied().unwrap_or(0)
+}

@@ -1,0 +1,58 @@
+-- Weights of items, and the distance that they give, with its laws.
+use Rattle.std.specs.Prelude.{◌≡◌, ℕ, ℤ, ◌+◌, ◌*◌, ◌^◌, ◌≤◌, Bool, true, false, ◌&&◌, cond, nat_le, List, slice_index_or}
+use Rattle.std.proofs.Common.{◌∙◌, sym, ap, arith}
+use Rattle.std.proofs.lemmas.Bool.Decides.{nat_tests}
+use Rattle.std.proofs.Math.Nat.{mul-add, mul-zero, mul-le-mul, mul-le-mul_left, eq_of_mul-eq-mul_left}
+use Rattle.esr_items.specs.Values.{gap, IsValue}
+use Rattle.esr_items.specs.Gaps.{gap-zero, gap-same, gap_comm, gap-triangle, gap-most}
+
+-- a weight that an item may have
+abbrev pub IsWeight : ℕ → Type 0
+IsWeight w = (1 ≤ w) × (w ≤ 1000)
+
+-- the same as a test
+abbrev pub is_weight : ℕ → Bool
+is_weight w = nat_le 1 w && nat_le w 1000
+
+-- the weight, or 1 in place of what is none
+abbrev pub weight_or_one : ℕ → ℕ
+weight_or_one w = cond (is_weight w) w 1
+
+-- the weight of item x: 1 past the list
+abbrev pub weight_of : List ℕ → ℕ → ℕ
+weight_of weights x = weight_or_one (slice_index_or weights x 1)
+
+-- the distance of two values of item x: their difference times the item's weight
+abbrev pub weighted : List ℕ → ℕ → ℤ → ℤ → ℕ
+weighted weights x a b = weight_of weights x * gap a b
+
+-- ---- laws
+
+pub weight-least : (w : ℕ) → 1 ≤ weight_or_one w
+weight-least w = grind (arith, nat_tests)
+
+pub weight-most : (w : ℕ) → weight_or_one w ≤ 1000
+weight-most w = grind (arith, nat_tests)
+
+pub weighted-zero : (weights : List ℕ) (x : ℕ) (a b : ℤ) → weighted weights x a b ≡ 0 → a ≡ b
+weighted-zero weights x a b h =
+    let w = weight_of weights x in
+    gap-zero a b (eq_of_mul-eq-mul_left w (weight-least (slice_index_or weights x 1)) (gap a b) 0 (h ∙ sym (mul-zero w)))
+
+pub weighted-same : (weights : List ℕ) (x : ℕ) (a : ℤ) → weighted weights x a a ≡ 0
+weighted-same weights x a = ap (λ n. weight_of weights x * n) (gap-same a) ∙ mul-zero (weight_of weights x)
+
+pub weighted_comm : (weights : List ℕ) (x : ℕ) (a b : ℤ) → weighted weights x a b ≡ weighted weights x b a
+weighted_comm weights x a b = ap (λ n. weight_of weights x * n) (gap_comm a b)
+
+pub weighted-triangle : (weights : List ℕ) (x : ℕ) (a b c : ℤ) → weighted weights x a c ≤ weighted weights x a b + weighted weights x b c
+weighted-triangle weights x a b c =
+    let w = weight_of weights x in
+    let apart : w * (gap a b + gap b c) ≡ w * gap a b + w * gap b c = mul-add w (gap a b) (gap b c) in
+    let most : w * gap a c ≤ w * (gap a b + gap b c) = mul-le-mul_left w (gap-triangle a b c) in
+    omega (arith, apart, most)
+
+pub weighted-bounded : (weights : List ℕ) (x : ℕ) (a b : ℤ) → IsValue a → IsValue b → weighted weights x a b ≤ 2 * 10 ^ 15
+weighted-bounded weights x a b ha hb =
+    let most : weight_of weights x * gap a b ≤ 1000 * (2 * 10 ^ 12) = mul-le-mul (weight-most (slice_index_or weights x 1)) (gap-most a b ha hb) in
+    omega (arith, most)

@@ -1,0 +1,163 @@
+-- The steps at the places of some updates are the steps of the whole log.
+use Rattle.std.proofs.Common.{◌≡◌, ℕ, zero, suc, ◌+◌, ◌<◌, ◌≤◌, Bool, true, false, List, [], ◌∷◌, length, map, refl, sym, ◌∙◌, ap, subst, arith, inl, inr, ⊎_elim, Option, Some, None, Contains}
+use Rattle.std.specs.Prelude.{if◌then◌else◌}
+use Rattle.std.specs.List.{filter_map, cons_option, slice_get, range_with_len}
+use Rattle.std.specs.List.Sorted.{IsStrictlyIncreasing}
+use Rattle.std.specs.Option.{option_map}
+use Rattle.std.proofs.lemmas.Bool.{cases_order, cases_Bool, eq-eqb}
+use Rattle.std.proofs.lemmas.Option.{same_Some}
+use Rattle.std.proofs.lemmas.List.Kept.{AllPairs-from_increasing}
+use Rattle.esr_history.specs.declared.event.Event.{Event}
+use Rattle.esr_history.specs.declared.event.Event.TheVariants.{BeginUpdate, BeginQuery, Read, Write, Commit, Abort}
+use Rattle.esr_history.specs.declared.event.TxnId.{TxnId}
+use Rattle.esr_history.specs.declared.event.Reply.{Reply}
+use Rattle.esr_history.specs.declared.event.Entry.{Entry}
+use Rattle.esr_history.specs.Events.{is_refusal}
+use Rattle.esr_history.specs.Operations.{Operation, operation_of, operation_by}
+use Rattle.esr_history.specs.Links.{accepted_txn, txn_of, is_key, places_from}
+use Rattle.esr_history.proofs.Membership.{In, In-Contains, Contains-In, Pairs, Pairs-from_all, each_at, each_in}
+use Rattle.esr_order.specs.declared.scan.Step.{Step}
+use Rattle.esr_order.specs.Scans.{place_of, step_by, step_at}
+use Rattle.esr_order.specs.Listing.{IsTableOf}
+use Rattle.esr_order.proofs.Entries.{all_entries}
+
+abbrev from : {X Y : Type 0} → (X → Option Y) → Option X → Option Y
+from f None = None
+from f (Some x) = f x
+
+twice : {X Y Z : Type 0} (g : X → Option Y) (f : Y → Option Z) (xs : List X) → filter_map f (filter_map g xs) ≡ filter_map (λ x. from f (g x)) xs
+twice g f [] = refl
+twice g f (x ∷ xs) = at (g x) (twice g f xs)
+  where
+    at : (o : Option _) → filter_map f (filter_map g xs) ≡ filter_map (λ x. from f (g x)) xs → filter_map f (cons_option o (filter_map g xs)) ≡ cons_option (from f o) (filter_map (λ x. from f (g x)) xs)
+    at None rest = rest
+    at (Some y) rest = ap (cons_option (f y)) rest
+
+-- a rising list has all that a range gives, where what it lacks gives nothing
+sub_range : {Y : Type 0} (g : ℕ → Option Y) (a m : ℕ) (xs : List ℕ) → Pairs (λ i j. i < j) xs → ((i : ℕ) → In i xs → a ≤ i) → ((i : ℕ) → In i xs → i < a + m) → ((i : ℕ) → a ≤ i → i < a + m → (In i xs → ⊥) → g i ≡ None)
+    → filter_map g xs ≡ filter_map g (range_with_len a m)
+sub_range g a zero [] rise low high none = refl
+sub_range g a zero (x ∷ xs) rise low high none = let l : a ≤ x = low x (inl refl) in let h : x < a + 0 = high x (inl refl) in absurd (omega (arith, l, h))
+sub_range g a (suc m) [] rise low high none =
+    sub_range g (a + 1) m [] tt (λ i j. absurd j) (λ i j. absurd j) (λ i l h out. none i (omega arith) (omega arith) out)
+    ∙ ap (λ o. cons_option o (filter_map g (range_with_len (a + 1) m))) (sym (none a (omega arith) (omega arith) (λ j. j)))
+sub_range g a (suc m) (x ∷ xs) rise low high none =
+    let above : (i : ℕ) → In i xs → x < i = λ i j. each_at (λ j. x < j) xs i rise.0 j in
+    ⊎_elim
+    (λ e.
+    ap (cons_option (g x)) (sub_range g (a + 1) m xs rise.1 (λ i j. let l : x < i = above i j in omega (arith, l, e)) (λ i j. let h : i < a + suc m = high i (inr j) in omega (arith, h))
+    (λ i l h out. none i (omega arith) (omega arith) (λ j. ⊎_elim (λ f. absurd (omega (arith, f, e, l))) (λ k. out k) j)))
+    ∙ ap (λ y. cons_option (g y) (filter_map g (range_with_len (a + 1) m))) e)
+    (λ ne.
+    let under : a < x = ⊎_elim (λ lt. let l : a ≤ x = low x (inl refl) in absurd (omega (arith, lt, l))) (λ gt. gt) ne in
+    sub_range g (a + 1) m (x ∷ xs) rise (λ i j. ⊎_elim (λ f. omega (arith, f, under)) (λ k. let l : x < i = above i k in omega (arith, l, under)) j) (λ i j. let h : i < a + suc m = high i j in omega (arith, h))
+    (λ i l h out. none i (omega arith) (omega arith) out)
+    ∙ ap (λ o. cons_option o (filter_map g (range_with_len (a + 1) m)))
+    (sym (none a (omega arith) (omega arith) (λ j. ⊎_elim (λ f. absurd (omega (arith, f, under))) (λ k. let l : x < a = above a k in absurd (omega (arith, l, under))) j))))
+    (cases_order x a)
+
+-- what the entries at some rising places give is what all of them give, where no other gives anything
+pub sparse_pairs : {Y : Type 0} (f : Entry → Option Y) (es : List Entry) (at : List ℕ) → Pairs (λ i j. i < j) at → ((i : ℕ) → In i at → i < 0 + length es)
+    → ((i : ℕ) (e : Entry) → slice_get es i ≡ Some e → (In i at → ⊥) → f e ≡ None) → filter_map f (filter_map (slice_get es) at) ≡ filter_map f es
+sparse_pairs f es at rises inside gives =
+    twice (slice_get es) f at
+    ∙ (sub_range (λ i. from f (slice_get es i)) 0 (length es) at rises (λ i j. omega arith) inside (λ i l h out. nothing i (slice_get es i) refl out)
+    ∙ (sym (twice (slice_get es) f (range_with_len 0 (length es))) ∙ ap (filter_map f) (all_entries es)))
+  where
+    nothing : (i : ℕ) (o : Option Entry) → slice_get es i ≡ o → (In i at → ⊥) → from f o ≡ None
+    nothing i None is out = refl
+    nothing i (Some e) is out = gives i e is out
+
+pub sparse_entries : {Y : Type 0} (f : Entry → Option Y) (es : List Entry) (at : List ℕ) → IsStrictlyIncreasing at → ((i : ℕ) → In i at → i < 0 + length es)
+    → ((i : ℕ) (e : Entry) → slice_get es i ≡ Some e → (In i at → ⊥) → f e ≡ None) → filter_map f (filter_map (slice_get es) at) ≡ filter_map f es
+sparse_entries f es at rises inside gives = sparse_pairs f es at (Pairs-from_all (λ i j. i < j) at (AllPairs-from_increasing at rises)) inside gives
+
+-- the places of a key
+pub in_places : (key : Entry → Option ℕ) (k n : ℕ) (es : List Entry) (i : ℕ) (e : Entry) → slice_get es i ≡ Some e → is_key (key e) k ≡ true → In (n + i) (places_from key k n es)
+in_places key k n [] i e is has = absurd (cc)
+in_places key k n (f ∷ es) zero e is has =
+    let z : n ≡ n + 0 = omega arith in
+    let own : is_key (key f) k ≡ true = ap (λ (e : Entry). is_key (key e) k) (same_Some f e is) ∙ has in
+    subst (In (n + 0)) (sym (ap (λ b. if b then n ∷ places_from key k (n + 1) es else places_from key k (n + 1) es) own)) (inl z)
+in_places key k n (f ∷ es) (suc i) e is has =
+    let shift : n + 1 + i ≡ n + suc i = omega arith in
+    at (is_key (key f) k) (subst (λ m. In m (places_from key k (n + 1) es)) shift (in_places key k (n + 1) es i e is has))
+  where
+    at : (b : Bool) → In (n + suc i) (places_from key k (n + 1) es) → In (n + suc i) (if b then n ∷ places_from key k (n + 1) es else places_from key k (n + 1) es)
+    at true j = inr j
+    at false j = j
+
+pub places_inside : (key : Entry → Option ℕ) (k n : ℕ) (es : List Entry) (i : ℕ) → In i (places_from key k n es) → i < n + length es
+places_inside key k n [] i j = absurd j
+places_inside key k n (f ∷ es) i j = at (is_key (key f) k) j (places_inside key k (n + 1) es i)
+  where
+    at : (b : Bool) → In i (if b then n ∷ places_from key k (n + 1) es else places_from key k (n + 1) es) → (In i (places_from key k (n + 1) es) → i < n + 1 + length es) → i < n + suc (length es)
+    at true j rest = ⊎_elim (λ e. omega (arith, e)) (λ k. let l : i < n + 1 + length es = rest k in omega arith) j
+    at false j rest = let l : i < n + 1 + length es = rest j in omega arith
+
+places_above : (key : Entry → Option ℕ) (k n m : ℕ) (es : List Entry) → m ≤ n → (i : ℕ) → In i (places_from key k n es) → m ≤ i
+places_above key k n m [] l i j = absurd j
+places_above key k n m (f ∷ es) l i j = at (is_key (key f) k) j (places_above key k (n + 1) m es (omega arith) i)
+  where
+    at : (b : Bool) → In i (if b then n ∷ places_from key k (n + 1) es else places_from key k (n + 1) es) → (In i (places_from key k (n + 1) es) → m ≤ i) → m ≤ i
+    at true j rest = ⊎_elim (λ e. omega (arith, e, l)) (λ k. rest k) j
+    at false j rest = rest j
+
+-- the places of a key rise
+places_rise : (key : Entry → Option ℕ) (k n : ℕ) (es : List Entry) → Pairs (λ i j. i < j) (places_from key k n es)
+places_rise key k n [] = tt
+places_rise key k n (f ∷ es) = at (is_key (key f) k) (places_rise key k (n + 1) es)
+  where
+    at : (b : Bool) → Pairs (λ i j. i < j) (places_from key k (n + 1) es) → Pairs (λ i j. i < j) (if b then n ∷ places_from key k (n + 1) es else places_from key k (n + 1) es)
+    at true rest = (each_in (λ j. n < j) (places_from key k (n + 1) es) (λ j i. let l : n + 1 ≤ j = places_above key k (n + 1) (n + 1) es (omega arith) j i in omega arith), rest)
+    at false rest = rest
+
+-- what only entries of a key give
+pub sparse_key : {Y : Type 0} (f : Entry → Option Y) (key : Entry → Option ℕ) (k : ℕ) → ((e : Entry) → is_key (key e) k ≡ false → f e ≡ None) → (es : List Entry)
+    → filter_map f (filter_map (slice_get es) (places_from key k 0 es)) ≡ filter_map f es
+sparse_key f key k only es =
+    sparse_pairs f es (places_from key k 0 es) (places_rise key k 0 es) (places_inside key k 0 es)
+    (λ i e is out. elim (cases_Bool (is_key (key e) k)) [
+      | inl has ↦ let z : 0 + i ≡ i = omega arith in absurd (out (subst (λ j. In j (places_from key k 0 es)) z (in_places key k 0 es i e is has)))
+      | inr hasnt ↦ only e hasnt
+    ])
+
+op_txn : (ev : Event) (r : Reply) (o : Operation) → operation_by ev r ≡ Some o → txn_of ev r ≡ Some o.txn
+op_txn (BeginUpdate l) r o is = absurd (cc)
+op_txn (BeginQuery l s) r o is = absurd (cc)
+op_txn (Read t x) r o is = ap (option_map (λ (o : Operation). o.txn)) is
+op_txn (Write t x v) r o is = ap (option_map (λ (o : Operation). o.txn)) is
+op_txn (Commit t) r o is = absurd (cc)
+op_txn (Abort t) r o is = absurd (cc)
+
+module _ (txns : List TxnId) (places : List (Option ℕ)) (table : IsTableOf (map (λ t. t.0) txns) places) (es : List Entry) (at : List ℕ) (rises : IsStrictlyIncreasing at)
+    (all : (t : TxnId) → Contains txns t → (i : ℕ) → Contains (places_from accepted_txn t.0 0 es) i → Contains at i)
+    (only : (i : ℕ) → Contains at i → (t : TxnId) × Contains txns t × Contains (places_from accepted_txn t.0 0 es) i) where
+  member : (ts : List TxnId) (p u : ℕ) → slice_get (map (λ t. t.0) ts) p ≡ Some u → (t : TxnId) × In t ts × (t.0 ≡ u)
+  member [] p u is = absurd (cc)
+  member (t ∷ ts) zero u is = (t, inl refl, same_Some t.0 u is)
+  member (t ∷ ts) (suc p) u is = let r = member ts p u is in (r.0, inr r.1, r.2)
+
+  -- an entry that gives a step is at one of the places
+  gives : (i : ℕ) (e : Entry) → slice_get es i ≡ Some e → (In i at → ⊥) → step_at places e ≡ None
+  gives i e is out = cases (is_refusal e.reply) refl (operation_of e) refl
+    where
+      cases : (b : Bool) → is_refusal e.reply ≡ b → (o : Option Operation) → operation_of e ≡ o → (if b then None else step_by places o) ≡ None
+      cases true refused o op = refl
+      cases false ok None op = refl
+      cases false ok (Some o) op = placed (place_of places o.txn) refl
+        where
+          placed : (p : Option ℕ) → place_of places o.txn ≡ p → option_map (λ i. let s : Step = record { place = i; item = o.item; writes = o.writes; value = o.value } in s) p ≡ None
+          placed None none = refl
+          placed (Some p) some =
+              let m = member txns p o.txn ((table o.txn p).0 some) in
+              let key : accepted_txn e ≡ Some o.txn = ap (λ b. if b then None else txn_of e.event e.reply) ok ∙ op_txn e.event e.reply o op in
+              let has : is_key (accepted_txn e) m.0.0 ≡ true = ap (λ k. is_key k m.0.0) key ∙ eq-eqb o.txn m.0.0 (sym m.2) in
+              let z : 0 + i ≡ i = omega arith in
+              let there : In i (places_from accepted_txn m.0.0 0 es) = subst (λ j. In j (places_from accepted_txn m.0.0 0 es)) z (in_places accepted_txn m.0.0 0 es i e is has) in
+              absurd (out (Contains-In at i (all m.0 (In-Contains txns m.0 m.1) i (In-Contains (places_from accepted_txn m.0.0 0 es) i there))))
+
+  pub sparse_steps : filter_map (step_at places) (filter_map (slice_get es) at) ≡ filter_map (step_at places) es
+  sparse_steps =
+      sparse_entries (step_at places) es at rises
+      (λ i j. let r = only i (In-Contains at i j) in places_inside accepted_txn r.0.0 0 es i (Contains-In (places_from accepted_txn r.0.0 0 es) i r.2)) gives

@@ -1,0 +1,12 @@
+use Rattle.std.proofs.Common.{◌≡◌, map, take, []}
+use Rattle.std.specs.List.{range_with_len}
+use Rattle.esr_order.specs.Ties.{on_item}
+use Rattle.esr_order.proofs.split.by_item.Given as goal
+
+-- no steps yet
+abbrev pub invariant-loop-x : goal.invariant-loop-x
+invariant-loop-x l = map (λ r. r.items) l.rows.items ≡ map (λ x. on_item x []) (range_with_len 0 l.x)
+
+-- the steps so far
+abbrev pub invariant-loop-s : goal.invariant-loop-s
+invariant-loop-s l = map (λ r. r.items) l.rows.items ≡ map (λ x. on_item x (take l.s-index l.steps)) (range_with_len 0 l.items)

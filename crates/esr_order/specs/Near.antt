@@ -1,0 +1,33 @@
+-- Which updates of a query matter to what it read.
+use Rattle.std.specs.Prelude.{◌≡◌, ◌↔◌, ◌⊎◌, ℕ, Bool, IsTrue, List, [], ◌∷◌, Contains, filter}
+use Rattle.std.specs.List.{list_any}
+use Rattle.esr_history.specs.Events.{writes}
+use Rattle.esr_history.specs.Machine.{Schedule, done}
+use Rattle.esr_history.specs.Serial.{is_before}
+use Rattle.esr_history.specs.Queries.{updates_of, must, reads_by}
+use Rattle.esr_order.specs.Placements.{is_among}
+
+-- whether u wrote item x
+abbrev pub has_written : Schedule → ℕ → ℕ → Bool
+has_written h x u = list_any (writes u x) (done h)
+
+-- whether u wrote an item that q read
+abbrev pub has_written_read : Schedule → ℕ → ℕ → Bool
+has_written_read h q u = list_any (λ o. has_written h o.item u) (reads_by h q)
+
+-- a row of befores among the updates of q leads from u by these to v
+abbrev pub IsRowTo : Schedule → ℕ → ℕ → List ℕ → ℕ → Type 0
+IsRowTo h q u [] v = IsTrue (is_before h u v)
+IsRowTo h q u (w ∷ row) v = Contains (updates_of h q) w × IsTrue (is_before h u w) × IsRowTo h q w row v
+
+-- u wrote an item that q read, or a row of befores leads from u to an update of q that did, or q must see u
+abbrev pub IsNear : Schedule → ℕ → ℕ → Type 0
+IsNear h q u =
+    IsTrue (has_written_read h q u)
+    ⊎ (((row : List ℕ) × (v : ℕ) × Contains (updates_of h q) v × IsTrue (has_written_read h q v) × IsRowTo h q u row v)
+    ⊎ Contains (must h q) u)
+
+-- the near ones among the updates of q, in commit order
+pub record AreNear (h : Schedule) (q : ℕ) (us : List ℕ) : Type 0 where
+  pub in_order : us ≡ filter (is_among us) (updates_of h q)
+  pub near : (u : ℕ) → Contains us u ↔ (Contains (updates_of h q) u × IsNear h q u)

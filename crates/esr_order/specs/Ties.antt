@@ -1,0 +1,36 @@
+-- Few pairs of positions by which steps are tied like by all their clashes: on each item a step with the last write before it, and a write with the reads since the write before.
+use Rattle.std.specs.Prelude.{◌≡◌, ◌≢◌, ◌≤◌, ◌*◌, ◌==◌, ℕ, Bool, true, IsTrue, List, [], ◌∷◌, ◌++◌, Option, None, Some, All, Contains, filter, length, if◌then◌else◌, ⊤}
+use Rattle.esr_order.specs.declared.scan.Step.{Step}
+use Rattle.esr_order.specs.Listing.{is_pair}
+
+-- the pair of two positions, none of a position with itself
+abbrev pub pair_of : ℕ → ℕ → List (ℕ × ℕ)
+pair_of i j = if i == j then [] else (i, j) ∷ []
+
+abbrev pub last_pair : Option ℕ → ℕ → List (ℕ × ℕ)
+last_pair None j = []
+last_pair (Some i) j = pair_of i j
+
+abbrev pub pairs_to : List ℕ → ℕ → List (ℕ × ℕ)
+pairs_to [] j = []
+pairs_to (i ∷ is) j = pair_of i j ++ pairs_to is j
+
+-- the steps on item x
+abbrev pub on_item : ℕ → List Step → List Step
+on_item x steps = filter (λ s. s.item == x) steps
+
+-- S has, with the second of each pair, the first
+abbrev pub IsDownward : (ℕ → Bool) → List (ℕ × ℕ) → Type 0
+IsDownward S pairs = All (λ p. IsTrue (S p.1) → IsTrue (S p.0)) pairs
+
+-- each two writes in a row, of two updates, are a pair
+abbrev pub AreNextPaired : List (ℕ × ℕ) → List Step → Type 0
+AreNextPaired pairs [] = ⊤
+AreNextPaired pairs (a ∷ []) = ⊤
+AreNextPaired pairs (a ∷ b ∷ steps) = (a.place ≢ b.place → Contains pairs (a.place, b.place)) × AreNextPaired pairs (b ∷ steps)
+
+-- The pairs are clashes of the steps, at most two for each, and a set that is closed by them is closed by all clashes.
+pub record IsTied (steps : List Step) (pairs : List (ℕ × ℕ)) : Type 0 where
+  pub sound : All (λ p. is_pair steps p.0 p.1 ≡ true) pairs
+  pub closed : (S : ℕ → Bool) → IsDownward S pairs → (i j : ℕ) → is_pair steps i j ≡ true → IsTrue (S j) → IsTrue (S i)
+  pub few : length pairs ≤ 2 * length steps

@@ -1,0 +1,63 @@
+//! Walks along the links of a history.
+ghost use Rattle.std.specs.Prelude.{◌≡◌, ℕ, reverse, IfOk, Contains};
+ghost use Rattle.std.specs.List.Sorted.{IsStrictlyIncreasing};
+ghost use Rattle.esr_history.specs.declared.event.TxnId.{TxnId};
+ghost use Rattle.esr_history.specs.Links.{accepted_item, accepted_txn, places_from};
+
+use esr_history::{History, TxnId};
+use esr_items::{ItemId, Metric};
+use std::alloc::{AllocError, Global};
+
+/// The places of the accepted entries of a transaction, the last first.
+pub fn places_of_txn<M: Metric>(
+    alloc: Global,
+    history: &History<M>,
+    t: TxnId,
+) -> Result<Vec<u64>, AllocError>
+    ensures { IfOk result (λ v. reverse v.items ≡ places_from accepted_txn t.0 0 history.now.schedule.entries) }
+{
+    let mut places = Vec::new(alloc);
+    let mut next = history.last_of_txn(t);
+    while let Some(i) = next {
+        places.push(i)?;
+        next = history.earlier_of_txn(i);
+    }
+    Ok(places)
+}
+
+/// The places of the accepted operations on an item, the last first.
+pub fn places_on_item<M: Metric>(
+    alloc: Global,
+    history: &History<M>,
+    x: ItemId,
+) -> Result<Vec<u64>, AllocError>
+    ensures { IfOk result (λ v. reverse v.items ≡ places_from accepted_item x.0 0 history.now.schedule.entries) }
+{
+    let mut places = Vec::new(alloc);
+    let mut next = history.last_on_item(x);
+    while let Some(i) = next {
+        places.push(i)?;
+        next = history.earlier_on_item(i);
+    }
+    Ok(places)
+}
+
+/// The places of the accepted entries of these transactions, in order.
+pub fn places_among<M: Metric>(
+    alloc: Global,
+    history: &History<M>,
+    txns: &[TxnId],
+) -> Result<Vec<u64>, AllocError>
+    ensures rises { IfOk result (λ v. IsStrictlyIncreasing v.items) }
+    ensures all { IfOk result (λ v. (t : TxnId) → Contains txns.now t → (i : ℕ) → Contains (places_from accepted_txn t.0 0 history.now.schedule.entries) i → Contains v.items i) }
+    ensures only { IfOk result (λ v. (i : ℕ) → Contains v.items i → (t : TxnId) × Contains txns.now t × Contains (places_from accepted_txn t.0 0 history.now.schedule.entries) i) }
+{
+    let mut places = Vec::new(alloc);
+    for t in txns {
+        let mut own = places_of_txn(alloc, history, *t)?;
+        places.append(&mut own)?;
+    }
+    places.sort_unstable();
+    places.dedup();
+    Ok(places)
+}

@@ -1,0 +1,85 @@
+-- Each end of the audit of a script.
+use Rattle.std.proofs.Common.{◌≡◌, ℕ, ◌+◌, ◌<◌, true, false, List, [], ◌∷◌, ◌++◌, Bool, length, take, map, get_or, refl, sym, ◌∙◌, ap, subst, Option, Result, Ok, Err, OnOk, IfErr, Vec, append_assoc, append-nil}
+use Rattle.std.specs.Prelude.{◌↔◌, IsOk}
+use Rattle.std.specs.List.{flat_map}
+use Rattle.std.specs.declared.alloc.Global.{Global}
+use Rattle.std.specs.Io.KnownBytes.{Appends}
+use Rattle.std.proofs.lemmas.List.{take_more}
+use Rattle.std.proofs.lemmas.Grind.{flat_map-append}
+use Rattle.esr_history.specs.Machine.{Schedule}
+use Rattle.esr_history.specs.Serial.{committed_updates}
+use Rattle.esr_history.specs.Totals.{all_imports, all_exports}
+use Rattle.esr_audit.specs.Findings.{told_of, committed_queries}
+use Rattle.esr_report.specs.Lines.{BeginsWith, order_line, totals_line}
+use Rattle.esr_script.specs.declared.fault.RunFault.{RunFault}
+use Rattle.esr_script.specs.declared.fault.RunFault.TheVariants as fault
+use Rattle.esr_items.specs.Weights.{weighted}
+use Rattle.esr_script.specs.Text.{State}
+use Rattle.esr_script.specs.Audit.{told_line, audit_output, IsAuditedBy}
+use Rattle.esr_script.specs.Replays.{IsReplay, IsAuditReady}
+
+module _ (input : List ℕ) (left : Option (List ℕ)) (s : State) where
+  pub ready_fault : (f : RunFault) → IsReplay input left (Err f) s → IsAuditReady input left (Err f)
+  ready_fault fault.Read h = tt
+  ready_fault fault.Write h = absurd h
+  ready_fault fault.NoMemory h = tt
+  ready_fault fault.LineTooLong h = h
+  ready_fault fault.HistoryFull h = h
+  ready_fault fault.TooManyLines h = h
+  ready_fault fault.NotACommittedQuery h = absurd h
+
+  pub ready : (v : Vec ℕ Global) → IsReplay input left (Ok tt) s → v.items ≡ audit_output s → IsAuditReady input left (Ok v)
+  ready v h is = (h.0, h.1, is ∙ ap audit_output (sym h.2))
+
+pub audited_fault : (input : List ℕ) (left : Option (List ℕ)) (f : RunFault) → IsAuditReady input left (Err f) → IsAuditedBy input left (Err f) []
+audited_fault input left fault.Read h = refl
+audited_fault input left fault.Write h = absurd h
+audited_fault input left fault.NoMemory h = refl
+audited_fault input left fault.LineTooLong h = (h, refl)
+audited_fault input left fault.HistoryFull h = (h, refl)
+audited_fault input left fault.TooManyLines h = (h, refl)
+audited_fault input left fault.NotACommittedQuery h = absurd h
+
+-- the whole was sent, or a prefix of it
+pub audited_sent : (input : List ℕ) (left : Option (List ℕ)) (v : Vec ℕ Global) → IsAuditReady input left (Ok v)
+    → (r : Result (Unit {0}) RunFault) (old new : Option (List ℕ)) (out : List ℕ) → OnOk r ((out ≡ []) × Appends old new v.items)
+    → IfErr r (λ e. (e ≡ fault.Write) × ((sent : List ℕ) × BeginsWith v.items sent × Appends old new sent))
+    → (written : List ℕ) × Appends old new written × IsAuditedBy input left r written
+audited_sent input left v h (Ok u) old new out ok err = (v.items, ok.1, (h.0, h.1, h.2))
+audited_sent input left v h (Err e) old new out ok err =
+    let part = err.1 in
+    (part.0, part.2, subst (λ (f : RunFault). IsAuditedBy input left (Err f) part.0) (sym err.0) (h.1, (part.1.0, sym h.2 ∙ part.1.1)))
+
+-- ---- the lines
+
+-- one line more
+pub lines_more : {X : Type 0} (f : X → List ℕ) (xs : List X) (i : ℕ) (x : X) (old mid all : List ℕ)
+    → mid ≡ old ++ flat_map f (take i xs) → i < length xs → x ≡ get_or xs i x → all ≡ mid ++ f x → all ≡ old ++ flat_map f (take (i + 1) xs)
+lines_more f xs i x old mid all so_far lt is more =
+    more ∙ (ap (λ l. l ++ f x) so_far ∙ (append_assoc old (flat_map f (take i xs)) (f x)
+    ∙ ap (λ l. old ++ l) (sym (ap (flat_map f) (take_more xs i x lt ∙ ap (λ y. take i xs ++ y ∷ []) (sym is)) ∙ (flat_map-append f (take i xs) (x ∷ []) ∙ ap (λ l. flat_map f (take i xs) ++ l) (append-nil (f x)))))))
+
+pub lines_of_map : {X Y : Type 0} (f : Y → List ℕ) (g : X → Y) (xs : List X) → flat_map (λ (x : X). f (g x)) xs ≡ flat_map f (map g xs)
+lines_of_map f g [] = refl
+lines_of_map f g (x ∷ xs) = ap (λ l. f (g x) ++ l) (lines_of_map f g xs)
+
+-- the lines of a book over a history are the output of a state with this history
+pub book_lines : {E : Type 0} (r : Result (Unit {0}) RunFault) (p : Result (Unit {0}) E) (items names : List (List ℕ)) (was : Bool) (h0 h : Schedule) (s : State)
+    (order : List ℕ) (tolds : List (ℕ × ℕ × ℕ × List ℕ)) (imports exports entries : ℕ) (out grown : List ℕ)
+    → record { items = items; transactions = names; closed = was; history = h0 } ≡ s → h ≡ h0
+    → order ≡ committed_updates h → tolds ≡ map (told_of weighted h) (committed_queries h) → imports ≡ all_imports weighted h → exports ≡ all_exports weighted h → entries ≡ length h.entries
+    → IsOk r ↔ IsOk p → OnOk p (grown ≡ out ++ order_line names order ++ flat_map (told_line names) tolds ++ totals_line imports exports entries)
+    → OnOk r (grown ≡ out ++ audit_output s)
+book_lines {E} r p items names was h0 h s order tolds imports exports entries out grown seen same o t i e n said lines = ended r p said lines
+  where
+    whole : order_line names order ++ flat_map (told_line names) tolds ++ totals_line imports exports entries ≡ audit_output s
+    whole = (λ j. order_line names (o j) ++ flat_map (told_line names) (t j) ++ totals_line (i j) (e j) (n j))
+        ∙ ap (λ k. audit_output (record { items = items; transactions = names; closed = was; history = k })) same ∙ ap audit_output seen
+
+    ended : (r : Result (Unit {0}) RunFault) (p : Result (Unit {0}) E) → IsOk r ↔ IsOk p
+        → OnOk p (grown ≡ out ++ order_line names order ++ flat_map (told_line names) tolds ++ totals_line imports exports entries) → OnOk r (grown ≡ out ++ audit_output s)
+    ended (Err f) p said lines = tt
+    ended (Ok u) (Err f) said lines = let none : false ≡ true = said.0 refl in cc
+    ended (Ok u) (Ok v) said lines =
+        lines ∙ ap (λ l. l ++ totals_line imports exports entries) (append_assoc out (order_line names order) (flat_map (told_line names) tolds))
+        ∙ append_assoc out (order_line names order ++ flat_map (told_line names) tolds) (totals_line imports exports entries) ∙ ap (λ l. out ++ l) whole

@@ -1,0 +1,99 @@
+//! Audits a whole script: it is run without its output, and the serial order, what is found of each committed query,
+//! and the totals are written.
+
+ghost use Rattle.std.specs.Prelude.{◌≡◌, ◌≤◌, ℕ, List, [], Some, false};
+ghost use Rattle.std.specs.Io.KnownBytes.{Appends};
+ghost use Rattle.esr_history.specs.Watch.{inner, failed};
+ghost use Rattle.esr_script.specs.Audit.{IsAuditedBy};
+ghost use Rattle.esr_script.specs.Parts.{is_read_fault, is_write_fault};
+ghost use Rattle.esr_script.specs.Replays.{IsAuditReady};
+ghost use Rattle.esr_script.specs.Text.{start};
+
+use crate::certifying::replay;
+use crate::fault::RunFault;
+use crate::pending::Pending;
+use crate::script::Script;
+use crate::sending::send_all;
+use esr_history::Watched;
+use std::alloc::Global;
+use std::io::{Read, Write};
+use std::thread::Threads;
+
+/// The output, with these buffers.
+fn prepare_with<T: Threads + Sync, R: Read>(
+    rt: &T,
+    alloc: Global,
+    reader: &mut Watched<R>,
+    pending: &mut Pending,
+    script: &mut Script,
+    workers: u64,
+) -> Result<Vec<u8>, RunFault>
+    requires pending { pending.old ≡ [] }
+    requires script { script.old ≡ start }
+    requires reader { failed reader.old ≡ false }
+    requires workers { (1 ≤ workers) × (workers ≤ 64) }
+    ensures ready { (input : List ℕ) → R.remaining (inner reader.old) ≡ Some input
+        → IsAuditReady input (R.remaining (inner reader.new)) result }
+    ensures reader { failed reader.new ≡ is_read_fault result }
+    ensures write { is_write_fault result ≡ false }
+{
+    let mut dropped = Vec::new(alloc);
+    if let Err(fault) = replay(reader, pending, script, &mut dropped) {
+        return Err(fault);
+    }
+    let mut out = Vec::new(alloc);
+    match script.audit_all(rt, workers, &mut out) {
+        Ok(()) => Ok(out),
+        Err(fault) => Err(fault),
+    }
+}
+
+/// The output.
+fn prepare<T: Threads + Sync, R: Read>(
+    rt: &T,
+    alloc: Global,
+    reader: &mut Watched<R>,
+    workers: u64,
+) -> Result<Vec<u8>, RunFault>
+    requires reader { failed reader.old ≡ false }
+    requires workers { (1 ≤ workers) × (workers ≤ 64) }
+    ensures ready { (input : List ℕ) → R.remaining (inner reader.old) ≡ Some input
+        → IsAuditReady input (R.remaining (inner reader.new)) result }
+    ensures reader { failed reader.new ≡ is_read_fault result }
+    ensures write { is_write_fault result ≡ false }
+{
+    let Ok(mut pending) = Pending::new(alloc) else {
+        return Err(RunFault::NoMemory);
+    };
+    let mut script = Script::new(alloc);
+    prepare_with(rt, alloc, reader, &mut pending, &mut script, workers)
+}
+
+/// Runs a script without writing its output, audits its whole history by so many workers, 1 to 64, and writes the
+/// committed updates in a serial order, what is found of each committed query, and the totals.
+///
+/// # Errors
+/// `LineTooLong`, `HistoryFull` and `TooManyLines` where `run` would end so. After a fault other than `Write` nothing
+/// was written, after `Write` a prefix of the output. `NotACommittedQuery` never comes.
+pub fn audit<T: Threads + Sync, R: Read, W: Write>(
+    rt: &T,
+    alloc: Global,
+    reader: &mut Watched<R>,
+    writer: &mut Watched<W>,
+    workers: u64,
+) -> Result<(), RunFault>
+    requires reader { failed reader.old ≡ false }
+    requires writer { failed writer.old ≡ false }
+    requires workers { (1 ≤ workers) × (workers ≤ 64) }
+    ensures text { (input : List ℕ) → R.remaining (inner reader.old) ≡ Some input → (written : List ℕ)
+        × Appends (W.contents (inner writer.old)) (W.contents (inner writer.new)) written
+        × IsAuditedBy input (R.remaining (inner reader.new)) result written }
+    ensures reader { failed reader.new ≡ is_read_fault result }
+    ensures writer { failed writer.new ≡ is_write_fault result }
+{
+    let mut out = match prepare(rt, alloc, reader, workers) {
+        Ok(out) => out,
+        Err(fault) => return Err(fault),
+    };
+    send_all(&mut out, writer)
+}

@@ -1,0 +1,83 @@
+//! Whole scripts audited.
+
+use crate::{RunFault, audit};
+use esr_history::Watched;
+use std::alloc::Global;
+use std::process::Abort;
+use std::test::Fail;
+use std::thread::Threads;
+
+/// Scripts, and the audit of each.
+const AUDITS: [(&str, &str); 7] = [
+    ("", "order -\ntotals import 0 export 0 entries 0\n"),
+    (
+        "item a 1\nitem b 2\n",
+        "order -\ntotals import 0 export 0 entries 0\n",
+    ),
+    (
+        "item a 100\nbegin u update 0\nwrite u a 105\nread u a\ncommit u\n",
+        "order u\ntotals import 0 export 0 entries 4\n",
+    ),
+    (
+        "item a 100\nbegin u update 50\nbegin q query 10\nwrite u a 107\nread q a\ncommit u\ncommit q\naudit q\ntotals\n",
+        "order u\naudit q distance 0 import 7 before u\ntotals import 7 export 7 entries 6\n",
+    ),
+    (
+        "item a 0\nitem b 0\nbegin q query 100\nbegin u1 update 100\nbegin u2 update 100\nread q a\nwrite u1 a 10\naudit q\ncommit u1\nwrite u2 a 1\nwrite u2 b 8\ncommit u2\nread q b\ncommit q\naudit q\n",
+        "order u1,u2\naudit q distance 1 import 19 before u1,u2\ntotals import 19 export 19 entries 11\n",
+    ),
+    (
+        "item a 0\nitem b 0\nbegin q query 100\nbegin u1 update 100\nbegin u2 update 100\nread q a\nwrite u1 a 10\ncommit u1\nwrite u2 a 1\nwrite u2 b 8\ncommit u2\nread q b\nbegin r query 0\nread r a\ncommit r\ncommit q",
+        "order u1,u2\naudit r distance 0 import 0 before u1,u2\naudit q distance 1 import 19 before u1,u2\ntotals import 19 export 19 entries 14\n",
+    ),
+    (
+        "item a 1\nbegin u update 0\nwrite u a 5\nabort u\nbegin q query 0\nread q a\nhello\n",
+        "order -\ntotals import 0 export 0 entries 5\n",
+    ),
+];
+
+/// Audits a script by so many workers, and compares what is written.
+fn audits<R: Abort + Threads + Sync>(
+    rt: &R,
+    alloc: Global,
+    script: &str,
+    workers: u64,
+    ends: Result<(), RunFault>,
+    output: &str,
+) {
+    let mut reader = Watched::new(script.as_bytes());
+    let mut writer = Watched::new(Vec::new(alloc));
+    if workers < 1 || workers > 64 {
+        panic!(rt; "1 to 64 workers")
+    }
+    let ended = audit(rt, alloc, &mut reader, &mut writer, workers);
+    assert!(rt; ended == ends, "the audit ends so");
+    assert!(rt;
+        writer.inner().as_slice() == output.as_bytes(),
+        "{} is written",
+        output
+    );
+}
+
+#[test]
+fn scripts_are_audited(rt: HostRuntime) {
+    for (script, output) in &AUDITS {
+        for workers in [1, 4, 64] {
+            audits(&rt, rt.alloc(), script, workers, Ok(()), output);
+        }
+    }
+}
+
+#[test]
+fn a_fault_leaves_nothing_written(rt: HostRuntime) -> Result<(), Fail> {
+    let mut script = Vec::new(rt.alloc());
+    script.extend_from_slice(b"item a 1\n")?;
+    for _ in 0..201 {
+        script.push(b'x')?;
+    }
+    let mut reader = Watched::new(script.as_slice());
+    let mut writer = Watched::new(Vec::new(rt.alloc()));
+    let ended = audit(&rt, rt.alloc(), &mut reader, &mut writer, 2);
+    assert!(rt; ended == Err(RunFault::LineTooLong) && writer.inner().is_empty());
+    Ok(())
+}

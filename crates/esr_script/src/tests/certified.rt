@@ -1,0 +1,156 @@
+//! Queries certified.
+
+use super::failing::{Cut, Narrow, Way};
+use crate::{RunFault, certify, certify_steps};
+use esr_history::Watched;
+use std::alloc::{AllocError, Global};
+use std::process::Abort;
+use std::test::Fail;
+
+const THIRD_ITEM: &str =
+    "item a 0\nitem b 0\nitem c 0\nbegin q query 9\nbegin u1 update 9\nbegin u2 update 9\nread q a\nwrite u1 a 6\nwrite u1 c 1\ncommit u1\nread u2 c\nwrite u2 b 2\ncommit u2\nread q b\ncommit q\naudit q\n";
+
+const BUNDLE: &str =
+    "{\"certificate\":{\"back_flow\":[2],\"chain_flow\":[[0,2],[2,0]],\"set\":[],\"worth\":2},\"problem\":{\"before\":[[0,1]],\"chains\":[{\"costs\":[0,6],\"item\":0,\"writers\":[0]},{\"costs\":[2,0],\"item\":1,\"writers\":[1]}],\"updates\":[2,3]}}\n";
+
+const LITTLE: &str =
+    "item a 7\nbegin q query 0\ncommit q\naudit q\nbegin r query 0\nread r a\ncommit r\naudit r\naudit a\n";
+
+/// Two scripts whose queries are not certified, with the fault that ends the run.
+const CUT_SHORT: [(&str, RunFault); 2] = [
+    (
+        "item a 0\nbegin q query 9\ncommit q\naaaaaaaaaaaaaaaaaaaaaaaaaaaaaaaaaaaaaaaaaaaaaaaaaaaaaaaaaaaaaaaaaaaaaaaaaaaaaaaaaaaaaaaaaaaaaaaaaaaaaaaaaaaaaaaaaaaaaaaaaaaaaaaaaaaaaaaaaaaaaaaaaaaaaaaaaaaaaaaaaaaaaaaaaaaaaaaaaaaaaaaaaaaaaaaaaaaaaaaaaaaa\n",
+        RunFault::LineTooLong,
+    ),
+    (
+        "item a 0\nbegin q query 9\nread q a\n",
+        RunFault::NotACommittedQuery,
+    ),
+];
+
+fn certified(
+    rt: &impl Abort,
+    alloc: Global,
+    script: &str,
+    name: &str,
+    steps: bool,
+    ends: Result<(), RunFault>,
+    text: &str,
+) {
+    let mut reader = Watched::new(script.as_bytes());
+    let mut writer = Watched::new(Vec::new(alloc));
+    let ended = if steps {
+        certify_steps(alloc, &mut reader, &mut writer, name)
+    } else {
+        certify(alloc, &mut reader, &mut writer, name)
+    };
+    assert!(rt; ended == ends, "{} ends so", name);
+    assert!(rt;
+        writer.inner().as_slice() == text.as_bytes(),
+        "{} is certified so",
+        name
+    );
+}
+
+#[test]
+fn order_through_a_third_item_is_certified(rt: HostRuntime) {
+    certified(&rt, rt.alloc(), THIRD_ITEM, "q", false, Ok(()), BUNDLE);
+    certified(
+        &rt,
+        rt.alloc(),
+        THIRD_ITEM,
+        "q",
+        true,
+        Ok(()),
+        "{\"certificate\":{\"augmentations\":1,\"back_flow\":[2],\"chain_flow\":[[0,2],[2,0]],\"set\":[],\"worth\":2},\"problem\":{\"before\":[[0,1]],\"chains\":[{\"costs\":[0,6],\"item\":0,\"writers\":[0]},{\"costs\":[2,0],\"item\":1,\"writers\":[1]}],\"updates\":[2,3]}}\n",
+    );
+}
+
+#[test]
+fn queries_that_read_little_are_certified(rt: HostRuntime) {
+    certified(
+        &rt,
+        rt.alloc(),
+        LITTLE,
+        "q",
+        false,
+        Ok(()),
+        "{\"certificate\":{\"back_flow\":[],\"chain_flow\":[],\"set\":[],\"worth\":0},\"problem\":{\"before\":[],\"chains\":[],\"updates\":[]}}\n",
+    );
+    certified(
+        &rt,
+        rt.alloc(),
+        LITTLE,
+        "r",
+        false,
+        Ok(()),
+        "{\"certificate\":{\"back_flow\":[],\"chain_flow\":[[0]],\"set\":[],\"worth\":0},\"problem\":{\"before\":[],\"chains\":[{\"costs\":[0],\"item\":0,\"writers\":[]}],\"updates\":[]}}\n",
+    );
+}
+
+#[test]
+fn what_is_no_committed_query_is_refused(rt: HostRuntime) {
+    let refused = Err(RunFault::NotACommittedQuery);
+    // The name of an item, a word that is no name, the name of an update, and a name in an empty script.
+    certified(&rt, rt.alloc(), LITTLE, "a", false, refused, "");
+    certified(&rt, rt.alloc(), LITTLE, "no name", true, refused, "");
+    certified(&rt, rt.alloc(), THIRD_ITEM, "u1", false, refused, "");
+    certified(&rt, rt.alloc(), "", "q", false, refused, "");
+}
+
+#[test]
+fn nothing_is_written_after_a_fault(rt: HostRuntime) {
+    for (script, fault) in &CUT_SHORT {
+        certified(&rt, rt.alloc(), script, "q", false, Err(*fault), "");
+        certified(&rt, rt.alloc(), script, "q", true, Err(*fault), "");
+    }
+}
+
+#[test]
+fn each_read_fails_in_turn(rt: HostRuntime) {
+    let alloc = rt.alloc();
+    for left in 0..THIRD_ITEM.len() + 1 {
+        let mut reader = Watched::new(Cut {
+            rest: THIRD_ITEM.as_bytes(),
+            left,
+        });
+        let mut writer = Watched::new(Vec::new(alloc));
+        let ended = certify(alloc, &mut reader, &mut writer, "q");
+        assert!(rt; ended == Err(RunFault::Read) && reader.failed() && !writer.failed());
+        assert!(rt; writer.inner().is_empty());
+    }
+}
+
+/// Whether the bundle is written by a writer that fails at this call.
+fn is_written(rt: &impl Abort, alloc: Global, left: usize, way: Way) -> Result<bool, AllocError> {
+    let mut reader = Watched::new(THIRD_ITEM.as_bytes());
+    let mut writer = Watched::new(Narrow {
+        taken: Vec::new(alloc),
+        left,
+        way,
+    });
+    let ended = certify(alloc, &mut reader, &mut writer, "q");
+    let text = writer.inner().taken.as_slice();
+    assert!(rt; ended == Ok(()) || ended == Err(RunFault::Write));
+    assert!(rt; writer.failed() == (ended != Ok(())) && !reader.failed());
+    assert!(rt; BUNDLE.as_bytes().starts_with(text));
+    assert!(rt; ended != Ok(()) || text.len() == BUNDLE.len());
+    Ok(ended == Ok(()))
+}
+
+#[test]
+fn each_write_fails_in_turn(rt: HostRuntime) -> Result<(), Fail> {
+    let alloc = rt.alloc();
+    // Three bytes a call, and a flush.
+    let calls = BUNDLE.len().div_ceil(3) + 1;
+    for left in 0..calls + 2 {
+        let written = is_written(&rt, alloc, left, Way::Errs)?;
+        let taken = is_written(&rt, alloc, left, Way::TakesNone)?;
+        assert!(rt;
+            written == (left >= calls) && taken == written,
+            "{} calls",
+            left
+        );
+    }
+    Ok(())
+}

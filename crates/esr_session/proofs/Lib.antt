@@ -1,0 +1,5 @@
+pub mod Calls
+pub mod Lists
+pub mod Counts
+pub mod Good
+pub mod Prefix

@@ -1,0 +1,9 @@
+use Rattle.std.proofs.Common.{[], map}
+use Rattle.esr_session.proofs.tests.four_sessions.Given as goal
+
+-- which engine it is
+abbrev pub ghosts-begin_and_commit-N-Naming : goal.ghosts-begin_and_commit-N-Naming
+ghosts-begin_and_commit-N-Naming g a = record { opening = map (λ w. w.committed) a.items; weights = [] }
+
+abbrev pub ghosts-begin_and_commit-N-Ledger : goal.ghosts-begin_and_commit-N-Ledger
+ghosts-begin_and_commit-N-Ledger g a = record { name = a.blank.name; parts = a.blank.parts }

@@ -1,0 +1,127 @@
+-- Receipts of answered calls, and lists of receipts that match a history.
+use Rattle.std.specs.Prelude.{◌≡◌, ℕ, ◌+◌, ◌<◌, ◌≤◌, ◌==◌, Bool, true, false, IsTrue, List, [], ◌∷◌, ◌++◌, length, slice_get, count_by, All, Option, Some, None, Result, Ok, Err, IfOk, IfSome}
+use Rattle.std.specs.List.{flat_map, sum_by}
+use Rattle.std.specs.Prelude.{ℤ}
+use Rattle.esr_history.specs.Machine.{Schedule, Distance, IsLegal}
+use Rattle.esr_history.specs.declared.event.Event.{Event}
+use Rattle.esr_history.specs.declared.event.Reply.{Reply}
+use Rattle.esr_history.specs.declared.event.Reply.TheVariants.{Begun, Value, Wrote, Committed, Aborted, Refused}
+use Rattle.esr_history.specs.declared.event.Refusal.{Refusal}
+use Rattle.esr_history.specs.declared.event.Refusal.TheVariants.{NoSuchTransaction, AlreadyEnded, NoSuchItem, QueryMayNotWrite, ValueOutOfRange, LimitOutOfRange, TooManyTransactions, TooManyReads, BlockedByLock, BlockedByImport, BlockedByExport}
+use Rattle.esr_history.specs.declared.event.Entry.{Entry}
+use Rattle.esr_session.specs.declared.receipt.Receipt.{Receipt}
+use Rattle.esr_session.specs.declared.receipt.CloseError.{CloseError}
+use Rattle.esr_session.specs.declared.receipt.CloseError.TheVariants.{SessionMissing, ForeignReceipt, NoMemory}
+
+abbrev pub entry_of : Receipt → Entry
+entry_of r = record { event = r.event; reply = r.reply }
+
+abbrev pub receipt : ℕ → Event → Reply → Receipt
+receipt place event reply = record { at = place; event = event; reply = reply }
+
+-- the history of these opening values and of the metric with these numbers
+abbrev pub history : List ℤ → List ℕ → List Entry → Schedule
+history opening weights entries = record { opening = opening; weights = weights; entries = entries }
+
+-- some legal history of these opening values and this metric has its last entry at the receipt's place, and that entry is the receipt's
+abbrev pub IsReceipt : Distance → List ℤ → List ℕ → Receipt → Type 0
+IsReceipt d opening weights r =
+    (before : List Entry) × (length before ≡ r.at) × IsLegal d (history opening weights (before ++ entry_of r ∷ []))
+
+-- the receipts of all lists, in order
+abbrev pub receipts_in : List (List Receipt) → List Receipt
+receipts_in lists = flat_map (λ rs. rs) lists
+
+-- how many receipts there are
+abbrev pub count_in : List (List Receipt) → ℕ
+count_in lists = sum_by length lists
+
+-- how many receipts have the place
+abbrev pub count_at : ℕ → List Receipt → ℕ
+count_at place rs = count_by (λ r. r.at == place) rs
+
+-- the receipt names an entry of the history
+abbrev pub Names : List Entry → Receipt → Type 0
+Names entries r = slice_get entries r.at ≡ Some (entry_of r)
+
+-- each place is above the one before it, and the first is not below `low`
+abbrev pub RisesFrom : ℕ → List Receipt → Type 0
+RisesFrom low [] = Unit {0}
+RisesFrom low (r ∷ rs) = (low ≤ r.at) × RisesFrom (r.at + 1) rs
+
+-- each receipt names an entry, each entry is named by exactly one receipt, and within each list the places rise
+pub record Matches (entries : List Entry) (lists : List (List Receipt)) : Type 0 where
+  pub named : All (Names entries) (receipts_in lists)
+  pub once : (place : ℕ) → place < length entries → count_at place (receipts_in lists) ≡ 1
+  pub rising : All (RisesFrom 0) lists
+
+-- the receipt names an entry, at a place not below `low` that no earlier receipt has
+abbrev pub IsGood : List Entry → List Receipt → ℕ → Receipt → Type 0
+IsGood entries earlier low r = Names entries r × (low ≤ r.at) × (count_at r.at earlier ≡ 0)
+
+-- the place that the next receipt of a list may not be below
+abbrev pub next_place : ℕ → List Receipt → ℕ
+next_place low [] = low
+next_place low (r ∷ rs) = next_place (r.at + 1) rs
+
+-- each receipt of a list is good, after those of earlier lists
+abbrev pub GoodFrom : List Entry → List Receipt → ℕ → List Receipt → Type 0
+GoodFrom entries earlier low [] = Unit {0}
+GoodFrom entries earlier low (r ∷ rs) = IsGood entries earlier low r × GoodFrom entries earlier (r.at + 1) rs
+
+-- each receipt of each list is good
+abbrev pub AllGood : List Entry → List Receipt → List (List Receipt) → Type 0
+AllGood entries earlier [] = Unit {0}
+AllGood entries earlier (rs ∷ lists) = GoodFrom entries earlier 0 rs × AllGood entries (earlier ++ rs) lists
+
+-- the first receipt of a list that is not good
+pub record IsForeignIn (entries : List Entry) (earlier : List Receipt) (list : List Receipt) (r : Receipt) : Type 0 where
+  pub good : List Receipt
+  pub rest : List Receipt
+  pub parts : list ≡ good ++ r ∷ rest
+  pub before : GoodFrom entries earlier 0 good
+  pub bad : ¬ IsGood entries earlier (next_place 0 good) r
+
+-- the first receipt of all lists that is not good
+pub record IsFirstForeign (entries : List Entry) (lists : List (List Receipt)) (r : Receipt) : Type 0 where
+  pub done : List (List Receipt)
+  pub list : List Receipt
+  pub later : List (List Receipt)
+  pub parts : lists ≡ done ++ list ∷ later
+  pub before : AllGood entries [] done
+  pub foreign : IsForeignIn entries (receipts_in done) list r
+
+-- what a comparison of receipts with a history answers
+abbrev pub IsVerdict : List Entry → List (List Receipt) → Result (Unit {0}) CloseError → Type 0
+IsVerdict entries lists (Ok _) = Matches entries lists
+IsVerdict entries lists (Err (SessionMissing gathered total)) =
+    (gathered ≡ count_in lists) × (total ≡ length entries) × (gathered < total)
+IsVerdict entries lists (Err (ForeignReceipt r)) = (length entries ≤ count_in lists) × IsFirstForeign entries lists r
+IsVerdict entries lists (Err NoMemory) = length entries ≤ count_in lists
+
+-- the refusals that may be other replies when the event is given again
+abbrev pub is_block : Refusal → Bool
+is_block NoSuchTransaction = false
+is_block AlreadyEnded = false
+is_block NoSuchItem = false
+is_block QueryMayNotWrite = false
+is_block ValueOutOfRange = false
+is_block LimitOutOfRange = false
+is_block TooManyTransactions = false
+is_block TooManyReads = false
+is_block (BlockedByLock holder) = true
+is_block (BlockedByImport query) = true
+is_block (BlockedByExport update) = true
+
+abbrev pub is_blocked : Reply → Bool
+is_blocked (Begun number) = false
+is_blocked (Value value) = false
+is_blocked Wrote = false
+is_blocked Committed = false
+is_blocked Aborted = false
+is_blocked (Refused why) = is_block why
+
+-- receipts of calls with this event that were all blocked
+abbrev pub AreBlocked : Distance → List ℤ → List ℕ → Event → List Receipt → Type 0
+AreBlocked d opening weights event rs =
+    All (λ r. (r.event ≡ event) × IsReceipt d opening weights r × (is_blocked r.reply ≡ true)) rs

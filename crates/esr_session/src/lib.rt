@@ -1,0 +1,19 @@
+//! One machine behind a lock, and sessions through which threads call it. Each answered call is one entry of
+//! one history, and leaves a receipt; a close compares all receipts with the history.
+#![tactic(auto)]
+
+mod engine;
+mod locked;
+mod matching;
+mod naming;
+mod receipt;
+mod session;
+#[cfg(test)]
+mod tests;
+
+pub use engine::{CloseRefused, Closed, Engine};
+pub use locked::{Locked, Pocket, step_on};
+pub use matching::match_receipts;
+pub use naming::Naming;
+pub use receipt::{CloseError, Receipt};
+pub use session::Session;

@@ -1,0 +1,237 @@
+//! Receipts against a history.
+ghost use Rattle.std.specs.Prelude.{◌≡◌, ℕ, List, ◌+◌, ◌<◌, ◌≤◌, ◌↔◌, ◌++◌, [], true, false, IsTrue, length, map, slice_index_or, vec_len, MatchOption, OnOk, IfOk, IfErr, IfSome, IfNone};
+ghost use Rattle.esr_session.specs.Receipts.{IsVerdict, count_in, receipts_in, GoodFrom, IsForeignIn, Matches, Names};
+ghost use Rattle.esr_session.specs.declared.receipt.Receipt.{Receipt};
+ghost use Rattle.esr_session.specs.Marks.{AreMarked};
+
+use crate::receipt::{CloseError, Receipt};
+use esr_history::{Event, History, Refusal, Reply};
+use esr_items::Metric;
+use std::alloc::{AllocError, Global};
+
+/// Compares receipts with a history: Ok exactly where each entry is named by exactly one receipt, each receipt has its
+/// entry's event and reply, and within each list the places rise.
+///
+/// # Errors
+/// `SessionMissing` exactly where there are fewer receipts than entries; else `ForeignReceipt` with the first receipt, list
+/// by list, that does not fit; `NoMemory` if an allocation failed.
+pub fn match_receipts<M: Metric>(
+    alloc: Global,
+    history: &History<M>,
+    lists: &[Vec<Receipt>],
+) -> Result<(), CloseError>
+    ensures verdict { IsVerdict history.now.schedule.entries (map (λ list. list.items) lists.now) result }
+    ensures exact { IfErr result (λ error.
+        Matches history.now.schedule.entries (map (λ list. list.items) lists.now) → error ≡ CloseError.NoMemory) }
+    ensures every_entry { OnOk result (length history.now.schedule.entries ≡ count_in (map (λ list. list.items) lists.now)) }
+{
+    match_all(alloc, history, lists)
+}
+
+/// What has a list of receipts.
+pub trait HasReceipts {
+    ghost receipts: { Self → List Receipt };
+
+    fn receipts(&self) -> &[Receipt]
+        ensures { result.now ≡ receipts self.now };
+}
+
+impl HasReceipts for Vec<Receipt> {
+    ghost receipts = { λ list. list.items };
+
+    fn receipts(&self) -> &[Receipt] {
+        self.as_slice()
+    }
+}
+
+/// The same for whatever has lists of receipts, which are compared where they are.
+pub(crate) fn match_all<M: Metric, L: HasReceipts>(
+    alloc: Global,
+    history: &History<M>,
+    lists: &[L],
+) -> Result<(), CloseError>
+    ensures verdict { IsVerdict history.now.schedule.entries (map L.receipts lists.now) result }
+    ensures exact { IfErr result (λ error. Matches history.now.schedule.entries (map L.receipts lists.now) → error ≡ CloseError.NoMemory) }
+    ensures every_entry { OnOk result (length history.now.schedule.entries ≡ count_in (map L.receipts lists.now)) }
+{
+    let total = history.log().len();
+    if let Some(gathered) = count_below(lists, total) {
+        return Err(CloseError::SessionMissing {
+            gathered: gathered as u64,
+            total: total as u64,
+        });
+    }
+    let Ok(mut marks) = unmarked(alloc, total) else {
+        return Err(CloseError::NoMemory);
+    };
+    for i in 0..lists.len() {
+        if let Some(foreign) = match_list(history, &mut marks, &lists[..i], lists[i].receipts()) {
+            return Err(CloseError::ForeignReceipt(foreign));
+        }
+    }
+    Ok(())
+}
+
+/// A mark for each of n places, none of which is set.
+fn unmarked(alloc: Global, n: usize) -> Result<Vec<bool>, AllocError>
+    ensures len { IfOk result (λ marks. vec_len marks ≡ n) }
+    ensures none { IfOk result (λ marks. AreMarked [] marks.items) }
+{
+    Vec::from_elem(alloc, false, n)
+}
+
+/// The first receipt of a list that is not good, after the lists that are done.
+fn match_list<M: Metric, L: HasReceipts>(
+    history: &History<M>,
+    marks: &mut Vec<bool>,
+    done: &[L],
+    list: &[Receipt],
+) -> Option<Receipt>
+    requires len { vec_len marks.old ≡ length history.now.schedule.entries }
+    requires marked { AreMarked (receipts_in (map L.receipts done.now)) marks.old.items }
+    ensures len { vec_len marks.new ≡ vec_len marks.old }
+    ensures good { IfNone result (GoodFrom history.now.schedule.entries (receipts_in (map L.receipts done.now)) 0 list.now) }
+    ensures marked { IfNone result (AreMarked (receipts_in (map L.receipts done.now) ++ list.now) marks.new.items) }
+    ensures foreign { IfSome result (IsForeignIn history.now.schedule.entries (receipts_in (map L.receipts done.now)) list.now) }
+{
+    let mut low = 0;
+    for r in list {
+        if !is_good(history, marks.as_slice(), low, r) {
+            return Some(*r);
+        }
+        let at = r.at as usize;
+        marks[at] = true;
+        low = r.at + 1;
+    }
+    None
+}
+
+/// Whether the receipt names an entry, at a place from `low` on that is not marked.
+fn is_good<M: Metric>(history: &History<M>, marks: &[bool], low: u64, r: &Receipt) -> bool
+    requires { length marks.now ≡ length history.now.schedule.entries }
+    ensures { IsTrue result ↔ (Names history.now.schedule.entries r.now × (low ≤ r.now.at) × (slice_index_or marks.now r.now.at false ≡ false)) }
+{
+    if !names(history, r) || r.at < low {
+        return false;
+    }
+    !marks[r.at as usize]
+}
+
+/// Whether the receipt has the event and the reply of the entry at its place.
+fn names<M: Metric>(history: &History<M>, r: &Receipt) -> bool
+    ensures { IsTrue result ↔ Names history.now.schedule.entries r.now }
+{
+    match history.log().get(r.at as usize) {
+        Some(entry) => same_event(entry.event, r.event) && same_reply(entry.reply, r.reply),
+        None => false,
+    }
+}
+
+fn same_event(a: Event, b: Event) -> bool
+    ensures { IsTrue result ↔ (a ≡ b) }
+{
+    match a {
+        Event::BeginUpdate { limit: x } => match b {
+            Event::BeginUpdate { limit: y } => x == y,
+            _ => false,
+        },
+        Event::BeginQuery {
+            limit: x,
+            strict: s,
+        } => match b {
+            Event::BeginQuery {
+                limit: y,
+                strict: t,
+            } => x == y && s == t,
+            _ => false,
+        },
+        Event::Read { txn: t, item: x } => match b {
+            Event::Read { txn: u, item: y } => t.0 == u.0 && x.0 == y.0,
+            _ => false,
+        },
+        Event::Write {
+            txn: t,
+            item: x,
+            value: v,
+        } => match b {
+            Event::Write {
+                txn: u,
+                item: y,
+                value: w,
+            } => t.0 == u.0 && x.0 == y.0 && v == w,
+            _ => false,
+        },
+        Event::Commit { txn: t } => match b {
+            Event::Commit { txn: u } => t.0 == u.0,
+            _ => false,
+        },
+        Event::Abort { txn: t } => match b {
+            Event::Abort { txn: u } => t.0 == u.0,
+            _ => false,
+        },
+    }
+}
+
+fn same_refusal(a: Refusal, b: Refusal) -> bool
+    ensures { IsTrue result ↔ (a ≡ b) }
+{
+    match a {
+        Refusal::NoSuchTransaction => matches!(b, Refusal::NoSuchTransaction),
+        Refusal::AlreadyEnded => matches!(b, Refusal::AlreadyEnded),
+        Refusal::NoSuchItem => matches!(b, Refusal::NoSuchItem),
+        Refusal::QueryMayNotWrite => matches!(b, Refusal::QueryMayNotWrite),
+        Refusal::ValueOutOfRange => matches!(b, Refusal::ValueOutOfRange),
+        Refusal::LimitOutOfRange => matches!(b, Refusal::LimitOutOfRange),
+        Refusal::TooManyTransactions => matches!(b, Refusal::TooManyTransactions),
+        Refusal::TooManyReads => matches!(b, Refusal::TooManyReads),
+        Refusal::BlockedByLock(x) => match b {
+            Refusal::BlockedByLock(y) => x.0 == y.0,
+            _ => false,
+        },
+        Refusal::BlockedByImport(x) => match b {
+            Refusal::BlockedByImport(y) => x.0 == y.0,
+            _ => false,
+        },
+        Refusal::BlockedByExport(x) => match b {
+            Refusal::BlockedByExport(y) => x.0 == y.0,
+            _ => false,
+        },
+    }
+}
+
+fn same_reply(a: Reply, b: Reply) -> bool
+    ensures { IsTrue result ↔ (a ≡ b) }
+{
+    match a {
+        Reply::Begun(x) => match b {
+            Reply::Begun(y) => x.0 == y.0,
+            _ => false,
+        },
+        Reply::Value(x) => match b {
+            Reply::Value(y) => x == y,
+            _ => false,
+        },
+        Reply::Wrote => matches!(b, Reply::Wrote),
+        Reply::Committed => matches!(b, Reply::Committed),
+        Reply::Aborted => matches!(b, Reply::Aborted),
+        Reply::Refused(x) => match b {
+            Reply::Refused(y) => same_refusal(x, y),
+            _ => false,
+        },
+    }
+}
+
+/// How many receipts there are, if fewer than `total`.
+fn count_below<L: HasReceipts>(lists: &[L], total: usize) -> Option<usize>
+    ensures { MatchOption result (total ≤ count_in (map L.receipts lists.now)) (λ n. (n ≡ count_in (map L.receipts lists.now)) × (n < total)) }
+{
+    let mut left = total;
+    for list in lists {
+        let len = list.receipts().len();
+        if len >= left {
+            return None;
+        }
+        left -= len;
+    }
+    if left == 0 { None } else { Some(total - left) }
+}

@@ -1,0 +1,116 @@
+//! Sessions, each of which one thread at a time calls an engine through.
+ghost use Rattle.std.specs.Prelude.{◌≡◌, ℕ, ◌+◌, ◌<◌, ◌≤◌, List, [], ◌∷◌, ◌++◌, true, length, IfOk, OnErr, IfErr};
+ghost use Rattle.esr_session.specs.Receipts.{IsReceipt, AreBlocked, is_blocked, is_block};
+ghost use Rattle.esr_session.specs.declared.receipt.Receipt.{Receipt};
+
+use crate::locked::{Locked, Pocket, step_on};
+use crate::matching::HasReceipts;
+use crate::naming::Naming;
+use crate::receipt::Receipt;
+use esr_core::StepError;
+use esr_history::{Event, Refusal, Reply};
+use esr_items::Metric;
+use std::alloc::Global;
+use std::marker::Model;
+use std::sync::{Arc, Mutex, Wait};
+
+/// One caller of an engine. It may name any transaction. Contracts see its receipts.
+#[derive(Drop)]
+pub struct Session<M: Metric + Drop, N: Naming> {
+    pub(crate) shared: Arc<Mutex<Locked<M, N>>, Global>,
+    pub(crate) pocket: Pocket<N>,
+}
+
+impl<M: Metric + Drop, N: Naming> Model for Session<M, N> {
+    ghost use Rattle.std.specs.Prelude.{List};
+    ghost use Rattle.esr_session.specs.declared.receipt.Receipt.{Receipt};
+
+    ghost Value = { List Receipt };
+
+    ghost view = { λ s. s.pocket };
+}
+
+impl<M: Metric + Drop, N: Naming> HasReceipts for Session<M, N> {
+    ghost receipts = { λ session. session };
+
+    fn receipts(&self) -> &[Receipt] {
+        let pocket = &self.pocket;
+        pocket.receipts.as_slice()
+    }
+}
+
+impl<M: Metric + Drop, N: Naming> Session<M, N> {
+    /// The session's receipts; its share of the total goes with it.
+    pub(crate) fn into_receipts(self) -> Vec<Receipt>
+        ensures { result.items ≡ self }
+    {
+        let Session { shared: _, pocket } = self;
+        let Pocket { receipts, share: _ } = pocket;
+        receipts
+    }
+
+    /// Takes the lock once, and makes one step of the engine's machine.
+    ///
+    /// # Errors
+    /// Those of `step_on`. The receipts are then as before.
+    pub fn call<R: Wait>(&mut self, rt: &R, event: Event) -> Result<Receipt, StepError>
+        ensures event { IfOk result (λ r. r.event ≡ event) }
+        ensures receipt { IfOk result (IsReceipt M.distance_by N.opening N.weights) }
+        ensures pocket { IfOk result (λ r. self.new ≡ self.old ++ r ∷ []) }
+        ensures err { OnErr result (self.new ≡ self.old) }
+    {
+        let mut locked = self.shared.lock(rt);
+        step_on(&mut *locked, &mut self.pocket, event)
+    }
+
+    /// Calls until the reply is not that the event is blocked (by a lock or a limit), at most `turns` times in all. Each
+    /// call is an entry of the history and leaves a receipt. The last receipt is the answer.
+    ///
+    /// # Errors
+    /// Those of `step_on`, at the first call that answers one.
+    pub fn call_patient<R: Wait>(
+        &mut self,
+        rt: &R,
+        event: Event,
+        turns: u32,
+    ) -> Result<Receipt, StepError>
+        requires { (1 ≤ turns) × (turns ≤ 1000000) }
+        ensures ok { IfOk result (λ r. (blocked : List Receipt) × (self.new ≡ self.old ++ blocked ++ r ∷ [])
+            × AreBlocked M.distance_by N.opening N.weights event blocked × (length blocked < turns)
+            × (is_blocked r.reply ≡ true → length blocked + 1 ≡ turns)) }
+        ensures receipt { IfOk result (λ r. (r.event ≡ event) × IsReceipt M.distance_by N.opening N.weights r) }
+        ensures err { IfErr result (λ _. (blocked : List Receipt) × (self.new ≡ self.old ++ blocked)
+            × AreBlocked M.distance_by N.opening N.weights event blocked × (length blocked < turns)) }
+    {
+        let mut last = self.call(rt, event)?;
+        for _turn in 1..turns {
+            if !may_change(last.reply) {
+                return Ok(last);
+            }
+            last = self.call(rt, event)?;
+        }
+        Ok(last)
+    }
+}
+
+/// Whether the event is blocked, so that it may be answered otherwise when it is given again.
+fn is_block(why: Refusal) -> bool
+    ensures { result ≡ is_block why }
+{
+    match why {
+        Refusal::BlockedByLock(_) => true,
+        Refusal::BlockedByImport(_) => true,
+        Refusal::BlockedByExport(_) => true,
+        _ => false,
+    }
+}
+
+/// Whether the reply is that the event is blocked.
+fn may_change(reply: Reply) -> bool
+    ensures { result ≡ is_blocked reply }
+{
+    match reply {
+        Reply::Refused(why) => is_block(why),
+        _ => false,
+    }
+}

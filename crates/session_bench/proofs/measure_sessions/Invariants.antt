@@ -1,0 +1,9 @@
+use Rattle.std.proofs.Common.{[], map}
+use Rattle.session_bench.proofs.measure_sessions.Given as goal
+
+-- which engine it is
+abbrev pub ghosts-measure_engine-N-Naming : goal.ghosts-measure_engine-N-Naming
+ghosts-measure_engine-N-Naming g a = record { opening = map (λ w. w.committed) a.items; weights = [] }
+
+abbrev pub ghosts-measure_engine-N-Ledger : goal.ghosts-measure_engine-N-Ledger
+ghosts-measure_engine-N-Ledger g a = record { name = a.blank.name; parts = a.blank.parts }
