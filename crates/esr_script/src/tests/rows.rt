@@ -199,7 +199,7 @@ pub const ROWS: [Row; 39] = [
     Row {
         name: "totals_close_the_items",
         script: "item a 1\ntotals\nitem b 2\ntotals now\nbegin q query 1 strict\nweight a 2\n",
-        text: "item a 1\ntotals import 0 export 0 entries 0\nerror 2 items are closed\nerror 1 not a command\nerror 1 not a command\nerror 1 not a command\n",
+        text: "item a 1\ntotals import 0 export 0 entries 0\nerror 2 items are closed\nerror 1 not a command\nbegun q 1\nerror 1 not a command\n",
         ended: Ok(()),
     },
     Row {
