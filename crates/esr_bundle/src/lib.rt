@@ -12,6 +12,3 @@ mod writing;
 pub use judging::{JudgeFault, Verdict, judge};
 pub use reading::from_json;
 pub use writing::to_json;
-
-#[cfg(test)]
-mod tests;

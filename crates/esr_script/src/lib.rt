@@ -11,8 +11,6 @@ mod runs;
 mod script;
 mod sending;
 mod stage;
-#[cfg(test)]
-mod tests;
 mod words;
 
 pub use auditing::audit;

@@ -1,6 +1,6 @@
 //! Scripts with the texts that they give.
 
-use crate::RunFault;
+use esr_script::RunFault;
 
 pub struct Row {
     pub name: &'static str,

@@ -1,8 +1,8 @@
 //! Queries certified.
 
-use super::failing::{Cut, Narrow, Way};
-use crate::{RunFault, certify, certify_steps};
+use crate::tests::devices::{Cut, Narrow, Way};
 use esr_history::Watched;
+use esr_script::{RunFault, certify, certify_steps};
 use std::alloc::{AllocError, Global};
 use std::process::Abort;
 use std::test::Fail;
@@ -112,6 +112,7 @@ fn each_read_fails_in_turn(rt: HostRuntime) {
     for left in 0..THIRD_ITEM.len() + 1 {
         let mut reader = Watched::new(Cut {
             rest: THIRD_ITEM.as_bytes(),
+            most: 1,
             left,
         });
         let mut writer = Watched::new(Vec::new(alloc));
@@ -126,6 +127,7 @@ fn is_written(rt: &impl Abort, alloc: Global, left: usize, way: Way) -> Result<b
     let mut reader = Watched::new(THIRD_ITEM.as_bytes());
     let mut writer = Watched::new(Narrow {
         taken: Vec::new(alloc),
+        most: 3,
         left,
         way,
     });

@@ -4,8 +4,8 @@ mod failing;
 mod large;
 mod rows;
 
-use crate::{RunFault, run};
 use esr_history::Watched;
+use esr_script::{RunFault, run};
 use rows::{ROWS, Row};
 use std::alloc::Global;
 use std::process::Abort;

@@ -1,7 +1,7 @@
 //! Whole scripts audited.
 
-use crate::{RunFault, audit};
 use esr_history::Watched;
+use esr_script::{RunFault, audit};
 use std::alloc::Global;
 use std::process::Abort;
 use std::test::Fail;

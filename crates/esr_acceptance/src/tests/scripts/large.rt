@@ -1,7 +1,7 @@
 //! Scripts that are made, since they are too long to write down.
 
-use crate::{RunFault, run};
 use esr_history::Watched;
+use esr_script::{RunFault, run};
 use std::alloc::{AllocError, Global};
 use std::test::Fail;
 

@@ -1,38 +1,16 @@
 //! Readers and writers that fail.
 
 use super::rows::BACK_FLOW;
-use crate::{JudgeFault, Verdict, judge};
+use crate::tests::devices::{Cut, Narrow, Way};
+use esr_bundle::{JudgeFault, Verdict, judge};
 use esr_history::Watched;
 use std::alloc::{AllocError, Global};
 use std::io;
-use std::io::{Read, Write};
+use std::io::Read;
 use std::process::Abort;
 use std::test::Fail;
 
 const LINE: &str = "valid 2\n";
-
-/// Gives a byte at a time, and fails at one call.
-#[derive(Drop)]
-struct Cut<'a> {
-    rest: &'a [u8],
-    left: usize,
-}
-
-impl Read for Cut<'_> {
-    fn read(&mut self, buf: &mut [u8]) -> io::Result<usize> {
-        if self.left == 0 {
-            return Err(io::Error::from(io::ErrorKind::BrokenPipe));
-        }
-        self.left -= 1;
-        let mut one = [0u8; 1];
-        let count = self.rest.read(&mut one)?;
-        if count == 0 || buf.is_empty() {
-            return Ok(0);
-        }
-        buf[0] = one[0];
-        Ok(1)
-    }
-}
 
 /// Gives so many bytes that are no JSON.
 #[derive(Drop)]
@@ -48,39 +26,13 @@ impl Read for Zeros {
     }
 }
 
-/// Takes up to three bytes at a time, and then none.
-#[derive(Drop)]
-struct Narrow {
-    taken: Vec<u8>,
-    left: usize,
-}
-
-impl Write for Narrow {
-    fn write(&mut self, buf: &[u8]) -> io::Result<usize> {
-        if self.left == 0 {
-            return Ok(0);
-        }
-        self.left -= 1;
-        let count = buf.len().min(3);
-        self.taken.extend_from_slice(&buf[..count])?;
-        Ok(count)
-    }
-
-    fn flush(&mut self) -> io::Result<()> {
-        if self.left == 0 {
-            return Err(io::Error::from(io::ErrorKind::BrokenPipe));
-        }
-        self.left -= 1;
-        Ok(())
-    }
-}
-
 #[test]
 fn each_read_fails_in_turn(rt: HostRuntime) {
     let alloc = rt.alloc();
     for left in 0..BACK_FLOW.len() + 1 {
         let mut reader = Watched::new(Cut {
             rest: BACK_FLOW.as_bytes(),
+            most: 1,
             left,
         });
         let mut writer = Watched::new(Vec::new(alloc));
@@ -95,7 +47,9 @@ fn is_written(rt: &impl Abort, alloc: Global, left: usize) -> Result<bool, Alloc
     let mut reader = Watched::new(BACK_FLOW.as_bytes());
     let mut writer = Watched::new(Narrow {
         taken: Vec::new(alloc),
+        most: 3,
         left,
+        way: Way::TakesNone,
     });
     let ended = judge(alloc, &mut reader, &mut writer);
     let written = ended == Ok(Verdict::Valid(2));

@@ -3,7 +3,7 @@
 mod failing;
 mod rows;
 
-use crate::{JudgeFault, Verdict, from_json, judge, to_json};
+use esr_bundle::{JudgeFault, Verdict, from_json, judge, to_json};
 use esr_history::Watched;
 use rows::{BACK_FLOW, EMPTY, ROWS, Row, STRICT, TWO_UPDATES};
 use std::alloc::Global;

@@ -1,10 +1,9 @@
 //! Readers and writers that fail.
 
-use crate::{RunFault, audit, run};
+use crate::tests::devices::{Cut, Narrow, Way};
 use esr_history::Watched;
+use esr_script::{RunFault, audit, run};
 use std::alloc::{AllocError, Global};
-use std::io;
-use std::io::{Read, Write};
 use std::process::Abort;
 use std::test::Fail;
 use std::thread::Threads;
@@ -34,73 +33,13 @@ fn text_of_whole_lines(alloc: Global, read: usize) -> Result<Vec<u8>, AllocError
     Ok(text)
 }
 
-/// Gives a byte at a time, and fails at one call.
-#[derive(Drop)]
-pub struct Cut<'a> {
-    pub rest: &'a [u8],
-    pub left: usize,
-}
-
-impl Read for Cut<'_> {
-    fn read(&mut self, buf: &mut [u8]) -> io::Result<usize> {
-        if self.left == 0 {
-            return Err(io::Error::from(io::ErrorKind::BrokenPipe));
-        }
-        self.left -= 1;
-        let mut one = [0u8; 1];
-        let count = self.rest.read(&mut one)?;
-        if count == 0 || buf.is_empty() {
-            return Ok(0);
-        }
-        buf[0] = one[0];
-        Ok(1)
-    }
-}
-
-/// How a writer fails.
-#[derive(Clone, Copy, PartialEq, Eq)]
-pub enum Way {
-    Errs,
-    TakesNone,
-}
-
-/// Takes up to three bytes at a time, and fails at one call.
-#[derive(Drop)]
-pub struct Narrow {
-    pub taken: Vec<u8>,
-    pub left: usize,
-    pub way: Way,
-}
-
-impl Write for Narrow {
-    fn write(&mut self, buf: &[u8]) -> io::Result<usize> {
-        if self.left == 0 {
-            return match self.way {
-                Way::Errs => Err(io::Error::from(io::ErrorKind::BrokenPipe)),
-                Way::TakesNone => Ok(0),
-            };
-        }
-        self.left -= 1;
-        let count = buf.len().min(3);
-        self.taken.extend_from_slice(&buf[..count])?;
-        Ok(count)
-    }
-
-    fn flush(&mut self) -> io::Result<()> {
-        if self.left == 0 {
-            return Err(io::Error::from(io::ErrorKind::BrokenPipe));
-        }
-        self.left -= 1;
-        Ok(())
-    }
-}
-
 #[test]
 fn each_read_fails_in_turn(rt: HostRuntime) -> Result<(), Fail> {
     let alloc = rt.alloc();
     for left in 0..SCRIPT.len() + 1 {
         let mut reader = Watched::new(Cut {
             rest: SCRIPT.as_bytes(),
+            most: 1,
             left,
         });
         let mut writer = Watched::new(Vec::new(alloc));
@@ -117,6 +56,7 @@ fn is_written(rt: &impl Abort, alloc: Global, left: usize, way: Way) -> Result<b
     let mut reader = Watched::new(SCRIPT.as_bytes());
     let mut writer = Watched::new(Narrow {
         taken: Vec::new(alloc),
+        most: 3,
         left,
         way,
     });
@@ -152,6 +92,7 @@ fn each_read_of_an_audit_fails_in_turn(rt: HostRuntime) {
     for left in 0..SCRIPT.len() + 1 {
         let mut reader = Watched::new(Cut {
             rest: SCRIPT.as_bytes(),
+            most: 1,
             left,
         });
         let mut writer = Watched::new(Vec::new(alloc));
@@ -171,6 +112,7 @@ fn audit_is_written<R: Abort + Threads + Sync>(
     let mut reader = Watched::new(SCRIPT.as_bytes());
     let mut writer = Watched::new(Narrow {
         taken: Vec::new(alloc),
+        most: 3,
         left,
         way,
     });
