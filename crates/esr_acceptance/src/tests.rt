@@ -1,3 +1,4 @@
 mod bundles;
 mod devices;
 mod scripts;
+mod watched;

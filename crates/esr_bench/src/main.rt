@@ -1,8 +1,9 @@
-//! Measures the check, the solver, and the reading and writing of bundles. What
+//! Measures the check, the solver, the reading and writing of bundles, and sessions. What
 //! came of them goes to standard output, how long they took to standard error.
 #![tactic(auto)]
 
 mod checked;
+mod sessions;
 mod solved;
 
 use crate::checked::{certificate_of, problem_of};
@@ -18,7 +19,8 @@ use std::time::Instant;
 
 const USAGE: &str = "usage: esr_bench check UPDATES ROUNDS, with 100 to 60000 updates
        esr_bench solve line|scattered UPDATES
-       esr_bench bundle, with a bundle on standard input";
+       esr_bench bundle, with a bundle on standard input
+       esr_bench sessions TRANSACTIONS, at most 60000";
 
 fn main(rt: HostRuntime) -> Result<()> {
     let alloc = rt.alloc();
@@ -41,6 +43,7 @@ fn main(rt: HostRuntime) -> Result<()> {
             measure_solve(&rt, alloc, &problem)
         }
         ["bundle"] => measure_bundle(&rt, alloc),
+        ["sessions", transactions] => sessions::measure(&rt, alloc, transactions.parse()?),
         _ => Err(anyhow!("{USAGE}")),
     }
 }

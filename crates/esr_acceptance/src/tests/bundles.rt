@@ -1,6 +1,7 @@
 //! Worked bundles, and devices that fail.
 
 mod failing;
+mod hostile;
 mod rows;
 
 use esr_bundle::{JudgeFault, Verdict, from_json, judge, to_json};

@@ -2,7 +2,7 @@ mod audited;
 mod certified;
 mod failing;
 mod large;
-mod rows;
+pub mod rows;
 
 use esr_history::Watched;
 use esr_script::{RunFault, run};

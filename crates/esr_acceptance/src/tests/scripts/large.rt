@@ -120,3 +120,18 @@ fn bytes_that_are_no_text(rt: HostRuntime) -> Result<(), Fail> {
     assert!(rt; text.as_slice() == expected.as_slice());
     Ok(())
 }
+
+#[test]
+fn at_most_65535_transactions_begin(rt: HostRuntime) -> Result<(), Fail> {
+    let alloc = rt.alloc();
+    let mut script = Vec::new(alloc);
+    for t in 0..65536u32 {
+        let line = format!(in alloc; "begin t{t} update 0\n")?;
+        script.extend_from_slice(line.as_bytes())?;
+    }
+    let (ended, text) = ran(alloc, script.as_slice())?;
+    assert!(rt; ended == Ok(()));
+    let last = b"\nbegun t65534 65535\nrefused 7 too many transactions\n";
+    assert!(rt; text.ends_with(last.as_slice()));
+    Ok(())
+}

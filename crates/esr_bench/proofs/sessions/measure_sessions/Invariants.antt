@@ -1,5 +1,5 @@
 use Rattle.std.proofs.Common.{[], map}
-use Rattle.session_bench.proofs.measure_sessions.Given as goal
+use Rattle.esr_bench.proofs.sessions.measure_sessions.Given as goal
 
 -- which engine it is
 abbrev pub ghosts-measure_engine-N-Naming : goal.ghosts-measure_engine-N-Naming

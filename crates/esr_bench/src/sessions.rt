@@ -1,16 +1,15 @@
 //! Measures the calls of sessions on one engine, beside the steps of a machine that one thread has
-//! for itself. What was done goes to standard output, how fast to standard error.
-#![tactic(auto)]
+//! for itself.
 
 ghost use Rattle.std.specs.Prelude.{◌≡◌, ◌≤◌, ◌<◌, [], map};
 
+use anyhow::{Result, anyhow};
 use esr_core::Machine;
 use esr_history::{Event, Reply, TxnId};
 use esr_items::{ItemId, Plain, Store};
 use esr_session::{Engine, Naming, Session};
 use std::alloc::Global;
 use std::marker::Brand;
-use std::process::ExitCode;
 use std::rt::Clock;
 use std::sync::Wait;
 use std::sync::ledger::Blank;
@@ -21,44 +20,39 @@ use std::time::{Duration, Instant};
 const ITEMS: u32 = 4096;
 
 /// A begin, four reads, four writes and a commit.
-const CALLS: u64 = 10;
+const CALLS: u128 = 10;
 
-fn main(rt: HostRuntime) -> anyhow::Result<ExitCode> {
-    let alloc = rt.alloc();
-    let mut words = Vec::new(alloc);
-    for word in std::env::args(&rt)? {
-        words.push(word)?;
-    }
-    let Some(transactions) = words.get(1).and_then(|word| word.parse::<u32>().ok()) else {
-        eprintln!(rt; "usage: session_bench TRANSACTIONS")?;
-        return Ok(ExitCode::from(2));
-    };
+/// So many transactions by a machine, and by 1, 2 and 4 sessions on one engine.
+pub fn measure<R: Threads + Wait + Clock + Print + Eprint + Sync>(
+    rt: &R,
+    alloc: Global,
+    transactions: u32,
+) -> Result<()> {
     if transactions > 60_000 {
-        eprintln!(rt; "session_bench: at most 60000 transactions")?;
-        return Ok(ExitCode::from(2));
+        return Err(anyhow!("at most 60000 transactions"));
     }
-    let time = measure_machine(&rt, alloc, transactions)?;
-    tell(&rt, "machine", u64::from(transactions), time)?;
+    let time = measure_machine(rt, alloc, transactions)?;
+    tell(rt, "machine", transactions, time)?;
     for sessions in [1, 2, 4] {
-        let (entries, time) = measure_sessions(&rt, alloc, sessions, transactions)?;
+        let (entries, time) = measure_sessions(rt, alloc, sessions, transactions)?;
         println!(rt; "sessions {sessions} entries {entries}")?;
-        tell(&rt, "sessions", u64::from(transactions), time)?;
+        tell(rt, "sessions", transactions, time)?;
     }
-    Ok(ExitCode::SUCCESS)
+    Ok(())
 }
 
 /// How many calls a second.
-fn tell(rt: &impl Eprint, what: &str, transactions: u64, time: Duration) -> anyhow::Result<()> {
+fn tell(rt: &impl Eprint, what: &str, transactions: u32, time: Duration) -> Result<()> {
     let micros = time.as_micros().max(1);
-    let rate = u128::from(transactions) * u128::from(CALLS) * 1_000_000 / micros;
+    let rate = u128::from(transactions) * CALLS * 1_000_000 / micros;
     eprintln!(rt; "{what}: {rate} calls a second")?;
     Ok(())
 }
 
 /// Opening values, all zero.
-fn items(alloc: Global) -> anyhow::Result<Store> {
+fn items(alloc: Global) -> Result<Store> {
     let values = Vec::from_elem(alloc, 0, ITEMS as usize)?;
-    Store::new(alloc, values).map_err(|_| anyhow::anyhow!("no items"))
+    Store::new(alloc, values).map_err(|_| anyhow!("no items"))
 }
 
 /// What takes events: a machine, or a session.
@@ -136,9 +130,9 @@ fn transactions(caller: &mut impl Steps, count: u32, seed: u64) {
     }
 }
 
-fn measure_machine(rt: &impl Clock, alloc: Global, count: u32) -> anyhow::Result<Duration> {
+fn measure_machine(rt: &impl Clock, alloc: Global, count: u32) -> Result<Duration> {
     let machine = Machine::new(alloc, items(alloc)?, Plain);
-    let mut machine = machine.map_err(|_| anyhow::anyhow!("out of memory"))?;
+    let mut machine = machine.map_err(|_| anyhow!("out of memory"))?;
     let start = Instant::now(rt)?;
     let mut alone = Alone {
         machine: &mut machine,
@@ -152,7 +146,7 @@ fn measure_sessions<R: Threads + Wait + Clock + Sync>(
     alloc: Global,
     sessions: u32,
     count: u32,
-) -> anyhow::Result<(usize, Duration)> {
+) -> Result<(usize, Duration)> {
     measure_engine::<Brand, R>(rt, alloc, Blank::new(65), items(alloc)?, sessions, count)
 }
 
@@ -164,20 +158,20 @@ fn measure_engine<N: Naming + Send + Sync, R: Threads + Wait + Clock + Sync>(
     items: Store,
     sessions: u32,
     count: u32,
-) -> anyhow::Result<(usize, Duration)>
+) -> Result<(usize, Duration)>
     requires name { blank.name ≡ N.name }
     requires parts { (blank.parts ≡ N.parts) × (blank.parts ≡ 65) }
     requires opening { map (λ w. w.committed) items ≡ N.opening }
     requires weights { [] ≡ N.weights }
 {
     if sessions == 0 || sessions > 64 {
-        return Err(anyhow::anyhow!("1 to 64 sessions"));
+        return Err(anyhow!("1 to 64 sessions"));
     }
     let Ok(mut engine) = Engine::<Plain, N>::new(alloc, blank, items, Plain) else {
-        return Err(anyhow::anyhow!("out of memory"));
+        return Err(anyhow!("out of memory"));
     };
     let Ok(opened) = engine.open_sessions(sessions as usize) else {
-        return Err(anyhow::anyhow!("out of memory"));
+        return Err(anyhow!("out of memory"));
     };
     let jobs = jobs_of(alloc, opened, count / sessions)?;
     let start = Instant::now(rt)?;
@@ -185,7 +179,7 @@ fn measure_engine<N: Naming + Send + Sync, R: Threads + Wait + Clock + Sync>(
     let time = start.elapsed(rt)?;
     match engine.close(rt, back) {
         Ok(closed) => Ok((closed.history.log().len(), time)),
-        Err(_) => Err(anyhow::anyhow!("the engine was not closed")),
+        Err(_) => Err(anyhow!("the engine was not closed")),
     }
 }
 
@@ -202,7 +196,7 @@ fn jobs_of<N: Naming>(
     alloc: Global,
     sessions: Vec<Session<Plain, N>>,
     count: u32,
-) -> anyhow::Result<Vec<Job<N>>> {
+) -> Result<Vec<Job<N>>> {
     let mut jobs = Vec::new(alloc);
     for session in sessions {
         let seed = jobs.len() as u64;

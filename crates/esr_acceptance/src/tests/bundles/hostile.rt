@@ -1,0 +1,43 @@
+//! Bytes that are no bundle.
+
+use super::rows::TWO_UPDATES;
+use esr_bundle::{JudgeFault, Verdict, judge};
+use esr_history::Watched;
+use std::alloc::Global;
+use std::test::Fail;
+
+/// What is judged of the bytes.
+fn judged(alloc: Global, bytes: &[u8]) -> Result<Verdict, JudgeFault> {
+    let mut reader = Watched::new(bytes);
+    let mut writer = Watched::new(Vec::new(alloc));
+    judge(alloc, &mut reader, &mut writer)
+}
+
+#[test]
+fn no_proper_prefix_is_json(rt: HostRuntime) {
+    let bytes = TWO_UPDATES.as_bytes();
+    for count in 0..bytes.len() {
+        let verdict = judged(rt.alloc(), &bytes[..count]);
+        assert!(rt; verdict == Ok(Verdict::Bad(1)), "{} bytes", count);
+    }
+}
+
+#[test]
+fn two_hundred_brackets_are_no_json(rt: HostRuntime) -> Result<(), Fail> {
+    let alloc = rt.alloc();
+    let mut brackets = Vec::from_elem(alloc, b'[', 200)?;
+    for _ in 0..200 {
+        brackets.push(b']')?;
+    }
+    assert!(rt; judged(alloc, brackets.as_slice()) == Ok(Verdict::Bad(1)));
+    Ok(())
+}
+
+#[test]
+fn a_byte_that_is_no_text_is_no_json(rt: HostRuntime) -> Result<(), Fail> {
+    let alloc = rt.alloc();
+    let mut bytes = Vec::from_slice(alloc, b"\xff")?;
+    bytes.extend_from_slice(TWO_UPDATES.as_bytes())?;
+    assert!(rt; judged(alloc, bytes.as_slice()) == Ok(Verdict::Bad(1)));
+    Ok(())
+}

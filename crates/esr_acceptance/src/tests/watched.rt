@@ -1,0 +1,89 @@
+//! That a watched device is asked, and that bytes are handed on: no clause can say either.
+
+use super::scripts::rows::ROWS;
+use esr_history::Watched;
+use esr_script::run;
+use std::io;
+use std::io::{Read, Write};
+use std::test::Fail;
+
+/// Counts its calls, and gives or takes nothing.
+#[derive(Drop)]
+struct Counting {
+    reads: u32,
+    writes: u32,
+    flushes: u32,
+}
+
+const UNASKED: Counting = Counting {
+    reads: 0,
+    writes: 0,
+    flushes: 0,
+};
+
+impl Read for Counting {
+    fn read(&mut self, _buf: &mut [u8]) -> io::Result<usize> {
+        self.reads = self.reads.saturating_add(1);
+        Ok(0)
+    }
+}
+
+impl Write for Counting {
+    fn write(&mut self, buf: &[u8]) -> io::Result<usize> {
+        self.writes = self.writes.saturating_add(1);
+        Ok(buf.len())
+    }
+
+    fn flush(&mut self) -> io::Result<()> {
+        self.flushes = self.flushes.saturating_add(1);
+        Ok(())
+    }
+}
+
+#[test]
+fn each_call_reaches_the_device_once(rt: HostRuntime) -> Result<(), Fail> {
+    let mut device = Watched::new(UNASKED);
+    let mut buffer = [0u8; 4];
+    assert!(rt; device.read(&mut buffer)? == 0);
+    assert!(rt; device.write(b"ab")? == 2);
+    device.flush()?;
+    let asked = device.inner();
+    assert!(rt; (asked.reads, asked.writes, asked.flushes) == (1, 1, 1));
+    Ok(())
+}
+
+/// Hands bytes on where it is flushed, and not before.
+#[derive(Drop)]
+struct Holding {
+    held: Vec<u8>,
+    given: Vec<u8>,
+}
+
+impl Write for Holding {
+    fn write(&mut self, buf: &[u8]) -> io::Result<usize> {
+        self.held.extend_from_slice(buf)?;
+        Ok(buf.len())
+    }
+
+    fn flush(&mut self) -> io::Result<()> {
+        self.given.extend_from_slice(self.held.as_slice())?;
+        self.held.clear();
+        Ok(())
+    }
+}
+
+#[test]
+fn a_run_hands_its_whole_output_on(rt: HostRuntime) {
+    let alloc = rt.alloc();
+    for row in &ROWS {
+        let mut reader = Watched::new(row.script.as_bytes());
+        let mut writer = Watched::new(Holding {
+            held: Vec::new(alloc),
+            given: Vec::new(alloc),
+        });
+        let ended = run(alloc, &mut reader, &mut writer);
+        assert!(rt; ended == row.ended);
+        let given = writer.inner().given.as_slice();
+        assert!(rt; given == row.text.as_bytes(), "{} is handed on", row.name);
+    }
+}
