@@ -42,14 +42,15 @@ __attribute__((constructor)) static void start(void)
     ready = 1;
 }
 
-/* Whether this is the request that is to be refused. */
-static int refuses(struct counter *of)
+/* Whether this is the request that is to be refused, for the reason given. */
+static int refuses(struct counter *of, int reason)
 {
     if (!ready || of->at == 0 || atomic_fetch_add(&of->seen, 1) + 1 != of->at)
         return 0;
     const char *file = getenv("REFUSED");
     if (file)
         close(open(file, O_CREAT | O_WRONLY, 0644));
+    errno = reason;
     return 1;
 }
 
@@ -59,43 +60,39 @@ extern void *__libc_malloc(size_t), *__libc_realloc(void *, size_t), *__libc_cal
 
 void *malloc(size_t size)
 {
-    return refuses(&memory) ? NULL : __libc_malloc(size);
+    return refuses(&memory, ENOMEM) ? NULL : __libc_malloc(size);
 }
 
 void *calloc(size_t count, size_t size)
 {
-    return refuses(&memory) ? NULL : __libc_calloc(count, size);
+    return refuses(&memory, ENOMEM) ? NULL : __libc_calloc(count, size);
 }
 
 void *realloc(void *old, size_t size)
 {
-    return refuses(&memory) ? NULL : __libc_realloc(old, size);
+    return refuses(&memory, ENOMEM) ? NULL : __libc_realloc(old, size);
 }
 
 int pthread_create(pthread_t *to, const pthread_attr_t *how, void *(*run)(void *), void *given)
 {
-    if (refuses(&threads))
+    if (refuses(&threads, EAGAIN))
         return EAGAIN;
     return REAL(int, pthread_create, pthread_t *, const pthread_attr_t *, void *(*)(void *), void *)(to, how, run, given);
 }
 
 ssize_t read(int from, void *to, size_t most)
 {
-    if (from == 0 && refuses(&reads)) {
-        errno = EIO;
+    if (from == 0 && refuses(&reads, EIO))
         return -1;
-    }
     size_t wanted = from == 0 && short_read && most > 1 ? 1 : most;
     return REAL(ssize_t, read, int, void *, size_t)(from, to, wanted);
 }
 
 ssize_t write(int to, const void *from, size_t most)
 {
-    if (to == 1 && refuses(&writes)) {
-        errno = EIO;
+    if (to == 1 && refuses(&writes, EIO))
         return -1;
-    }
-    if (to == 1 && refuses(&none))
+    if (to == 1 && refuses(&none, 0))
         return 0;
     size_t wanted = to == 1 && short_write && most > 1 ? 1 : most;
     return REAL(ssize_t, write, int, const void *, size_t)(to, from, wanted);
