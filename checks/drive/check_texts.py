@@ -34,8 +34,8 @@ def generated(number, seed):
     """A drive file as (items, blocks): blocks are lists of lines as tuples of words."""
     chance = random.Random(f"{seed} {number}")
     count = 1 if number % 5 == 0 else chance.randint(1, 16)
-    items = [(f"i{x}", chance.randint(-50, 50)) for x in range(chance.randint(1, 5))]
-    return items, [block(chance, k, [name for name, _ in items]) for k in range(count)]
+    items = [(f"i{x}", chance.randint(-50, 50), chance.choice([None, None, 1, 3, 1000])) for x in range(chance.randint(1, 5))]
+    return items, [block(chance, k, [item[0] for item in items]) for k in range(count)]
 
 
 def block(chance, k, items):
@@ -44,7 +44,7 @@ def block(chance, k, items):
     for t in range(chance.randint(1, 3)):
         name, kind = f"t{k}_{t}", chance.choice(["update", "query"])
         limit = chance.choice([0, 5, 30, 10**6, LARGEST_LIMIT, LARGEST_LIMIT + 1 if chance.random() < 0.2 else 100])
-        own = [("begin", name, kind, str(limit))]
+        own = [("begin", name, kind, str(limit)) + (("strict",) if kind == "query" and chance.random() < 0.3 else ())]
         for _ in range(chance.randint(0, 5)):
             item = "none" if chance.random() < 0.03 else chance.choice(items)
             if chance.random() < (0.6 if kind == "update" else 0.05):
@@ -64,9 +64,24 @@ def block(chance, k, items):
     return lines
 
 
+def item_line(name, value, weight):
+    """The line of an item, in a file and in a text."""
+    return f"item {name} {value}" + ("" if weight is None else f" weight {weight}")
+
+
+def machine_of(items):
+    """The model's machine with these items."""
+    return Machine([value for _, value, _ in items], [1 if weight is None else weight for _, _, weight in items])
+
+
+def places_of(items):
+    """The number of each item, by its name."""
+    return {item[0]: x for x, item in enumerate(items)}
+
+
 def file_text(items, blocks):
     """The bytes of a drive file."""
-    lines = [f"item {name} {value}" for name, value in items]
+    lines = [item_line(*item) for item in items]
     for lines_of_block in blocks:
         lines.append("session")
         lines.extend(" ".join(line) for line in lines_of_block)
@@ -79,7 +94,7 @@ def file_text(items, blocks):
 def event(line, numbers, items):
     """The event of a line, by the numbers that names got so far in its block."""
     if line[0] == "begin":
-        return ("begin", line[2], int(line[3]), line[1])
+        return ("begin", line[2], int(line[3]), line[1], line[4:] == ("strict",))
     number = numbers.get(line[1], 0)
     if line[0] in ("commit", "abort"):
         return (line[0], number)
@@ -122,9 +137,8 @@ def ending(machine):
 
 def model_text(items, blocks):
     """The text of a file of one block, by the plain model."""
-    machine, numbers = Machine([value for _, value in items]), {}
-    places = {name: x for x, (name, _) in enumerate(items)}
-    lines = [f"item {name} {value}" for name, value in items]
+    machine, numbers, places = machine_of(items), {}, places_of(items)
+    lines = [item_line(*item) for item in items]
     for k, lines_of_block in enumerate(blocks):
         lines.append(f"session {k}")
         for line in lines_of_block:
@@ -154,8 +168,8 @@ def parts_of(text, items, blocks):
     """The lines of the blocks, of the audits, and of the totals."""
     lines = text.decode().split("\n")
     expect(lines.pop() == "", "the text ends with a line feed")
-    for name, value in items:
-        expect(lines.pop(0) == f"item {name} {value}", "item lines")
+    for item in items:
+        expect(lines.pop(0) == item_line(*item), "item lines")
     answers = []
     for k, lines_of_block in enumerate(blocks):
         expect(lines.pop(0) == f"session {k}", f"session {k}")
@@ -169,7 +183,7 @@ def parts_of(text, items, blocks):
 def check_reply(line, answer, block_state, file_state):
     """Whether the answer is possible, by what the block has answered so far."""
     begun, ended, reads = block_state
-    kinds, items, values, names = file_state
+    kinds, values, names = file_state
     words = answer.split(" ")
     if line[0] == "begin":
         if int(line[3]) > LARGEST_LIMIT:
@@ -186,7 +200,7 @@ def check_reply(line, answer, block_state, file_state):
     elif line[0] in ("commit", "abort"):
         expect(answer == ("committed " if line[0] == "commit" else "aborted ") + name, answer)
         ended[name] = line[0]
-    elif line[2] not in items:
+    elif line[2] not in values:
         expect(answer == "refused 3 no such item", answer)
     elif line[0] == "write" and kinds[name] == "query":
         expect(answer == "refused 4 a query may not write", answer)
@@ -212,7 +226,7 @@ def check_text(text, items, blocks):
     answers, audits, totals = parts_of(text, items, blocks)
     kinds = {line[1]: line[2] for lines in blocks for line in lines if line[0] == "begin"}
     limits = {line[1]: int(line[3]) for lines in blocks for line in lines if line[0] == "begin"}
-    values = {name: {str(value)} for name, value in items}
+    values = {name: {str(value)} for name, value, _ in items}
     for lines, said in zip(blocks, answers):
         for line, answer in zip(lines, said):
             if answer.startswith("wrote "):
@@ -223,7 +237,7 @@ def check_text(text, items, blocks):
         begun, ended = {}, {}
         state = (begun, ended, {})
         for line, answer in zip(lines, said):
-            check_reply(line, answer, state, (kinds, dict(items), values, names))
+            check_reply(line, answer, state, (kinds, values, names))
             blocked = answer.startswith("blocked ")
             least += TURNS if blocked else 1
             most += TURNS
@@ -253,10 +267,10 @@ def check_text(text, items, blocks):
 
 def explained(items, blocks, answers, audits, totals):
     """Whether an order of the lines is found by which the model gives each answer, each audit and the totals."""
-    places = {name: x for x, (name, _) in enumerate(items)}
+    places = places_of(items)
     want = (audits, totals.rsplit(" ", 1)[0])
     seen, nodes = set(), 0
-    stack = [(Machine([value for _, value in items]), [0] * len(blocks), [{} for _ in blocks])]
+    stack = [(machine_of(items), [0] * len(blocks), [{} for _ in blocks])]
     while stack and nodes < MOST_NODES:
         machine, at, numbers = stack.pop()
         nodes += 1

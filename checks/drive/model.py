@@ -8,8 +8,9 @@ TURNS = 100
 
 
 class Transaction:
-    def __init__(self, name, kind, limit):
+    def __init__(self, name, kind, limit, must):
         self.name, self.kind, self.limit = name, kind, limit
+        self.must = must  # numbers of updates that an audit of a strict query may not leave out
         self.state = "active"
         self.reads = []  # (item, value) in order
         self.charged = 0  # import of a query, export of an update
@@ -18,7 +19,8 @@ class Transaction:
 class Machine:
     """Answers events one after another, and keeps what an audit needs."""
 
-    def __init__(self, values):
+    def __init__(self, values, weights):
+        self.weights = list(weights)
         self.opening = list(values)
         self.current = list(values)
         self.committed = list(values)
@@ -29,6 +31,9 @@ class Machine:
 
     def of(self, number):
         return self.transactions[number - 1] if 1 <= number <= len(self.transactions) else None
+
+    def distance(self, item, a, b):
+        return self.weights[item] * abs(a - b)
 
     def holds(self, number, item, reads, writes):
         """Whether an active transaction has a lock on the item."""
@@ -49,13 +54,13 @@ class Machine:
         if value is None:
             writer = self.first_update(item, 0, False)
             if txn.kind == "query" and writer is not None:
-                return [(number, writer, abs(self.current[item] - self.committed[item]))]
+                return [(number, writer, self.distance(item, self.current[item], self.committed[item]))]
             return []
         charges = []
         for query, other in enumerate(self.transactions, 1):
             count = sum(1 for t, x, _, w in self.operations if t == query and x == item and not w)
             if other.kind == "query" and other.state == "active" and count > 0:
-                charges.append((query, number, count * abs(value - self.current[item])))
+                charges.append((query, number, count * self.distance(item, value, self.current[item])))
         return charges
 
     def why_not(self, charges):
@@ -119,7 +124,8 @@ class Machine:
             return reply
         word = event[0]
         if word == "begin":
-            self.transactions.append(Transaction(event[3], event[1], event[2]))
+            must = [t for t in self.commits if self.of(t).kind == "update"] if event[4] else []
+            self.transactions.append(Transaction(event[3], event[1], event[2], must))
             return reply
         number, txn = event[1], self.of(event[1])
         if word in ("read", "write"):
@@ -156,14 +162,14 @@ class Machine:
         best, sets = None, []
         for size in range(len(before) + 1):
             for part in itertools.combinations(before, size):
-                if any(v in part and u not in part for u, v in pairs):
+                if any(v in part and u not in part for u, v in pairs) or not set(self.of(query).must) <= set(part):
                     continue
                 values = list(self.opening)
                 for t in part:
                     for u, x, value, writes in self.operations:
                         if u == t and writes:
                             values[x] = value
-                cost = sum(abs(value - values[x]) for x, value in self.of(query).reads)
+                cost = sum(self.distance(x, value, values[x]) for x, value in self.of(query).reads)
                 if best is None or cost < best:
                     best, sets = cost, []
                 if cost == best:

@@ -7,12 +7,14 @@ use Rattle.std.proofs.lemmas.Bool.Decides.{nat_tests}
 use Rattle.std.proofs.lemmas.Grind.{flat_map-append}
 use Rattle.std.proofs.lemmas.List.{map-append, length-map}
 use Rattle.std.proofs.lemmas.List.Elements.{filter_map-append, All-push}
+use Rattle.esr_items.specs.Values.{IsValue, is_value}
+use Rattle.esr_items.specs.Weights.{IsWeight, is_weight}
 use Rattle.esr_report.specs.Names.{position_of, is_bound}
 use Rattle.esr_script.specs.Command.{Command}
 use Rattle.esr_drive.specs.declared.call.Call.{Call}
 use Rattle.esr_drive.specs.declared.draft.Draft.{Draft}
 use Rattle.esr_drive.specs.Calls.{command_of, IsResolved, AreResolved}
-use Rattle.esr_drive.specs.Plan.{Plan, new_name, new_names, onto_last, with_session, with_operation, with_begin}
+use Rattle.esr_drive.specs.Plan.{Plan, new_name, new_names, onto_last, weight_in, weights_of, with_session, with_item, with_operation, with_begin}
 use Rattle.esr_drive.specs.Drafts.{commands_in, current_calls, blocks_with, blocks_of, plan_in, ArePlaces, IsSound}
 use Rattle.esr_drive.specs.Sheets as sheets
 use Rattle.esr_drive.proofs.Placing.{places_kept, places_more, places_opened, resolved_none, resolved_more}
@@ -36,19 +38,19 @@ names-onto done cur c =
     ap (filter_map new_name) (flat-snoc done (cur ++ c ∷ []) ∙ (sym (append_assoc (flat done) cur (c ∷ [])) ∙ ap (λ t. t ++ c ∷ []) (sym (flat-snoc done cur))))
     ∙ filter_map-append new_name (flat (done ++ cur ∷ [])) (c ∷ [])
 
-abbrev plan : List (List ℕ) → List ℤ → List (List Command) → Plan
-plan names values blocks = record { names = names; values = values; blocks = blocks }
+abbrev plan : List (List ℕ) → List ℤ → List (Option ℕ) → List (List Command) → Plan
+plan names values weights blocks = record { names = names; values = values; weights = weights; blocks = blocks }
 
-operation_onto : (names : List (List ℕ)) (values : List ℤ) (done : List (List Command)) (cur : List Command) (c : Command)
-    → with_operation (plan names values (done ++ cur ∷ [])) c ≡ Ok (plan names values (done ++ (cur ++ c ∷ []) ∷ []))
-operation_onto names values done cur c = rw (some_blocks done cur) (ap (λ b. Ok (plan names values b)) (onto-current done cur c))
+operation_onto : (names : List (List ℕ)) (values : List ℤ) (weights : List (Option ℕ)) (done : List (List Command)) (cur : List Command) (c : Command)
+    → with_operation (plan names values weights (done ++ cur ∷ [])) c ≡ Ok (plan names values weights (done ++ (cur ++ c ∷ []) ∷ []))
+operation_onto names values weights done cur c = rw (some_blocks done cur) (ap (λ b. Ok (plan names values weights b)) (onto-current done cur c))
 
-begin_onto : (names : List (List ℕ)) (values : List ℤ) (done : List (List Command)) (cur : List Command) (c : Command) (name : List ℕ)
+begin_onto : (names : List (List ℕ)) (values : List ℤ) (weights : List (Option ℕ)) (done : List (List Command)) (cur : List Command) (c : Command) (name : List ℕ)
     → position_of (new_names (done ++ cur ∷ [])) name ≡ None
-    → with_begin (plan names values (done ++ cur ∷ [])) name c ≡ Ok (plan names values (done ++ (cur ++ c ∷ []) ∷ []))
-begin_onto names values done cur c name free =
+    → with_begin (plan names values weights (done ++ cur ∷ [])) name c ≡ Ok (plan names values weights (done ++ (cur ++ c ∷ []) ∷ []))
+begin_onto names values weights done cur c name free =
     let none : is_bound (new_names (done ++ cur ∷ [])) name ≡ false = ap is_some free in
-    rw (some_blocks done cur, none) (ap (λ b. Ok (plan names values b)) (onto-current done cur c))
+    rw (some_blocks done cur, none) (ap (λ b. Ok (plan names values weights b)) (onto-current done cur c))
 
 abbrev done_in : Draft → List (List Command)
 done_in d = map (λ b. commands_in b.items) d.done.items
@@ -76,6 +78,9 @@ operation_added d block grown call sound is more plain resolves =
       record {
         begun = sound.begun ∙ (ap new_names now ∙ (sym (append-nil (new_names (done_in d ++ cur ∷ []))) ∙ (ap (λ l. new_names (done_in d ++ cur ∷ []) ++ l) (sym none) ∙ (sym (names-onto (done_in d) cur c) ∙ ap (λ l. new_names (done_in d ++ l ∷ [])) (sym then)))));
         values = sound.values;
+        weights = sound.weights;
+        in_range = sound.in_range;
+        weighed = sound.weighed;
         opened = tt;
         items = sound.items;
         blocks = omega (arith, sound.blocks, ap length now, length-append (done_in d) (cur ∷ []), length-append (done_in d) (commands_in grown.items ∷ []));
@@ -85,8 +90,8 @@ operation_added d block grown call sound is more plain resolves =
         resolved = subst (λ (l : List Call). AreResolved d.names l) (sym onto) (resolved_more d.names (current_calls d) call sound.resolved resolves);
         done_resolved = sound.done_resolved;
       },
-      ap (λ b. with_operation (plan d.names d.values.items b) c) now
-          ∙ (operation_onto d.names d.values.items (done_in d) cur c ∙ ap (λ l. Ok (plan d.names d.values.items (done_in d ++ l ∷ []))) (sym then)),
+      ap (λ b. with_operation (plan d.names d.values.items d.weights.items b) c) now
+          ∙ (operation_onto d.names d.values.items d.weights.items (done_in d) cur c ∙ ap (λ l. Ok (plan d.names d.values.items d.weights.items (done_in d ++ l ∷ []))) (sym then)),
     )
 
 -- a call that begins a transaction
@@ -106,6 +111,9 @@ begin_added d block grown begun places call name sound is more named free bound 
       record {
         begun = bound ∙ (ap (λ l. l ++ name ∷ []) was ∙ (ap (λ l. new_names (done_in d ++ cur ∷ []) ++ l) (sym one) ∙ (sym (names-onto (done_in d) cur c) ∙ ap (λ l. new_names (done_in d ++ l ∷ [])) (sym then))));
         values = sound.values;
+        weights = sound.weights;
+        in_range = sound.in_range;
+        weighed = sound.weighed;
         opened = tt;
         items = sound.items;
         blocks = omega (arith, sound.blocks, ap length now, length-append (done_in d) (cur ∷ []), length-append (done_in d) (commands_in grown.items ∷ []));
@@ -118,8 +126,8 @@ begin_added d block grown begun places call name sound is more named free bound 
         resolved = subst (λ (l : List Call). AreResolved d.names l) (sym onto) (resolved_more d.names (current_calls d) call sound.resolved resolves);
         done_resolved = sound.done_resolved;
       },
-      ap (λ b. with_begin (plan d.names d.values.items b) name c) now
-          ∙ (begin_onto d.names d.values.items (done_in d) cur c name (subst (λ (l : List (List ℕ)). position_of l name ≡ None) was free) ∙ ap (λ l. Ok (plan d.names d.values.items (done_in d ++ l ∷ []))) (sym then)),
+      ap (λ b. with_begin (plan d.names d.values.items d.weights.items b) name c) now
+          ∙ (begin_onto d.names d.values.items d.weights.items (done_in d) cur c name (subst (λ (l : List (List ℕ)). position_of l name ≡ None) was free) ∙ ap (λ l. Ok (plan d.names d.values.items d.weights.items (done_in d ++ l ∷ []))) (sym then)),
     )
 
 -- a block that is opened, after those that are done
@@ -134,6 +142,9 @@ session_opened d done fresh since sound now resolves few none is =
       record {
         begun = sound.begun ∙ (ap new_names now ∙ (ap (filter_map new_name) (sym (append-nil (flat blocks)) ∙ sym (flat-snoc blocks [])) ∙ ap (λ l. new_names (blocks ++ l ∷ [])) (sym opened)));
         values = sound.values;
+        weights = sound.weights;
+        in_range = sound.in_range;
+        weighed = sound.weighed;
         opened = tt;
         items = sound.items;
         blocks = omega (arith, few, len, length-append blocks (commands_in fresh.items ∷ []));
@@ -143,11 +154,11 @@ session_opened d done fresh since sound now resolves few none is =
         resolved = subst (λ (l : List Call). AreResolved d.names l) (sym none) (resolved_none d.names);
         done_resolved = resolves;
       },
-      ap (λ b. with_session (plan d.names d.values.items b)) now
-          ∙ (with_opened blocks (omega (arith, few, len)) ∙ ap (λ l. Ok (plan d.names d.values.items (blocks ++ l ∷ []))) (sym opened)),
+      ap (λ b. with_session (plan d.names d.values.items d.weights.items b)) now
+          ∙ (with_opened blocks (omega (arith, few, len)) ∙ ap (λ l. Ok (plan d.names d.values.items d.weights.items (blocks ++ l ∷ []))) (sym opened)),
     )
   where
-    with_opened : (blocks : List (List Command)) → length blocks < 64 → with_session (plan d.names d.values.items blocks) ≡ Ok (plan d.names d.values.items (blocks ++ [] ∷ []))
+    with_opened : (blocks : List (List Command)) → length blocks < 64 → with_session (plan d.names d.values.items d.weights.items blocks) ≡ Ok (plan d.names d.values.items d.weights.items (blocks ++ [] ∷ []))
     with_opened blocks few = let less : nat_eq (length blocks) 64 ≡ false = grind (arith, nat_tests) in rw less refl
 
 -- the blocks that are done, where one is open, with it
@@ -170,12 +181,64 @@ done_alone d done sound is same = (
 pub none_done : (d : Draft) → IsSound d → d.current ≡ None → d.done.items ≡ []
 none_done d sound is = subst (λ (o : Option (Vec Call Global)). elim o as (λ x. Type 0) [ Some block ↦ Unit {0} | None ↦ d.done.items ≡ [] ]) is sound.opened
 
+item_onto : (names : List (List ℕ)) (values : List ℤ) (weights : List (Option ℕ)) (name : List ℕ) (value : ℤ) (weight : Option ℕ)
+    → is_bound names name ≡ false → is_value value ≡ true → nat_eq (length names) 4096 ≡ false → is_weight (weight_in weight) ≡ true
+    → with_item (plan names values weights []) name value weight ≡ Ok (plan (names ++ name ∷ []) (values ++ value ∷ []) (weights ++ weight ∷ []) [])
+item_onto names values weights name value weight free ranged few weighed = rw (free, ranged, few, weighed) refl
+
+-- an item
+pub item_added : (d : Draft) (names : List (List ℕ)) (values : Vec ℤ Global) (weights : Vec (Option ℕ) Global) (name : List ℕ) (value : ℤ) (weight : Option ℕ) → IsSound d → d.current ≡ None
+    → position_of d.names name ≡ None → IsValue value → length d.names < 4096 → is_weight (weight_in weight) ≡ true
+    → names ≡ d.names ++ name ∷ [] → values.items ≡ d.values.items ++ value ∷ [] → weights.items ≡ d.weights.items ++ weight ∷ []
+    → IsSound (record d { names = names; values = values; weights = weights })
+    × (with_item (plan_in d) name value weight ≡ Ok (plan_in (record d { names = names; values = values; weights = weights })))
+item_added d names values weights name value weight sound is free ranged few weighed named valued given =
+    let none : d.done.items ≡ [] = none_done d sound is in
+    let no_blocks : blocks_of d ≡ [] = ap (λ (o : Option (Vec Call Global)). blocks_with (done_in d) (option_map (λ b. commands_in b.items) o)) is ∙ ap (map (λ (b : Vec Call Global). commands_in b.items)) none in
+    let no_calls : current_calls d ≡ [] = ap (λ (o : Option (Vec Call Global)). elim o [ Some b ↦ b.items | None ↦ [] ]) is in
+    let fits : IsWeight (weight_in weight) = fits_of (weight_in weight) weighed in (
+      record {
+        begun = sound.begun;
+        values = omega (arith, sound.values, ap length named, ap length valued, length-append d.names (name ∷ []), length-append d.values.items (value ∷ []));
+        weights = omega (arith, sound.weights, ap length named, ap length given, length-append d.names (name ∷ []), length-append d.weights.items (weight ∷ []));
+        in_range = subst (λ (l : List ℤ). All IsValue l) (sym valued) (All-push IsValue d.values.items value sound.in_range ranged);
+        weighed = subst (λ (l : List ℕ). All IsWeight l) (sym (ap weights_of given ∙ map-append weight_in d.weights.items (weight ∷ [])))
+            (All-push IsWeight (weights_of d.weights.items) (weight_in weight) sound.weighed fits);
+        opened = sound.opened;
+        items = omega (arith, few, ap length named, length-append d.names (name ∷ []));
+        blocks = sound.blocks;
+        every = sound.every;
+        earlier = sound.earlier;
+        places = sound.places;
+        resolved = subst (λ (l : List Call). AreResolved names l) (sym no_calls) (resolved_none names);
+        done_resolved = subst (λ (l : List (Vec Call Global)). All (λ b. AreResolved names b.items) l) (sym none) (λ i b lt. absurd (omega (arith, lt)));
+      },
+      ap (λ b. with_item (plan d.names d.values.items d.weights.items b) name value weight) no_blocks
+          ∙ (item_onto d.names d.values.items d.weights.items name value weight (ap is_some free) (in_values value ranged) (not_all (length d.names) few) weighed
+          ∙ sym (ap (λ n. Ok (plan n values.items weights.items (blocks_of d))) named
+          ∙ (ap (λ v. Ok (plan (d.names ++ name ∷ []) v weights.items (blocks_of d))) valued
+          ∙ (ap (λ w. Ok (plan (d.names ++ name ∷ []) (d.values.items ++ value ∷ []) w (blocks_of d))) given
+          ∙ ap (λ b. Ok (plan (d.names ++ name ∷ []) (d.values.items ++ value ∷ []) (d.weights.items ++ weight ∷ []) b)) no_blocks)))),
+    )
+  where
+    fits_of : (w : ℕ) → is_weight w ≡ true → IsWeight w
+    fits_of w is = (grind (arith, nat_tests, is), grind (arith, nat_tests, is))
+
+    in_values : (v : ℤ) → IsValue v → is_value v ≡ true
+    in_values v le = grind (arith, nat_tests)
+
+    not_all : (n : ℕ) → n < 4096 → nat_eq n 4096 ≡ false
+    not_all n lt = grind (arith, nat_tests)
+
 -- the sheet of a draft
 pub sheet_sound : (d : Draft) (blocks : Vec (Vec Call Global) Global) → IsSound d
     → (blocks_of d ≡ map (λ b. commands_in b.items) blocks.items) × All (λ b. AreResolved d.names b.items) blocks.items
-    → sheets.IsSound (record { names = d.names; values = d.values; blocks = blocks })
+    → sheets.IsSound (record { names = d.names; values = d.values; weights = d.weights; blocks = blocks })
 sheet_sound d blocks sound is = record {
   values = sound.values;
+  weights = sound.weights;
+  in_range = sound.in_range;
+  weighed = sound.weighed;
   items = sound.items;
   blocks = omega (arith, sound.blocks, ap length is.0, length-map blocks.items (λ (b : Vec Call Global). commands_in b.items));
   resolved = is.1;

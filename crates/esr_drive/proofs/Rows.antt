@@ -1,6 +1,6 @@
 -- Drive files with what they ask for.
-use Rattle.std.proofs.Common.{◌≡◌, refl, [], ◌∷◌, Ok, Err}
-use Rattle.std.specs.Prelude.{codes, pos}
+use Rattle.std.proofs.Common.{◌≡◌, refl, [], ◌∷◌, Ok, Err, Some, None}
+use Rattle.std.specs.Prelude.{codes, pos, negsuc}
 use Rattle.std.specs.Fmt.{digits}
 use Rattle.esr_script.specs.Command.{begin_update, begin_query, read, write, commit, abort}
 use Rattle.esr_drive.specs.declared.fault.DriveFault.TheVariants.{BadScript}
@@ -22,6 +22,7 @@ one_block : plan_of (codes "item a 0\n\nsession\nbegin u update 0\nwrite u a 5\n
     ≡ Ok (record {
       names = codes "a" ∷ [];
       values = pos 0 ∷ [];
+      weights = None ∷ [];
       blocks = (begin_update (codes "u") 0 ∷ write (codes "u") (codes "a") (pos 5) ∷ commit (codes "u") ∷ []) ∷ [];
     })
 unfolding digits
@@ -35,8 +36,23 @@ file_of_two_blocks : plan_of (codes "item a 0\nsession\nbegin u update 0\nwrite 
     ≡ Ok (record {
       names = codes "a" ∷ [];
       values = pos 0 ∷ [];
+      weights = None ∷ [];
       blocks = (begin_update (codes "u") 0 ∷ write (codes "u") (codes "a") (pos 5) ∷ commit (codes "u") ∷ [])
           ∷ (begin_query (codes "q") 100 ∷ commit (codes "q") ∷ read (codes "u") (codes "a") ∷ []) ∷ [];
     })
 unfolding digits
 file_of_two_blocks = refl
+
+weights_of_items : plan_of (codes "item a 0 weight 3\nitem b 1\nitem c -2 weight 1000")
+    ≡ Ok (record {
+      names = codes "a" ∷ codes "b" ∷ codes "c" ∷ [];
+      values = pos 0 ∷ pos 1 ∷ negsuc 1 ∷ [];
+      weights = Some 3 ∷ None ∷ Some 1000 ∷ [];
+      blocks = [];
+    })
+unfolding digits
+weights_of_items = refl
+
+weight_of_nothing : plan_of (codes "item a 0\nitem b 0 weight 0\n") ≡ Err (BadScript 2 8)
+unfolding digits
+weight_of_nothing = refl

@@ -1,11 +1,10 @@
 -- From the parts of a drive to its text.
 use Rattle.std.proofs.Common.{◌≡◌, ℕ, ℤ, zero, suc, All, arith, ◌+◌, Bool, true, false, cond, ◌⊎◌, inl, inr, List, [], ◌∷◌, ◌++◌, length, map, Option, Some, None, Result, Ok, Err, Vec, Global, refl, ap, sym, subst, ◌∙◌, nat_eq, if◌then◌else◌}
 use Rattle.std.specs.Prelude.{nat_lt}
-use Rattle.esr_items.specs.Values.{opened}
 use Rattle.esr_items.specs.declared.store.Versions.{Versions}
 use Rattle.esr_history.specs.declared.event.Reply.{Reply}
 use Rattle.esr_history.specs.Machine.{Schedule}
-use Rattle.esr_core.proofs.Replayed.{first, opened_values}
+use Rattle.esr_core.proofs.Replayed.{first}
 use Rattle.esr_script.specs.Command.{Command}
 use Rattle.esr_script.specs.Lines.{lines}
 use Rattle.esr_drive.specs.declared.fault.DriveFault.{DriveFault}
@@ -13,7 +12,7 @@ use Rattle.esr_drive.specs.declared.fault.DriveFault.TheVariants as fault
 use Rattle.esr_drive.specs.declared.sheet.Sheet.{Sheet}
 use Rattle.esr_drive.specs.declared.call.Call.{Call}
 use Rattle.esr_drive.specs.Calls.{command_of, AreResolved}
-use Rattle.esr_drive.specs.Plan.{Plan, plan_of, plan_from, cut_fault, with_line, nothing}
+use Rattle.esr_drive.specs.Plan.{Plan, plan_of, plan_from, cut_fault, with_line, nothing, weights_of}
 use Rattle.esr_script.specs.Text.{max_lines, max_line_bytes}
 use Rattle.esr_drive.specs.Drafts.{commands_in}
 use Rattle.esr_drive.specs.Sheets.{plan_in, IsSound}
@@ -27,20 +26,13 @@ map_twice f g [] = refl
 map_twice f g (x ∷ xs) = ap (λ l. f (g x) ∷ l) (map_twice f g xs)
 
 -- the machine's first history
-pub opened_as : (items : List Versions) (vs : List ℤ) (h : Schedule) → items ≡ map opened vs → h.opening ≡ vs → h.weights ≡ []
-    → record { opening = map (λ (w : Versions). w.committed) items; weights = []; entries = [] } ≡ first h 0
-opened_as items vs h is opening weights =
-    let values : map (λ (w : Versions). w.committed) items ≡ h.opening = ap (map (λ (w : Versions). w.committed)) is ∙ (opened_values vs ∙ sym opening) in
-    ap (λ (o : List ℤ). start o []) values ∙ ap (start h.opening) (sym weights)
+pub opened_as : (items : List Versions) (metric : List ℕ) (h : Schedule) → h.opening ≡ map (λ (w : Versions). w.committed) items → h.weights ≡ metric
+    → record { opening = map (λ (w : Versions). w.committed) items; weights = metric; entries = [] } ≡ first h 0
+opened_as items metric h opening weights =
+    ap (λ (o : List ℤ). start o metric) (sym opening) ∙ ap (start h.opening) (sym weights)
   where
     start : List ℤ → List ℕ → Schedule
     start o w = record { opening = o; weights = w; entries = [] }
-
--- the values of opened items
-pub driven_over : (items : List Versions) (vs : List ℤ) (blocks : List (List Call)) (h : Schedule) (replies : List (List Reply))
-    → items ≡ map opened vs → IsDriven (map (λ (w : Versions). w.committed) items) blocks h replies → IsDriven vs blocks h replies
-driven_over items vs blocks h replies is d =
-    subst (λ (o : List ℤ). IsDriven o blocks h replies) (ap (map (λ (w : Versions). w.committed)) is ∙ opened_values vs) d
 
 all_items : (P : List Call → Type 0) (bs : List (Vec Call Global)) → All (λ b. P b.items) bs → All P (map (λ b. b.items) bs)
 all_items P [] all i x lt = absurd (omega (arith, lt))
@@ -49,7 +41,7 @@ all_items P (b ∷ bs) all (suc i) x lt = all_items P bs (λ j y below. all (suc
 
 -- the text of what was driven is one of the file
 pub drive_text : (bytes : List ℕ) (s : Sheet) (h : Schedule) (replies : List (List Reply)) (out : List ℕ)
-    → plan_of bytes ≡ Ok (plan_in s) → IsSound s → IsDriven s.values.items (map (λ b. b.items) s.blocks.items) h replies
+    → plan_of bytes ≡ Ok (plan_in s) → IsSound s → IsDriven s.values.items (weights_of s.weights.items) (map (λ b. b.items) s.blocks.items) h replies
     → out ≡ text_of (plan_in s) h (all_answers (map (λ b. b.items) s.blocks.items) replies) → IsDriveText bytes out
 drive_text bytes s h replies out planned sound d text = record {
   plan = plan_in s;
@@ -60,7 +52,7 @@ drive_text bytes s h replies out planned sound d text = record {
     receipts = d.receipts;
     legal = d.legal;
     opening = d.opening_is;
-    weights = d.weights;
+    weights = d.weights_are;
     commands = d.commands ∙ map_twice (map command_of) (λ (b : Vec Call Global). b.items) s.blocks.items;
     runs = d.runs s.names (all_items (AreResolved s.names) s.blocks.items sound.resolved);
     matching = d.matching;

@@ -1,15 +1,16 @@
 -- What an audit finds is what its line says.
-use Rattle.std.proofs.Common.{◌≡◌, ℕ, ℤ, zero, suc, ◌+◌, ◌<◌, List, [], ◌∷◌, ◌++◌, length, take, map, get_or, Result, OnOk, refl, sym, ap, subst, ◌∙◌, append_assoc, append-nil, length-take, arith, ◌≤◌}
+use Rattle.std.proofs.Common.{◌≡◌, ℕ, ℤ, zero, suc, ◌+◌, ◌<◌, List, [], ◌∷◌, ◌++◌, length, take, map, get_or, Option, Result, OnOk, refl, sym, ap, subst, ◌∙◌, append_assoc, append-nil, length-take, arith, ◌≤◌}
 use Rattle.std.specs.List.{flat_map}
 use Rattle.std.proofs.lemmas.List.{take_more, take_all}
 use Rattle.std.proofs.lemmas.Grind.{flat_map-append}
+use Rattle.esr_items.specs.Weights.{weighted}
 use Rattle.esr_history.specs.Machine.{Schedule, charges_in, import_in}
 use Rattle.esr_order.specs.Placements.{is_among}
 use Rattle.esr_order.specs.Least.{least_set, least_cost}
 use Rattle.esr_order.proofs.Least.{law_of_listed_sets}
 use Rattle.esr_audit.specs.declared.finding.Finding.{Finding}
 use Rattle.esr_audit.specs.Findings.{IsFinding}
-use Rattle.esr_report.specs.Lines.{audit_line, item_line, reply_line, session_line}
+use Rattle.esr_report.specs.Lines.{audit_line, reply_line, session_line}
 use Rattle.esr_history.specs.declared.event.Reply.{Reply}
 use Rattle.esr_drive.specs.declared.call.Call.{Call}
 use Rattle.esr_drive.specs.Calls.{command_of, answers_of}
@@ -17,21 +18,20 @@ use Rattle.esr_drive.specs.Tables.{answered}
 use Rattle.esr_drive.proofs.Calling.{same_at}
 use Rattle.esr_drive.proofs.Noting.{answer_at, length_answers}
 use Rattle.esr_report.specs.Names.{name_of_transaction}
-use Rattle.esr_drive.specs.Plain.{plain}
 use Rattle.esr_drive.specs.Blocks.{Answered}
-use Rattle.esr_drive.specs.Drive.{finding_text, items_text, subject_of, replies_text, blocks_text}
+use Rattle.esr_drive.specs.Drive.{finding_text, item_text, items_text, subject_of, replies_text, blocks_text}
 
 abbrev before_of : Finding → List ℕ
 before_of f = map (λ t. t.0) f.before.items
 
-pub told : (h : Schedule) (names : List (List ℕ)) (name : List ℕ) (f : Finding) → IsFinding plain h f → name ≡ name_of_transaction names f.query.0
+pub told : (h : Schedule) (names : List (List ℕ)) (name : List ℕ) (f : Finding) → IsFinding weighted h f → name ≡ name_of_transaction names f.query.0
     → audit_line names name f.distance f.import (before_of f) ≡ finding_text h names f.query.0
 told h names name f found is =
-    let law = law_of_listed_sets plain h f.query.0 (is_among (before_of f)) found.answer.smallest in
+    let law = law_of_listed_sets weighted h f.query.0 (is_among (before_of f)) found.answer.smallest in
     ap (λ n. audit_line names n f.distance f.import (before_of f)) is
     ∙ (ap (λ d. audit_line names (name_of_transaction names f.query.0) d f.import (before_of f)) (found.answer.distance_is ∙ law.1)
-    ∙ (ap (λ i. audit_line names (name_of_transaction names f.query.0) (least_cost plain h f.query.0) i (before_of f)) found.answer.import_is
-    ∙ ap (audit_line names (name_of_transaction names f.query.0) (least_cost plain h f.query.0) (import_in (charges_in plain h) f.query.0)) (found.answer.in_order ∙ law.0)))
+    ∙ (ap (λ i. audit_line names (name_of_transaction names f.query.0) (least_cost weighted h f.query.0) i (before_of f)) found.answer.import_is
+    ∙ ap (audit_line names (name_of_transaction names f.query.0) (least_cost weighted h f.query.0) (import_in (charges_in weighted h) f.query.0)) (found.answer.in_order ∙ law.0)))
 
 -- the text of one more
 pub more_text : {X : Type 0} (f : X → List ℕ) (xs : List X) (i : ℕ) (x : X) (old mid all : List ℕ)
@@ -53,28 +53,36 @@ by_queries h names (f ∷ fs) queries is =
 pub same_end : {E : Type 0} (r : Result (Unit {0}) E) (all old a b : List ℕ) → a ≡ b → OnOk r (all ≡ old ++ a) → OnOk r (all ≡ old ++ b)
 same_end r all old a b is h = subst (λ (t : List ℕ). OnOk r (all ≡ old ++ t)) is h
 
-items_more : (names : List (List ℕ)) (values : List ℤ) (i : ℕ) (v : ℤ) → length values ≡ length names → i < length values
-    → items_text (take (suc i) names) (take (suc i) values) ≡ items_text (take i names) (take i values) ++ item_line (get_or names i []) (get_or values i v)
-items_more names [] i v e lt = absurd (omega (arith, lt))
-items_more [] (x ∷ values) i v e lt = absurd (omega (arith, e))
-items_more (n ∷ names) (x ∷ values) zero v e lt = append-nil (item_line n x)
-items_more (n ∷ names) (x ∷ values) (suc i) v e lt =
-    ap (λ t. item_line n x ++ t) (items_more names values i v (omega (arith, e)) (omega (arith, lt)))
-    ∙ sym (append_assoc (item_line n x) (items_text (take i names) (take i values)) (item_line (get_or names i []) (get_or values i v)))
+items_more : (names : List (List ℕ)) (values : List ℤ) (weights : List (Option ℕ)) (i : ℕ) (v : ℤ) (w : Option ℕ) → length values ≡ length names → length weights ≡ length names → i < length values
+    → items_text (take (suc i) names) (take (suc i) values) (take (suc i) weights)
+    ≡ items_text (take i names) (take i values) (take i weights) ++ item_text (get_or names i []) (get_or values i v) (get_or weights i w)
+items_more names [] weights i v w e f lt = absurd (omega (arith, lt))
+items_more [] (x ∷ values) weights i v w e f lt = absurd (omega (arith, e))
+items_more (n ∷ names) (x ∷ values) [] i v w e f lt = absurd (omega (arith, f))
+items_more (n ∷ names) (x ∷ values) (g ∷ weights) zero v w e f lt = append-nil (item_text n x g)
+items_more (n ∷ names) (x ∷ values) (g ∷ weights) (suc i) v w e f lt =
+    ap (λ t. item_text n x g ++ t) (items_more names values weights i v w (omega (arith, e)) (omega (arith, f)) (omega (arith, lt)))
+    ∙ sym (append_assoc (item_text n x g) (items_text (take i names) (take i values) (take i weights)) (item_text (get_or names i []) (get_or values i v) (get_or weights i w)))
 
 -- the line of one more item
-pub items_text_more : (names : List (List ℕ)) (values : List ℤ) (i : ℕ) (v : ℤ) (name old mid all : List ℕ) → length values ≡ length names → i < length values
-    → mid ≡ old ++ items_text (take i names) (take i values) → name ≡ get_or names i [] → all ≡ mid ++ item_line name (get_or values i v)
-    → all ≡ old ++ items_text (take (i + 1) names) (take (i + 1) values)
-items_text_more names values i v name old mid all e lt so_far is more =
+pub items_text_more : (names : List (List ℕ)) (values : List ℤ) (weights : List (Option ℕ)) (i : ℕ) (v : ℤ) (w : Option ℕ) (name old mid all : List ℕ)
+    → length values ≡ length names → length weights ≡ length names → i < length values
+    → mid ≡ old ++ items_text (take i names) (take i values) (take i weights) → name ≡ get_or names i [] → all ≡ mid ++ item_text name (get_or values i v) (get_or weights i w)
+    → all ≡ old ++ items_text (take (i + 1) names) (take (i + 1) values) (take (i + 1) weights)
+items_text_more names values weights i v w name old mid all e f lt so_far is more =
     let on : i + 1 ≡ suc i = omega arith in
-    more ∙ (ap (λ l. l ++ item_line name (get_or values i v)) so_far ∙ (append_assoc old (items_text (take i names) (take i values)) (item_line name (get_or values i v))
-    ∙ ap (λ l. old ++ l) (ap (λ n. items_text (take i names) (take i values) ++ item_line n (get_or values i v)) is ∙ sym (ap (λ n. items_text (take n names) (take n values)) on ∙ items_more names values i v e lt))))
+    let part : List ℕ = items_text (take i names) (take i values) (take i weights) in
+    more ∙ (ap (λ l. l ++ item_text name (get_or values i v) (get_or weights i w)) so_far ∙ (append_assoc old part (item_text name (get_or values i v) (get_or weights i w))
+    ∙ ap (λ l. old ++ l) (ap (λ n. part ++ item_text n (get_or values i v) (get_or weights i w)) is
+    ∙ sym (ap (λ n. items_text (take n names) (take n values) (take n weights)) on ∙ items_more names values weights i v w e f lt))))
 
-pub items_text_all : (names : List (List ℕ)) (values : List ℤ) (i : ℕ) (old all : List ℕ) → length values ≡ length names → length values ≤ i
-    → all ≡ old ++ items_text (take i names) (take i values) → all ≡ old ++ items_text names values
-items_text_all names values i old all e le is =
-    is ∙ (ap (λ n. old ++ items_text n (take i values)) (take_all i names (omega (arith, e, le))) ∙ ap (λ v. old ++ items_text names v) (take_all i values le))
+pub items_text_all : (names : List (List ℕ)) (values : List ℤ) (weights : List (Option ℕ)) (i : ℕ) (old all : List ℕ)
+    → length values ≡ length names → length weights ≡ length names → length values ≤ i
+    → all ≡ old ++ items_text (take i names) (take i values) (take i weights) → all ≡ old ++ items_text names values weights
+items_text_all names values weights i old all e f le is =
+    is ∙ (ap (λ n. old ++ items_text n (take i values) (take i weights)) (take_all i names (omega (arith, e, le)))
+    ∙ (ap (λ v. old ++ items_text names v (take i weights)) (take_all i values le)
+    ∙ ap (λ w. old ++ items_text names values w) (take_all i weights (omega (arith, e, f, le)))))
 
 blocks-snoc : (names : List (List ℕ)) (k : ℕ) (bs : List (List Answered)) (b : List Answered)
     → blocks_text names k (bs ++ b ∷ []) ≡ blocks_text names k bs ++ (session_line (k + length bs) ++ replies_text names b)

@@ -1,5 +1,5 @@
 -- A drive file with its text: one block, whose update is read by a query.
-use Rattle.std.proofs.Common.{◌≡◌, ◌++◌, ℕ, ℤ, zero, suc, ◌<◌, All, length, refl, sym, ◌∙◌, List, [], ◌∷◌, Ok, Err, Bool, true, false, arith}
+use Rattle.std.proofs.Common.{◌≡◌, ◌++◌, ℕ, ℤ, zero, suc, ◌<◌, All, length, refl, sym, ◌∙◌, List, [], ◌∷◌, Ok, Err, None, Bool, true, false, arith}
 use Rattle.std.specs.Prelude.{codes, pos}
 use Rattle.std.specs.Fmt.{digits}
 use Rattle.std.proofs.lemmas.List.Elements.{All-push}
@@ -130,11 +130,12 @@ drive_of_one_block = record {
   plan = record {
     names = names;
     values = pos 0 ∷ [];
+    weights = None ∷ [];
     blocks = (begin_update u 0 ∷ write u a (pos 5) ∷ commit u ∷ begin_query q 0 ∷ read q a ∷ commit q ∷ []) ∷ [];
   };
   planned = refl;
   is_text = record {
-    history = record { opening = pos 0 ∷ []; weights = []; entries = entries };
+    history = record { opening = pos 0 ∷ []; weights = 1 ∷ []; entries = entries };
     blocks = all ∷ [];
     receipts = receipts ∷ [];
     legal = (refl, (refl, (refl, (refl, (refl, (refl, tt))))));

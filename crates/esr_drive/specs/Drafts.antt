@@ -1,6 +1,8 @@
 -- A plan that is being made, as contracts see it.
 use Rattle.std.specs.Prelude.{◌≡◌, ◌≤◌, ℕ, List, [], ◌∷◌, ◌++◌, All, Option, Some, None, Result, Ok, Err, map, length, nat_lt, slice_get, if◌then◌else◌}
 use Rattle.std.specs.Option.{option_map}
+use Rattle.esr_items.specs.Values.{IsValue}
+use Rattle.esr_items.specs.Weights.{IsWeight}
 use Rattle.esr_report.specs.Names.{position_of}
 use Rattle.esr_script.specs.Command.{Command}
 use Rattle.esr_drive.specs.declared.call.Call.{Call}
@@ -8,7 +10,7 @@ use Rattle.esr_drive.specs.declared.draft.Draft.{Draft}
 use Rattle.esr_drive.specs.declared.draft.Wrong.{Wrong}
 use Rattle.esr_drive.specs.declared.draft.Wrong.TheVariants as wrong
 use Rattle.esr_drive.specs.Calls.{command_of, place_of, AreResolved}
-use Rattle.esr_drive.specs.Plan.{Plan, new_names}
+use Rattle.esr_drive.specs.Plan.{Plan, new_names, weights_of}
 
 abbrev pub commands_in : List Call → List Command
 commands_in calls = map command_of calls
@@ -25,7 +27,7 @@ abbrev pub blocks_of : Draft → List (List Command)
 blocks_of d = blocks_with (map (λ b. commands_in b.items) d.done.items) (current_of d)
 
 abbrev pub plan_in : Draft → Plan
-plan_in d = record { names = d.names; values = d.values.items; blocks = blocks_of d }
+plan_in d = record { names = d.names; values = d.values.items; weights = d.weights.items; blocks = blocks_of d }
 
 -- where no block is open, none was done
 abbrev pub IsOpened : Draft → Type 0
@@ -48,6 +50,9 @@ ArePlaces calls earlier places begun = (name : List ℕ) → place_of calls name
 pub record IsSound (d : Draft) : Type 0 where
   pub begun : d.begun ≡ new_names (blocks_of d)
   pub values : length d.values.items ≡ length d.names
+  pub weights : length d.weights.items ≡ length d.names
+  pub in_range : All IsValue d.values.items
+  pub weighed : All IsWeight (weights_of d.weights.items)
   pub opened : IsOpened d
   pub items : length d.names ≤ 4096
   pub blocks : length (blocks_of d) ≤ 64

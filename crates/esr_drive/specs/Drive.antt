@@ -3,20 +3,20 @@ use Rattle.std.specs.Prelude.{◌≡◌, ℕ, ◌+◌, ℤ, pos, List, [], ◌�
 use Rattle.std.specs.List.{flat_map, find}
 use Rattle.std.specs.Option.{option_and_then, option_map_or, option_map}
 use Rattle.std.specs.Io.KnownBytes.{Consumes}
+use Rattle.esr_items.specs.Weights.{weighted}
 use Rattle.esr_history.specs.Events.{numbers}
 use Rattle.esr_history.specs.Machine.{Schedule, done, IsLegal, charges_in, import_in}
 use Rattle.esr_history.specs.Totals.{all_imports, all_exports}
 use Rattle.esr_order.specs.Least.{least_set, least_cost}
 use Rattle.esr_audit.specs.Findings.{committed_queries}
 use Rattle.esr_report.specs.Names.{name_of_transaction}
-use Rattle.esr_report.specs.Lines.{BeginsWith, Named, item_line, session_line, reply_line, audit_line, totals_line}
+use Rattle.esr_report.specs.Lines.{BeginsWith, Named, item_line, weighted_item_line, session_line, reply_line, audit_line, totals_line}
 use Rattle.esr_script.specs.Command.{Command, item, weighted_item, begin_update, begin_query, begin_strict_query, read, write, commit, abort, audit, totals}
-use Rattle.esr_drive.specs.Plain.{plain}
 use Rattle.esr_session.specs.declared.receipt.Receipt.{Receipt}
 use Rattle.esr_session.specs.Receipts.{Matches}
 use Rattle.esr_drive.specs.declared.fault.DriveFault.{DriveFault}
 use Rattle.esr_drive.specs.declared.fault.DriveFault.TheVariants as fault
-use Rattle.esr_drive.specs.Plan.{Plan, plan_of, new_name}
+use Rattle.esr_drive.specs.Plan.{Plan, plan_of, new_name, weights_of}
 use Rattle.esr_drive.specs.Blocks.{Answered, AreBlocks, commands_of, number_in}
 
 -- whether the line began the transaction with this number
@@ -45,10 +45,16 @@ subject_of (abort txn) = record { txn = txn; item = []; value = pos 0 }
 subject_of (audit txn) = record { txn = txn; item = []; value = pos 0 }
 subject_of totals = record { txn = []; item = []; value = pos 0 }
 
-abbrev pub items_text : List (List ℕ) → List ℤ → List ℕ
-items_text [] values = []
-items_text (name ∷ names) [] = []
-items_text (name ∷ names) (value ∷ values) = item_line name value ++ items_text names values
+-- the line of an item, with its weight where one was given
+abbrev pub item_text : List ℕ → ℤ → Option ℕ → List ℕ
+item_text name value None = item_line name value
+item_text name value (Some weight) = weighted_item_line name value weight
+
+abbrev pub items_text : List (List ℕ) → List ℤ → List (Option ℕ) → List ℕ
+items_text [] values weights = []
+items_text (name ∷ names) [] weights = []
+items_text (name ∷ names) (value ∷ values) [] = []
+items_text (name ∷ names) (value ∷ values) (weight ∷ weights) = item_text name value weight ++ items_text names values weights
 
 -- the last replies to the commands of a block
 abbrev pub replies_text : List (List ℕ) → List Answered → List ℕ
@@ -62,7 +68,7 @@ blocks_text names k (b ∷ blocks) = session_line k ++ replies_text names b ++ b
 -- what the audit finds of a query: its least distance, its import, and the smallest least set
 abbrev pub finding_text : Schedule → List (List ℕ) → ℕ → List ℕ
 finding_text h names q =
-    audit_line names (name_of_transaction names q) (least_cost plain h q) (import_in (charges_in plain h) q) (least_set plain h q)
+    audit_line names (name_of_transaction names q) (least_cost weighted h q) (import_in (charges_in weighted h) q) (least_set weighted h q)
 
 abbrev pub findings_text : Schedule → List (List ℕ) → List ℕ
 findings_text h names = flat_map (finding_text h names) (committed_queries h)
@@ -70,10 +76,10 @@ findings_text h names = flat_map (finding_text h names) (committed_queries h)
 abbrev pub text_of : Plan → Schedule → List (List Answered) → List ℕ
 text_of p h blocks =
     let names = names_of h blocks in
-    items_text p.names p.values
+    items_text p.names p.values p.weights
     ++ blocks_text names 0 blocks
     ++ findings_text h names
-    ++ totals_line (all_imports plain h) (all_exports plain h) (length h.entries)
+    ++ totals_line (all_imports weighted h) (all_exports weighted h) (length h.entries)
 
 -- Each command of the plan has a run of receipts, which match one legal history over the plan's items, and the text is that of
 -- the last replies, the findings and the totals of this history.
@@ -81,9 +87,9 @@ pub record IsTextOf (p : Plan) (text : List ℕ) : Type 0 where
   pub history : Schedule
   pub blocks : List (List Answered)
   pub receipts : List (List Receipt)
-  pub legal : IsLegal plain history
+  pub legal : IsLegal weighted history
   pub opening : history.opening ≡ p.values
-  pub weights : history.weights ≡ []
+  pub weights : history.weights ≡ weights_of p.weights
   pub commands : map commands_of blocks ≡ p.blocks
   pub runs : AreBlocks p.names blocks receipts
   pub matching : Matches history.entries receipts

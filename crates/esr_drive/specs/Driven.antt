@@ -1,8 +1,8 @@
 -- What the engine of a drive leaves.
 use Rattle.std.specs.Prelude.{◌≡◌, ℕ, ℤ, List, [], ◌∷◌, All, length, map}
+use Rattle.esr_items.specs.Weights.{weighted}
 use Rattle.esr_history.specs.declared.event.Reply.{Reply}
 use Rattle.esr_history.specs.Machine.{Schedule, IsLegal}
-use Rattle.esr_drive.specs.Plain.{plain}
 use Rattle.esr_session.specs.declared.receipt.Receipt.{Receipt}
 use Rattle.esr_session.specs.Receipts.{Matches}
 use Rattle.esr_drive.specs.declared.call.Call.{Call}
@@ -21,12 +21,12 @@ AreAnswered [] [] = Unit {0}
 AreAnswered (b ∷ blocks) (r ∷ replies) = (length r ≡ length b) × AreAnswered blocks replies
 AreAnswered _ _ = ⊥
 
--- A legal history over these opening values, whose entries the receipts of the blocks name, with the last replies of each block. The
+-- A legal history over these opening values and weights, whose entries the receipts of the blocks name, with the last replies of each block. The
 -- names of items are those that the calls were resolved by.
-pub record IsDriven (opening : List ℤ) (blocks : List (List Call)) (history : Schedule) (replies : List (List Reply)) : Type 0 where
-  pub legal : IsLegal plain history
+pub record IsDriven (opening : List ℤ) (weights : List ℕ) (blocks : List (List Call)) (history : Schedule) (replies : List (List Reply)) : Type 0 where
+  pub legal : IsLegal weighted history
   pub opening_is : history.opening ≡ opening
-  pub weights : history.weights ≡ []
+  pub weights_are : history.weights ≡ weights
   pub answered : AreAnswered blocks replies
   pub commands : map (λ b. map (λ a. a.command) b) (all_answers blocks replies) ≡ map (λ b. map command_of b) blocks
   pub receipts : List (List Receipt)

@@ -1,4 +1,3 @@
-pub mod Plain
 pub mod Plan
 pub mod Blocks
 pub mod Drive

@@ -1,8 +1,9 @@
 -- What a drive file asks for, or the fault of the line at fault.
-use Rattle.std.specs.Prelude.{ℕ, ◌+◌, ◌==◌, ℤ, List, [], ◌∷◌, ◌++◌, not, nat_lt, nat_eq, Option, Some, None, Result, Ok, Err, length, codes, if◌then◌else◌}
+use Rattle.std.specs.Prelude.{ℕ, ◌+◌, ◌==◌, ℤ, List, [], ◌∷◌, ◌++◌, not, nat_lt, nat_eq, Option, Some, None, Result, Ok, Err, length, map, codes, unwrap_or, if◌then◌else◌}
 use Rattle.std.specs.List.{filter_map, flat_map}
 use Rattle.std.specs.Str.{bytes_eq}
 use Rattle.esr_items.specs.Values.{is_value}
+use Rattle.esr_items.specs.Weights.{is_weight}
 use Rattle.esr_report.specs.Names.{is_bound}
 use Rattle.esr_script.specs.Lines.{lines}
 use Rattle.esr_script.specs.Command.{Command, item, weighted_item, begin_update, begin_query, begin_strict_query, read, write, commit, abort, audit, totals, is_skipped}
@@ -11,14 +12,22 @@ use Rattle.esr_script.specs.Text.{max_lines, max_line_bytes, max_items}
 use Rattle.esr_drive.specs.declared.fault.DriveFault.{DriveFault}
 use Rattle.esr_drive.specs.declared.fault.DriveFault.TheVariants.{LineTooLong, TooManyLines, BadScript}
 
--- the names of the items and the values with which they open, and the commands of each block
+-- the names of the items, the values with which they open and the weights that were given, and the commands of each block
 pub record Plan : Type 0 where
   pub names : List (List ℕ)
   pub values : List ℤ
+  pub weights : List (Option ℕ)
   pub blocks : List (List Command)
 
 abbrev pub nothing : Plan
-nothing = record { names = []; values = []; blocks = [] }
+nothing = record { names = []; values = []; weights = []; blocks = [] }
+
+-- the weight of an item: 1 where none was given
+abbrev pub weight_in : Option ℕ → ℕ
+weight_in given = unwrap_or given 1
+
+abbrev pub weights_of : List (Option ℕ) → List ℕ
+weights_of given = map weight_in given
 
 abbrev pub max_blocks : ℕ
 max_blocks = 64
@@ -54,13 +63,14 @@ with_session p =
     if length p.blocks == max_blocks then Err 7
     else Ok (record p { blocks = p.blocks ++ [] ∷ [] })
 
-abbrev pub with_item : Plan → List ℕ → ℤ → Result Plan ℕ
-with_item p name value =
+abbrev pub with_item : Plan → List ℕ → ℤ → Option ℕ → Result Plan ℕ
+with_item p name value weight =
     if not (length p.blocks == 0) then Err 2
     else if is_bound p.names name then Err 3
     else if not (is_value value) then Err 4
     else if length p.names == max_items then Err 5
-    else Ok (record p { names = p.names ++ name ∷ []; values = p.values ++ value ∷ [] })
+    else if not (is_weight (weight_in weight)) then Err 8
+    else Ok (record p { names = p.names ++ name ∷ []; values = p.values ++ value ∷ []; weights = p.weights ++ weight ∷ [] })
 
 abbrev pub with_operation : Plan → Command → Result Plan ℕ
 with_operation p c =
@@ -74,9 +84,8 @@ with_begin p name c =
     else Ok (record p { blocks = onto_last c p.blocks })
 
 abbrev pub with_command : Plan → Command → Result Plan ℕ
-with_command p (item name value) = with_item p name value
--- no weights yet
-with_command p (weighted_item name value weight) = if length p.blocks == 0 then Err 1 else Err 2
+with_command p (item name value) = with_item p name value None
+with_command p (weighted_item name value weight) = with_item p name value (Some weight)
 with_command p (begin_update name limit) = with_begin p name (begin_update name limit)
 with_command p (begin_query name limit) = with_begin p name (begin_query name limit)
 with_command p (begin_strict_query name limit) = with_begin p name (begin_strict_query name limit)

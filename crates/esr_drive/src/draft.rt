@@ -1,16 +1,17 @@
 //! Makes the plan of a drive file, line after line.
 
-ghost use Rattle.std.specs.Prelude.{◌≡◌, ℕ, ◌+◌, ◌<◌, ◌≤◌, ◌⊎◌, ◌^◌, Ok, Err, Some, None, OnOk, IfOk, IfErr, length};
+ghost use Rattle.std.specs.Prelude.{◌≡◌, ℕ, ◌+◌, ◌<◌, ◌≤◌, ◌⊎◌, ◌^◌, true, false, Ok, Err, Some, None, OnOk, IfOk, IfErr, length};
+ghost use Rattle.esr_items.specs.Weights.{is_weight};
 ghost use Rattle.esr_script.specs.Lines.{lines};
 ghost use Rattle.esr_script.specs.View.{view};
-ghost use Rattle.esr_drive.specs.Plan.{with_session, with_item, with_operation, with_begin, with_command, with_line, plan_from, nothing, new_name};
+ghost use Rattle.esr_drive.specs.Plan.{with_session, with_item, with_operation, with_begin, with_command, with_line, plan_from, nothing, new_name, weight_in};
 ghost use Rattle.esr_drive.specs.Calls.{command_of, place_of, IsCaller, IsOperand, IsResolved};
 ghost use Rattle.esr_drive.specs.Drafts.{plan_in, current_calls, IsSound, IsWrong};
 
 use crate::call::{Call, Caller, Operand};
 use crate::fault::DriveFault;
 use crate::reading::first_line;
-use esr_items::{ItemId, LARGEST_VALUE, MOST_ITEMS};
+use esr_items::{ItemId, LARGEST_VALUE, LARGEST_WEIGHT, MOST_ITEMS};
 use esr_report::Names;
 use esr_script::{Line, Parsed, parse_line};
 use std::alloc::Global;
@@ -23,6 +24,8 @@ const MAX_BLOCKS: usize = 64;
 pub struct Draft<'a> {
     pub names: Names,
     pub values: Vec<i64>,
+    /// The weights that were given.
+    pub weights: Vec<Option<u32>>,
     pub done: Vec<Vec<Call<'a>>>,
     pub current: Option<Vec<Call<'a>>>,
     pub begun: Names,
@@ -40,6 +43,18 @@ pub enum Wrong {
     NoMemory,
 }
 
+/// The weight that an item is given, if it may have it.
+fn weight_of(given: Option<u64>) -> Result<Option<u32>, Wrong>
+    ensures ok { IfOk result (λ weight. (weight ≡ given) × (is_weight (weight_in given) ≡ true)) }
+    ensures err { IfErr result (λ e. (e ≡ Wrong.Line 8) × (is_weight (weight_in given) ≡ false)) }
+{
+    match given {
+        None => Ok(None),
+        Some(weight) if weight == 0 || weight > u64::from(LARGEST_WEIGHT) => Err(Wrong::Line(8)),
+        Some(weight) => Ok(Some(weight as u32)),
+    }
+}
+
 impl<'a> Draft<'a> {
     pub fn new(alloc: Global) -> Draft<'a>
         ensures plan { plan_in result ≡ nothing }
@@ -48,6 +63,7 @@ impl<'a> Draft<'a> {
         Draft {
             names: Names::new(alloc),
             values: Vec::new(alloc),
+            weights: Vec::new(alloc),
             done: Vec::new(alloc),
             current: None,
             begun: Names::new(alloc),
@@ -56,11 +72,11 @@ impl<'a> Draft<'a> {
         }
     }
 
-    /// Declares an item.
-    fn add_item(&mut self, name: &str, value: i64) -> Result<(), Wrong>
+    /// Declares an item, with a weight where one is given.
+    fn add_item(&mut self, name: &str, value: i64, weight: Option<u64>) -> Result<(), Wrong>
         requires { IsSound self.old }
-        ensures ok { OnOk result (IsSound self.new × (with_item (plan_in self.old) name.now value ≡ Ok (plan_in self.new))) }
-        ensures err { IfErr result (IsWrong (with_item (plan_in self.old) name.now value)) }
+        ensures ok { OnOk result (IsSound self.new × (with_item (plan_in self.old) name.now value weight ≡ Ok (plan_in self.new))) }
+        ensures err { IfErr result (IsWrong (with_item (plan_in self.old) name.now value weight)) }
         ensures begun { self.new.begun ≡ self.old.begun }
     {
         if self.current.is_some() {
@@ -75,7 +91,11 @@ impl<'a> Draft<'a> {
         if self.names.len() >= MOST_ITEMS {
             return Err(Wrong::Line(5));
         }
-        if self.names.bind(name).is_err() || self.values.push(value).is_err() {
+        let weight = weight_of(weight)?;
+        if self.names.bind(name).is_err()
+            || self.values.push(value).is_err()
+            || self.weights.push(weight).is_err()
+        {
             return Err(Wrong::NoMemory);
         }
         Ok(())
@@ -193,12 +213,12 @@ impl<'a> Draft<'a> {
         ensures begun { OnOk result (length self.new.begun ≤ length self.old.begun + 1) }
     {
         match line {
-            Line::Item { name, value } => self.add_item(name, value),
-            Line::WeightedItem { .. } => Err(Wrong::Line(if self.current.is_none() {
-                1
-            } else {
-                2
-            })),
+            Line::Item { name, value } => self.add_item(name, value, None),
+            Line::WeightedItem {
+                name,
+                value,
+                weight,
+            } => self.add_item(name, value, Some(weight)),
             Line::BeginUpdate { name, limit } => {
                 self.add_begin(name, Call::BeginUpdate { name, limit })
             }

@@ -9,7 +9,7 @@ use crate::fault::DriveFault;
 use crate::threads::{Gathered, Job, gather, run_blocks};
 use esr_board::Gate;
 use esr_history::{History, NoMemory, Reply};
-use esr_items::{Plain, Store};
+use esr_items::{Store, Weighted};
 use esr_session::{CloseError, Engine, Naming, Session};
 use std::alloc::{AllocError, Global};
 use std::marker::Brand;
@@ -20,16 +20,16 @@ use std::thread::Threads;
 /// What the engine leaves: the history, and the last replies of each block.
 #[derive(Drop)]
 pub struct Driven {
-    pub history: History<Plain>,
+    pub history: History<Weighted>,
     pub replies: Vec<Vec<Reply>>,
 }
 
 /// A session for each of so many blocks.
 fn sessions_for<N: Naming>(
     alloc: Global,
-    engine: &mut Engine<Plain, N>,
+    engine: &mut Engine<Weighted, N>,
     blocks: usize,
-) -> Result<Vec<Session<Plain, N>>, NoMemory>
+) -> Result<Vec<Session<Weighted, N>>, NoMemory>
     requires number { blocks ≤ 64 }
     requires first { engine.old.opened ≡ 0 }
     ensures { IfOk result (λ sessions. (vec_len sessions ≡ blocks) × All (λ session. session ≡ []) sessions.items) }
@@ -44,7 +44,7 @@ fn sessions_for<N: Naming>(
 fn jobs_of<'a, 't, N: Naming>(
     alloc: Global,
     blocks: &'a [Vec<Call<'t>>],
-    sessions: Vec<Session<Plain, N>>,
+    sessions: Vec<Session<Weighted, N>>,
 ) -> Result<Vec<Job<'a, 't, N>>, AllocError>
     requires { (length blocks.now ≡ vec_len sessions) × All (λ session. session ≡ []) sessions.items }
     ensures len { IfOk result (λ v. vec_len v ≡ length blocks.now) }
@@ -72,18 +72,19 @@ fn drive_blocks<N: Naming + Send + Sync, R: Threads + Wait + Sync, G: Gate + Syn
     alloc: Global,
     blank: Blank,
     items: Store,
+    metric: Weighted,
     blocks: &[Vec<Call<'_>>],
     gate: &G,
 ) -> Result<Driven, DriveFault>
     requires name { blank.name ≡ N.name }
     requires parts { (blank.parts ≡ N.parts) × (blank.parts ≡ 65) }
     requires opening { map (λ w. w.committed) items ≡ N.opening }
-    requires weights { [] ≡ N.weights }
+    requires weights { metric ≡ N.weights }
     requires blocks { length blocks.now ≤ 64 }
     ensures faults { IfErr result (λ e. is_engine_fault e ≡ true) }
-    ensures driven { IfOk result (λ d. IsDriven (map (λ w. w.committed) items) (map (λ b. b.items) blocks.now) d.history.schedule (map (λ r. r.items) d.replies.items)) }
+    ensures driven { IfOk result (λ d. IsDriven (map (λ w. w.committed) items) metric (map (λ b. b.items) blocks.now) d.history.schedule (map (λ r. r.items) d.replies.items)) }
 {
-    let Ok(mut engine) = Engine::<Plain, N>::new(alloc, blank, items, Plain) else {
+    let Ok(mut engine) = Engine::<Weighted, N>::new(alloc, blank, items, metric) else {
         return Err(DriveFault::NoMemory);
     };
     let Ok(sessions) = sessions_for(alloc, &mut engine, blocks.len()) else {
@@ -116,12 +117,13 @@ pub fn run_plan<R: Threads + Wait + Sync, G: Gate + Sync>(
     rt: &R,
     alloc: Global,
     items: Store,
+    metric: Weighted,
     blocks: &[Vec<Call<'_>>],
     gate: &G,
 ) -> Result<Driven, DriveFault>
     requires { length blocks.now ≤ 64 }
     ensures faults { IfErr result (λ e. is_engine_fault e ≡ true) }
-    ensures driven { IfOk result (λ d. IsDriven (map (λ w. w.committed) items) (map (λ b. b.items) blocks.now) d.history.schedule (map (λ r. r.items) d.replies.items)) }
+    ensures driven { IfOk result (λ d. IsDriven (map (λ w. w.committed) items) metric (map (λ b. b.items) blocks.now) d.history.schedule (map (λ r. r.items) d.replies.items)) }
 {
-    drive_blocks::<Brand, R, G>(rt, alloc, Blank::new(65), items, blocks, gate)
+    drive_blocks::<Brand, R, G>(rt, alloc, Blank::new(65), items, metric, blocks, gate)
 }

@@ -8,10 +8,11 @@ ghost use Rattle.esr_drive.specs.Drive.{IsDriveBy, IsDriveText, text_of};
 ghost use Rattle.esr_drive.specs.Driven.{IsDriven, all_answers};
 ghost use Rattle.esr_drive.specs.Faults.{IsTextFault};
 ghost use Rattle.esr_drive.specs.Sheets.{plan_in, IsSound};
-ghost use Rattle.esr_drive.specs.Plan.{cut_fault};
+ghost use Rattle.esr_drive.specs.Plan.{cut_fault, weights_of};
 
 use crate::driven::{Driven, run_plan};
 use crate::fault::DriveFault;
+use crate::opening::{metric_of, store_of};
 use crate::reading::read_all;
 use crate::sending::send_all;
 use crate::sheet::{Sheet, sheet_of};
@@ -19,7 +20,6 @@ use crate::table::begun_names;
 use crate::text::{push_blocks, push_findings, push_items, push_totals};
 use esr_board::Gate;
 use esr_history::Watched;
-use esr_items::Store;
 use std::alloc::{AllocError, Global};
 use std::io::{Read, Write};
 use std::sync::Wait;
@@ -74,13 +74,13 @@ fn text_in<R: Threads + Wait + Sync, G: Gate + Sync>(
         Ok(sheet) => sheet,
         Err(fault) => return Err(fault),
     };
-    let Ok(values) = sheet.values.as_slice().to_vec(alloc) else {
+    let Ok(items) = store_of(alloc, sheet.values.as_slice()) else {
         return Err(DriveFault::NoMemory);
     };
-    let Ok(items) = Store::new(alloc, values) else {
+    let Ok(metric) = metric_of(alloc, sheet.weights.as_slice()) else {
         return Err(DriveFault::NoMemory);
     };
-    let driven = match run_plan(rt, alloc, items, sheet.blocks.as_slice(), gate) {
+    let driven = match run_plan(rt, alloc, items, metric, sheet.blocks.as_slice(), gate) {
         Ok(driven) => driven,
         Err(fault) => return Err(fault),
     };
@@ -98,19 +98,23 @@ fn text_from<R: Threads + Sync>(
     sheet: &Sheet<'_>,
     driven: &Driven,
 ) -> Result<Vec<u8>, AllocError>
+    requires workers { (1 ≤ workers) × (workers ≤ 64) }
     requires sound { IsSound sheet.now }
-    requires driven { IsDriven sheet.now.values.items (map (λ b. b.items) sheet.now.blocks.items) driven.now.history.schedule (map (λ r. r.items) driven.now.replies.items) }
+    requires driven { IsDriven sheet.now.values.items (weights_of sheet.now.weights.items) (map (λ b. b.items) sheet.now.blocks.items) driven.now.history.schedule (map (λ r. r.items) driven.now.replies.items) }
     ensures { IfOk result (λ out. out.items ≡ text_of (plan_in sheet.now) driven.now.history.schedule
         (all_answers (map (λ b. b.items) sheet.now.blocks.items) (map (λ r. r.items) driven.now.replies.items))) }
 {
     let blocks = sheet.blocks.as_slice();
     let replies = driven.replies.as_slice();
     let values = sheet.values.as_slice();
+    let weights = sheet.weights.as_slice();
     let names = begun_names(alloc, &driven.history, blocks, replies)?;
     let mut out = Vec::new(alloc);
-    push_items(&mut out, &sheet.names, values)?;
+    push_items(&mut out, &sheet.names, values, weights)?;
     push_blocks(&mut out, &names, blocks, replies)?;
     push_findings(rt, alloc, &mut out, &driven.history, &names, workers)?;
-    push_totals(alloc, &mut out, values, &driven.history)?;
+    let items = store_of(alloc, values)?;
+    let metric = metric_of(alloc, weights)?;
+    push_totals(alloc, &mut out, items, metric, &driven.history)?;
     Ok(out)
 }

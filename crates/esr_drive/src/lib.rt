@@ -6,6 +6,7 @@ mod draft;
 mod driven;
 mod driving;
 mod fault;
+mod opening;
 mod reading;
 mod replay;
 mod run;

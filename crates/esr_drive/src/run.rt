@@ -6,7 +6,7 @@ ghost use Rattle.esr_drive.specs.Runs.{IsBlockRun};
 use crate::call::{Call, event_of};
 use esr_core::StepError;
 use esr_history::Reply;
-use esr_items::Plain;
+use esr_items::Weighted;
 use esr_session::{Naming, Session};
 use std::alloc::Global;
 use std::sync::Wait;
@@ -17,7 +17,7 @@ const TURNS: u32 = 100;
 /// A session after its block, with the last reply to each call, or why the block was not run to its end.
 #[derive(Drop)]
 pub struct Ran<N: Naming> {
-    pub session: Session<Plain, N>,
+    pub session: Session<Weighted, N>,
     pub outcome: Result<Vec<Reply>, StepError>,
 }
 
@@ -26,7 +26,7 @@ pub fn run_block<N: Naming, R: Wait>(
     rt: &R,
     alloc: Global,
     calls: &[Call<'_>],
-    session: Session<Plain, N>,
+    session: Session<Weighted, N>,
 ) -> Ran<N>
     requires { session ≡ [] }
     ensures { IfOk result.outcome (λ replies. IsBlockRun calls.now replies.items result.session) }
@@ -41,7 +41,7 @@ fn call_all<N: Naming, R: Wait>(
     rt: &R,
     alloc: Global,
     calls: &[Call<'_>],
-    session: &mut Session<Plain, N>,
+    session: &mut Session<Weighted, N>,
 ) -> Result<Vec<Reply>, StepError>
     requires { session.old ≡ [] }
     ensures { IfOk result (λ replies. IsBlockRun calls.now replies.items session.new) }

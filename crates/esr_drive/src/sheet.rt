@@ -17,6 +17,8 @@ use std::alloc::{AllocError, Global};
 pub struct Sheet<'a> {
     pub names: Names,
     pub values: Vec<i64>,
+    /// The weights that were given.
+    pub weights: Vec<Option<u32>>,
     pub blocks: Vec<Vec<Call<'a>>>,
 }
 
@@ -29,6 +31,7 @@ fn finished<'a>(draft: Draft<'a>) -> Result<Sheet<'a>, AllocError>
     let Draft {
         names,
         values,
+        weights,
         done,
         current,
         begun: _,
@@ -43,6 +46,7 @@ fn finished<'a>(draft: Draft<'a>) -> Result<Sheet<'a>, AllocError>
     Ok(Sheet {
         names,
         values,
+        weights,
         blocks,
     })
 }

@@ -11,7 +11,7 @@ ghost use Rattle.esr_drive.specs.Tables.{answered, names_in, with_begun, noted, 
 
 use crate::call::{Call, number_in};
 use esr_history::{Entry, Event, History, Log, Reply};
-use esr_items::Plain;
+use esr_items::Weighted;
 use esr_report::TransactionNames;
 use std::alloc::{AllocError, Global};
 
@@ -91,7 +91,7 @@ fn begun_count(log: &Log) -> usize
 /// The names that the transactions of a history began by, in the blocks with these replies.
 pub fn begun_names<'a>(
     alloc: Global,
-    history: &History<Plain>,
+    history: &History<Weighted>,
     blocks: &[Vec<Call<'a>>],
     replies: &[Vec<Reply>],
 ) -> Result<BegunNames<'a>, AllocError>

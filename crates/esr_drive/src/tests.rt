@@ -16,7 +16,7 @@ struct Row {
     text: &'static str,
 }
 
-const ROWS: [Row; 20] = [
+const ROWS: [Row; 30] = [
     Row {
         name: "one block",
         file: "item a 0\nsession\nbegin u update 0\nwrite u a 5\ncommit u\nbegin q query 0\nread q a\ncommit q\n",
@@ -49,6 +49,70 @@ const ROWS: [Row; 20] = [
         file: "item a 1\nitem b -2",
         ended: Ok(()),
         text: "item a 1\nitem b -2\ntotals import 0 export 0 entries 0\n",
+    },
+    Row {
+        name: "items with a weight and without one",
+        file: "item a 100 weight 3\nitem b 7\nsession\nbegin u update 99\nbegin q query 21\nwrite u a 93\nread q a\n\
+            commit u\ncommit q\n",
+        ended: Ok(()),
+        text: "item a 100 weight 3\nitem b 7\nsession 0\nbegun u 1\nbegun q 2\nwrote u a 93\nq a 93\ncommitted u\n\
+            committed q\naudit q distance 0 import 21 before u\ntotals import 21 export 21 entries 6\n",
+    },
+    Row {
+        name: "a read that the weight makes too dear",
+        file: "item a 100 weight 3\nsession\nbegin u update 99\nbegin q query 20\nwrite u a 93\nread q a\nabort u\n",
+        ended: Ok(()),
+        text: "item a 100 weight 3\nsession 0\nbegun u 1\nbegun q 2\nwrote u a 93\nblocked 10 import q\naborted u\n\
+            totals import 0 export 0 entries 104\n",
+    },
+    Row {
+        name: "an update that is aborted, of an item with a weight",
+        file: "item a 100 weight 3\nsession\nbegin u update 99\nbegin q query 21\nwrite u a 93\nread q a\nabort u\ncommit q\n",
+        ended: Ok(()),
+        text: "item a 100 weight 3\nsession 0\nbegun u 1\nbegun q 2\nwrote u a 93\nq a 93\naborted u\ncommitted q\n\
+            audit q distance 21 import 21 before -\ntotals import 21 export 21 entries 6\n",
+    },
+    Row {
+        name: "the smallest and the largest weight",
+        file: "item a 0 weight 1\nitem b 0 weight 1000",
+        ended: Ok(()),
+        text: "item a 0 weight 1\nitem b 0 weight 1000\ntotals import 0 export 0 entries 0\n",
+    },
+    Row {
+        name: "a weight of 0",
+        file: "item a 0\nitem b 0 weight 0\n",
+        ended: Err(DriveFault::BadScript { line: 2, error: 8 }),
+        text: "",
+    },
+    Row {
+        name: "a weight that is too large",
+        file: "item a 0 weight 1001\n",
+        ended: Err(DriveFault::BadScript { line: 1, error: 8 }),
+        text: "",
+    },
+    Row {
+        name: "a value and a weight out of range",
+        file: "item a 1000000000001 weight 0\n",
+        ended: Err(DriveFault::BadScript { line: 1, error: 4 }),
+        text: "",
+    },
+    Row {
+        name: "a name in use, with a weight out of range",
+        file: "item a 0\nitem a 0 weight 0\n",
+        ended: Err(DriveFault::BadScript { line: 2, error: 3 }),
+        text: "",
+    },
+    Row {
+        name: "an item with a weight out of range after the first session",
+        file: "session\nitem a 0 weight 0\n",
+        ended: Err(DriveFault::BadScript { line: 2, error: 2 }),
+        text: "",
+    },
+    Row {
+        name: "a weight that is not spelled so",
+        file: "item a 0 weight 01\n",
+        ended: Err(DriveFault::BadScript { line: 1, error: 1 }),
+        text: "",
     },
     Row {
         name: "a line of a block before the first session",

@@ -2,24 +2,25 @@
 
 ghost use Rattle.std.specs.Prelude.{◌≡◌, ◌<◌, ◌≤◌, slice_index_or, ◌++◌, [], OnOk, All, length, map};
 ghost use Rattle.std.specs.List.{flat_map};
+ghost use Rattle.esr_items.specs.Weights.{weighted};
 ghost use Rattle.esr_history.specs.Totals.{all_imports, all_exports};
 ghost use Rattle.esr_audit.specs.Findings.{IsFinding};
 ghost use Rattle.esr_report.specs.Lines.{reply_line, totals_line};
-ghost use Rattle.esr_drive.specs.Plain.{plain};
 ghost use Rattle.esr_drive.specs.Calls.{command_of, answers_of};
-ghost use Rattle.esr_drive.specs.Drive.{items_text, subject_of, replies_text, blocks_text, finding_text, findings_text};
+ghost use Rattle.esr_drive.specs.Drive.{item_text, items_text, subject_of, replies_text, blocks_text, finding_text, findings_text};
 ghost use Rattle.esr_drive.specs.Driven.{AreAnswered, all_answers};
 ghost use Rattle.esr_drive.specs.Tables.{names_in};
 
 use crate::call::Call;
 use crate::replay::replayed;
 use crate::table::BegunNames;
-use esr_audit::Finding;
+use esr_audit::{AuditError, Finding};
 use esr_board::{NoGate, audit_parallel};
 use esr_history::{History, Reply};
-use esr_items::Plain;
+use esr_items::{Store, Weighted};
 use esr_report::{
     Names, audit_line, item_line, name_of_transaction, reply_line, session_line, totals_line,
+    weighted_item_line,
 };
 use std::alloc::{AllocError, Global};
 use std::thread::Threads;
@@ -35,13 +36,35 @@ fn name_at(names: &Names, place: usize) -> &str
     }
 }
 
+/// Appends the line of an item, with its weight where one was given.
+fn push_item(
+    out: &mut Vec<u8>,
+    name: &str,
+    value: i64,
+    weight: Option<u32>,
+) -> Result<(), AllocError>
+    ensures { OnOk result (out.new.items ≡ out.old.items ++ item_text name.now value weight) }
+{
+    match weight {
+        None => item_line(out, name, value),
+        Some(weight) => weighted_item_line(out, name, value, u64::from(weight)),
+    }
+}
+
 /// Appends the lines of the items.
-pub fn push_items(out: &mut Vec<u8>, names: &Names, values: &[i64]) -> Result<(), AllocError>
-    requires { (length values.now ≡ length names.now) × (length values.now ≤ 4096) }
-    ensures { OnOk result (out.new.items ≡ out.old.items ++ items_text names.now values.now) }
+pub fn push_items(
+    out: &mut Vec<u8>,
+    names: &Names,
+    values: &[i64],
+    weights: &[Option<u32>],
+) -> Result<(), AllocError>
+    requires len { length names.now ≤ 4096 }
+    requires values { length values.now ≡ length names.now }
+    requires weights { length weights.now ≡ length names.now }
+    ensures { OnOk result (out.new.items ≡ out.old.items ++ items_text names.now values.now weights.now) }
 {
     for i in 0..values.len() {
-        item_line(out, name_at(names, i), values[i])?;
+        push_item(out, name_at(names, i), values[i], weights[i])?;
     }
     Ok(())
 }
@@ -96,11 +119,11 @@ pub fn push_blocks(
 /// Appends the line of what was found of a query.
 fn push_finding(
     out: &mut Vec<u8>,
-    history: &History<Plain>,
+    history: &History<Weighted>,
     names: &BegunNames<'_>,
     finding: &Finding,
 ) -> Result<(), AllocError>
-    requires { IsFinding plain history.now.schedule finding.now }
+    requires { IsFinding weighted history.now.schedule finding.now }
     ensures { OnOk result (out.new.items ≡ out.old.items
         ++ finding_text history.now.schedule (names_in names.now) finding.now.query.0) }
 {
@@ -118,11 +141,11 @@ fn push_finding(
 /// Appends the lines of what was found of queries.
 fn push_each(
     out: &mut Vec<u8>,
-    history: &History<Plain>,
+    history: &History<Weighted>,
     names: &BegunNames<'_>,
     findings: &[Finding],
 ) -> Result<(), AllocError>
-    requires { All (IsFinding plain history.now.schedule) findings.now }
+    requires { All (IsFinding weighted history.now.schedule) findings.now }
     ensures { OnOk result (out.new.items ≡ out.old.items
         ++ flat_map (λ f. finding_text history.now.schedule (names_in names.now) f.query.0) findings.now) }
 {
@@ -137,32 +160,36 @@ pub fn push_findings<R: Threads + Sync>(
     rt: &R,
     alloc: Global,
     out: &mut Vec<u8>,
-    history: &History<Plain>,
+    history: &History<Weighted>,
     names: &BegunNames<'_>,
     workers: u64,
 ) -> Result<(), AllocError>
+    requires { (1 ≤ workers) × (workers ≤ 64) }
     ensures { OnOk result (out.new.items ≡ out.old.items
         ++ findings_text history.now.schedule (names_in names.now)) }
 {
-    let Ok(book) = audit_parallel(rt, alloc, history, workers, &NoGate) else {
-        return Err(AllocError);
-    };
-    push_each(out, history, names, book.findings.as_slice())
+    match audit_parallel(rt, alloc, history, workers, &NoGate) {
+        Ok(book) => push_each(out, history, names, book.findings.as_slice()),
+        Err(AuditError::NoMemory) => Err(AllocError),
+        Err(AuditError::NotACommittedQuery) => unreachable!(),
+        Err(AuditError::WorkersOutOfRange) => unreachable!(),
+    }
 }
 
 /// Appends the line of the totals.
 pub fn push_totals(
     alloc: Global,
     out: &mut Vec<u8>,
-    values: &[i64],
-    history: &History<Plain>,
+    items: Store,
+    metric: Weighted,
+    history: &History<Weighted>,
 ) -> Result<(), AllocError>
-    requires opening { history.now.schedule.opening ≡ values.now }
-    requires weights { history.now.schedule.weights ≡ [] }
+    requires opening { history.now.schedule.opening ≡ map (λ w. w.committed) items }
+    requires weights { history.now.schedule.weights ≡ metric }
     ensures { OnOk result (out.new.items ≡ out.old.items
-        ++ totals_line (all_imports plain history.now.schedule) (all_exports plain history.now.schedule) (length history.now.schedule.entries)) }
+        ++ totals_line (all_imports weighted history.now.schedule) (all_exports weighted history.now.schedule) (length history.now.schedule.entries)) }
 {
-    let Ok(machine) = replayed(alloc, values, history) else {
+    let Ok(machine) = replayed(alloc, items, metric, history) else {
         return Err(AllocError);
     };
     let totals = machine.totals();

@@ -10,7 +10,7 @@ use crate::run::{Ran, run_block};
 use esr_board::Gate;
 use esr_core::StepError;
 use esr_history::Reply;
-use esr_items::Plain;
+use esr_items::Weighted;
 use esr_session::{Naming, Session};
 use std::alloc::{AllocError, Global};
 use std::sync::Wait;
@@ -20,7 +20,7 @@ use std::thread::Threads;
 /// A session that has made no call, and the block that it is to run.
 #[derive(Drop)]
 pub struct Job<'a, 't, N: Naming> {
-    pub session: Session<Plain, N>,
+    pub session: Session<Weighted, N>,
     pub number: u64,
     pub calls: &'a [Call<'t>],
 }
@@ -53,7 +53,7 @@ pub fn run_blocks<'a, 't, N: Naming + Send + Sync, R: Threads + Wait + Sync, G: 
 /// The sessions after their blocks, with the last replies of each.
 #[derive(Drop)]
 pub struct Gathered<N: Naming> {
-    pub sessions: Vec<Session<Plain, N>>,
+    pub sessions: Vec<Session<Weighted, N>>,
     pub replies: Vec<Vec<Reply>>,
 }
 

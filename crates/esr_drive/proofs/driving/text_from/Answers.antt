@@ -10,13 +10,12 @@ returns g c =
     let h = c.args.driven.now.history.schedule in
     let bs = c.args.sheet.now.blocks.items in
     let rs = c.args.driven.now.replies.items in
-    let values = c.args.sheet.now.values.items in
     let answers = all_answers (map (λ b. b.items) bs) (map (λ r. r.items) rs) in
     let slices : all_answers (map (λ b. b.items) c.as_slice-blocks.result.now) (map (λ r. r.items) c.as_slice-replies.result.now) ≡ answers =
     ap₂ (λ x y. all_answers (map (λ b. b.items) x) (map (λ r. r.items) y)) c.as_slice-blocks.ensures.value c.as_slice-replies.ensures.value in
     let names : names_in c.in_ok-names.names ≡ names_of h answers = c.in_ok-names.ensures ∙ ap (names_of h) slices in
     four_parts c.new-out.result.items c.push_items.new.out.items c.push_blocks.new.out.items c.push_findings.new.out.items c.push_totals.new.out.items _ _ _ _ c.new-out.ensures.items
-    (c.in_ok-push_items.ensures ∙ ap (λ v. c.new-out.result.items ++ items_text c.args.sheet.now.names v) c.as_slice-values.ensures.value)
+    (c.in_ok-push_items.ensures ∙ ap₂ (λ v w. c.new-out.result.items ++ items_text c.args.sheet.now.names v w) c.as_slice-values.ensures.value c.as_slice-weights.ensures.value)
     (c.in_ok-push_blocks.ensures ∙ ap₂ (λ n a. c.push_items.new.out.items ++ blocks_text n 0 a) names slices)
     (c.in_ok-push_findings.ensures ∙ ap (λ n. c.push_blocks.new.out.items ++ findings_text h n) names)
     c.in_ok-push_totals.ensures

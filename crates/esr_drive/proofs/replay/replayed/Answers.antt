@@ -1,17 +1,17 @@
 use Rattle.std.proofs.Common.{rules, ◌≡◌, List, length, ◌+◌, sym, ap, ◌∙◌, arith}
 use Rattle.std.specs.Prelude.{slice_get}
+use Rattle.esr_items.specs.Weights.{weighted}
 use Rattle.esr_history.specs.declared.event.Entry.{Entry}
 use Rattle.esr_history.specs.declared.event.Reply.{Reply}
 use Rattle.esr_history.specs.Machine.{Schedule, extended, reply_to}
 use Rattle.esr_core.proofs.Replayed.{first, IsNext, next, entry_there}
-use Rattle.esr_drive.specs.Plain.{plain}
 use Rattle.esr_drive.proofs.Texts.{opened_as}
 use Rattle.esr_drive.proofs.replay.replayed.Goals as goal
 use Rattle.esr_drive.proofs.replay.replayed.Goals.{in-Some+in_ok-step_again, in_default}
 
 pub loop-i-init : goal.loop-i-init
 loop-i-init c =
-    c.in_ok-machine.ensures ∙ opened_as c.in-Ok.items c.in_ok-values.values.items c.args.history.now.schedule c.in-Ok.ensures.ok (search rules) c.requires.weights
+    c.in_ok-machine.ensures ∙ opened_as c.args.items c.args.metric c.args.history.now.schedule c.requires.opening c.requires.weights
 
 pub loop-i-preserved : goal.loop-i-preserved
 loop-i-preserved c =
@@ -20,10 +20,10 @@ loop-i-preserved c =
     elim c.match-get.branch [
       | in-Some+in_ok-step_again w ↦
           let e = w.in-Some.entry.event in
-          let n : IsNext plain h i w.in-Some.entry =
-          next plain h c.log-log.ensures.legal i w.in-Some.entry (sym (w.in-Some.ensures ∙ ap (λ (es : List Entry). slice_get es i) c.log-log.ensures.entries)) in
+          let n : IsNext weighted h i w.in-Some.entry =
+          next weighted h c.log-log.ensures.legal i w.in-Some.entry (sym (w.in-Some.ensures ∙ ap (λ (es : List Entry). slice_get es i) c.log-log.ensures.entries)) in
           w.machine-is ∙ (w.in_ok-step_again.ensures
-          ∙ (ap (λ (k : Schedule). extended k e (reply_to plain k e)) c.loop-i.invariant
+          ∙ (ap (λ (k : Schedule). extended k e (reply_to weighted k e)) c.loop-i.invariant
           ∙ (ap (λ (r : Reply). extended (first h i) e r) (sym n.reply) ∙ n.more)))
       | in_default w ↦
           absurd (entry_there h.entries i (omega (arith, c.loop-i-test.true, c.len-i-end.ensures, ap (λ (es : List Entry). length es) c.log-log.ensures.entries)) (sym (w.in_default.ensures ∙ ap (λ (es : List Entry). slice_get es i) c.log-log.ensures.entries)))

@@ -1,7 +1,7 @@
 use Rattle.std.proofs.Common.{◌≡◌, ◌+◌, ◌≤◌, length, [], List, take, sym, subst, ap, ◌∙◌, rules}
+use Rattle.esr_items.specs.Weights.{weighted}
 use Rattle.esr_history.specs.declared.event.Reply.{Reply}
 use Rattle.esr_session.specs.declared.receipt.Receipt.{Receipt}
-use Rattle.esr_drive.specs.Plain.{plain}
 use Rattle.esr_drive.specs.Blocks.{AreRuns, start}
 use Rattle.esr_drive.specs.Calls.{answers_of}
 use Rattle.std.proofs.lemmas.List.{take_all}
@@ -23,7 +23,7 @@ loop-i-preserved g c =
       search rules,
       λ names resolved.
           subst (λ (l : List Reply). AreRuns names (answers_of (take (c.loop-i.i + 1) c.args.calls.now) l) c.call_patient.new.self) (sym c.push_reserved.ensures.items)
-          (block_more names plain g.N.Naming.opening g.N.Naming.weights c.args.calls.now c.loop-i.replies.items c.deref.result.now c.loop-i.i _ c.event_of-event.result r c.loop-i.session c.call_patient.new.self ok.0 c.deref.ensures.value c.loop-i-test.true (search rules) resolved (inv.2 names resolved) c.event_of-event.ensures ok.1 ok.2 ok.3 ok.4 at.0),
+          (block_more names weighted g.N.Naming.opening g.N.Naming.weights c.args.calls.now c.loop-i.replies.items c.deref.result.now c.loop-i.i _ c.event_of-event.result r c.loop-i.session c.call_patient.new.self ok.0 c.deref.ensures.value c.loop-i-test.true (search rules) resolved (inv.2 names resolved) c.event_of-event.ensures ok.1 ok.2 ok.3 ok.4 at.0),
     )
 
 pub returns : goal.returns

@@ -5,7 +5,7 @@ use Rattle.esr_drive.proofs.Told.{by_queries, same_end}
 use Rattle.esr_drive.specs.Tables.{names_in}
 use Rattle.esr_drive.proofs.text.push_findings.Goals as goal
 
-pub returns : goal.returns
-returns g c =
+pub returns-in-Ok : goal.returns-in-Ok
+returns-in-Ok g c =
     same_end _ _ _ _ _ (ap (flat_map (λ f. finding_text c.args.history.now.schedule (names_in c.args.names.now) f.query.0)) c.as_slice.ensures.value
     ∙ by_queries c.args.history.now.schedule (names_in c.args.names.now) c.in-Ok.book.findings.items _ c.in-Ok.ensures.queries) c.push_each.ensures

@@ -1,8 +1,8 @@
 use Rattle.std.proofs.Common.{◌≡◌, length, ap, ◌∙◌}
+use Rattle.esr_items.specs.Weights.{weighted}
 use Rattle.esr_history.specs.Machine.{Schedule}
 use Rattle.esr_history.specs.Totals.{all_imports, all_exports}
 use Rattle.esr_report.specs.Lines.{totals_line}
-use Rattle.esr_drive.specs.Plain.{plain}
 use Rattle.esr_drive.proofs.Told.{same_end}
 use Rattle.esr_drive.proofs.text.push_totals.Goals as goal
 
@@ -11,7 +11,7 @@ returns c =
     let t = c.totals-totals.ensures in
     let m = c.in-Ok.ensures in
     same_end _ _ _ _ _
-    (ap (λ i. totals_line i c.totals-totals.result.export c.totals-totals.result.entries) (t.import ∙ ap (all_imports plain) m)
-    ∙ (ap (λ e. totals_line (all_imports plain c.args.history.now.schedule) e c.totals-totals.result.entries) (t.export ∙ ap (all_exports plain) m)
-    ∙ ap (totals_line (all_imports plain c.args.history.now.schedule) (all_exports plain c.args.history.now.schedule)) (t.entries ∙ ap (λ (h : Schedule). length h.entries) m)))
+    (ap (λ i. totals_line i c.totals-totals.result.export c.totals-totals.result.entries) (t.import ∙ ap (all_imports weighted) m)
+    ∙ (ap (λ e. totals_line (all_imports weighted c.args.history.now.schedule) e c.totals-totals.result.entries) (t.export ∙ ap (all_exports weighted) m)
+    ∙ ap (totals_line (all_imports weighted c.args.history.now.schedule) (all_exports weighted c.args.history.now.schedule)) (t.entries ∙ ap (λ (h : Schedule). length h.entries) m)))
     c.totals_line.ensures.ok
