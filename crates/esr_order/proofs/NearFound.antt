@@ -16,7 +16,7 @@ use Rattle.esr_history.proofs.Words.{values_trace, wrote_trace}
 use Rattle.esr_history.proofs.WithinRanges.{legal_begins}
 use Rattle.esr_order.specs.Placements.{is_among, IsClosed}
 use Rattle.esr_order.specs.Chains.{Chain, update_at, nth, last_of, last_written, chain_from, some_chain, if_written}
-use Rattle.esr_order.specs.Orders.{Ordered, IsOrderOf}
+use Rattle.esr_order.specs.Orders.{Ordered, IsOrderOf, IsOrderAmong}
 use Rattle.esr_order.specs.Ties.{IsDownward}
 use Rattle.esr_order.specs.Reach.{marked, kept_from, is_listed, writers_in, writers_at, Reaches}
 use Rattle.esr_order.specs.Near.{has_written, has_written_read, IsNear, AreNear}
@@ -318,3 +318,34 @@ near_run d h q legal o good items given given_is reads seeds old marks old_is se
       near = near_commits d h q legal o good items reads seeds marks seeded keeping down reached commits kept_is;
       musts = ap (λ n. map (nth (map (λ (t : TxnId). t.0) commits)) (range_with_len 0 n)) first_is ∙ musts_kept d h q legal o good items reads seeds marks seeded keeping down reached commits kept_is;
     }
+
+-- all that are kept are the list
+kept_all : {X : Type 0} (p : ℕ → Bool) (n : ℕ) (xs : List X) → length (kept_from p n xs) ≡ length xs → kept_from p n xs ≡ xs
+kept_all p n [] same = refl
+kept_all p n (x ∷ xs) same = at (p n) (kept_length p (n + 1) xs) (kept_all p (n + 1) xs) same
+  where
+    at : (b : Bool) → length (kept_from p (n + 1) xs) ≤ length xs → (length (kept_from p (n + 1) xs) ≡ length xs → kept_from p (n + 1) xs ≡ xs) → length (cond b (x ∷ kept_from p (n + 1) xs) (kept_from p (n + 1) xs)) ≡ suc (length xs) → cond b (x ∷ kept_from p (n + 1) xs) (kept_from p (n + 1) xs) ≡ x ∷ xs
+    at true l rest s = ap (λ l. x ∷ l) (rest (omega (arith, s)))
+    at false l rest s = absurd (omega (arith, l, s))
+
+pub whole_near : (h : Schedule) (q : ℕ) (o : Ordered) (commits : List TxnId) (marks : List Bool) → commits ≡ kept_from (marked marks) 0 o.commits → length commits ≡ length o.commits → AreNear h q (map (λ t. t.0) commits) → AreNear h q (map (λ t. t.0) o.commits)
+whole_near h q o commits marks is len near = subst (λ ts. AreNear h q (map (λ (t : TxnId). t.0) ts)) (is ∙ kept_all (marked marks) 0 o.commits (sym (ap length is) ∙ len)) near
+
+-- the order of a query is one among its updates
+pub order_part : (h : Schedule) (q : ℕ) (o : Ordered) → IsOrderOf h q o → IsOrderAmong h q (map (λ t. t.0) o.commits) o
+order_part h q o a = subst (λ us. IsOrderAmong h q us o) (sym a.commits) (record {
+  commits = a.commits;
+  serial = a.serial;
+  few = a.few;
+  ascending = a.ascending;
+  pairs = a.pairs;
+  closed = λ S. (
+    (λ c. let r = (a.closed S).0 (record { downward = c.downward; holds_must = c.holds_must }) in record { downward = r.downward; holds_must = r.holds_must }),
+    (λ c. let r = (a.closed S).1 (record { downward = c.downward; holds_must = c.holds_must }) in record { downward = r.downward; holds_must = r.holds_must }),
+  );
+  rising = a.rising;
+  within = a.within;
+  musts = a.musts;
+  chains = a.chains;
+  neighbours = a.neighbours;
+})

@@ -140,6 +140,9 @@ impl Order {
         let mut marks = seeds_of(alloc, &whole, &items)?;
         mark_back(&mut marks, &whole.before);
         let commits = kept(alloc, &whole.commits, &marks)?;
+        if commits.len() == whole.commits.len() {
+            return Ok(whole);
+        }
         let order = among(alloc, history, commits, whole.must.len())?;
         Ok(order)
     }
