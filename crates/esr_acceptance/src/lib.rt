@@ -1,4 +1,4 @@
-//! What the program writes, byte for byte: of scripts, their audits, certificates and bundles.
+//! What the program writes, byte for byte: of scripts, their audits, certificates, bundles and drive files.
 #![tactic(auto)]
 
 #[cfg(test)]

@@ -1,4 +1,5 @@
 mod bundles;
 mod devices;
+mod drives;
 mod scripts;
 mod watched;

@@ -13,8 +13,6 @@ mod run;
 mod sending;
 mod sheet;
 mod table;
-#[cfg(test)]
-mod tests;
 mod text;
 mod threads;
 

@@ -1,7 +1,7 @@
 mod failing;
 mod gates;
 
-use crate::{DriveFault, NoGate, drive};
+use esr_drive::{DriveFault, NoGate, drive};
 use esr_history::Watched;
 use std::process::Abort;
 use std::sync::Wait;

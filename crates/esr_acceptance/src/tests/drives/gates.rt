@@ -1,6 +1,6 @@
 //! Blocks run at the same time.
 
-use crate::{Gate, drive};
+use esr_drive::{Gate, drive};
 use esr_history::Watched;
 use std::sync::atomic::Ordering::SeqCst;
 use std::sync::atomic::{AtomicBool, AtomicU64};

@@ -1,61 +1,17 @@
 //! Readers and writers that fail, and readers that do not end.
 
-use crate::{DriveFault, NoGate, drive};
+use crate::tests::devices::{Cut, Narrow, Way};
+use esr_drive::{DriveFault, NoGate, drive};
 use esr_history::Watched;
 use std::alloc::Global;
 use std::io;
-use std::io::{Read, Write};
+use std::io::Read;
 use std::test::Fail;
 
 const FILE: &str = "item a 0\nsession\nbegin u update 0\nwrite u a 5\ncommit u\n";
 
 const TEXT: &str =
     "item a 0\nsession 0\nbegun u 1\nwrote u a 5\ncommitted u\ntotals import 0 export 0 entries 3\n";
-
-/// Gives ten bytes at a time, and fails at one call.
-#[derive(Drop)]
-struct Cut<'a> {
-    rest: &'a [u8],
-    left: usize,
-}
-
-impl Read for Cut<'_> {
-    fn read(&mut self, buf: &mut [u8]) -> io::Result<usize> {
-        if self.left == 0 {
-            return Err(io::Error::from(io::ErrorKind::BrokenPipe));
-        }
-        self.left -= 1;
-        let count = buf.len().min(10);
-        self.rest.read(&mut buf[..count])
-    }
-}
-
-/// Takes up to twenty bytes at a time, and fails at one call.
-#[derive(Drop)]
-struct Narrow {
-    taken: Vec<u8>,
-    left: usize,
-}
-
-impl Write for Narrow {
-    fn write(&mut self, buf: &[u8]) -> io::Result<usize> {
-        if self.left == 0 {
-            return Ok(0);
-        }
-        self.left -= 1;
-        let count = buf.len().min(20);
-        self.taken.extend_from_slice(&buf[..count])?;
-        Ok(count)
-    }
-
-    fn flush(&mut self) -> io::Result<()> {
-        if self.left == 0 {
-            return Err(io::Error::from(io::ErrorKind::BrokenPipe));
-        }
-        self.left -= 1;
-        Ok(())
-    }
-}
 
 /// Gives one byte again and again.
 #[derive(Clone, Copy)]
@@ -76,6 +32,7 @@ fn a_failed_read_leaves_nothing_written(rt: HostRuntime) {
     for left in 0..7 {
         let mut reader = Watched::new(Cut {
             rest: FILE.as_bytes(),
+            most: 10,
             left,
         });
         let mut writer = Watched::new(Vec::new(alloc));
@@ -92,7 +49,9 @@ fn a_failed_write_ends_the_text(rt: HostRuntime) {
         let mut reader = Watched::new(FILE.as_bytes());
         let mut writer = Watched::new(Narrow {
             taken: Vec::new(alloc),
+            most: 20,
             left,
+            way: Way::TakesNone,
         });
         let ended = drive(&rt, alloc, &mut reader, &mut writer, 1, &NoGate);
         let fine = left == 6;
