@@ -1,5 +1,6 @@
 mod audits;
 mod placements;
+mod plain;
 
 use esr_core::{Machine, StepError};
 use esr_history::{Event, Reply, TxnId};

@@ -1,6 +1,7 @@
 //! Audits of the worked histories.
 
-use super::placements::least;
+use super::placements::listed;
+use super::plain::agrees;
 use super::{answer, commit, play, query, read, update, write};
 use esr_audit::{AuditError, Book, Finding, audit_history, audit_query};
 use esr_cert::check;
@@ -47,16 +48,8 @@ fn has(found: &Finding, q: u32, distance: u64, import: u64, before: &[TxnId]) ->
         && check(&found.problem, &found.certificate) == Ok(())
 }
 
-/// What a plain program finds by listing all placements, once more where memory is refused: the
-/// least distance, and how many updates are before the position.
-fn listed(alloc: Global, m: &Machine<Plain>, q: u32) -> Option<(u64, usize)> {
-    match least(alloc, m, q) {
-        Ok(found) => Some(found),
-        Err(_) => least(alloc, m, q).ok(),
-    }
-}
-
-/// Whether the audit of a query finds these, and the plain program too.
+/// Whether the audit of a query finds these, and the plain program too, and whether links, locks and
+/// orders are the plain ones.
 fn finds(
     alloc: Global,
     m: &Machine<Plain>,
@@ -69,6 +62,7 @@ fn finds(
         Ok(found) => {
             has(&found, q, distance, import, before)
                 && listed(alloc, m, q) == Some((distance, before.len()))
+                && agrees(alloc, m, 1)
         }
         Err(_) => false,
     }

@@ -4,20 +4,20 @@ ghost use Rattle.std.specs.Prelude.{◌<◌};
 use super::audits::{audit_of, played};
 use super::{accepts, commit, query, read, update, write};
 use esr_core::Machine;
-use esr_history::{Entry, Event, Log, Reply};
+use esr_history::{Entry, Event, Log, Reply, TxnId};
 use esr_items::{ItemId, Plain};
 use std::alloc::{AllocError, Global};
 use std::test::Fail;
 
 /// Numbers that follow from one another by a fixed rule.
 #[derive(Drop)]
-struct Draws {
-    state: u64,
+pub(super) struct Draws {
+    pub state: u64,
 }
 
 impl Draws {
     /// The next number, below the bound where that is above 0.
-    fn next(&mut self, below: u32) -> u32
+    pub fn next(&mut self, below: u32) -> u32
         ensures { 0 < below → result < below }
     {
         self.state = self
@@ -28,15 +28,15 @@ impl Draws {
         if below == 0 { 0 } else { high % below }
     }
 
-    /// An event of query 1 or of one of the updates 2, 3 and 4.
-    fn event(&mut self) -> Event {
+    /// An event of this query or of one of three updates, of which this is the first.
+    fn event(&mut self, query: u32, first: u32) -> Event {
         let kind = self.next(8);
         let item = self.next(2);
         let value = i64::from(self.next(9));
-        let update = self.next(3) + 2;
+        let update = self.next(3).saturating_add(first);
         match kind {
             0 => commit(update),
-            1 | 2 => read(1, item),
+            1 | 2 => read(query, item),
             3 => read(update, item),
             _ => write(update, item, value),
         }
@@ -270,40 +270,71 @@ impl Small {
 
 /// The least distance of all placements of a query in a history with up to three updates, and
 /// how many updates are before the position in those that have the fewest.
-pub(super) fn least(alloc: Global, m: &Machine<Plain>, q: u32) -> Result<(u64, usize), AllocError> {
+fn least(alloc: Global, m: &Machine<Plain>, q: u32) -> Result<(u64, usize), AllocError> {
     Small::of(alloc, m, q)?.least(alloc)
 }
 
-/// Lets the machine answer events by the rule.
-fn draw(m: &mut Machine<Plain>, seed: u64) {
-    let mut draws = Draws { state: seed };
-    for _ in 0..24 {
-        let _ = accepts(m, draws.event());
+/// The same, once more where memory is refused.
+pub(super) fn listed(alloc: Global, m: &Machine<Plain>, q: u32) -> Option<(u64, usize)> {
+    match least(alloc, m, q) {
+        Ok(found) => Some(found),
+        Err(_) => least(alloc, m, q).ok(),
     }
 }
 
-/// The least distance of the query of a small history, and how many updates are before the
-/// position: as the audit finds them, and as the list of all placements tells.
-fn audited_and_listed(alloc: Global, seed: u64) -> Result<((u64, usize), (u64, usize)), Fail> {
+/// Lets the machine answer events of a query and of three updates by the rule.
+fn draw(m: &mut Machine<Plain>, draws: &mut Draws, query: u32, first: u32) {
+    for _ in 0..24 {
+        let _ = accepts(m, draws.event(query, first));
+    }
+}
+
+/// A history of query 1 and the updates 2, 3 and 4, which begin at once.
+fn small_history(alloc: Global, seed: u64) -> Option<Machine<Plain>> {
     let begins = [query(1000), update(1000), update(1000), update(1000)];
-    let Some(mut m) = played(alloc, &[0, 0], &begins) else {
-        return Err(Fail::new("no history"));
-    };
-    draw(&mut m, seed);
+    let mut m = played(alloc, &[0, 0], &begins)?;
+    draw(&mut m, &mut Draws { state: seed }, 1, 2);
     for t in 1..5u32 {
         let _ = accepts(&mut m, commit(t));
     }
-    let found = audit_of(alloc, &m, 1)?;
-    let listed = least(alloc, &m, 1)?;
-    Ok(((found.distance, found.before.len()), listed))
+    Some(m)
+}
+
+/// A history of the updates 1, 2 and 3 and the strict query 4, which begins when some of them have
+/// committed. One that has not committed aborts, at most.
+fn strict_history(alloc: Global, seed: u64) -> Option<Machine<Plain>> {
+    let mut draws = Draws { state: seed };
+    let mut m = played(alloc, &[0, 0], &[update(1000), update(1000), update(1000)])?;
+    draw(&mut m, &mut draws, 4, 1);
+    let begin = Event::BeginQuery {
+        limit: 1000,
+        strict: true,
+    };
+    let _ = accepts(&mut m, begin);
+    draw(&mut m, &mut draws, 4, 1);
+    let aborted = TxnId(draws.next(3).saturating_add(1));
+    let _ = accepts(&mut m, Event::Abort { txn: aborted });
+    for t in 1..5u32 {
+        let _ = accepts(&mut m, commit(t));
+    }
+    Some(m)
+}
+
+/// The least distance of a query, and how many updates are before the position, as the audit
+/// finds them.
+fn audited(alloc: Global, m: &Machine<Plain>, q: u32) -> Option<(u64, usize)> {
+    let found = audit_of(alloc, m, q).ok()?;
+    Some((found.distance, found.before.len()))
 }
 
 #[test]
 fn least_of_all_placements(rt: HostRuntime) -> Result<(), Fail> {
+    let alloc = rt.alloc();
     let mut far = [0u32; 4];
     for seed in 0..300u64 {
-        let (found, listed) = audited_and_listed(rt.alloc(), seed)?;
-        assert_eq!(rt; found, listed, "history {seed}");
+        let m = small_history(alloc, seed).ok_or("a history")?;
+        let found = audited(alloc, &m, 1).ok_or("a finding")?;
+        assert_eq!(rt; Some(found), listed(alloc, &m, 1), "history {seed}");
         if found.0 > 0 && found.1 < 4 {
             far[found.1] = far[found.1].saturating_add(1);
         }
@@ -311,6 +342,34 @@ fn least_of_all_placements(rt: HostRuntime) -> Result<(), Fail> {
     assert!(rt;
         far.iter().all(|n| *n > 0),
         "some count of updates before is never far"
+    );
+    Ok(())
+}
+
+/// The least distance of the placements of a query as if it were not strict.
+fn least_if_free(alloc: Global, m: &Machine<Plain>, q: u32) -> Option<u64> {
+    let mut small = Small::of(alloc, m, q).ok()?;
+    small.must.clear();
+    let (distance, _) = small.least(alloc).ok()?;
+    Some(distance)
+}
+
+#[test]
+fn least_of_all_strict_placements(rt: HostRuntime) -> Result<(), Fail> {
+    let alloc = rt.alloc();
+    let mut farther = 0u32;
+    for seed in 0..300u64 {
+        let m = strict_history(alloc, seed).ok_or("a history")?;
+        let found = audited(alloc, &m, 4).ok_or("a finding")?;
+        assert_eq!(rt; Some(found), listed(alloc, &m, 4), "history {seed}");
+        let free = least_if_free(alloc, &m, 4).ok_or("a distance")?;
+        if free < found.0 {
+            farther = farther.saturating_add(1);
+        }
+    }
+    assert!(rt;
+        farther > 4,
+        "{farther} are farther than if they were not strict"
     );
     Ok(())
 }
