@@ -1,20 +1,10 @@
 -- A legal history run again: each of its replies is the machine's after the entries before it. What replays a history cites this.
-use Rattle.std.proofs.Common.{◌≡◌, ℕ, ℤ, zero, suc, ◌+◌, ◌<◌, ◌≤◌, Bool, true, false, ◌==◌, List, [], ◌∷◌, ◌++◌, length, take, map, refl, sym, ap, ◌∙◌, subst, arith, Option, Some, None, append_assoc, append-nil, ◌||◌, if◌then◌else◌}
-use Rattle.std.specs.Prelude.{slice_get, is_some, unwrap_or, find}
-use Rattle.std.specs.List.{list_any, range_with_len}
-use Rattle.std.specs.Option.{option_map}
-use Rattle.std.proofs.lemmas.Bool.{true≢false}
+use Rattle.std.proofs.Common.{◌≡◌, ℕ, ℤ, zero, suc, ◌+◌, ◌<◌, List, [], ◌∷◌, ◌++◌, length, take, map, refl, sym, ap, ◌∙◌, subst, arith, Some, None, append_assoc, append-nil}
+use Rattle.std.specs.Prelude.{slice_get}
 use Rattle.esr_items.specs.Values.{opened}
 use Rattle.esr_items.specs.declared.store.Versions.{Versions}
-use Rattle.esr_history.specs.declared.event.Event.{Event}
 use Rattle.esr_history.specs.declared.event.Entry.{Entry}
-use Rattle.esr_history.specs.Events.{Beginning, beginnings, beginning, numbers, is_begun, is_query}
-use Rattle.esr_history.specs.Machine.{Distance, Schedule, done, extended, blank, reply_to, charges, import_in, export_in, IsLegal, IsLegalAfter}
-use Rattle.esr_history.specs.Legal.{along}
-use Rattle.esr_history.proofs.Ranges.{find_in_range}
-use Rattle.esr_ledgers.specs.declared.account.Account.{Account}
-use Rattle.esr_ledgers.specs.Books.{number, account_of, is_open, is_open_query, amount_at}
-use Rattle.esr_core.specs.Tied.{entry_of, books_of}
+use Rattle.esr_history.specs.Machine.{Distance, Schedule, extended, reply_to, IsLegal, IsLegalAfter}
 
 -- the history up to an entry
 abbrev pub first : Schedule → ℕ → Schedule

@@ -165,3 +165,25 @@ fn abort_puts_back(rt: HostRuntime) {
     assert!(rt; m.history().items() == 1);
     assert!(rt; machine.close().log().len() == 5);
 }
+
+/// Goes on from the committed values, where one allocation may be refused.
+fn renew_at_last(m: &mut Machine<Plain>, alloc: Global) -> Result<(), RenewError> {
+    match m.renew(alloc, Plain) {
+        Err(RenewError::NoMemory) => m.renew(alloc, Plain),
+        answer => answer,
+    }
+}
+
+#[test]
+fn renewed_over_committed_values(rt: HostRuntime) {
+    let mut machine = opened_at_last(&rt, rt.alloc(), 1);
+    let m = &mut machine;
+    play(&rt, m, update(0), begun(1));
+    play(&rt, m, write(1, 5), Reply::Wrote);
+    assert!(rt; renew_at_last(m, rt.alloc()) == Err(RenewError::TransactionActive));
+    play(&rt, m, commit(1), Reply::Committed);
+    assert!(rt; renew_at_last(m, rt.alloc()) == Ok(()));
+    assert!(rt; m.log().len() == 0);
+    play(&rt, m, update(0), begun(1));
+    play(&rt, m, read(1), Reply::Value(5));
+}

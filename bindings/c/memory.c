@@ -1,0 +1,71 @@
+/* Each allocation fails in turn (linked with -Wl,--wrap=malloc,--wrap=realloc): a call that wants memory answers
+ * ESR_NO_MEMORY and has changed nothing, and given again it is answered as if nothing had happened. */
+#include "esr.h"
+#include <stdio.h>
+#include <stdlib.h>
+
+static long left = -1, failed, calls;
+void *__real_malloc(size_t size);
+void *__real_realloc(void *block, size_t size);
+void *__wrap_malloc(size_t size);
+void *__wrap_realloc(void *block, size_t size);
+
+static int fails(void) { return left >= 0 && left-- == 0 ? (int)++failed : 0; }
+void *__wrap_malloc(size_t size) { return fails() ? NULL : __real_malloc(size); }
+void *__wrap_realloc(void *block, size_t size) { return fails() ? NULL : __real_realloc(block, size); }
+
+#define WANT(call, wanted) \
+    do { \
+        esr_status status_ = (call); \
+        if (status_ == ESR_NO_MEMORY) { \
+            calls++; \
+            status_ = (call); \
+        } \
+        if (status_ != (wanted)) { \
+            fprintf(stderr, "line %d: status %u\n", __LINE__, status_); \
+            return 1; \
+        } \
+    } while (0)
+
+/* The bank of the README, with its audit, its bundle and a renewal. */
+static int day(void) {
+    esr_engine engine = ESR_CLOSED;
+    esr_reply reply;
+    esr_totals totals;
+    esr_finding finding;
+    int64_t opening[2] = {500, 1500}, values[2];
+    uint32_t before[2];
+    uint8_t bytes[1000];
+    size_t count, length;
+    WANT(esr_open(&engine, opening, 2), ESR_DONE);
+    WANT(esr_begin_update(&engine, 200, &reply), ESR_DONE);
+    WANT(esr_begin_query(&engine, 200, false, &reply), ESR_DONE);
+    WANT(esr_write(&engine, 1, 0, 400, &reply), ESR_DONE);
+    WANT(esr_read(&engine, 2, 0, &reply), ESR_DONE);
+    WANT(esr_read(&engine, 2, 1, &reply), ESR_DONE);
+    WANT(esr_write(&engine, 1, 1, 1600, &reply), ESR_DONE);
+    WANT(esr_commit(&engine, 1, &reply), ESR_DONE);
+    WANT(esr_commit(&engine, 2, &reply), ESR_DONE);
+    WANT(esr_audit(&engine, 2, before, 2, &finding), ESR_DONE);
+    WANT(esr_bundle(&engine, 2, bytes, sizeof bytes, &length), ESR_DONE);
+    WANT(esr_totals_of(&engine, &totals), ESR_DONE);
+    WANT(esr_renew(&engine), ESR_DONE);
+    WANT(esr_values(&engine, values, 2, &count), ESR_DONE);
+    esr_close(&engine);
+    return totals.entries != 8 || totals.low != 200 || finding.distance != 100 || finding.import != 200
+        || finding.count != 0 || values[0] != 400 || values[1] != 1600 || bytes[length - 1] != '}';
+}
+
+int main(void) {
+    long n = 0;
+    do {
+        left = n++;
+        failed = 0;
+        if (day()) {
+            fprintf(stderr, "allocation %ld\n", n);
+            return 1;
+        }
+    } while (failed);
+    printf("%ld allocations failed in turn, and %ld calls answered so\n", n - 1, calls);
+    return calls == 0;
+}

@@ -1,0 +1,77 @@
+//! A bank: tellers move money between accounts, each in a thread of its own, while a report adds all accounts up. The
+//! report waits for nobody and may be off by what it allows; afterwards its audit tells by how much it was.
+
+use esr::{Engine, Error, Patience, Txn, transact};
+use std::{error, sync::Mutex, thread};
+
+const ACCOUNTS: u32 = 8;
+const OPENING: i64 = 1000;
+const LIMIT: u64 = 100;
+
+/// Moves 10 from one account to another, a few hundred times.
+fn teller(bank: &Mutex<Engine>, mut random: u32) -> Result<(), Error> {
+    for _ in 0..300 {
+        random = random.wrapping_mul(1_103_515_245).wrapping_add(12_345);
+        let from = random / 65_536 % ACCOUNTS;
+        let to = (from + 1 + random / 1_024 % (ACCOUNTS - 1)) % ACCOUNTS;
+        transact(bank, LIMIT, Patience::default(), |update| {
+            let taken = update.read(from)? - 10;
+            update.write(from, taken)?;
+            let given = update.read(to)? + 10;
+            update.write(to, given)
+        })?;
+    }
+    Ok(())
+}
+
+/// Adds all accounts up. Where its limit is reached it starts anew.
+fn report(bank: &Mutex<Engine>) -> Result<(Txn, i64), Error> {
+    loop {
+        let query = bank.lock().unwrap().begin_query(LIMIT)?;
+        let sum: Result<i64, Error> = (0..ACCOUNTS)
+            .map(|account| {
+                thread::yield_now();
+                bank.lock().unwrap().read(query, account)
+            })
+            .sum();
+        let mut bank = bank.lock().unwrap();
+        match sum {
+            Ok(sum) => return bank.commit(query).map(|()| (query, sum)),
+            Err(Error::Refused(why)) if why.may_pass_later() => bank.abort(query)?,
+            Err(error) => return Err(error),
+        }
+    }
+}
+
+fn main() -> Result<(), Box<dyn error::Error>> {
+    let bank = Mutex::new(Engine::open(&[OPENING; ACCOUNTS as usize])?);
+    let (query, sum) = thread::scope(|threads| {
+        let tellers = [1, 2, 3].map(|seed| {
+            threads.spawn({
+                let bank = &bank;
+                move || teller(bank, seed)
+            })
+        });
+        let report = threads.spawn(|| report(&bank));
+        for teller in tellers {
+            teller.join().expect("a teller does not panic")?;
+        }
+        report.join().expect("the report does not panic")
+    })?;
+    let mut bank = bank.into_inner()?;
+    let finding = bank.audit(query)?;
+    println!(
+        "the report added up to {sum}, was charged {}, and is {} from the state after {} transfers",
+        finding.import,
+        finding.distance,
+        finding.before.len()
+    );
+    assert!(finding.distance <= finding.import && finding.import <= LIMIT);
+    assert!((sum - 8 * OPENING).unsigned_abs() <= finding.distance);
+    println!("its bundle has {} bytes", bank.bundle(query)?.len());
+    bank.renew()?;
+    let sum: i64 = bank.values()?.iter().sum();
+    println!("the accounts add up to {sum}");
+    assert_eq!((sum, bank.totals().entries), (8 * OPENING, 0));
+    Ok(())
+}

@@ -1,0 +1,188 @@
+//! Events, replies, refusals, errors and findings.
+
+use std::{error, fmt};
+
+/// The number of a transaction, from 1, in the order of the begins.
+#[derive(Clone, Copy, PartialEq, Eq, PartialOrd, Ord, Hash, Debug)]
+pub struct Txn(pub u32);
+
+impl fmt::Display for Txn {
+    fn fmt(&self, f: &mut fmt::Formatter<'_>) -> fmt::Result {
+        self.0.fmt(f)
+    }
+}
+
+/// What a program asks of an engine.
+#[derive(Clone, Copy, PartialEq, Eq, Debug)]
+pub enum Event {
+    /// Begins an update that may export up to `limit`.
+    BeginUpdate {
+        limit: u64,
+    },
+    /// Begins a query that may import up to `limit`. The audit of a strict one places it behind all that had committed
+    /// when it began.
+    BeginQuery {
+        limit: u64,
+        strict: bool,
+    },
+    Read {
+        txn: Txn,
+        item: u32,
+    },
+    Write {
+        txn: Txn,
+        item: u32,
+        value: i64,
+    },
+    Commit {
+        txn: Txn,
+    },
+    Abort {
+        txn: Txn,
+    },
+}
+
+/// What an engine answers.
+#[derive(Clone, Copy, PartialEq, Eq, Debug)]
+pub enum Reply {
+    Begun(Txn),
+    Value(i64),
+    Wrote,
+    Committed,
+    Aborted,
+    Refused(Refusal),
+}
+
+/// Why an event is refused. The refusal stands in the history, and changed nothing else.
+#[derive(Clone, Copy, PartialEq, Eq, Debug)]
+pub enum Refusal {
+    NoSuchTransaction,
+    AlreadyEnded,
+    NoSuchItem,
+    QueryMayNotWrite,
+    ValueOutOfRange,
+    /// Above 10^18.
+    LimitOutOfRange,
+    /// 65,535 have begun: see [`Engine::renew`](crate::Engine::renew).
+    TooManyTransactions,
+    /// Of one query: more than 1,000.
+    TooManyReads,
+    /// Another update holds a lock that is in the way.
+    BlockedByLock(Txn),
+    /// The query's import would pass its limit.
+    BlockedByImport(Txn),
+    /// The update's export would pass its limit.
+    BlockedByExport(Txn),
+}
+
+impl Refusal {
+    /// Whether the same event may be answered otherwise once another transaction has ended.
+    #[must_use]
+    pub fn may_pass_later(self) -> bool {
+        matches!(
+            self,
+            Refusal::BlockedByLock(_) | Refusal::BlockedByImport(_) | Refusal::BlockedByExport(_)
+        )
+    }
+}
+
+impl fmt::Display for Refusal {
+    fn fmt(&self, f: &mut fmt::Formatter<'_>) -> fmt::Result {
+        f.write_str(match self {
+            Refusal::NoSuchTransaction => "no such transaction",
+            Refusal::AlreadyEnded => "already ended",
+            Refusal::NoSuchItem => "no such item",
+            Refusal::QueryMayNotWrite => "a query may not write",
+            Refusal::ValueOutOfRange => "value out of range",
+            Refusal::LimitOutOfRange => "limit out of range",
+            Refusal::TooManyTransactions => "too many transactions",
+            Refusal::TooManyReads => "too many reads",
+            Refusal::BlockedByLock(txn) => return write!(f, "blocked by a lock of {txn}"),
+            Refusal::BlockedByImport(txn) => {
+                return write!(f, "blocked by the import limit of {txn}");
+            }
+            Refusal::BlockedByExport(txn) => {
+                return write!(f, "blocked by the export limit of {txn}");
+            }
+        })
+    }
+}
+
+impl error::Error for Refusal {}
+
+/// Why a call is not done. The engine has not changed, but that a refusal stands in its history.
+#[derive(Clone, Copy, PartialEq, Eq, Debug)]
+#[non_exhaustive]
+pub enum Error {
+    /// More than 4,096 items.
+    TooManyItems,
+    /// An opening value outside -10^12 to 10^12.
+    ValueOutOfRange,
+    /// The transaction is no query, or has not committed.
+    NotACommittedQuery,
+    /// The history has 1,000,000 entries: see [`Engine::renew`](crate::Engine::renew).
+    HistoryFull,
+    NoMemory,
+    /// A transaction is active.
+    TransactionActive,
+    /// The event was refused. [`Engine::step`](crate::Engine::step) answers [`Reply::Refused`] in its place.
+    Refused(Refusal),
+}
+
+impl fmt::Display for Error {
+    fn fmt(&self, f: &mut fmt::Formatter<'_>) -> fmt::Result {
+        f.write_str(match self {
+            Error::TooManyItems => "too many items",
+            Error::ValueOutOfRange => "value out of range",
+            Error::NotACommittedQuery => "not a committed query",
+            Error::HistoryFull => "history full",
+            Error::NoMemory => "out of memory",
+            Error::TransactionActive => "a transaction is active",
+            Error::Refused(_) => "refused",
+        })
+    }
+}
+
+impl error::Error for Error {
+    fn source(&self) -> Option<&(dyn error::Error + 'static)> {
+        match self {
+            Error::Refused(why) => Some(why),
+            _ => None,
+        }
+    }
+}
+
+/// What has been imported and exported, which is the same, and how many entries the history has.
+#[derive(Clone, Copy, PartialEq, Eq, Debug)]
+pub struct Totals {
+    pub import: u128,
+    pub entries: u64,
+}
+
+/// What an audit finds of a committed query.
+#[derive(Clone, PartialEq, Eq, Debug)]
+pub struct Finding {
+    /// The least distance of what the query read from any serial placement.
+    pub distance: u64,
+    /// What the query was charged: at least the distance.
+    pub import: u64,
+    /// The smallest set of updates before such a placement, in the order of their commits.
+    pub before: Vec<Txn>,
+}
+
+impl fmt::Display for Finding {
+    fn fmt(&self, f: &mut fmt::Formatter<'_>) -> fmt::Result {
+        write!(
+            f,
+            "distance {} import {} before",
+            self.distance, self.import
+        )?;
+        if self.before.is_empty() {
+            return f.write_str(" -");
+        }
+        for (i, txn) in self.before.iter().enumerate() {
+            write!(f, "{}{txn}", if i == 0 { ' ' } else { ',' })?;
+        }
+        Ok(())
+    }
+}

@@ -1,0 +1,292 @@
+//! `esr` is an epsilon-serializable transaction engine: transactions over whole-number items in memory, and reports
+//! that read beside them and are off by no more than they allow. The engine is proved; this crate is plain Rust over
+//! its C interface.
+//!
+//! ```
+//! use esr::Engine;
+//!
+//! // Two accounts. A report reads between the two halves of a transfer.
+//! let mut engine = Engine::open(&[500, 1500])?;
+//! let transfer = engine.begin_update(200)?;
+//! let report = engine.begin_query(200)?;
+//! engine.write(transfer, 0, 400)?;
+//! let sum = engine.read(report, 0)? + engine.read(report, 1)?;
+//! engine.write(transfer, 1, 1600)?;
+//! engine.commit(transfer)?;
+//! engine.commit(report)?;
+//! // It adds up to 1900, and was charged 200 for that; the nearest serial placement is 100 away.
+//! assert_eq!(sum, 1900);
+//! assert_eq!(engine.audit(report)?.to_string(), "distance 100 import 200 before -");
+//! # Ok::<(), esr::Error>(())
+//! ```
+//!
+//! Threads share an engine under a lock of their own, and [`transact`] runs an update over such an engine. An engine is
+//! not shared without one:
+//!
+//! ```compile_fail,E0277
+//! let engine = esr::Engine::open(&[0]).unwrap();
+//! std::thread::scope(|threads| {
+//!     threads.spawn(|| { let _ = &engine; });
+//! });
+//! ```
+//!
+//! Nor is it used by one thread once it has gone to another:
+//!
+//! ```compile_fail,E0382
+//! let mut engine = esr::Engine::open(&[0]).unwrap();
+//! std::thread::spawn(move || engine.begin_update(0));
+//! let _ = engine.begin_update(0);
+//! ```
+
+mod event;
+mod sys;
+mod transact;
+
+pub use event::{Error, Event, Finding, Refusal, Reply, Totals, Txn};
+pub use transact::{Patience, Update, transact};
+
+use std::fmt;
+
+/// The most items of an engine.
+pub const MOST_ITEMS: usize = 4_096;
+
+/// The most entries of a history: after them no event is answered until [`Engine::renew`].
+pub const MOST_ENTRIES: u64 = 1_000_000;
+
+/// The most transactions of a history: after them no begin is accepted until [`Engine::renew`].
+pub const MOST_TRANSACTIONS: u32 = 65_535;
+
+/// An engine. It is closed where it is dropped.
+pub struct Engine {
+    raw: sys::Engine,
+}
+
+// SAFETY: the engine's memory is reached through it alone, and the library keeps nothing of a thread.
+unsafe impl Send for Engine {}
+
+fn done(status: u32) -> Result<(), Error> {
+    match status {
+        0 => Ok(()),
+        1 => Err(Error::TooManyItems),
+        2 => Err(Error::ValueOutOfRange),
+        6 => Err(Error::NotACommittedQuery),
+        12 => Err(Error::HistoryFull),
+        13 => Err(Error::NoMemory),
+        16 => Err(Error::TransactionActive),
+        // 14 and 15 come of engines that are closed or opened twice, which this crate never hands over.
+        other => unreachable!("status {other}"),
+    }
+}
+
+fn refusal_of(reply: sys::Reply) -> Refusal {
+    let txn = Txn(reply.txn);
+    match reply.refusal {
+        1 => Refusal::NoSuchTransaction,
+        2 => Refusal::AlreadyEnded,
+        3 => Refusal::NoSuchItem,
+        4 => Refusal::QueryMayNotWrite,
+        5 => Refusal::ValueOutOfRange,
+        6 => Refusal::LimitOutOfRange,
+        7 => Refusal::TooManyTransactions,
+        8 => Refusal::TooManyReads,
+        9 => Refusal::BlockedByLock(txn),
+        10 => Refusal::BlockedByImport(txn),
+        11 => Refusal::BlockedByExport(txn),
+        other => unreachable!("refusal {other}"),
+    }
+}
+
+fn reply_of(reply: sys::Reply) -> Reply {
+    match reply.kind {
+        1 => Reply::Begun(Txn(reply.txn)),
+        2 => Reply::Value(reply.value),
+        3 => Reply::Wrote,
+        4 => Reply::Committed,
+        5 => Reply::Aborted,
+        6 => Reply::Refused(refusal_of(reply)),
+        other => unreachable!("reply {other}"),
+    }
+}
+
+/// A list that a call writes, at its second try where the first room was too small.
+fn listed<T: Copy>(
+    blank: T,
+    room: usize,
+    mut call: impl FnMut(*mut T, usize, &mut usize) -> u32,
+) -> Result<Vec<T>, Error> {
+    let mut list = vec![blank; room];
+    let mut count = 0;
+    let mut status = call(list.as_mut_ptr(), list.len(), &mut count);
+    if status == 7 {
+        list.resize(count, blank);
+        status = call(list.as_mut_ptr(), list.len(), &mut count);
+    }
+    done(status)?;
+    list.truncate(count);
+    Ok(list)
+}
+
+impl Engine {
+    /// An engine over items with these values.
+    ///
+    /// # Errors
+    /// `TooManyItems`, `ValueOutOfRange`, `NoMemory`.
+    pub fn open(opening: &[i64]) -> Result<Engine, Error> {
+        let mut engine = Engine { raw: sys::CLOSED };
+        // SAFETY: the pointer and the length are those of one slice, which is borrowed for the call.
+        done(unsafe { sys::esr_open(&mut engine.raw, opening.as_ptr(), opening.len()) })?;
+        Ok(engine)
+    }
+
+    /// Answers an event. A refusal is an answer too.
+    ///
+    /// # Errors
+    /// `HistoryFull`, `NoMemory`: then nothing has changed.
+    pub fn step(&mut self, event: Event) -> Result<Reply, Error> {
+        let mut reply = sys::Reply::default();
+        let (raw, out) = (&mut self.raw, &mut reply);
+        done(match event {
+            Event::BeginUpdate { limit } => sys::esr_begin_update(raw, limit, out),
+            Event::BeginQuery { limit, strict } => sys::esr_begin_query(raw, limit, strict, out),
+            Event::Read { txn, item } => sys::esr_read(raw, txn.0, item, out),
+            Event::Write { txn, item, value } => sys::esr_write(raw, txn.0, item, value, out),
+            Event::Commit { txn } => sys::esr_commit(raw, txn.0, out),
+            Event::Abort { txn } => sys::esr_abort(raw, txn.0, out),
+        })?;
+        Ok(reply_of(reply))
+    }
+
+    fn accepted(&mut self, event: Event) -> Result<Reply, Error> {
+        match self.step(event)? {
+            Reply::Refused(why) => Err(Error::Refused(why)),
+            reply => Ok(reply),
+        }
+    }
+
+    fn begun(&mut self, event: Event) -> Result<Txn, Error> {
+        match self.accepted(event)? {
+            Reply::Begun(txn) => Ok(txn),
+            other => unreachable!("{other:?}"),
+        }
+    }
+
+    /// Begins an update. A refusal is an error here and in the calls below.
+    ///
+    /// # Errors
+    /// Those of [`step`](Engine::step), and `Refused`.
+    pub fn begin_update(&mut self, limit: u64) -> Result<Txn, Error> {
+        self.begun(Event::BeginUpdate { limit })
+    }
+
+    /// Begins a query that is not strict.
+    ///
+    /// # Errors
+    /// Those of [`step`](Engine::step), and `Refused`.
+    pub fn begin_query(&mut self, limit: u64) -> Result<Txn, Error> {
+        self.begun(Event::BeginQuery {
+            limit,
+            strict: false,
+        })
+    }
+
+    /// # Errors
+    /// Those of [`step`](Engine::step), and `Refused`.
+    pub fn read(&mut self, txn: Txn, item: u32) -> Result<i64, Error> {
+        match self.accepted(Event::Read { txn, item })? {
+            Reply::Value(value) => Ok(value),
+            other => unreachable!("{other:?}"),
+        }
+    }
+
+    /// # Errors
+    /// Those of [`step`](Engine::step), and `Refused`.
+    pub fn write(&mut self, txn: Txn, item: u32, value: i64) -> Result<(), Error> {
+        self.accepted(Event::Write { txn, item, value }).map(drop)
+    }
+
+    /// # Errors
+    /// Those of [`step`](Engine::step), and `Refused`.
+    pub fn commit(&mut self, txn: Txn) -> Result<(), Error> {
+        self.accepted(Event::Commit { txn }).map(drop)
+    }
+
+    /// # Errors
+    /// Those of [`step`](Engine::step), and `Refused`.
+    pub fn abort(&mut self, txn: Txn) -> Result<(), Error> {
+        self.accepted(Event::Abort { txn }).map(drop)
+    }
+
+    /// What has been imported, and how many entries the history has.
+    pub fn totals(&mut self) -> Totals {
+        let mut totals = sys::Totals::default();
+        done(sys::esr_totals_of(&mut self.raw, &mut totals)).expect("an open engine has totals");
+        Totals {
+            import: u128::from(totals.high) << 64 | u128::from(totals.low),
+            entries: totals.entries,
+        }
+    }
+
+    /// The committed values of the items, in their order.
+    ///
+    /// # Errors
+    /// `NoMemory`.
+    pub fn values(&mut self) -> Result<Vec<i64>, Error> {
+        // SAFETY: the pointer and the length are those of one list.
+        listed(0, MOST_ITEMS, |values, room, count| unsafe {
+            sys::esr_values(&mut self.raw, values, room, count)
+        })
+    }
+
+    /// The audit of a committed query.
+    ///
+    /// # Errors
+    /// `NotACommittedQuery`, `NoMemory`.
+    pub fn audit(&mut self, query: Txn) -> Result<Finding, Error> {
+        let mut found = sys::Finding::default();
+        let before = listed(0, 16, |before, room, count| {
+            // SAFETY: the pointer and the length are those of one list.
+            let status =
+                unsafe { sys::esr_audit(&mut self.raw, query.0, before, room, &mut found) };
+            *count = found.count;
+            status
+        })?;
+        Ok(Finding {
+            distance: found.distance,
+            import: found.import,
+            before: before.into_iter().map(Txn).collect(),
+        })
+    }
+
+    /// The audit of a committed query as one JSON object, which `esr check` judges without this engine.
+    ///
+    /// # Errors
+    /// `NotACommittedQuery`, `NoMemory`.
+    pub fn bundle(&mut self, query: Txn) -> Result<Vec<u8>, Error> {
+        // SAFETY: the pointer and the length are those of one list.
+        listed(0, 4_096, |bytes, room, count| unsafe {
+            sys::esr_bundle(&mut self.raw, query.0, bytes, room, count)
+        })
+    }
+
+    /// Goes on from the committed values with an empty history, in which transactions are numbered from 1 again. A
+    /// history ends at [`MOST_ENTRIES`] and at [`MOST_TRANSACTIONS`]: before that, let what is active end, audit what is
+    /// of interest, and renew.
+    ///
+    /// # Errors
+    /// `TransactionActive`, `NoMemory`: then nothing has changed.
+    pub fn renew(&mut self) -> Result<(), Error> {
+        done(sys::esr_renew(&mut self.raw))
+    }
+}
+
+impl Drop for Engine {
+    fn drop(&mut self) {
+        sys::esr_close(&mut self.raw);
+    }
+}
+
+impl fmt::Debug for Engine {
+    fn fmt(&self, f: &mut fmt::Formatter<'_>) -> fmt::Result {
+        f.debug_struct("Engine").finish_non_exhaustive()
+    }
+}

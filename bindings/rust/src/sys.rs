@@ -1,0 +1,84 @@
+//! The declarations of `esr.h`.
+
+#[repr(C)]
+pub(crate) struct Engine {
+    is_open: bool,
+    machine: *mut core::ffi::c_void,
+}
+
+pub(crate) const CLOSED: Engine = Engine {
+    is_open: false,
+    machine: core::ptr::null_mut(),
+};
+
+#[repr(C)]
+#[derive(Clone, Copy, Default)]
+pub(crate) struct Reply {
+    pub kind: u32,
+    pub refusal: u32,
+    pub txn: u32,
+    pub value: i64,
+}
+
+#[repr(C)]
+#[derive(Clone, Copy, Default)]
+pub(crate) struct Totals {
+    pub high: u64,
+    pub low: u64,
+    pub entries: u64,
+}
+
+#[repr(C)]
+#[derive(Clone, Copy, Default)]
+pub(crate) struct Finding {
+    pub distance: u64,
+    pub import: u64,
+    pub count: usize,
+}
+
+// A call without lists is safe: references promise what `esr.h` asks, and no call has a further condition. A list
+// crosses as a pointer and a length.
+unsafe extern "C" {
+    pub(crate) fn esr_open(engine: &mut Engine, opening: *const i64, items: usize) -> u32;
+    pub(crate) safe fn esr_close(engine: &mut Engine);
+    pub(crate) safe fn esr_begin_update(engine: &mut Engine, limit: u64, reply: &mut Reply) -> u32;
+    pub(crate) safe fn esr_begin_query(
+        engine: &mut Engine,
+        limit: u64,
+        strict: bool,
+        reply: &mut Reply,
+    ) -> u32;
+    pub(crate) safe fn esr_read(engine: &mut Engine, txn: u32, item: u32, reply: &mut Reply)
+    -> u32;
+    pub(crate) safe fn esr_write(
+        engine: &mut Engine,
+        txn: u32,
+        item: u32,
+        value: i64,
+        reply: &mut Reply,
+    ) -> u32;
+    pub(crate) safe fn esr_commit(engine: &mut Engine, txn: u32, reply: &mut Reply) -> u32;
+    pub(crate) safe fn esr_abort(engine: &mut Engine, txn: u32, reply: &mut Reply) -> u32;
+    pub(crate) safe fn esr_totals_of(engine: &mut Engine, totals: &mut Totals) -> u32;
+    pub(crate) fn esr_values(
+        engine: &mut Engine,
+        values: *mut i64,
+        room: usize,
+        count: &mut usize,
+    ) -> u32;
+    pub(crate) fn esr_audit(
+        engine: &mut Engine,
+        query: u32,
+        before: *mut u32,
+        room: usize,
+        finding: &mut Finding,
+    ) -> u32;
+    pub(crate) fn esr_bundle(
+        engine: &mut Engine,
+        query: u32,
+        bytes: *mut u8,
+        room: usize,
+        count: &mut usize,
+    ) -> u32;
+    pub(crate) safe fn esr_renew(engine: &mut Engine) -> u32;
+}

@@ -1,0 +1,149 @@
+//! Errors and refusals, a full history, renewal, and updates of several threads.
+
+use esr::{Engine, Error, Event, MOST_ENTRIES, Patience, Refusal, Reply, Txn, transact};
+use std::{error, panic, sync::Mutex, thread, time::Duration};
+
+#[test]
+fn an_engine_goes_to_another_thread() {
+    fn sends<T: Send>(_: &T) {}
+    let engine = Engine::open(&[7]).unwrap();
+    sends(&engine);
+    let read = thread::spawn(move || {
+        let mut engine = engine;
+        let txn = engine.begin_update(0).unwrap();
+        engine.read(txn, 0)
+    });
+    assert_eq!(read.join().unwrap(), Ok(7));
+}
+
+#[test]
+fn errors_and_refusals_by_name() {
+    assert_eq!(Engine::open(&[0; 4097]).unwrap_err(), Error::TooManyItems);
+    assert_eq!(
+        Engine::open(&[1_000_000_000_001]).unwrap_err(),
+        Error::ValueOutOfRange
+    );
+    let mut engine = Engine::open(&[0]).unwrap();
+    let first = engine.begin_update(0).unwrap();
+    let second = engine.begin_update(0).unwrap();
+    engine.write(first, 0, 5).unwrap();
+    let blocked = engine.write(second, 0, 6).unwrap_err();
+    assert_eq!(blocked, Error::Refused(Refusal::BlockedByLock(first)));
+    let source = error::Error::source(&blocked).map(ToString::to_string);
+    assert_eq!(source.as_deref(), Some("blocked by a lock of 1"));
+    assert_eq!(engine.audit(first).unwrap_err(), Error::NotACommittedQuery);
+    assert_eq!(engine.bundle(first).unwrap_err(), Error::NotACommittedQuery);
+    assert_eq!(engine.renew().unwrap_err(), Error::TransactionActive);
+    let read = Event::Read {
+        txn: first,
+        item: 1,
+    };
+    assert_eq!(engine.step(read), Ok(Reply::Refused(Refusal::NoSuchItem)));
+}
+
+#[test]
+fn a_full_history_is_renewed() {
+    let mut engine = Engine::open(&[3, 4]).unwrap();
+    let txn = engine.begin_update(0).unwrap();
+    engine.write(txn, 1, 5).unwrap();
+    engine.commit(txn).unwrap();
+    while engine.step(Event::Commit { txn: Txn(0) }).is_ok() {}
+    assert_eq!(engine.totals().entries, MOST_ENTRIES);
+    assert_eq!(engine.begin_update(0), Err(Error::HistoryFull));
+    engine.renew().unwrap();
+    assert_eq!(engine.totals().entries, 0);
+    assert_eq!(engine.values(), Ok(vec![3, 5]));
+    assert_eq!(engine.begin_update(0), Ok(Txn(1)));
+}
+
+#[test]
+fn lists_longer_than_the_first_room() {
+    let mut engine = Engine::open(&[0; 4096]).unwrap();
+    for i in 0..40 {
+        let txn = engine.begin_update(0).unwrap();
+        engine.write(txn, 0, i + 1).unwrap();
+        engine.commit(txn).unwrap();
+    }
+    let query = engine.begin_query(0).unwrap();
+    assert_eq!(engine.read(query, 0), Ok(40));
+    engine.commit(query).unwrap();
+    let finding = engine.audit(query).unwrap();
+    assert_eq!((finding.distance, finding.before.len()), (0, 40));
+    assert_eq!(engine.bundle(query).unwrap().last(), Some(&b'}'));
+    assert_eq!(engine.values().unwrap().len(), 4096);
+}
+
+#[test]
+fn transact_gives_up_and_aborts() {
+    let bank = Mutex::new(Engine::open(&[0]).unwrap());
+    let holder = bank.lock().unwrap().begin_update(0).unwrap();
+    bank.lock().unwrap().write(holder, 0, 1).unwrap();
+    let patience = Patience {
+        tries: 3,
+        attempts: 2,
+        pause: Duration::from_micros(1),
+    };
+    let mut runs = 0;
+    let answer = transact(&bank, 0, patience, |update| {
+        runs += 1;
+        update.read(0)
+    });
+    assert_eq!(answer, Err(Error::Refused(Refusal::BlockedByLock(holder))));
+    assert_eq!(runs, 2);
+    let mut engine = bank.into_inner().unwrap();
+    // Two entries of the holder; each attempt begins, is blocked three times, and aborts.
+    assert_eq!(engine.totals().entries, 2 + 2 * 5);
+    engine.commit(holder).unwrap();
+    assert_eq!(engine.renew(), Ok(()));
+}
+
+#[test]
+fn transact_aborts_where_the_body_panics() {
+    let bank = Mutex::new(Engine::open(&[0]).unwrap());
+    let panicked = panic::catch_unwind(|| {
+        transact(
+            &bank,
+            0,
+            Patience::default(),
+            |update| -> Result<(), Error> {
+                update.write(0, 1)?;
+                panic!("in the body");
+            },
+        )
+    });
+    assert!(panicked.is_err());
+    let mut engine = bank.into_inner().unwrap();
+    assert_eq!(engine.renew(), Ok(()));
+    assert_eq!(engine.values(), Ok(vec![0]));
+}
+
+#[test]
+fn four_threads_count_together() {
+    let bank = Mutex::new(Engine::open(&[0; 2]).unwrap());
+    thread::scope(|threads| {
+        for k in 0..4u32 {
+            let bank = &bank;
+            threads.spawn(move || {
+                for _ in 0..100 {
+                    transact(
+                        bank,
+                        0,
+                        Patience {
+                            attempts: 1000,
+                            ..Patience::default()
+                        },
+                        |update| {
+                            for item in [k % 2, 1 - k % 2] {
+                                let value = update.read(item)?;
+                                update.write(item, value + 1)?;
+                            }
+                            Ok(())
+                        },
+                    )
+                    .unwrap();
+                }
+            });
+        }
+    });
+    assert_eq!(bank.into_inner().unwrap().values(), Ok(vec![400, 400]));
+}

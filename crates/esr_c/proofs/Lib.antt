@@ -1,0 +1,2 @@
+mod Opens
+pub mod Words

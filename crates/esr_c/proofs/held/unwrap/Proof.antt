@@ -1,0 +1,60 @@
+-- `unwrap` takes the block back.
+use Rattle.esr_history.specs.Machine.{Schedule}
+use Rattle.std.proofs.Common.{true≢false, ◌≡◌, List, [], ◌∷◌, ◌++◌, refl, sym, subst}
+use mir.Val.{Val, vptr}
+use base.Logic.{SProp, ent, emp, never, id⊢, fst∗}
+use base.Fml.{ftrue}
+use mir.Raw.{raw as bare}
+use prog.Wp.{WpFn}
+use types.Logic.{sem}
+use types.Kit.{‵, raw, ◌⊛◌, ◌$◌, ◌∵◌, !, qed, by, move, keep, drop, split, fsplit, fjoin, suffices, use0, rewrite}
+use types.Run.{stop, fld, of_opd, no_more, and_then, returns, enter}
+use types.ByLocal.{alloc_all, pass_all, free_all, look_at, get, get_in, sets}
+use types.Part.{agg, sub, whole}
+use contract.Monad.{fact, fact_i}
+use contract.Running.{tables}
+use denote.Exit.{yes}
+use denote.Memory.{lone}
+use denote.RattleType.{owns}
+use denote.Signature.{types_at, plain}
+use denote.RawPtr.{Ptr, block_ptr, null_ptr, ptr_val, in_a_block}
+use denote.Steps.{nothing, heard}
+use denote.Triple.Walked.{Stays, stay_dropped, walk_of}
+use Rattle.std.specs.Prelude.{Option, None, Some, IsSome}
+use Rattle.core.proofs.alloc.Calls.{Goes-blank}
+use Rattle.std.proofs.raw_atomic.Walks.{proved_at, leaves}
+use Rattle.std_alloc.specs.Box.Ownership.{box_owns}
+use Rattle.std.specs.contracts.impls.GlobalAllocator.TheImpl as Heap
+use Rattle.esr_c.specs.Owned.{machine_row, owned}
+use Rattle.esr_c.proofs.Words.{alone, loose_in, Held, held_out}
+use Rattle.esr_c.specs.contracts.held.unwrap.{ended, clauses}
+use Rattle.esr_c.specs.contracts.held.unwrap.Key.{name as #self}
+use Rattle.esr_c.proofs.held.unwrap.Statement.{statement}
+use Rattle.esr_c.proofs.held.unwrap.Code as code
+
+some_of : (x : Option Schedule) → IsSome x → (m : Schedule) × (x ≡ Some m)
+some_of None e = absurd (true≢false (sym e))
+some_of (Some m) e = (m, refl)
+
+pub unwrap_spec : {M : Type 1} → statement M
+unfolding owned
+unwrap_spec 𝓤 𝓛 𝓜 𝓡 wired =
+    let H = 𝓛.H in let 𝓣 = tables 𝓤 H 𝓜 𝓡 𝓡.env in let c = clauses 𝓛 𝓜.mem 𝓡.returns in
+    let hs : Stays ended.signature.params ended.kept = (stay_dropped (plain (λ _. Held)) yes, tt) in
+    proved_at 𝓛 ended hs c 𝓜 𝓡 (Goes-blank 𝓛 0 (plain (λ _. Held)) yes (λ κs x f. tt), tt) #self code.function (code.unfolded 𝓤 H 𝓜 𝓡 wired) (λ z are.
+    let d = z.0.3.0 in let Post : Val → SProp 𝓤 = (walk_of 𝓛 ended hs c).post z in let Run : List Val → SProp 𝓤 = λ ws. WpFn 𝓤 H 𝓣.C 𝓣.Λ code.function ws Post in
+    qed 𝓛 ((‵ ftrue ⊛ ‵ (owns (types_at ended.signature.params z.0.0) z.0.3 z.0.4)) ∷ raw (fact 𝓤 (IsSome d.machine)) ∷ []) ∵
+    move ! (1 ∷ []) $ heard ! (IsSome d.machine) (λ some. let m = (some_of d.machine some).0 in let same = (some_of d.machine some).1 in
+    split ! $ drop ! $ fsplit ! $ held_out ! d z.0.4.0 (λ ws.
+    rewrite ! 0 (λ (x : Option Schedule). ‵ (owned d.at x)) same refl $
+    in_a_block ! d.at (λ p. box_owns (Heap.ghosts.dealloc_token _) machine_row p m) (fst∗ 𝓤 (never 𝓤) (sem 𝓛 (Heap.ghosts.dealloc_token _ (bare (lone machine_row.mir)) null_ptr))) (λ b o e.
+    let w : Val = alone (vptr b o) in let ws' : z.0.4.0 ≡ w ∷ [] = subst (λ (p : Ptr). z.0.4.0 ≡ alone (ptr_val p) ∷ []) e ws in
+    suffices ! (Run (w ∷ [])) (subst (λ (us : List Val). ent 𝓤 (Run (w ∷ [])) (Run us)) (sym (λ i. ws' i ++ [])) (id⊢ 𝓤 (Run (w ∷ [])))) $
+    enter ! 𝓣.C 𝓣.Λ code.function (w ∷ []) Post $ alloc_all ! (λ l. pass_all ! refl ((tt, (tt, tt)), tt) $
+    sets ! (of_opd ! (get_in ! (fld ! refl (stop !)) (sub ! 0 refl (whole !)))) refl (tt, tt) $
+    sets ! (of_opd ! (get ! refl)) refl (tt, tt) $
+    sets ! (agg ! (and_then ! (get ! refl) (no_more !))) refl (tt, (tt, tt)) $
+    returns ! (look_at ! 0 refl) $ free_all ! refl $ keep ! (0 ∷ []) $
+    use0 𝓛 (raw (fact 𝓤 (d.machine ≡ Some m))) (fact_i 𝓤 (d.machine ≡ Some m) (emp 𝓤) same) $ move ! (1 ∷ []) $
+    loose_in machine_row ! (record { at = block_ptr b o; value = m }) $ nothing ! $ nothing ! $ fjoin ! $ nothing ! $
+    by ! (leaves 𝓛 ended hs c z (alone (vptr b o)) (record { at = block_ptr b o; value = m }) (tt, tt) (tt, tt)))))))

@@ -1,0 +1,133 @@
+-- What C is told: replies and refusals by numbers.
+use Rattle.std.specs.Prelude.{◌≡◌, ◌*◌, ◌+◌, ◌^◌, ℕ, ℤ, List, [], length, map, Option, Some, IfSome, pos, take, ◌⊎◌}
+use Rattle.esr_items.specs.Values.{gap}
+use Rattle.esr_history.specs.declared.event.Entry.{Entry}
+use Rattle.esr_history.specs.declared.event.Event.{Event}
+use Rattle.esr_history.specs.declared.event.Reply.{Reply}
+use Rattle.esr_history.specs.declared.event.Reply.TheVariants.{Begun, Value, Wrote, Committed, Aborted, Refused}
+use Rattle.esr_history.specs.declared.event.Refusal.{Refusal}
+use Rattle.esr_history.specs.declared.event.Refusal.TheVariants.{BlockedByLock, BlockedByImport, BlockedByExport}
+use Rattle.esr_history.specs.Legal.{along}
+use Rattle.esr_history.specs.Machine.{Distance, Schedule, IsLegal, extended, reply_to}
+use Rattle.esr_history.specs.Queries.{ImportBoundsDistance}
+use Rattle.esr_history.specs.Refusals.{refusal_number}
+use Rattle.esr_history.specs.Serial.{IsSerializable}
+use Rattle.esr_history.specs.Totals.{IsWithinLimits, all_imports}
+use Rattle.esr_core.specs.Renewed.{committed_values, AreSerializableAsOne}
+use Rattle.esr_cert.specs.Views.{certificate_of}
+use Rattle.esr_audit.specs.Findings.{IsAnswer, IsShown}
+use Rattle.esr_audit.specs.declared.finding.Finding.{Finding}
+use Rattle.esr_bundle.specs.Bundle.{bundle}
+use Rattle.esr_c.specs.declared.audit.EsrFinding.{EsrFinding}
+use Rattle.esr_c.specs.declared.audit.EsrTotals.{EsrTotals}
+use Rattle.esr_c.specs.declared.engine.Status.{Status}
+use Rattle.esr_c.specs.declared.engine.Status.TheVariants.{Done, TooManyItems, OutOfRange, NotACommittedQuery, TooSmall, Full, NoMemory, Closed, Open, Active}
+use Rattle.esr_c.specs.declared.reply.EsrReply.{EsrReply}
+
+-- the distance of plain values
+abbrev pub plain : Distance
+plain w x a b = gap a b
+
+-- a history of these opening values, with no entry
+abbrev pub fresh : List ℤ → Schedule
+fresh opening = record { opening = opening; weights = []; entries = [] }
+
+-- whom a refusal names
+abbrev pub named : Refusal → ℕ
+named (BlockedByLock t) = t.0
+named (BlockedByImport t) = t.0
+named (BlockedByExport t) = t.0
+named _ = 0
+
+abbrev pub told : Reply → EsrReply
+told (Begun t) = record { kind = 1; refusal = 0; txn = t.0; value = pos 0 }
+told (Value v) = record { kind = 2; refusal = 0; txn = 0; value = v }
+told Wrote = record { kind = 3; refusal = 0; txn = 0; value = pos 0 }
+told Committed = record { kind = 4; refusal = 0; txn = 0; value = pos 0 }
+told Aborted = record { kind = 5; refusal = 0; txn = 0; value = pos 0 }
+told (Refused why) = record { kind = 6; refusal = refusal_number why; txn = named why; value = pos 0 }
+
+-- what an answered event does: the machine's reply is told, and the history has it at its end
+abbrev pub IsReply : Event → Option Schedule → Option Schedule → EsrReply → Type 0
+IsReply event old new reply =
+    IfSome old (λ h. (new ≡ Some (extended h event (reply_to plain h event))) × (reply ≡ told (reply_to plain h event)))
+
+-- all imports, by two words of 64 bits, and the count of entries
+abbrev pub IsTotal : EsrTotals → Schedule → Type 0
+IsTotal t h = (t.high * 2 ^ 64 + t.low ≡ all_imports plain h) × (t.entries ≡ length h.entries)
+
+-- what the audit of a query finds
+pub record IsFindingOf (h : Schedule) (q : ℕ) (f : Finding) : Type 0 where
+  pub answer : IsAnswer plain h q f.distance f.import (map (λ t. t.0) f.before.items)
+  pub shown : IsShown plain h q f.distance (map (λ t. t.0) f.before.items) f.problem (certificate_of f.certificate)
+
+-- the answer of an audit, with the count of the updates before the position, which are listed
+abbrev pub IsTold : Schedule → ℕ → EsrFinding → List ℕ → Type 0
+IsTold h q f before = IsAnswer plain h q f.distance f.import before × (f.count ≡ length before)
+
+-- the same, where they stand at the head of a room
+abbrev pub IsFound : Schedule → ℕ → EsrFinding → List ℕ → Type 0
+IsFound h q f room = IsTold h q f (take f.count room)
+
+-- the same, where there is no room for them
+abbrev pub IsCounted : Schedule → ℕ → EsrFinding → Type 0
+IsCounted h q f = (before : List ℕ) × IsTold h q f before
+
+-- the bytes are the bundle of what the audit of a query finds
+pub record IsBundleOf (h : Schedule) (q : ℕ) (bytes : List ℕ) : Type 0 where
+  pub finding : Finding
+  pub found : IsFindingOf h q finding
+  pub text : bytes ≡ bundle finding.problem (certificate_of finding.certificate)
+
+-- such bytes stand at the head of a room
+abbrev pub IsBundleIn : Schedule → ℕ → ℕ → List ℕ → Type 0
+IsBundleIn h q count room = IsBundleOf h q (take count room) × (count ≡ length (take count room))
+
+-- such bytes are this many
+abbrev pub IsBundleLong : Schedule → ℕ → ℕ → Type 0
+IsBundleLong h q count = (bytes : List ℕ) × IsBundleOf h q bytes × (count ≡ length bytes)
+
+-- the committed values stand at the head of a room
+abbrev pub AreValuesIn : Schedule → ℕ → List ℤ → Type 0
+AreValuesIn h count room = (take count room ≡ committed_values h) × (count ≡ length h.opening)
+
+-- whatever the history of a renewed engine comes to be, it and the one before it are serializable as one
+pub record GoesOn (h : Schedule) : Type 0 where
+  pub as_one : (later : List Entry) → IsLegal plain (along (fresh (committed_values h)) later) → AreSerializableAsOne h (along (fresh (committed_values h)) later)
+
+-- what holds of the history of an engine, at any time
+pub record IsSound (h : Schedule) : Type 0 where
+  pub legal : IsLegal plain h
+  pub limits : IsWithinLimits plain h
+  pub serializable : IsSerializable h
+  pub bounded : ImportBoundsDistance plain h
+
+-- the number of each status
+abbrev pub status_number : Status → ℕ
+status_number Done = 0
+status_number TooManyItems = 1
+status_number OutOfRange = 2
+status_number NotACommittedQuery = 6
+status_number TooSmall = 7
+status_number Full = 12
+status_number NoMemory = 13
+status_number Closed = 14
+status_number Open = 15
+status_number Active = 16
+
+-- the statuses of an event
+abbrev pub IsEventStatus : ℕ → Type 0
+IsEventStatus n = (n ≡ 0) ⊎ ((n ≡ 12) ⊎ ((n ≡ 13) ⊎ (n ≡ 14)))
+
+-- the statuses of an opening, of a renewal, of values, and of an audit or a bundle
+abbrev pub IsOpenStatus : ℕ → Type 0
+IsOpenStatus n = (n ≡ 0) ⊎ ((n ≡ 1) ⊎ ((n ≡ 2) ⊎ ((n ≡ 13) ⊎ (n ≡ 15))))
+
+abbrev pub IsRenewStatus : ℕ → Type 0
+IsRenewStatus n = (n ≡ 0) ⊎ ((n ≡ 13) ⊎ ((n ≡ 14) ⊎ (n ≡ 16)))
+
+abbrev pub IsValuesStatus : ℕ → Type 0
+IsValuesStatus n = (n ≡ 0) ⊎ ((n ≡ 7) ⊎ ((n ≡ 13) ⊎ (n ≡ 14)))
+
+abbrev pub IsAuditStatus : ℕ → Type 0
+IsAuditStatus n = (n ≡ 0) ⊎ ((n ≡ 6) ⊎ ((n ≡ 7) ⊎ ((n ≡ 13) ⊎ (n ≡ 14))))

@@ -1,0 +1,62 @@
+-- Two histories, one after the other.
+use Rattle.std.proofs.Common.{◌≡◌, ℕ, ℤ, ◌<◌, ◌∙◌, ap, refl, sym, List, [], ◌∷◌, length, map, flat_map, pos, ◌||◌, ◌==◌, arith}
+use Rattle.std.specs.List.{before_first, filter_map, list_any, range_with_len}
+use Rattle.std.proofs.lemmas.List.{get_or-map, length-map, same_lists}
+use Rattle.std.proofs.lemmas.List.FromFn.{get_or-map-range_with_len, length-map-range_with_len}
+use Rattle.esr_items.specs.Values.{value_at, opened}
+use Rattle.esr_items.specs.declared.store.Versions.{Versions}
+use Rattle.esr_history.specs.declared.event.Event.{Event}
+use Rattle.esr_history.specs.Events.{accepted, numbers, is_active, written, last_value, committed_value}
+use Rattle.esr_history.specs.Machine.{Distance, Schedule, IsLegal, done}
+use Rattle.esr_history.specs.Serial.{committed_updates, state, values_by}
+use Rattle.esr_history.proofs.Laws.{legal_serializable}
+use Rattle.esr_history.specs.ItemLocks.{ItemLocks}
+use Rattle.esr_ledgers.specs.declared.account.Account.{Account}
+use Rattle.esr_core.specs.declared.state.Transaction.{Transaction}
+use Rattle.esr_core.specs.Tied.{IsTied, row_of, rows_of}
+use Rattle.esr_core.specs.Renewed.{committed_values, state_over, AreSerializableAsOne}
+
+-- opening values, as a store has them
+pub opened_values : (vs : List ℤ) → map (λ (w : Versions). w.committed) (map opened vs) ≡ vs
+opened_values [] = refl
+opened_values (v ∷ vs) = ap (λ ws. v ∷ ws) (opened_values vs)
+
+-- the rows of active transactions
+active_in : (events : List Event) (ts : List ℕ) → list_any (λ (r : Transaction). r.active) (map (row_of events) ts) ≡ list_any (is_active events) ts
+active_in events [] = refl
+active_in events (t ∷ ts) = ap (λ b. is_active events t || b) (active_in events ts)
+
+pub active_rows : (events : List Event) → list_any (λ (r : Transaction). r.active) (rows_of events) ≡ list_any (is_active events) (numbers events)
+active_rows events = active_in events (numbers events)
+
+-- the committed values of a state, in their order
+pub tied_values : (d : ℕ → ℤ → ℤ → ℕ) (opening : List ℤ) (events : List Event) (items : List Versions) (table : List Transaction) (locks : List ItemLocks) (accounts : List Account)
+    → IsTied d opening events items table locks accounts → map (λ (w : Versions). w.committed) items ≡ map (committed_value opening events) (range_with_len 0 (length opening))
+tied_values d opening events items table locks accounts tie =
+    let f : ℕ → ℤ = committed_value opening events in
+    let long : length (map (λ (w : Versions). w.committed) items) ≡ length opening = length-map items (λ (w : Versions). w.committed) ∙ tie.count in
+    same_lists (map (λ (w : Versions). w.committed) items) (map f (range_with_len 0 (length opening))) (long ∙ sym (length-map-range_with_len f 0 (length opening))) (λ x e l.
+    let in_opening : x < length opening = rw (← long) l in
+    get_or-map (λ (w : Versions). w.committed) items x (opened (pos 0)) e (rw tie.count in_opening)
+    ∙ (tie.committed x in_opening ∙ sym (get_or-map-range_with_len f 0 (length opening) x x e in_opening (omega arith))))
+
+module _ (d : Distance) (h k : Schedule) (first : IsLegal d h) (second : IsLegal d k) (opens : k.opening ≡ committed_values h) where
+  -- the second opens as the first leaves its items
+  starts : (x : ℕ) → x < length h.opening → value_at k.opening x ≡ state h (committed_updates h) x
+  starts x l =
+      ap (λ vs. value_at vs x) opens ∙ (get_or-map-range_with_len (committed_value h.opening (done h)) 0 (length h.opening) x x (pos 0) l (omega arith)
+      ∙ sym ((legal_serializable d h first).leaves x))
+
+  goes_on : (vs : List ℕ) (x : ℕ) → x < length h.opening → state k vs x ≡ state_over h (committed_updates h) k vs x
+  goes_on vs x l = ap (λ v. last_value v (flat_map (values_by k x) vs)) (starts x l)
+
+  pub as_one : AreSerializableAsOne h k
+  as_one =
+      let s = legal_serializable d k second in
+      record {
+        first = legal_serializable d h first;
+        serial = s.serial;
+        reads = λ before after t x v l is by. s.reads before after t x v is by
+            ∙ ap (λ w. last_value w (filter_map (written (λ u. u == t.0) x.0) (accepted before))) (goes_on (before_first (λ u. u == t.0) (committed_updates k)) x.0 l);
+        leaves = λ x l. sym (goes_on (committed_updates k) x l) ∙ s.leaves x;
+      }
