@@ -11,6 +11,9 @@ use crate::step::Step;
 use esr_cert::Arc;
 use std::alloc::{AllocError, Global};
 
+/// The most arcs, and the most steps, that numbers of 32 bits count.
+const MOST: usize = 4_294_967_295;
+
 /// Adds a step to a node's row.
 fn add_step(steps: &mut Vec<Vec<Step>>, node: usize, step: Step) -> Result<(), AllocError>
     requires { node < length steps.old.items }
@@ -26,13 +29,16 @@ pub fn steps_of(alloc: Global, nodes: usize, arcs: &[Arc]) -> Result<Vec<Vec<Ste
     ensures rows { IfOk result (λ steps. length steps.items ≡ nodes) }
     ensures lists { IfOk result (λ steps. (v : ℕ) (row : Vec Step Global) → v < nodes → get_or steps.items v row ≡ row → HasSteps arcs.now v row.items) }
 {
+    if arcs.len() > MOST {
+        return Err(AllocError);
+    }
     let mut steps = Vec::new(alloc);
     for _ in 0..nodes {
         steps.push(Vec::new(alloc))?;
     }
     for (i, arc) in arcs.iter().enumerate() {
-        add_step(&mut steps, arc.from, Step::Along(i))?;
-        add_step(&mut steps, arc.to, Step::Against(i))?;
+        add_step(&mut steps, arc.from, Step::Along(i as u32))?;
+        add_step(&mut steps, arc.to, Step::Against(i as u32))?;
     }
     Ok(steps)
 }
@@ -67,6 +73,9 @@ pub fn places_of(alloc: Global, arcs: &[Arc], steps: &[Step]) -> Result<Vec<Plac
     requires once { AreOnce steps.now }
     ensures { IfOk result (λ places. ArePlaces arcs.now steps.now places.items) }
 {
+    if steps.len() > MOST {
+        return Err(AllocError);
+    }
     let nowhere = Places {
         along: 0,
         against: 0,
@@ -74,8 +83,8 @@ pub fn places_of(alloc: Global, arcs: &[Arc], steps: &[Step]) -> Result<Vec<Plac
     let mut places = vec![in alloc; nowhere; arcs.len()]?;
     for (k, step) in steps.iter().enumerate() {
         match *step {
-            Step::Along(i) => places[i].along = k,
-            Step::Against(i) => places[i].against = k,
+            Step::Along(i) => places[i as usize].along = k as u32,
+            Step::Against(i) => places[i as usize].against = k as u32,
         }
     }
     Ok(places)
