@@ -23,6 +23,19 @@ fn add_step(steps: &mut Vec<Vec<Step>>, node: usize, step: Step) -> Result<(), A
     Ok(())
 }
 
+/// How many steps start at each node.
+fn degrees_of(alloc: Global, nodes: usize, arcs: &[Arc]) -> Result<Vec<usize>, AllocError>
+    requires { (i : ℕ) (d : Arc) → i < length arcs.now → ((get_or arcs.now i d).from < nodes) × ((get_or arcs.now i d).to < nodes) }
+    ensures { IfOk result (λ degrees. length degrees.items ≡ nodes) }
+{
+    let mut degrees = vec![in alloc; 0usize; nodes]?;
+    for arc in arcs {
+        degrees[arc.from] = degrees[arc.from].saturating_add(1);
+        degrees[arc.to] = degrees[arc.to].saturating_add(1);
+    }
+    Ok(degrees)
+}
+
 /// For each node the steps that start at it.
 pub fn steps_of(alloc: Global, nodes: usize, arcs: &[Arc]) -> Result<Vec<Vec<Step>>, AllocError>
     requires { (i : ℕ) (d : Arc) → i < length arcs.now → ((get_or arcs.now i d).from < nodes) × ((get_or arcs.now i d).to < nodes) }
@@ -32,9 +45,11 @@ pub fn steps_of(alloc: Global, nodes: usize, arcs: &[Arc]) -> Result<Vec<Vec<Ste
     if arcs.len() > MOST {
         return Err(AllocError);
     }
-    let mut steps = Vec::new(alloc);
-    for _ in 0..nodes {
-        steps.push(Vec::new(alloc))?;
+    let degrees = degrees_of(alloc, nodes, arcs)?;
+    let mut steps = Vec::with_capacity(alloc, nodes)?;
+    for degree in &degrees {
+        let row = Vec::with_capacity(alloc, *degree)?;
+        steps.push(row)?;
     }
     for (i, arc) in arcs.iter().enumerate() {
         add_step(&mut steps, arc.from, Step::Along(i as u32))?;
@@ -50,12 +65,12 @@ pub struct Rows {
     pub steps: Vec<Step>,
 }
 
-/// Lays the rows one after another.
-pub fn lay(alloc: Global, rows: &[Vec<Step>]) -> Result<Rows, AllocError>
+/// Lays the rows, which have so many steps, one after another.
+pub fn lay(alloc: Global, rows: &[Vec<Step>], count: usize) -> Result<Rows, AllocError>
     ensures { IfOk result (λ laid. IsLaid rows.now (length rows.now) laid.spans.items laid.steps.items) }
 {
-    let mut spans = Vec::new(alloc);
-    let mut steps = Vec::new(alloc);
+    let mut spans = Vec::with_capacity(alloc, rows.len())?;
+    let mut steps = Vec::with_capacity(alloc, count)?;
     for row in rows {
         let begin = steps.len();
         steps.extend_from_slice(row)?;
