@@ -10,6 +10,7 @@ use Rattle.esr_flow.specs.declared.graph.Entry.{Entry}
 use Rattle.esr_flow.specs.declared.graph.Span.{Span}
 use Rattle.esr_flow.specs.declared.graph.Places.{Places}
 use Rattle.esr_flow.specs.declared.graph.Graph.{Graph}
+use Rattle.esr_cert.specs.Flow.{within}
 use Rattle.esr_flow.specs.Residual.{arc_of, start, left_of}
 use Rattle.esr_flow.specs.Graph.{net_of, step_at, same_step, has_step, span_at, row_in, place_of, HasSteps, IsGraph, entry_of, entry_at, AreEntries, IsEntry, Lists}
 use Rattle.esr_flow.proofs.RowsLaws.{row_length, at_row}
@@ -37,7 +38,7 @@ lists_from arcs flow v steps h = record {
       let inside : k < length steps = omega (arith, length-map steps (entry_of arcs flow)) in
       let is : entry_at (map (entry_of arcs flow) steps) k ≡ entry_of arcs flow (step_at steps k) = get_or-map (entry_of arcs flow) steps k (Along 0) (entry_at [] 0) inside in
       let (a, s) = h.starts k inside in
-      subst (IsEntry arcs flow v) (sym is) (record { in_arcs = a; starts = s; leads = refl; left = refl });
+      subst (IsEntry arcs flow v) (sym is) (record { in_arcs = a; starts = s; leads = refl; ahead = refl; back = refl });
   all = λ step l e.
       let (k, m, q) = contains_from steps step (h.all step l e) in
       (k, omega (arith, length-map steps (entry_of arcs flow)), get_or-map (entry_of arcs flow) steps k step (entry_of arcs flow step) m ∙ ap (entry_of arcs flow) q);
@@ -68,10 +69,10 @@ module _ {S E : Type 0} (f h : S → E) (steps : List S) (entries : List E) (p q
 -- the entry of a step of another arc
 same_entry : (arcs : List Arc) (flow : List ℕ) (i x : ℕ) (t : Step) → arc_of t ≢ i → entry_of arcs (set flow i x) t ≡ entry_of arcs flow t
 same_entry arcs flow i x (Along j) ne =
-    let by : ℕ → Entry = λ n. record { to = (arc_at arcs j).to; step = Along j; room = left_of (arc_at arcs j).capacity n } in
+    let by : ℕ → Entry = λ n. record { to = (arc_at arcs j).to; step = Along j; ahead = within 1 (left_of (arc_at arcs j).capacity n); back = within 1 (Some n) } in
     ap by (get_or-set_other flow i j x 0 ne)
 same_entry arcs flow i x (Against j) ne =
-    let by : ℕ → Entry = λ n. record { to = (arc_at arcs j).from; step = Against j; room = Some n } in
+    let by : ℕ → Entry = λ n. record { to = (arc_at arcs j).from; step = Against j; ahead = within 1 (Some n); back = within 1 (left_of (arc_at arcs j).capacity n) } in
     ap by (get_or-set_other flow i j x 0 ne)
 
 module _ (g : Graph) (ok : IsGraph g) where

@@ -1,5 +1,5 @@
 -- The graph of a problem.
-use Rattle.std.proofs.Common.{◌≡◌, ℕ, ◌+◌, ◌<◌, List, length, get_or, sym, ap, ◌∙◌, subst, arith, Some}
+use Rattle.std.proofs.Common.{◌≡◌, ℕ, ◌+◌, ◌^◌, ◌<◌, List, length, get_or, sym, ap, ◌∙◌, subst, arith, Some}
 use Rattle.std.proofs.lemmas.List.{get_or_default}
 use Rattle.esr_cert.specs.declared.network.Arc.{Arc}
 use Rattle.esr_cert.specs.Problem.{Problem, size}
@@ -25,8 +25,8 @@ net_is p g a b c d =
     let by_sink : ℕ → Network = λ n. record { nodes = size p + 2; arcs = (network p).arcs; source = size p; sink = n } in
     ap by_nodes a ∙ ap by_arcs b ∙ ap by_source c ∙ ap by_sink d
 
-pub graph_is : (p : Problem) → IsProblem p → (g : Graph) → net_of g ≡ network p → Covers g.arcs.items g.nodes g.spans.items g.steps.items → ArePlaces g.arcs.items g.steps.items g.places.items → IsGraph g
-graph_is p ok g e covers places = record {
+pub graph_is : (p : Problem) → IsProblem p → (g : Graph) → net_of g ≡ network p → Covers g.arcs.items g.nodes g.spans.items g.steps.items → ArePlaces g.arcs.items g.steps.items g.places.items → g.nodes < 2 ^ 32 → IsGraph g
+graph_is p ok g e covers places few = record {
   is_network = subst IsNetwork (sym e) (is_network p ok);
   count = covers.count;
   ordered = covers.ordered;
@@ -34,4 +34,5 @@ graph_is p ok g e covers places = record {
   lists = covers.lists;
   places = places;
   sink_is_node = omega (arith, ap (λ n. n.sink) e, ap (λ n. n.nodes) e);
+  few = few;
 }

@@ -1,5 +1,5 @@
 -- A scan of the steps from one visit.
-use Rattle.std.proofs.Common.{◌≡◌, ◌≢◌, ℕ, ◌+◌, ◌-◌, ◌<◌, ◌≤◌, Bool, true, false, ◌⊎◌, List, [], ◌∷◌, ◌++◌, length, get_or, set, refl, sym, ap, ◌∙◌, subst, inl, inr, arith, true≢false, get_or-set_other, None}
+use Rattle.std.proofs.Common.{◌≡◌, ◌≢◌, ℕ, ◌+◌, ◌-◌, ◌<◌, ◌≤◌, Bool, true, false, ◌⊎◌, List, [], ◌∷◌, ◌++◌, length, get_or, set, refl, sym, ap, ◌∙◌, subst, inl, inr, arith, true≢false, get_or-set_other}
 use Rattle.std.proofs.lemmas.Bool.{cases_eq}
 use Rattle.std.proofs.lemmas.List.{get_or_append_left, get_or_push, length_push, get_or_default}
 use Rattle.esr_cert.specs.declared.network.Arc.{Arc}
@@ -7,7 +7,6 @@ use Rattle.esr_flow.specs.declared.step.Step.{Step}
 use Rattle.esr_flow.specs.declared.step.Step.TheVariants.{Along, Against}
 use Rattle.esr_flow.specs.declared.graph.Entry.{Entry}
 use Rattle.esr_flow.specs.declared.search.Visit.{Visit}
-use Rattle.esr_cert.specs.Flow.{within}
 use Rattle.esr_flow.specs.Residual.{arc_of, start, finish, IsResidual}
 use Rattle.esr_cert.specs.Network.{Network, IsNetwork}
 use Rattle.esr_flow.specs.Graph.{IsEntry, Lists, entry_of}
@@ -24,7 +23,7 @@ pub record Scanning (net : Network) (flow : List ℕ) (row : List Entry) (visits
   pub row_done : (i : ℕ) (d : Entry) → i < k → i < length row → IsResidual net.arcs flow (get_or row i d).step → Leads net.arcs visits (visit_at visits head).level (get_or row i d).step
 
 abbrev pub none_at : Entry
-none_at = record { to = 0; step = Along 0; room = None }
+none_at = record { to = 0; step = Along 0; ahead = false; back = false }
 
 abbrev pub visit_of : Entry → ℕ → ℕ → Visit
 visit_of e level head = record { node = e.to; level = level; step = e.step; parent = head }
@@ -59,7 +58,7 @@ module _ (net : Network) (ok : IsNetwork net) (flow : List ℕ) (row : List Entr
   entry_marked e h l is = let q : IsEntry net.arcs flow (visit_at visits head).node e = entry_in e h l is in omega (arith, q.leads, finish_in net ok e.step q.in_arcs, h.searched.marks_length)
 
   -- a step that has no room
-  pub scan_skip : (e : Entry) → Scanning net flow row visits marks head level k → k < length row → e ≡ get_or row k none_at → within 1 e.room ≡ false → Scanning net flow row visits marks head level (k + 1)
+  pub scan_skip : (e : Entry) → Scanning net flow row visits marks head level k → k < length row → e ≡ get_or row k none_at → e.ahead ≡ false → Scanning net flow row visits marks head level (k + 1)
   scan_skip e h l is f = let q : IsEntry net.arcs flow (visit_at visits head).node e = entry_in e h l is in record {
     searched = h.searched;
     in_visits = h.in_visits;
@@ -67,7 +66,7 @@ module _ (net : Network) (ok : IsNetwork net) (flow : List ℕ) (row : List Entr
     next_level = h.next_level;
     unfound = h.unfound;
     row_done = at_k (λ t. IsResidual net.arcs flow t.step → Leads net.arcs visits (visit_at visits head).level t.step) e l is
-        (λ r. absurd (true≢false (sym r.1 ∙ ap (within 1) (sym q.left) ∙ f)))
+        (λ r. absurd (true≢false (sym r.1 ∙ sym q.ahead ∙ f)))
         h.row_done;
   }
 
@@ -89,11 +88,11 @@ module _ (net : Network) (ok : IsNetwork net) (flow : List ℕ) (row : List Entr
             h.row_done;
       }
 
-  searched_more : (e : Entry) → Scanning net flow row visits marks head level k → k < length row → e ≡ get_or row k none_at → within 1 e.room ≡ true → is_marked marks e.to ≡ false → Searched net flow (visits ++ visit_of e level head ∷ []) (set marks e.to true) head
+  searched_more : (e : Entry) → Scanning net flow row visits marks head level k → k < length row → e ≡ get_or row k none_at → e.ahead ≡ true → is_marked marks e.to ≡ false → Searched net flow (visits ++ visit_of e level head ∷ []) (set marks e.to true) head
   searched_more e h l is r f =
       let q : IsEntry net.arcs flow (visit_at visits head).node e = entry_in e h l is in
       let more : Searched net flow (visits ++ record { node = finish net.arcs e.step; level = (visit_at visits head).level + 1; step = e.step; parent = head } ∷ []) (set marks (finish net.arcs e.step) true) head =
-      visit_more net flow visits marks head e.step ok h.searched h.in_visits (q.in_arcs, ap (within 1) (sym q.left) ∙ r) q.starts (ap (is_marked marks) (sym q.leads) ∙ f) in
+      visit_more net flow visits marks head e.step ok h.searched h.in_visits (q.in_arcs, sym q.ahead ∙ r) q.starts (ap (is_marked marks) (sym q.leads) ∙ f) in
       subst (λ n. Searched net flow (visits ++ visit_of e n head ∷ []) (set marks e.to true) head) (sym h.next_level)
       (subst (λ n. Searched net flow (visits ++ record { node = n; level = (visit_at visits head).level + 1; step = e.step; parent = head } ∷ []) (set marks n true) head) (sym q.leads) more)
 
@@ -101,7 +100,7 @@ module _ (net : Network) (ok : IsNetwork net) (flow : List ℕ) (row : List Entr
   same_head e l = get_or_append_left visits (visit_of e level head ∷ []) (record { node = 0; level = 0; step = Along 0; parent = 0 }) head l
 
   -- a step to a node that was not
-  pub scan_visit : (e : Entry) → Scanning net flow row visits marks head level k → k < length row → e ≡ get_or row k none_at → within 1 e.room ≡ true → is_marked marks e.to ≡ false → e.to ≢ net.sink → Scanning net flow row (visits ++ visit_of e level head ∷ []) (set marks e.to true) head level (k + 1)
+  pub scan_visit : (e : Entry) → Scanning net flow row visits marks head level k → k < length row → e ≡ get_or row k none_at → e.ahead ≡ true → is_marked marks e.to ≡ false → e.to ≢ net.sink → Scanning net flow row (visits ++ visit_of e level head ∷ []) (set marks e.to true) head level (k + 1)
   scan_visit e h l is r f ne =
       let q : IsEntry net.arcs flow (visit_at visits head).node e = entry_in e h l is in
       let same : visit_at (visits ++ visit_of e level head ∷ []) head ≡ visit_at visits head = same_head e h.in_visits in
@@ -120,7 +119,7 @@ module _ (net : Network) (ok : IsNetwork net) (flow : List ℕ) (row : List Entr
       }
 
   -- a step to the sink
-  pub scan_found : (e : Entry) → Scanning net flow row visits marks head level k → k < length row → e ≡ get_or row k none_at → within 1 e.room ≡ true → is_marked marks e.to ≡ false → e.to ≡ net.sink → FoundSink net flow (visits ++ visit_of e level head ∷ [])
+  pub scan_found : (e : Entry) → Scanning net flow row visits marks head level k → k < length row → e ≡ get_or row k none_at → e.ahead ≡ true → is_marked marks e.to ≡ false → e.to ≡ net.sink → FoundSink net flow (visits ++ visit_of e level head ∷ [])
   scan_found e h l is r f at =
       let len : length (visits ++ visit_of e level head ∷ []) - 1 ≡ length visits = omega (arith, length_push visits (visit_of e level head)) in
       let new : visit_at (visits ++ visit_of e level head ∷ []) (length (visits ++ visit_of e level head ∷ []) - 1) ≡ visit_of e level head =

@@ -1,5 +1,5 @@
--- A network with the steps that start at each node, which lie together, and entries of the steps with their residual amounts.
-use Rattle.std.specs.Prelude.{◌≡◌, ℕ, ◌-◌, ◌<◌, ◌≤◌, ◌||◌, ◌==◌, Bool, true, false, List, [], ◌∷◌, length, get_or, take, drop, map, Contains, Vec, None}
+-- A network with the steps that start at each node, which lie together, and entries of the steps that tell which of them have room.
+use Rattle.std.specs.Prelude.{◌≡◌, ℕ, ◌-◌, ◌<◌, ◌≤◌, ◌||◌, ◌==◌, Bool, true, false, List, [], ◌∷◌, length, get_or, take, drop, map, Contains, Vec, ◌^◌}
 use Rattle.std.specs.declared.alloc.Global.{Global}
 use Rattle.esr_cert.specs.declared.network.Arc.{Arc}
 use Rattle.esr_cert.specs.Network.{Network, IsNetwork}
@@ -9,7 +9,8 @@ use Rattle.esr_flow.specs.declared.graph.Entry.{Entry}
 use Rattle.esr_flow.specs.declared.graph.Span.{Span}
 use Rattle.esr_flow.specs.declared.graph.Places.{Places}
 use Rattle.esr_flow.specs.declared.graph.Graph.{Graph}
-use Rattle.esr_flow.specs.Residual.{arc_of, start, finish, room}
+use Rattle.esr_cert.specs.Flow.{within}
+use Rattle.esr_flow.specs.Residual.{arc_of, start, finish, opposite, room}
 
 abbrev pub net_of : Graph → Network
 net_of g = record { nodes = g.nodes; arcs = g.arcs.items; source = g.source; sink = g.sink }
@@ -71,24 +72,26 @@ pub record IsGraph (g : Graph) : Type 0 where
   pub lists : (v : ℕ) → v < g.nodes → HasSteps g.arcs.items v (row_in g.steps.items (span_at g.spans.items v))
   pub places : ArePlaces g.arcs.items g.steps.items g.places.items
   pub sink_is_node : g.sink < g.nodes
+  pub few : g.nodes < 2 ^ 32
 
--- the entry of a step: where it leads, and its residual amount
+-- the entry of a step: where it leads, and whether the step and its opposite have room for one more
 abbrev pub entry_of : List Arc → List ℕ → Step → Entry
-entry_of arcs flow step = record { to = finish arcs step; step = step; room = room arcs flow step }
+entry_of arcs flow step = record { to = finish arcs step; step = step; ahead = within 1 (room arcs flow step); back = within 1 (room arcs flow (opposite step)) }
 
 abbrev pub entry_at : List Entry → ℕ → Entry
-entry_at entries k = get_or entries k (record { to = 0; step = Along 0; room = None })
+entry_at entries k = get_or entries k (record { to = 0; step = Along 0; ahead = false; back = false })
 
 -- the entries of a graph's steps, with the residual amounts of a flow
 abbrev pub AreEntries : Graph → List ℕ → List Entry → Type 0
 AreEntries g flow entries = entries ≡ map (entry_of g.arcs.items flow) g.steps.items
 
--- an entry of a node's row: a step that starts there, where it leads, and its residual amount
+-- an entry of a node's row: a step that starts there, where it leads, and what has room
 pub record IsEntry (arcs : List Arc) (flow : List ℕ) (v : ℕ) (e : Entry) : Type 0 where
   pub in_arcs : arc_of e.step < length arcs
   pub starts : start arcs e.step ≡ v
   pub leads : e.to ≡ finish arcs e.step
-  pub left : e.room ≡ room arcs flow e.step
+  pub ahead : e.ahead ≡ within 1 (room arcs flow e.step)
+  pub back : e.back ≡ within 1 (room arcs flow (opposite e.step))
 
 -- a row has the entries of the steps that start at a node, and no others
 pub record Lists (arcs : List Arc) (flow : List ℕ) (v : ℕ) (row : List Entry) : Type 0 where

@@ -75,12 +75,21 @@ fn push_musts(arcs: &mut Vec<Arc>, source: usize, must: &[u32]) -> Result<(), Al
     Ok(())
 }
 
+/// How many arcs there are.
+fn count_of(problem: &Problem) -> usize {
+    let mut count = problem.before().len().saturating_add(problem.must().len());
+    for chain in problem.chains() {
+        count = count.saturating_add(chain.costs.len());
+    }
+    count
+}
+
 /// The arcs of a problem's network, in its order.
 pub fn arcs_of(alloc: Global, problem: &Problem) -> Result<Vec<Arc>, AllocError>
     ensures { IfOk result (λ arcs. arcs.items ≡ (network problem.now).arcs) }
 {
     let source = problem.updates().len();
-    let mut arcs = Vec::new(alloc);
+    let mut arcs = Vec::with_capacity(alloc, count_of(problem))?;
     push_chains(&mut arcs, source, problem.chains())?;
     push_backs(&mut arcs, problem.before())?;
     push_musts(&mut arcs, source, problem.must())?;

@@ -1,32 +1,32 @@
 //! The arcs of a network, the steps that start at each node, and entries of steps with their residual amounts.
-ghost use Rattle.std.specs.Prelude.{◌≡◌, ℕ, ◌+◌, ◌<◌, ◌≤◌, true, if◌then◌else◌, ◌==◌, List, [], ◌∷◌, ◌++◌, length, get_or, set, map, IfOk, Vec};
+ghost use Rattle.std.specs.Prelude.{◌≡◌, ℕ, ◌+◌, ◌^◌, ◌<◌, ◌≤◌, true, if◌then◌else◌, ◌==◌, List, [], ◌∷◌, ◌++◌, length, get_or, set, map, IfOk, Vec};
 ghost use Rattle.std.specs.declared.alloc.Global.{Global};
 ghost use Rattle.esr_flow.specs.declared.step.Step.{Step};
 ghost use Rattle.esr_cert.specs.Flow.{within};
-ghost use Rattle.esr_flow.specs.Residual.{room, arc_of, start, finish};
+ghost use Rattle.esr_flow.specs.Residual.{room, arc_of, start, finish, opposite};
 ghost use Rattle.esr_flow.specs.Graph.{entry_of};
 
 use crate::step::Step;
 use esr_cert::Arc;
 use std::alloc::{AllocError, Global};
 
-/// A step, the node that it leads to, and its residual amount, `None` where there is no limit.
+/// A step, the node that it leads to, and whether the step and its opposite have room for one
+/// more. A search comes by each entry, so entries are kept small.
 #[derive(Clone, Copy)]
 pub struct Entry {
-    pub to: usize,
+    pub to: u32,
     pub step: Step,
-    pub room: Option<u64>,
+    pub ahead: bool,
+    pub back: bool,
 }
 
-impl Entry {
-    /// Whether the step has room for one more.
-    pub fn has_room(&self) -> bool
-        ensures { result ≡ within 1 self.now.room }
-    {
-        match self.room {
-            None => true,
-            Some(limit) => 1 <= limit,
-        }
+/// Whether a residual amount has room for one more.
+fn has_one(room: Option<u64>) -> bool
+    ensures { result ≡ within 1 room }
+{
+    match room {
+        None => true,
+        Some(limit) => 1 <= limit,
     }
 }
 
@@ -40,8 +40,8 @@ pub struct Span {
 /// Where the two steps of an arc lie.
 #[derive(Clone, Copy)]
 pub struct Places {
-    pub along: usize,
-    pub against: usize,
+    pub along: u32,
+    pub against: u32,
 }
 
 /// The arcs of a network, and for each node the steps that start at it, one after another.
@@ -84,7 +84,7 @@ impl Graph {
     }
 
     /// Sets the amount on an arc, and with it the residual amounts of the arc's two steps.
-    pub fn set_amount(&self, flow: &mut [u64], entries: &mut [Entry], arc: usize, amount: u64)
+    pub fn set_amount(&self, flow: &mut [u64], entries: &mut [Entry], arc: u32, amount: u64)
         requires graph { IsGraph self.now }
         requires arc { arc < length self.now.arcs.items }
         requires flow { length flow.old ≡ length self.now.arcs.items }
@@ -92,10 +92,10 @@ impl Graph {
         ensures flow { flow.new ≡ set flow.old arc amount }
         ensures entries { AreEntries self.now flow.new entries.new }
     {
-        flow[arc] = amount;
-        let places = self.places[arc];
-        entries[places.along] = entry_of(&self.arcs, flow, Step::Along(arc));
-        entries[places.against] = entry_of(&self.arcs, flow, Step::Against(arc));
+        flow[arc as usize] = amount;
+        let places = self.places[arc as usize];
+        entries[places.along as usize] = entry_of(&self.arcs, flow, Step::Along(arc));
+        entries[places.against as usize] = entry_of(&self.arcs, flow, Step::Against(arc));
     }
 }
 
@@ -106,24 +106,26 @@ pub fn room_of(arcs: &[Arc], flow: &[u64], step: Step) -> Option<u64>
     ensures { result ≡ room arcs.now flow.now step }
 {
     match step {
-        Step::Along(i) => match arcs[i].capacity {
+        Step::Along(i) => match arcs[i as usize].capacity {
             None => None,
-            Some(limit) => Some(limit.saturating_sub(flow[i])),
+            Some(limit) => Some(limit.saturating_sub(flow[i as usize])),
         },
-        Step::Against(i) => Some(flow[i]),
+        Step::Against(i) => Some(flow[i as usize]),
     }
 }
 
 /// The entry of a step.
 pub fn entry_of(arcs: &[Arc], flow: &[u64], step: Step) -> Entry
     requires arc { arc_of step < length arcs.now }
+    requires few { finish arcs.now step < 2 ^ 32 }
     requires flow { length flow.now ≡ length arcs.now }
     ensures { result ≡ entry_of arcs.now flow.now step }
 {
     Entry {
-        to: finish_of(arcs, step),
+        to: finish_of(arcs, step) as u32,
         step,
-        room: room_of(arcs, flow, step),
+        ahead: has_one(room_of(arcs, flow, step)),
+        back: has_one(room_of(arcs, flow, step.opposite())),
     }
 }
 
@@ -133,7 +135,7 @@ pub fn finish_of(arcs: &[Arc], step: Step) -> usize
     ensures { result ≡ finish arcs.now step }
 {
     match step {
-        Step::Along(i) => arcs[i].to,
-        Step::Against(i) => arcs[i].from,
+        Step::Along(i) => arcs[i as usize].to,
+        Step::Against(i) => arcs[i as usize].from,
     }
 }

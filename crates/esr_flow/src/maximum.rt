@@ -48,8 +48,8 @@ fn amount_after(flow: &[u64], amount: u64, step: Step) -> u64
     ensures { set flow.now (arc_of step) result ≡ shift flow.now amount step }
 {
     match step {
-        Step::Along(i) => flow[i] + amount,
-        Step::Against(i) => flow[i].saturating_sub(amount),
+        Step::Along(i) => flow[i as usize] + amount,
+        Step::Against(i) => flow[i as usize].saturating_sub(amount),
     }
 }
 

@@ -21,7 +21,7 @@ fn graph_of(alloc: Global, problem: &Problem) -> Result<Graph, AllocError>
     let nodes = source + 2;
     let arcs = arcs_of(alloc, problem)?;
     let rows = steps_of(alloc, nodes, &arcs)?;
-    let Rows { spans, steps } = lay(alloc, &rows)?;
+    let Rows { spans, steps } = lay(alloc, &rows, arcs.len().saturating_mul(2))?;
     let places = places_of(alloc, &arcs, &steps)?;
     Ok(Graph {
         nodes,

@@ -39,16 +39,17 @@ fn scan(
 {
     let level = visits[head].level + 1;
     for entry in row {
-        if !marks[entry.to] {
-            if entry.has_room() {
+        let node = entry.to as usize;
+        if !marks[node] {
+            if entry.ahead {
                 visits.push(Visit {
-                    node: entry.to,
+                    node,
                     level,
                     step: entry.step,
                     parent: head,
                 })?;
-                marks[entry.to] = true;
-                if entry.to == graph.sink {
+                marks[node] = true;
+                if node == graph.sink {
                     return Ok(true);
                 }
             }

@@ -3,8 +3,8 @@
 /// A step of a residual path: along the arc with a number, or against it.
 #[derive(Clone, Copy)]
 pub enum Step {
-    Along(usize),
-    Against(usize),
+    Along(u32),
+    Against(u32),
 }
 
 impl Step {
@@ -12,7 +12,7 @@ impl Step {
     ghost use Rattle.esr_flow.specs.Residual.{arc_of, opposite};
 
     /// The number of the step's arc.
-    pub fn arc(self) -> usize
+    pub fn arc(self) -> u32
         ensures { result ≡ arc_of self }
     {
         match self {

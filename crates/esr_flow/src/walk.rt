@@ -8,7 +8,7 @@ ghost use Rattle.esr_flow.specs.Graph.{net_of, IsGraph, AreEntries, Lists, entry
 ghost use Rattle.esr_flow.specs.Search.{Guides, IsGuided, label_at};
 ghost use Rattle.esr_flow.specs.Maximum.{InArcs};
 
-use crate::graph::{Entry, Graph, entry_of, finish_of};
+use crate::graph::{Entry, Graph, finish_of};
 use crate::step::Step;
 use std::alloc::{AllocError, Global};
 
@@ -34,8 +34,8 @@ fn next_back(
     let label = labels[at];
     for i in from..row.len() {
         let entry = row[i];
-        if label < labels[entry.to] {
-            if entry_of(&graph.arcs, flow, entry.step.opposite()).has_room() {
+        if entry.back {
+            if label < labels[entry.to as usize] {
                 return i;
             }
         }
@@ -67,7 +67,7 @@ pub fn walk(
         if i < row.len() {
             next[at] = i + 1;
             path.push(row[i].step.opposite())?;
-            at = row[i].to;
+            at = row[i].to as usize;
         } else {
             next[at] = i;
             match path.pop() {

@@ -49,4 +49,4 @@ returns-clause-graph c =
     let placed : ArePlaces g.arcs.items g.steps.items g.places.items =
     subst (λ list. ArePlaces list g.steps.items g.places.items) c.deref-3.ensures.value
     (subst (λ list. ArePlaces c.deref-3.result.now list g.places.items) c.deref-4.ensures.value c.in_ok-places.ensures) in
-    graph_is c.args.problem.now (facts c.args.problem.now c.updates-source.ensures.sound) g (net_is c.args.problem.now g (omega (arith, count)) c.in_ok-arcs.ensures count (omega (arith, count))) covered placed
+    graph_is c.args.problem.now (facts c.args.problem.now c.updates-source.ensures.sound) g (net_is c.args.problem.now g (omega (arith, count)) c.in_ok-arcs.ensures count (omega (arith, count))) covered placed (omega (arith, count, c.updates-source.ensures.few))

@@ -19,3 +19,8 @@ loop-row-preserved c =
     subst (λ spans. IsLaid c.args.rows.now (c.loop-row.row-index + 1) spans c.extend_from_slice.new.self.items) (sym spans_are)
     (subst (λ steps. IsLaid c.args.rows.now (c.loop-row.row-index + 1) (c.loop-row.spans.items ++ record { begin = length before; end = length after } ∷ []) steps) (sym steps_are)
     (laid_more c.args.rows.now c.loop-row.row-index c.loop-row.spans.items before c.row-item.result c.loop-row-test.true c.row-item.is c.loop-row.invariant))
+
+pub returns : goal.returns
+returns c =
+    let n : c.loop-row.row-index ≡ length c.args.rows.now = omega arith in
+    subst (λ k. IsLaid c.args.rows.now k c.loop-row.spans.items c.loop-row.steps.items) n c.loop-row.invariant

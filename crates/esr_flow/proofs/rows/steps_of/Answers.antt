@@ -5,14 +5,14 @@ use Rattle.esr_cert.specs.Network.{arc_at}
 use Rattle.esr_flow.proofs.StepsLaws.{Rows, Empties, rows_start, rows_along, rows_against, rows_end, empties_more}
 use Rattle.esr_flow.proofs.rows.steps_of.Goals as goal
 
-pub loop-preserved : goal.loop-preserved
-loop-preserved c =
-    subst (Empties (c.loop.counter + 1)) (sym c.in_ok-push.ensures.items) (empties_more c.loop.counter c.loop.steps.items c.new.result c.new.ensures.items c.loop.invariant)
+pub loop-degree-preserved : goal.loop-degree-preserved
+loop-degree-preserved c =
+    subst (Empties (c.loop-degree.degree-index + 1)) (sym c.in_ok-push.ensures.items) (empties_more c.loop-degree.degree-index c.loop-degree.steps.items c.in_ok-row.row c.in_ok-row.ensures.items c.loop-degree.invariant)
 
 pub loop-i-init : goal.loop-i-init
 loop-i-init c =
-    let n : c.loop.counter ≡ c.args.nodes = omega arith in
-    rows_start c.args.arcs.now c.args.nodes c.loop.steps.items (c.loop.invariant.0 ∙ n) (λ v d l. c.loop.invariant.1 v d (omega (arith, c.loop.invariant.0)))
+    let n : c.loop-degree.degree-index ≡ c.args.nodes = omega (arith, c.in_ok-degrees.ensures) in
+    rows_start c.args.arcs.now c.args.nodes c.loop-degree.steps.items (c.loop-degree.invariant.0 ∙ n) (λ v d l. c.loop-degree.invariant.1 v d (omega (arith, c.loop-degree.invariant.0)))
 
 pub loop-i-preserved : goal.loop-i-preserved
 loop-i-preserved c =
