@@ -1,21 +1,24 @@
 //! A closed history, given to a machine again.
 
-ghost use Rattle.std.specs.Prelude.{◌≡◌, IfOk, OnOk, map};
+ghost use Rattle.std.specs.Prelude.{◌≡◌, ◌<◌, ◌≤◌, IfOk, OnOk, length, map};
 ghost use Rattle.esr_items.specs.Weights.{weighted};
 ghost use Rattle.esr_history.specs.Machine.{extended, reply_to};
 
-use esr_core::Machine;
+use esr_core::{Machine, StepError};
 use esr_history::{Event, History, NoMemory};
 use esr_items::{Store, Weighted};
 use std::alloc::Global;
 
-/// Gives the machine an event.
+/// Gives the machine an event, for which it has room.
 fn step_again(machine: &mut Machine<Weighted>, event: Event) -> Result<(), NoMemory>
+    requires { length machine.old.entries < 1000000 }
     ensures { OnOk result (machine.new ≡ extended machine.old event (reply_to weighted machine.old event)) }
 {
     match machine.step(event) {
         Ok(_) => Ok(()),
-        Err(_) => Err(NoMemory),
+        Err(StepError::NoMemory) => Err(NoMemory),
+        Err(StepError::HistoryFull) => unreachable!(),
+        Err(StepError::EngineClosed) => unreachable!(),
     }
 }
 
@@ -28,6 +31,7 @@ pub fn replayed(
 ) -> Result<Machine<Weighted>, NoMemory>
     requires opening { history.now.schedule.opening ≡ map (λ w. w.committed) items }
     requires weights { history.now.schedule.weights ≡ metric }
+    requires most { length history.now.schedule.entries ≤ 1000000 }
     ensures { IfOk result (λ m. m ≡ history.now.schedule) }
 {
     let log = history.log();

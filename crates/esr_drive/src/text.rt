@@ -186,6 +186,7 @@ pub fn push_totals(
 ) -> Result<(), AllocError>
     requires opening { history.now.schedule.opening ≡ map (λ w. w.committed) items }
     requires weights { history.now.schedule.weights ≡ metric }
+    requires most { length history.now.schedule.entries ≤ 1000000 }
     ensures { OnOk result (out.new.items ≡ out.old.items
         ++ totals_line (all_imports weighted history.now.schedule) (all_exports weighted history.now.schedule) (length history.now.schedule.entries)) }
 {

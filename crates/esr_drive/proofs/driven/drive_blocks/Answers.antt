@@ -22,6 +22,7 @@ returns-in-Ok-close-clause-driven g c =
       legal = h.2;
       opening_is = h.0 ∙ sym c.requires.opening;
       weights_are = h.1 ∙ sym c.requires.weights;
+      most = h.3;
       answered = subst (λ (b : List (List Call)). AreAnswered b lists) calls ran.0;
       commands = subst (λ (b : List (List Call)). map (λ b. map (λ a. a.command) b) (all_answers b lists) ≡ map (λ b. map command_of b) b) calls ran.2;
       receipts = sessions;
