@@ -47,7 +47,7 @@ int main(int count, char **words) {
     DB_TXN *txn;
     open_table();
     for (uint32_t item = 0; item < ITEMS; item++) set_value(NULL, item, 0);
-    double from = seconds();
+    times from = now();
     for (long n = 0; n < transactions; n++) {
         MUST(environment->txn_begin(environment, NULL, &txn, 0) == 0);
         for (int pair = 0; pair < PAIRS; pair++) {
@@ -56,9 +56,9 @@ int main(int count, char **words) {
         }
         MUST(txn->commit(txn, DB_TXN_NOSYNC) == 0);
     }
-    double taken = seconds() - from;
+    times to = now();
     int64_t sum = 0;
     for (uint32_t item = 0; item < ITEMS; item++) sum += value_of(NULL, item, 0);
-    report(transactions, taken, sum, 0);
+    report(transactions, from, to, sum, 0);
     return 0;
 }

@@ -75,16 +75,16 @@ int main(int count, char **words) {
     MUST(threads >= 0 && threads <= 64);
     share = threads ? transactions / threads : transactions;
     MUST(esr_open(&engine, values, ITEMS) == ESR_DONE);
-    double from = seconds();
+    times from = now();
     if (!threads) work(NULL);
     for (int i = 0; i < threads; i++) MUST(pthread_create(&ids[i], NULL, work, (void *)(uintptr_t)i) == 0);
     for (int i = 0; i < threads; i++) MUST(pthread_join(ids[i], NULL) == 0);
-    double taken = seconds() - from;
+    times to = now();
     int64_t sum = 0;
     size_t items;
     MUST(esr_values(&engine, values, ITEMS, &items) == ESR_DONE);
     for (size_t i = 0; i < items; i++) sum += values[i];
     esr_close(&engine);
-    report(threads ? share * threads : transactions, taken, sum, renewals);
+    report(threads ? share * threads : transactions, from, to, sum, renewals);
     return 0;
 }

@@ -6,10 +6,18 @@
 
 enum { ITEMS = 4096, PAIRS = 4, OPERATIONS = 2 + 2 * PAIRS };
 
-static inline double seconds(void) {
+/* The time so far, and the processor time that the program has had. */
+typedef struct {
+    double wall, processor;
+} times;
+
+static inline double seconds(clockid_t clock) {
     struct timespec now;
-    clock_gettime(CLOCK_MONOTONIC, &now);
+    clock_gettime(clock, &now);
     return (double)now.tv_sec + (double)now.tv_nsec * 1e-9;
+}
+static inline times now(void) {
+    return (times){seconds(CLOCK_MONOTONIC), seconds(CLOCK_PROCESS_CPUTIME_ID)};
 }
 
 /* The next number of a fixed sequence. */
@@ -29,7 +37,7 @@ static inline uint64_t next(uint64_t *state) {
     } while (0)
 
 /* Fails where the values of the items do not add up to one for each write. */
-static inline void report(long transactions, double taken, int64_t sum, long renewals) {
+static inline void report(long transactions, times from, times to, int64_t sum, long renewals) {
     MUST(sum == (int64_t)transactions * PAIRS);
-    printf("%ld %.6f %ld\n", transactions * OPERATIONS, taken, renewals);
+    printf("%ld %.6f %.6f %ld\n", transactions * OPERATIONS, to.wall - from.wall, to.processor - from.processor, renewals);
 }

@@ -31,7 +31,7 @@ int main(int count, char **words) {
     sqlite3_stmt *begins = prepared("begin"), *commits = prepared("commit");
     sqlite3_stmt *reads = prepared("select value from items where item = ?");
     sqlite3_stmt *writes = prepared("update items set value = ?2 where item = ?1");
-    double from = seconds();
+    times from = now();
     for (long n = 0; n < transactions; n++) {
         run(begins);
         for (int pair = 0; pair < PAIRS; pair++) {
@@ -43,9 +43,9 @@ int main(int count, char **words) {
         }
         run(commits);
     }
-    double taken = seconds() - from;
+    times to = now();
     int64_t sum = 0;
     for (int item = 0; item < ITEMS; item++) sum += value_of(reads, item);
-    report(transactions, taken, sum, 0);
+    report(transactions, from, to, sum, 0);
     return 0;
 }
