@@ -1,5 +1,5 @@
 -- The transactions that committed in a history.
-use Rattle.std.proofs.Common.{◌≡◌, ℕ, ◌+◌, ◌≤◌, ◌<◌, ◌==◌, eqb, arith, subst, Bool, true, false, not, List, [], ◌∷◌, ◌++◌, length, filter, map, refl, sym, ap, ◌∙◌, inl, inr, Option, Some, None, All}
+use Rattle.std.proofs.Common.{◌≡◌, ℕ, ◌+◌, ◌≤◌, ◌<◌, ◌==◌, eqb, arith, subst, true, false, not, List, [], ◌∷◌, length, filter, map, refl, sym, ap, ◌∙◌, inl, inr, Option, Some, None, All}
 use Rattle.std.specs.Prelude.{IsTrue, is_some, unwrap_or}
 use Rattle.std.specs.List.{list_any, AllByRecursion, IsDistinct}
 use Rattle.std.specs.Option.{option_map}

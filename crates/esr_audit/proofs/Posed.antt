@@ -1,5 +1,5 @@
 -- The problem that is made for a query is the one gathered from an order, which is sound.
-use Rattle.std.proofs.Common.{Some, None, cond, not, ◌≡◌, ◌≤◌, ◌^◌, ◌*◌, ℕ, ℤ, suc, true, List, length, map, filter, take, sym, ap, ◌∙◌, subst, All}
+use Rattle.std.proofs.Common.{◌≡◌, ◌≤◌, ◌^◌, ◌*◌, ℕ, ℤ, suc, true, List, length, map, filter, take, sym, ap, ◌∙◌, subst, All}
 use Rattle.std.specs.Prelude.{IsTrue}
 use Rattle.std.specs.List.{range_with_len}
 use Rattle.std.proofs.lemmas.List.Elements.{All-from_recursion}
@@ -14,11 +14,7 @@ use Rattle.esr_order.specs.Orders.{Ordered, IsOrderAmong, chain_at}
 use Rattle.esr_order.specs.Near.{AreNear, has_written}
 use Rattle.esr_cert.specs.declared.problem.Chain.{Chain}
 use Rattle.esr_cert.specs.Views.{chain_of, problem_of}
-use Rattle.esr_cert.specs.Problem.{Problem, is_sound, has_shape, is_in_range}
-use Rattle.esr_cert.specs.Faults.{problem_fault}
-use Rattle.esr_cert.specs.declared.problem.BundleFault.{BundleFault}
-use Rattle.esr_cert.specs.declared.problem.BundleFault.TheVariants.{Shape, Range}
-use Rattle.std.proofs.lemmas.Bool.{and_parts}
+use Rattle.esr_cert.specs.Problem.{Problem, is_sound}
 use Rattle.esr_audit.specs.declared.reads.Reading.{Reading}
 use Rattle.esr_audit.specs.Reads.{gathered, items_in, values_in}
 use Rattle.esr_audit.proofs.Versions.{reading_of, versions_are}
@@ -52,10 +48,3 @@ module _ (d : Distance) (h : Schedule) (q : ℕ) (legal : IsLegal d h) (opened :
 
     pub posed_sound : length h.opening ≤ 4096 → IsTrue (is_query (done h) q) → ((w : List ℕ) (x : ℕ) (a b : ℤ) → IsValue a → IsValue b → d w x a b ≤ 2 * 10 ^ 15) → is_sound (problem_from d h q o) ≡ true
     posed_sound few query bounded = sound d h q (legal_within_ranges d h opened legal) opened bounded legal us near o good few query
-
--- a sound problem has no fault
-pub no_fault : (p : Problem) (e : BundleFault) → is_sound p ≡ true → problem_fault p ≡ Some e → ⊥
-no_fault p e s fault =
-    let both = and_parts (has_shape p) (is_in_range p) s in
-    let none : problem_fault p ≡ None = ap (λ b. cond (not b) (Some Shape) (cond (not (is_in_range p)) (Some Range) None)) both.0 ∙ ap (λ b. cond (not b) (Some Range) None) both.1 in
-    let not_some : None ≡ Some e = sym none ∙ fault in cc

@@ -9,7 +9,7 @@ ghost use Rattle.esr_audit.specs.Problems.{StandsFor};
 use crate::chains::chains_of;
 use crate::finding::AuditError;
 use crate::reads::readings;
-use esr_cert::{BundleFault, Problem};
+use esr_cert::Problem;
 use esr_history::{History, TxnId};
 use esr_items::Metric;
 use esr_order::Order;
@@ -33,11 +33,6 @@ pub fn problem_of<M: Metric>(
     let readings = readings(alloc, history, q)?;
     let chains = chains_of(alloc, history, &order, &readings)?;
     let (updates, before, must) = order.into_parts();
-    match Problem::new(alloc, updates, before, chains, must) {
-        Ok(problem) => Ok(problem),
-        Err(BundleFault::NoMemory) => Err(AuditError::NoMemory),
-        Err(BundleFault::Shape) => unreachable!(),
-        Err(BundleFault::Range) => unreachable!(),
-        Err(BundleFault::Json) => unreachable!(),
-    }
+    let problem = Problem::of_sound(alloc, updates, before, chains, must)?;
+    Ok(problem)
 }

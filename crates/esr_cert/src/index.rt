@@ -83,6 +83,15 @@ fn push_must(touches: &mut Vec<Touch>, must: &[u32]) -> Result<(), AllocError>
     Ok(())
 }
 
+/// How many touches there are.
+fn count_of(before: &[(u32, u32)], chains: &[Chain], must: &[u32]) -> usize {
+    let mut count = before.len().saturating_mul(2).saturating_add(must.len());
+    for chain in chains {
+        count = count.saturating_add(chain.writers.len());
+    }
+    count
+}
+
 /// All touches of a problem, those of one update side by side.
 pub fn index_of(
     alloc: Global,
@@ -96,7 +105,7 @@ pub fn index_of(
     requires must { length must.now ≤ 65535 }
     ensures { IfOk result (λ touches. IsIndex before.now (map chain_of chains.now) must.now touches.items) }
 {
-    let mut touches = Vec::new(alloc);
+    let mut touches = Vec::with_capacity(alloc, count_of(before, chains, must))?;
     push_chains(&mut touches, chains)?;
     push_pairs(&mut touches, before)?;
     push_must(&mut touches, must)?;

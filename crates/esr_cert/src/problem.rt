@@ -107,6 +107,21 @@ impl Problem {
         if !is_in_range(&updates, &before, &chains, &must) {
             return Err(BundleFault::Range);
         }
+        let problem = Problem::of_sound(alloc, updates, before, chains, must)?;
+        Ok(problem)
+    }
+
+    /// A problem of these parts, which break no rule: they are not tried again.
+    pub fn of_sound(
+        alloc: Global,
+        updates: Vec<TxnId>,
+        before: Vec<(u32, u32)>,
+        chains: Vec<Chain>,
+        must: Vec<u32>,
+    ) -> Result<Problem, AllocError>
+        requires sound { is_sound (problem_of updates.items before.items chains.items must.items) ≡ true }
+        ensures { IfOk result (λ p. p ≡ problem_of updates.items before.items chains.items must.items) }
+    {
         let touches = index_of(alloc, &before, &chains, &must)?;
         Ok(Problem {
             updates,

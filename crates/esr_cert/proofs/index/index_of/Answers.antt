@@ -8,7 +8,7 @@ use Rattle.esr_cert.proofs.index.index_of.Goals as goal
 pub returns : goal.returns
 returns c =
     let chains : c.push_chains.new.touches.items ≡ chain_touches 0 (map chain_of c.args.chains.now) =
-    c.in_ok-push_chains.ensures ∙ ap (λ touches. touches ++ chain_touches 0 (map chain_of c.args.chains.now)) c.new-touches.ensures.items in
+    c.in_ok-push_chains.ensures ∙ ap (λ touches. touches ++ chain_touches 0 (map chain_of c.args.chains.now)) c.in_ok-touches.ensures.items in
     let items : c.push_must.new.touches.items ≡ all_touches c.args.before.now (map chain_of c.args.chains.now) c.args.must.now =
     c.in_ok-push_must.ensures
     ∙ ap (λ touches. touches ++ must_touches 0 c.args.must.now) (c.in_ok-push_pairs.ensures ∙ ap (λ touches. touches ++ pair_touches 0 c.args.before.now) chains) in
