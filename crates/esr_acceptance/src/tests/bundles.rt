@@ -66,11 +66,19 @@ fn the_empty_input_is_no_json(rt: HostRuntime) {
 fn bundles_are_written_as_they_were_read(rt: HostRuntime) -> Result<(), Fail> {
     let alloc = rt.alloc();
     for text in &[TWO_UPDATES, BACK_FLOW, EMPTY, STRICT] {
-        let Ok((problem, certificate)) = from_json(alloc, text.as_bytes()) else {
+        // Where memory is refused, both are asked for once more.
+        let read = match from_json(alloc, text.as_bytes()) {
+            Err(_) => from_json(alloc, text.as_bytes()),
+            read => read,
+        };
+        let Ok((problem, certificate)) = read else {
             assert!(rt; false, "{} is read", text);
             continue;
         };
-        let written = to_json(alloc, &problem, &certificate)?;
+        let written = match to_json(alloc, &problem, &certificate) {
+            Err(_) => to_json(alloc, &problem, &certificate)?,
+            Ok(written) => written,
+        };
         assert!(rt;
             written.as_slice() == text.as_bytes(),
             "{} is written",

@@ -10,7 +10,12 @@ use std::test::Fail;
 fn three_jobs(rt: &impl Abort, alloc: Global) -> (Board, BoardSeat, BoardSeat)
     ensures { IsSeatOf result.0 result.1 × IsSeatOf result.0 result.2 }
 {
-    let Ok((board, mut seats)) = Board::new(alloc, 3, 2) else {
+    // Where memory is refused, it is asked for once more.
+    let made = match Board::new(alloc, 3, 2) {
+        Err(_) => Board::new(alloc, 3, 2),
+        made => made,
+    };
+    let Ok((board, mut seats)) = made else {
         panic!(rt; "a board of three jobs")
     };
     let (Some(second), Some(first)) = (seats.pop(), seats.pop()) else {
