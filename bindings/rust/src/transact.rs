@@ -12,7 +12,7 @@ use std::{
 pub struct Patience {
     /// How often an event is given, at most.
     pub tries: u32,
-    /// How often the whole update is begun, at most. Two updates that block one another are told apart by this alone.
+    /// How often the whole update is begun, at most. Of two updates that block one another, one has to begin anew.
     pub attempts: u32,
     /// How long is waited after the first try.
     pub pause: Duration,
@@ -34,7 +34,7 @@ impl Patience {
     }
 }
 
-/// A call panics in no state that the next call may not see, so a lock that a panic left is taken all the same.
+/// No panic leaves a call half done, so a lock that one has poisoned is taken all the same.
 fn lock(engine: &Mutex<Engine>) -> MutexGuard<'_, Engine> {
     engine.lock().unwrap_or_else(PoisonError::into_inner)
 }

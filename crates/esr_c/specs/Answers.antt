@@ -1,5 +1,5 @@
 -- What C is told: replies and refusals by numbers.
-use Rattle.std.specs.Prelude.{◌≡◌, ◌*◌, ◌+◌, ◌^◌, ℕ, ℤ, List, [], length, map, Option, Some, IfSome, pos, take, ◌⊎◌}
+use Rattle.std.specs.Prelude.{◌≡◌, ◌*◌, ◌+◌, ◌^◌, ℕ, ℤ, List, [], length, map, Option, Some, None, IfSome, pos, take, ◌⊎◌}
 use Rattle.esr_items.specs.Values.{gap}
 use Rattle.esr_history.specs.declared.event.Entry.{Entry}
 use Rattle.esr_history.specs.declared.event.Event.{Event}
@@ -14,6 +14,7 @@ use Rattle.esr_history.specs.Refusals.{refusal_number}
 use Rattle.esr_history.specs.Serial.{IsSerializable}
 use Rattle.esr_history.specs.Totals.{IsWithinLimits, all_imports}
 use Rattle.esr_core.specs.Renewed.{committed_values, AreSerializableAsOne}
+use Rattle.esr_cert.specs.Certificate.{Certificate}
 use Rattle.esr_cert.specs.Views.{certificate_of}
 use Rattle.esr_audit.specs.Findings.{IsAnswer, IsShown}
 use Rattle.esr_audit.specs.declared.finding.Finding.{Finding}
@@ -73,11 +74,15 @@ IsFound h q f room = IsTold h q f (take f.count room)
 abbrev pub IsCounted : Schedule → ℕ → EsrFinding → Type 0
 IsCounted h q f = (before : List ℕ) × IsTold h q f before
 
+-- a certificate that does not tell how many augmentations lead to its flow
+abbrev pub untold : Certificate → Certificate
+untold c = record c { augmentations = None }
+
 -- the bytes are the bundle of what the audit of a query finds
 pub record IsBundleOf (h : Schedule) (q : ℕ) (bytes : List ℕ) : Type 0 where
   pub finding : Finding
   pub found : IsFindingOf h q finding
-  pub text : bytes ≡ bundle finding.problem (certificate_of finding.certificate)
+  pub text : bytes ≡ bundle finding.problem (untold (certificate_of finding.certificate))
 
 -- such bytes stand at the head of a room
 abbrev pub IsBundleIn : Schedule → ℕ → ℕ → List ℕ → Type 0

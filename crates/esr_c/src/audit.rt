@@ -1,11 +1,10 @@
 // Totals, values, audits and bundles as C reads them.
-ghost use Rattle.std.specs.Prelude.{◌↔◌, ◌⊎◌, ◌<◌, ◌≤◌, IfOk, IfErr, IsErrOf, IsTrue, true, false, ◌≡◌, ◌≢◌, ℕ, List, length, map, take, None, IfSome};
+ghost use Rattle.std.specs.Prelude.{◌↔◌, ◌⊎◌, ◌<◌, ◌≤◌, IfOk, IfErr, IsErrOf, IsTrue, true, false, ◌≡◌, ◌≢◌, length, map, take};
 ghost use Rattle.esr_history.specs.Queries.{is_committed_query};
 ghost use Rattle.esr_history.specs.Totals.{IsWithinLimits};
-ghost use Rattle.esr_core.specs.Renewed.{committed_values};
 ghost use Rattle.esr_c.specs.Answers.{plain, IsTotal, IsFindingOf, IsFound, IsCounted, IsBundleOf, IsBundleIn, IsBundleLong, AreValuesIn, IsAuditStatus, IsValuesStatus, status_number};
 
-use crate::engine::{EsrEngine, Status, opened, out_of};
+use crate::engine::Status;
 use esr_audit::{AuditError, Finding, audit_query};
 use esr_bundle::to_json;
 use esr_core::Machine;
@@ -32,7 +31,7 @@ pub struct EsrFinding {
     pub count: usize,
 }
 
-fn totals_of(machine: &Machine<Plain>) -> EsrTotals
+pub(crate) fn totals_of(machine: &Machine<Plain>) -> EsrTotals
     ensures total { IsTotal result machine.now }
     ensures limits { IsWithinLimits plain machine.now }
 {
@@ -43,22 +42,6 @@ fn totals_of(machine: &Machine<Plain>) -> EsrTotals
         low: (totals.import % word) as u64,
         entries: totals.entries,
     }
-}
-
-pub(crate) fn totals(alloc: Global, engine: &mut EsrEngine, totals: &mut EsrTotals) -> Status
-    ensures same { engine.new.held.machine ≡ engine.old.held.machine }
-    ensures closed { result ≡ Status.Closed ↔ (engine.old.held.machine ≡ None) }
-    ensures done { result ≢ Status.Closed → result ≡ Status.Done }
-    ensures totals { result ≡ Status.Done → IfSome engine.old.held.machine (IsTotal totals.new) }
-    ensures limits { result ≡ Status.Done → IfSome engine.old.held.machine (IsWithinLimits plain) }
-    ensures err { result ≢ Status.Done → totals.new ≡ totals.old }
-{
-    let Some(machine) = out_of(alloc, engine) else {
-        return Status::Closed;
-    };
-    *totals = totals_of(&machine);
-    *engine = opened(machine);
-    Status::Done
 }
 
 /// Writes a list to the head of a room, where it fits.
@@ -91,7 +74,7 @@ fn hand_out<T: Copy>(room: &mut [T], count: &mut usize, list: &[T]) -> Status
     }
 }
 
-fn show_values(
+pub(crate) fn show_values(
     alloc: Global,
     machine: &Machine<Plain>,
     values: &mut [i64],
@@ -107,27 +90,6 @@ fn show_values(
         Ok(list) => hand_out(values, count, &list),
         Err(_) => Status::NoMemory,
     }
-}
-
-pub(crate) fn values(
-    alloc: Global,
-    engine: &mut EsrEngine,
-    values: &mut [i64],
-    count: &mut usize,
-) -> Status
-    ensures known { IsValuesStatus (status_number result) }
-    ensures closed { result ≡ Status.Closed ↔ (engine.old.held.machine ≡ None) }
-    ensures same { engine.new.held.machine ≡ engine.old.held.machine }
-    ensures values { result ≡ Status.Done → IfSome engine.old.held.machine (λ h. AreValuesIn h count.new values.new) }
-    ensures small { result ≡ Status.TooSmall → (length values.old < count.new) × IfSome engine.old.held.machine (λ h. count.new ≡ length h.opening) }
-    ensures kept { result ≢ Status.Done → values.new ≡ values.old }
-{
-    let Some(machine) = out_of(alloc, engine) else {
-        return Status::Closed;
-    };
-    let status = show_values(alloc, &machine, values, count);
-    *engine = opened(machine);
-    status
 }
 
 fn numbers(alloc: Global, txns: &[TxnId]) -> Result<Vec<u32>, AllocError>
@@ -149,7 +111,7 @@ fn found(alloc: Global, machine: &Machine<Plain>, query: u32) -> Result<Finding,
     }
 }
 
-fn show(
+pub(crate) fn show_finding(
     alloc: Global,
     machine: &Machine<Plain>,
     query: u32,
@@ -175,43 +137,21 @@ fn show(
     hand_out(before, &mut finding.count, &list)
 }
 
-pub(crate) fn audit(
-    alloc: Global,
-    engine: &mut EsrEngine,
-    query: u32,
-    before: &mut [u32],
-    finding: &mut EsrFinding,
-) -> Status
-    ensures known { IsAuditStatus (status_number result) }
-    ensures closed { result ≡ Status.Closed ↔ (engine.old.held.machine ≡ None) }
-    ensures refused { IfSome engine.old.held.machine (λ h. (result ≡ Status.NotACommittedQuery) ↔ (is_committed_query h query ≡ false)) }
-    ensures same { engine.new.held.machine ≡ engine.old.held.machine }
-    ensures found { result ≡ Status.Done → IfSome engine.old.held.machine (λ h. IsFound h query finding.new before.new) }
-    ensures small { result ≡ Status.TooSmall → (length before.old < finding.new.count) × IfSome engine.old.held.machine (λ h. IsCounted h query finding.new) }
-    ensures kept { result ≢ Status.Done → before.new ≡ before.old }
-{
-    let Some(machine) = out_of(alloc, engine) else {
-        return Status::Closed;
-    };
-    let status = show(alloc, &machine, query, before, finding);
-    *engine = opened(machine);
-    status
-}
-
 /// The bundle of a query, or why there is none.
 fn bundled(alloc: Global, machine: &Machine<Plain>, query: u32) -> Result<Vec<u8>, Status>
     ensures ok { IfOk result (λ v. IsBundleOf machine.now query v.items) }
     ensures refused { IsErrOf result Status.NotACommittedQuery ↔ (is_committed_query machine.now query ≡ false) }
     ensures err { IfErr result (λ e. (e ≡ Status.NotACommittedQuery) ⊎ (e ≡ Status.NoMemory)) }
 {
-    let found = found(alloc, machine, query)?;
+    let mut found = found(alloc, machine, query)?;
+    found.certificate.augmentations = None;
     match to_json(alloc, &found.problem, &found.certificate) {
         Ok(text) => Ok(text),
         Err(_) => Err(Status::NoMemory),
     }
 }
 
-fn show_bundle(
+pub(crate) fn show_bundle(
     alloc: Global,
     machine: &Machine<Plain>,
     query: u32,
@@ -229,27 +169,4 @@ fn show_bundle(
         Ok(text) => hand_out(bytes, count, &text),
         Err(why) => why,
     }
-}
-
-pub(crate) fn bundle(
-    alloc: Global,
-    engine: &mut EsrEngine,
-    query: u32,
-    bytes: &mut [u8],
-    count: &mut usize,
-) -> Status
-    ensures known { IsAuditStatus (status_number result) }
-    ensures closed { result ≡ Status.Closed ↔ (engine.old.held.machine ≡ None) }
-    ensures refused { IfSome engine.old.held.machine (λ h. (result ≡ Status.NotACommittedQuery) ↔ (is_committed_query h query ≡ false)) }
-    ensures same { engine.new.held.machine ≡ engine.old.held.machine }
-    ensures bundle { result ≡ Status.Done → IfSome engine.old.held.machine (λ h. IsBundleIn h query count.new bytes.new) }
-    ensures small { result ≡ Status.TooSmall → (length bytes.old < count.new) × IfSome engine.old.held.machine (λ h. IsBundleLong h query count.new) }
-    ensures kept { result ≢ Status.Done → bytes.new ≡ bytes.old }
-{
-    let Some(machine) = out_of(alloc, engine) else {
-        return Status::Closed;
-    };
-    let status = show_bundle(alloc, &machine, query, bytes, count);
-    *engine = opened(machine);
-    status
 }

@@ -163,11 +163,11 @@ pub(crate) fn step(
 }
 
 /// Renews a machine.
-fn go_on(alloc: Global, machine: &mut Machine<Plain>) -> Status
+pub(crate) fn go_on(alloc: Global, machine: &mut Machine<Plain>) -> Status
     ensures known { IsRenewStatus (status_number result) }
     ensures open { result ≢ Status.Closed }
     ensures active { (result ≡ Status.Active) ↔ (has_active machine.old ≡ true) }
-    ensures renewed { result ≡ Status.Done → machine.new ≡ fresh (committed_values machine.old) }
+    ensures renewed { status_number result ≡ 0 → machine.new ≡ fresh (committed_values machine.old) }
     ensures serializable { result ≡ Status.Done → GoesOn machine.old }
     ensures err { result ≢ Status.Done → machine.new ≡ machine.old }
 {
@@ -178,36 +178,9 @@ fn go_on(alloc: Global, machine: &mut Machine<Plain>) -> Status
     }
 }
 
-/// Goes on from the committed values, with an empty history.
-pub(crate) fn renew(alloc: Global, engine: &mut EsrEngine) -> Status
-    ensures known { IsRenewStatus (status_number result) }
-    ensures closed { result ≡ Status.Closed ↔ (engine.old.held.machine ≡ None) }
-    ensures active { IfSome engine.old.held.machine (λ h. (result ≡ Status.Active) ↔ (has_active h ≡ true)) }
-    ensures renewed { result ≡ Status.Done → IfSome engine.old.held.machine (λ h. engine.new.held.machine ≡ Some (fresh (committed_values h))) }
-    ensures serializable { result ≡ Status.Done → IfSome engine.old.held.machine GoesOn }
-    ensures err { result ≢ Status.Done → engine.new.held.machine ≡ engine.old.held.machine }
-{
-    let Some(mut machine) = out_of(alloc, engine) else {
-        return Status::Closed;
-    };
-    let status = go_on(alloc, &mut machine);
-    *engine = opened(machine);
-    status
-}
-
 /// Ends a machine, and drops its history.
-fn end(machine: Box<Machine<Plain>, Global>)
+pub(crate) fn end(machine: Box<Machine<Plain>, Global>)
     ensures { IsSound machine.value }
 {
     let _history = Box::into_inner(machine).close();
-}
-
-/// Closes an engine.
-pub(crate) fn close(alloc: Global, engine: &mut EsrEngine)
-    ensures closed { engine.new.held.machine ≡ None }
-    ensures end { IfSome engine.old.held.machine IsSound }
-{
-    if let Some(machine) = out_of(alloc, engine) {
-        end(machine);
-    }
 }

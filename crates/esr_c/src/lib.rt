@@ -1,5 +1,5 @@
-//! Engines for C: the exports, each a call of the engine with its clauses again. An engine is held by its caller, who
-//! gives it to one call at a time. `bindings/c/esr.h` declares what is here.
+//! Engines for C programs. An engine stands in a variable of its caller, who gives it to one call at a time: it is closed, or
+//! holds a machine. `bindings/c/esr.h` declares what is here.
 #![tactic(auto)]
 
 ghost use Rattle.std.specs.Prelude.{IsSome, Any, ◌≡◌, ◌≢◌, ◌↔◌, ◌<◌, ◌≤◌, length, None, Some, IfSome, true, false};
@@ -17,7 +17,9 @@ mod loose;
 mod reply;
 
 pub use audit::{EsrFinding, EsrTotals};
+use audit::{show_bundle, show_finding, show_values, totals_of};
 pub use engine::EsrEngine;
+use engine::{Status, end, go_on, open, opened, out_of, step};
 use esr_history::{Event, TxnId};
 use esr_items::ItemId;
 pub use reply::EsrReply;
@@ -25,7 +27,7 @@ use std::alloc::Global;
 
 /// Opens an engine over items with these values, where it is closed.
 ///
-/// 0, or 1 for more than 4,096 items, 2 for a value out of range, 13 where memory was refused, 15 where the engine is
+/// 0, or 1 for more than 4,096 items, 2 for a value out of range, 13 where an allocation failed, 15 where the engine is
 /// open.
 #[unsafe(no_mangle)]
 pub extern "C" fn esr_open(alloc: Global, engine: &mut EsrEngine, opening: &[i64]) -> u32
@@ -36,13 +38,13 @@ pub extern "C" fn esr_open(alloc: Global, engine: &mut EsrEngine, opening: &[i64
     ensures opened { result ≡ 0 → engine.new.held.machine ≡ Some (fresh opening.now) }
     ensures err { result ≢ 0 → engine.new.held.machine ≡ engine.old.held.machine }
 {
-    engine::open(alloc, engine, opening).number()
+    open(alloc, engine, opening).number()
 }
 
 /// Begins an update that may export up to `limit`.
 ///
-/// This and the five calls below answer 0 and write the reply, or 12 where the history is full, 13 where memory was
-/// refused, 14 where the engine is closed; then neither the engine nor the reply has changed.
+/// This and the five calls below answer 0 and write the reply, or 12 where the history is full, 13 where an
+/// allocation failed, 14 where the engine is closed; then neither the engine nor the reply has changed.
 #[unsafe(no_mangle)]
 pub extern "C" fn esr_begin_update(
     alloc: Global,
@@ -56,7 +58,7 @@ pub extern "C" fn esr_begin_update(
     ensures reply { result ≡ 0 → IsReply (BeginUpdate limit) engine.old.held.machine engine.new.held.machine reply.new }
     ensures err { result ≢ 0 → (engine.new.held.machine ≡ engine.old.held.machine) × (reply.new ≡ reply.old) }
 {
-    engine::step(alloc, engine, Event::BeginUpdate { limit }, reply).number()
+    step(alloc, engine, Event::BeginUpdate { limit }, reply).number()
 }
 
 /// Begins a query that may import up to `limit`.
@@ -74,7 +76,7 @@ pub extern "C" fn esr_begin_query(
     ensures reply { result ≡ 0 → IsReply (BeginQuery limit strict) engine.old.held.machine engine.new.held.machine reply.new }
     ensures err { result ≢ 0 → (engine.new.held.machine ≡ engine.old.held.machine) × (reply.new ≡ reply.old) }
 {
-    engine::step(alloc, engine, Event::BeginQuery { limit, strict }, reply).number()
+    step(alloc, engine, Event::BeginQuery { limit, strict }, reply).number()
 }
 
 /// Reads an item.
@@ -96,7 +98,7 @@ pub extern "C" fn esr_read(
         txn: TxnId(txn),
         item: ItemId(item),
     };
-    engine::step(alloc, engine, event, reply).number()
+    step(alloc, engine, event, reply).number()
 }
 
 /// Writes an item.
@@ -120,7 +122,7 @@ pub extern "C" fn esr_write(
         item: ItemId(item),
         value,
     };
-    engine::step(alloc, engine, event, reply).number()
+    step(alloc, engine, event, reply).number()
 }
 
 /// Commits a transaction.
@@ -137,7 +139,7 @@ pub extern "C" fn esr_commit(
     ensures reply { result ≡ 0 → IsReply (Commit (record { 0 = txn })) engine.old.held.machine engine.new.held.machine reply.new }
     ensures err { result ≢ 0 → (engine.new.held.machine ≡ engine.old.held.machine) × (reply.new ≡ reply.old) }
 {
-    engine::step(alloc, engine, Event::Commit { txn: TxnId(txn) }, reply).number()
+    step(alloc, engine, Event::Commit { txn: TxnId(txn) }, reply).number()
 }
 
 /// Aborts a transaction.
@@ -154,7 +156,7 @@ pub extern "C" fn esr_abort(
     ensures reply { result ≡ 0 → IsReply (Abort (record { 0 = txn })) engine.old.held.machine engine.new.held.machine reply.new }
     ensures err { result ≢ 0 → (engine.new.held.machine ≡ engine.old.held.machine) × (reply.new ≡ reply.old) }
 {
-    engine::step(alloc, engine, Event::Abort { txn: TxnId(txn) }, reply).number()
+    step(alloc, engine, Event::Abort { txn: TxnId(txn) }, reply).number()
 }
 
 /// What has been imported, and how many entries the history has: 0, or 14 where the engine is closed. No limit has been
@@ -172,12 +174,17 @@ pub extern "C" fn esr_totals_of(
     ensures limits { result ≡ 0 → IfSome engine.old.held.machine (IsWithinLimits plain) }
     ensures err { result ≢ 0 → totals.new ≡ totals.old }
 {
-    audit::totals(alloc, engine, totals).number()
+    let Some(machine) = out_of(alloc, engine) else {
+        return Status::Closed.number();
+    };
+    *totals = totals_of(&machine);
+    *engine = opened(machine);
+    Status::Done.number()
 }
 
 /// The committed values of the items, for which there is room in `values`.
 ///
-/// 0, or 7 where there are more items than room, 13 where memory was refused, 14 where the engine is closed. With 0 and 7
+/// 0, or 7 where there are more items than room, 13 where an allocation failed, 14 where the engine is closed. With 0 and 7
 /// `count` tells how many items there are.
 #[unsafe(no_mangle)]
 pub extern "C" fn esr_values(
@@ -193,13 +200,18 @@ pub extern "C" fn esr_values(
     ensures small { result ≡ 7 → (length values.old < count.new) × IfSome engine.old.held.machine (λ h. count.new ≡ length h.opening) }
     ensures kept { result ≢ 0 → values.new ≡ values.old }
 {
-    audit::values(alloc, engine, values, count).number()
+    let Some(machine) = out_of(alloc, engine) else {
+        return Status::Closed.number();
+    };
+    let status = show_values(alloc, &machine, values, count);
+    *engine = opened(machine);
+    status.number()
 }
 
 /// The audit of a committed query, with the updates before it, for which there is room in `before`.
 ///
-/// 0, or 6 where the transaction is no committed query, 7 where there are more updates than room, 13 where memory was
-/// refused, 14 where the engine is closed. With 0 and 7 `finding` tells what is found.
+/// 0, or 6 where the transaction is no committed query, 7 where there are more updates than room, 13 where an
+/// allocation failed, 14 where the engine is closed. With 0 and 7 `finding` tells what is found.
 #[unsafe(no_mangle)]
 pub extern "C" fn esr_audit(
     alloc: Global,
@@ -216,13 +228,18 @@ pub extern "C" fn esr_audit(
     ensures small { result ≡ 7 → (length before.old < finding.new.count) × IfSome engine.old.held.machine (λ h. IsCounted h query finding.new) }
     ensures kept { result ≢ 0 → before.new ≡ before.old }
 {
-    audit::audit(alloc, engine, query, before, finding).number()
+    let Some(machine) = out_of(alloc, engine) else {
+        return Status::Closed.number();
+    };
+    let status = show_finding(alloc, &machine, query, before, finding);
+    *engine = opened(machine);
+    status.number()
 }
 
 /// The bundle of a committed query, for which there is room in `bytes`: one JSON object, which `esr check` reads.
 ///
-/// 0, or 6 where the transaction is no committed query, 7 where it has more bytes than there is room, 13 where memory was
-/// refused, 14 where the engine is closed. With 0 and 7 `count` tells how many bytes it has.
+/// 0, or 6 where the transaction is no committed query, 7 where it has more bytes than there is room, 13 where an
+/// allocation failed, 14 where the engine is closed. With 0 and 7 `count` tells how many bytes it has.
 #[unsafe(no_mangle)]
 pub extern "C" fn esr_bundle(
     alloc: Global,
@@ -239,12 +256,17 @@ pub extern "C" fn esr_bundle(
     ensures small { result ≡ 7 → (length bytes.old < count.new) × IfSome engine.old.held.machine (λ h. IsBundleLong h query count.new) }
     ensures kept { result ≢ 0 → bytes.new ≡ bytes.old }
 {
-    audit::bundle(alloc, engine, query, bytes, count).number()
+    let Some(machine) = out_of(alloc, engine) else {
+        return Status::Closed.number();
+    };
+    let status = show_bundle(alloc, &machine, query, bytes, count);
+    *engine = opened(machine);
+    status.number()
 }
 
 /// Goes on from the committed values with an empty history, in which transactions are numbered from 1 again.
 ///
-/// 0, or 13 where memory was refused, 14 where the engine is closed, 16 where a transaction is active; then nothing has
+/// 0, or 13 where an allocation failed, 14 where the engine is closed, 16 where a transaction is active; then nothing has
 /// changed.
 #[unsafe(no_mangle)]
 pub extern "C" fn esr_renew(alloc: Global, engine: &mut EsrEngine) -> u32
@@ -255,7 +277,12 @@ pub extern "C" fn esr_renew(alloc: Global, engine: &mut EsrEngine) -> u32
     ensures serializable { result ≡ 0 → IfSome engine.old.held.machine GoesOn }
     ensures err { result ≢ 0 → engine.new.held.machine ≡ engine.old.held.machine }
 {
-    engine::renew(alloc, engine).number()
+    let Some(mut machine) = out_of(alloc, engine) else {
+        return Status::Closed.number();
+    };
+    let status = go_on(alloc, &mut machine);
+    *engine = opened(machine);
+    status.number()
 }
 
 /// Closes an engine, and frees what it holds. It may be opened again. A closed engine stays closed. What the engine has
@@ -266,7 +293,9 @@ pub extern "C" fn esr_close(alloc: Global, engine: &mut EsrEngine)
     ensures closed { engine.new.held.machine ≡ None }
     ensures sound { IfSome engine.old.held.machine IsSound }
 {
-    engine::close(alloc, engine);
+    if let Some(machine) = out_of(alloc, engine) {
+        end(machine);
+    }
 }
 
 #[cfg(test)]
