@@ -1,6 +1,5 @@
 -- The places of the entries of some transactions.
-use Rattle.std.proofs.Common.{◌≡◌, ℕ, ◌+◌, ◌<◌, List, [], ◌∷◌, ◌++◌, length, take, get_or, reverse, refl, sym, ◌∙◌, ap, subst, inl, inr, ⊎_elim}
-use Rattle.std.proofs.lemmas.List.{reverse-append}
+use Rattle.std.proofs.Common.{◌≡◌, ℕ, ◌+◌, ◌<◌, List, [], ◌∷◌, ◌++◌, length, take, get_or, refl, sym, ◌∙◌, ap, subst, inl, ⊎_elim}
 use Rattle.esr_history.specs.declared.event.TxnId.{TxnId}
 use Rattle.esr_history.specs.declared.event.Entry.{Entry}
 use Rattle.esr_history.specs.Links.{accepted_txn, places_from}
@@ -14,27 +13,18 @@ pub record AreAmong (ts : List TxnId) (es : List Entry) (places : List ℕ) : Ty
 pub among_none : (es : List Entry) → AreAmong [] es []
 among_none es = record { all = λ t i. absurd i; only = λ i j. absurd j }
 
-in_reverse : (xs : List ℕ) (i : ℕ) → In i xs → In i (reverse xs)
-in_reverse [] i h = absurd h
-in_reverse (x ∷ xs) i h = subst (In i) (sym (reverse-append (x ∷ []) xs)) (⊎_elim (λ e. In-append_right (reverse xs) (x ∷ []) i (inl e)) (λ j. In-append_left (reverse xs) (x ∷ []) i (in_reverse xs i j)) h)
-
-pub among_more : (ts : List TxnId) (es : List Entry) (k : ℕ) (d : TxnId) (places own all : List ℕ) → k < length ts → AreAmong (take k ts) es places → reverse own ≡ places_from accepted_txn (get_or ts k d).0 0 es → all ≡ places ++ own → AreAmong (take (k + 1) ts) es all
+pub among_more : (ts : List TxnId) (es : List Entry) (k : ℕ) (d : TxnId) (places own all : List ℕ) → k < length ts → AreAmong (take k ts) es places → own ≡ places_from accepted_txn (get_or ts k d).0 0 es → all ≡ places ++ own → AreAmong (take (k + 1) ts) es all
 among_more ts es k d places own all inside a is joined =
     subst (λ us. AreAmong us es all) (sym (take_more ts k d inside))
     (subst (λ ps. AreAmong (take k ts ++ get_or ts k d ∷ []) es ps) (sym joined) (record {
       all = λ t i p j. ⊎_elim
           (λ here. In-append_left places own p (a.all t here p j))
           (λ last. ⊎_elim
-          (λ e. In-append_right places own p (back own p (subst (λ l. In p l) (sym (is ∙ ap (λ (t : TxnId). places_from accepted_txn t.0 0 es) e)) j)))
+          (λ e. In-append_right places own p (subst (λ l. In p l) (sym (is ∙ ap (λ (t : TxnId). places_from accepted_txn t.0 0 es) e)) j))
           (λ b. absurd b) last)
           (In-append_cases (take k ts) (get_or ts k d ∷ []) t i);
       only = λ p i. ⊎_elim
           (λ j. let r = a.only p j in (r.0, In-append_left (take k ts) (get_or ts k d ∷ []) r.0 r.1, r.2))
-          (λ j. (get_or ts k d, In-append_right (take k ts) (get_or ts k d ∷ []) (get_or ts k d) (inl refl), subst (In p) is (in_reverse own p j)))
+          (λ j. (get_or ts k d, In-append_right (take k ts) (get_or ts k d ∷ []) (get_or ts k d) (inl refl), subst (In p) is j))
           (In-append_cases places own p i);
     }))
-  where
-    back : (xs : List ℕ) (p : ℕ) → In p (reverse xs) → In p xs
-    back [] p h = h
-    back (x ∷ xs) p h =
-        ⊎_elim (λ j. inr (back xs p j)) (λ j. ⊎_elim (λ e. inl e) (λ b. absurd b) j) (In-append_cases (reverse xs) (x ∷ []) p (subst (In p) (reverse-append (x ∷ []) xs) h))

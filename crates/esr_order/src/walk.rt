@@ -42,7 +42,8 @@ pub fn places_on_item<M: Metric>(
     Ok(places)
 }
 
-/// The places of the accepted entries of these transactions, in order.
+/// The places of the accepted entries of these transactions, in order. Those of transactions
+/// that ran one after another are in order already, which the sort sees.
 pub fn places_among<M: Metric>(
     alloc: Global,
     history: &History<M>,
@@ -55,6 +56,7 @@ pub fn places_among<M: Metric>(
     let mut places = Vec::new(alloc);
     for t in txns {
         let mut own = places_of_txn(alloc, history, *t)?;
+        own.reverse();
         places.append(&mut own)?;
     }
     places.sort_unstable();

@@ -1,4 +1,4 @@
-use Rattle.std.proofs.Common.{sym, subst, Contains, []}
+use Rattle.std.proofs.Common.{sym, subst, Contains, [], ◌∙◌}
 use Rattle.std.specs.List.Sorted.{IsStrictlyIncreasing}
 use Rattle.std.proofs.lemmas.List.Filters.{dedup_is}
 use Rattle.std.proofs.lemmas.List.Kept.{Contains-dedup_nat, Contains-from_dedup}
@@ -15,7 +15,7 @@ loop-t-init g c = subst (AreAmong [] c.args.history.now.schedule.entries) (sym c
 
 pub loop-t-preserved : goal.loop-t-preserved
 loop-t-preserved g c =
-    among_more c.args.txns.now c.args.history.now.schedule.entries c.loop-t.t-index (record { 0 = 0 }) c.loop-t.places.items c.in_ok-own.own.items c.append.new.self.items c.loop-t-test.true c.loop-t.invariant c.in_ok-own.ensures c.in_ok-append.ensures.items
+    among_more c.args.txns.now c.args.history.now.schedule.entries c.loop-t.t-index (record { 0 = 0 }) c.loop-t.places.items c.reverse.new.self.items c.append.new.self.items c.loop-t-test.true c.loop-t.invariant (c.reverse.ensures.items ∙ c.in_ok-own.ensures) c.in_ok-append.ensures.items
 
 pub returns-clause-rises : goal.returns-clause-rises
 returns-clause-rises g c = subst IsStrictlyIncreasing (sym (dedup_is _ _ _ c.dedup.ensures.filtered)) (IsStrictlyIncreasing-dedup c.sort_unstable.new.self.items c.sort_unstable.ensures.sorted)
