@@ -1,5 +1,5 @@
 -- One more line in a plan.
-use Rattle.std.proofs.Common.{◌≡◌, ℕ, ℤ, zero, suc, ◌+◌, ◌<◌, ◌≤◌, Bool, true, false, List, [], ◌∷◌, ◌++◌, All, length, length-append, map, Option, Some, None, Ok, Err, Vec, Global, refl, ap, sym, subst, ◌∙◌, append_assoc, append-nil, arith, nat_eq}
+use Rattle.std.proofs.Common.{◌≡◌, ℕ, ℤ, ◌+◌, ◌<◌, true, false, List, [], ◌∷◌, ◌++◌, All, length, length-append, map, Option, Some, None, Ok, Vec, Global, refl, ap, sym, subst, ◌∙◌, append_assoc, append-nil, arith, nat_eq}
 use Rattle.std.specs.Prelude.{is_some}
 use Rattle.std.specs.List.{flat_map, filter_map}
 use Rattle.std.specs.Option.{option_map}

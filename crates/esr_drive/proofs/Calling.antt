@@ -1,11 +1,10 @@
 -- Calls of a block, one after another.
-use Rattle.std.proofs.Common.{◌≡◌, ℕ, ℤ, zero, suc, ◌+◌, ◌<◌, ◌≤◌, Bool, true, false, cond, List, [], ◌∷◌, ◌++◌, All, length, length-append, take, get_or, Option, Some, None, unwrap_or, refl, ap, ap₂, sym, subst, ◌∙◌, arith, ltb-true, ◌⊎◌, inl, inr, one-add, append_assoc}
+use Rattle.std.proofs.Common.{◌≡◌, ℕ, ℤ, zero, suc, ◌+◌, ◌<◌, Bool, true, false, cond, List, [], ◌∷◌, ◌++◌, length, length-append, take, get_or, Option, Some, None, unwrap_or, refl, ap, ap₂, sym, subst, ◌∙◌, arith, ltb-true, ◌⊎◌, inl, inr, one-add, append_assoc}
 use Rattle.std.specs.Prelude.{slice_get}
 use Rattle.std.specs.List.{position, position_or_len}
 use Rattle.std.specs.Option.{option_and_then}
 use Rattle.std.proofs.lemmas.List.{take_more}
 use Rattle.std.proofs.lemmas.List.Elements.{All-push}
-use Rattle.std.proofs.lemmas.Option.{slice_get_within, slice_get-get_or}
 use Rattle.esr_history.specs.declared.event.Event.{Event}
 use Rattle.esr_history.specs.declared.event.Event.TheVariants as event
 use Rattle.esr_history.specs.declared.event.Reply.{Reply}

@@ -1,11 +1,10 @@
 -- Sessions with their blocks, and what came of them.
-use Rattle.std.proofs.Common.{◌≡◌, ℕ, ℤ, zero, suc, ◌+◌, ◌<◌, List, [], ◌∷◌, ◌++◌, All, length, map, take, get_or, Result, Ok, Err, IfOk, Vec, Global, refl, ap, sym, subst, ◌∙◌, arith}
+use Rattle.std.proofs.Common.{◌≡◌, ℕ, zero, suc, ◌+◌, ◌<◌, List, [], ◌∷◌, ◌++◌, All, length, map, take, get_or, Result, Ok, IfOk, Vec, Global, refl, ap, sym, subst, ◌∙◌, arith}
 use Rattle.std.proofs.lemmas.List.{take_more, map-append}
 use Rattle.std.proofs.lemmas.List.Elements.{All-push}
 use Rattle.esr_history.specs.declared.event.Reply.{Reply}
 use Rattle.esr_core.specs.declared.machine.StepError.{StepError}
 use Rattle.esr_session.specs.declared.receipt.Receipt.{Receipt}
-use Rattle.esr_script.specs.Command.{Command}
 use Rattle.esr_drive.specs.declared.call.Call.{Call}
 use Rattle.esr_drive.specs.Calls.{command_of, answers_of, AreResolved}
 use Rattle.esr_drive.specs.Blocks.{Answered, AreBlocks}

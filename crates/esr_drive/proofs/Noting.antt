@@ -1,11 +1,11 @@
 -- The table of the names that transactions began by.
-use Rattle.std.proofs.Common.{Bor, ◌≡◌, ◌≢◌, ℕ, zero, suc, ◌+◌, ◌-◌, ◌<◌, ◌≤◌, ◌⊎◌, inl, inr, List, [], ◌∷◌, ◌++◌, Bool, true, false, not, cond, length, take, drop, map, get_or, Option, Some, None, unwrap_or, refl, ap, sym, subst, ◌∙◌, arith, nat_eq, if◌then◌else◌}
-use Rattle.std.specs.Prelude.{◌&&◌, ◌==◌, slice_set, slice_get, is_some, replicate, Vec}
+use Rattle.std.proofs.Common.{Bor, ◌≡◌, ◌≢◌, ℕ, zero, suc, ◌+◌, ◌-◌, ◌<◌, ◌≤◌, List, [], ◌∷◌, ◌++◌, Bool, true, false, not, cond, length, take, drop, map, get_or, Option, Some, None, unwrap_or, refl, ap, sym, ◌∙◌, arith, nat_eq, if◌then◌else◌}
+use Rattle.std.specs.Prelude.{slice_set, slice_get, replicate, Vec}
 use Rattle.std.specs.declared.alloc.Global.{Global}
 use Rattle.std.specs.List.{flat_map, filter, filter_map, find, range_with_len}
 use Rattle.std.specs.Option.{option_and_then, option_map, option_map_or}
 use Rattle.std.proofs.lemmas.Bool.Decides.{nat_tests}
-use Rattle.std.proofs.lemmas.List.{take_more, take_all, drop_more, drop_all, map-append, map-set, length-append, length-map}
+use Rattle.std.proofs.lemmas.List.{take_more, drop_more, drop_all, map-append, map-set, length-append, length-map}
 use Rattle.std.proofs.lemmas.Option.{slice_get_within, get_or_from_slice_get}
 use Rattle.std.proofs.lemmas.List.Elements.{filter-append, filter_map-append}
 use Rattle.esr_history.specs.declared.event.Entry.{Entry}

@@ -1,12 +1,11 @@
 -- Where the begins of a block stand, and what its calls name, after one more call.
-use Rattle.std.proofs.Common.{◌≡◌, ℕ, zero, suc, ◌+◌, ◌<◌, ◌≤◌, ◌⊎◌, inl, inr, List, [], ◌∷◌, ◌++◌, Bool, true, false, not, cond, nat_lt, length, take, get_or, Option, Some, None, refl, ap, sym, subst, ◌∙◌, arith, ltb-true, ltb-false, one-add, if◌then◌else◌}
+use Rattle.std.proofs.Common.{◌≡◌, ℕ, zero, suc, ◌+◌, ◌<◌, ◌≤◌, ◌⊎◌, inl, inr, List, [], ◌∷◌, ◌++◌, Bool, true, false, cond, nat_lt, length, take, get_or, Option, Some, None, refl, ap, sym, subst, ◌∙◌, arith, ltb-true, ltb-false, one-add, if◌then◌else◌}
 use Rattle.std.specs.Prelude.{slice_get}
 use Rattle.std.specs.List.{position, position_or_len}
 use Rattle.std.specs.Option.{option_map}
 use Rattle.std.specs.Str.{bytes_eq}
 use Rattle.std.proofs.lemmas.Bool.Decides.{nat_tests}
 use Rattle.std.proofs.lemmas.List.{take-append-le, take_all, get_or_append_left, get_or_at}
-use Rattle.std.proofs.lemmas.Option.{slice_get_past}
 use Rattle.std.proofs.lemmas.Slice.Eq.{bytes_eq-Decides}
 use Rattle.esr_report.specs.Names.{position_of}
 use Rattle.esr_drive.specs.declared.call.Call.{Call}

@@ -1,11 +1,10 @@
 -- From the parts of a drive to its text.
-use Rattle.std.proofs.Common.{◌≡◌, ℕ, ℤ, zero, suc, All, arith, ◌+◌, Bool, true, false, cond, ◌⊎◌, inl, inr, List, [], ◌∷◌, ◌++◌, length, map, Option, Some, None, Result, Ok, Err, Vec, Global, refl, ap, sym, subst, ◌∙◌, nat_eq, if◌then◌else◌}
+use Rattle.std.proofs.Common.{◌≡◌, ℕ, ℤ, zero, suc, All, arith, ◌+◌, Bool, true, false, ◌⊎◌, inl, inr, List, [], ◌∷◌, ◌++◌, length, map, Option, Some, None, Result, Ok, Err, Vec, Global, refl, ap, sym, subst, ◌∙◌, nat_eq, if◌then◌else◌}
 use Rattle.std.specs.Prelude.{nat_lt}
 use Rattle.esr_items.specs.declared.store.Versions.{Versions}
 use Rattle.esr_history.specs.declared.event.Reply.{Reply}
 use Rattle.esr_history.specs.Machine.{Schedule}
 use Rattle.esr_core.proofs.Replayed.{first}
-use Rattle.esr_script.specs.Command.{Command}
 use Rattle.esr_script.specs.Lines.{lines}
 use Rattle.esr_drive.specs.declared.fault.DriveFault.{DriveFault}
 use Rattle.esr_drive.specs.declared.fault.DriveFault.TheVariants as fault
@@ -14,9 +13,7 @@ use Rattle.esr_drive.specs.declared.call.Call.{Call}
 use Rattle.esr_drive.specs.Calls.{command_of, AreResolved}
 use Rattle.esr_drive.specs.Plan.{Plan, plan_of, plan_from, cut_fault, with_line, nothing, weights_of}
 use Rattle.esr_script.specs.Text.{max_lines, max_line_bytes}
-use Rattle.esr_drive.specs.Drafts.{commands_in}
 use Rattle.esr_drive.specs.Sheets.{plan_in, IsSound}
-use Rattle.esr_drive.specs.Blocks.{commands_of}
 use Rattle.esr_drive.specs.Driven.{IsDriven, all_answers}
 use Rattle.esr_drive.specs.Drive.{IsDriveText, text_of}
 use Rattle.esr_drive.specs.Faults.{IsTextFault, is_engine_fault}

@@ -6,7 +6,7 @@ use Rattle.std.proofs.lemmas.Grind.{flat_map-append}
 use Rattle.esr_items.specs.Weights.{weighted}
 use Rattle.esr_history.specs.Machine.{Schedule, charges_in, import_in}
 use Rattle.esr_order.specs.Placements.{is_among}
-use Rattle.esr_order.specs.Least.{least_set, least_cost}
+use Rattle.esr_order.specs.Least.{least_cost}
 use Rattle.esr_order.proofs.Least.{law_of_listed_sets}
 use Rattle.esr_audit.specs.declared.finding.Finding.{Finding}
 use Rattle.esr_audit.specs.Findings.{IsFinding}

@@ -1,5 +1,5 @@
 -- A drive file with its text: one block, whose update is read by a query.
-use Rattle.std.proofs.Common.{◌≡◌, ◌++◌, ℕ, ℤ, zero, suc, ◌<◌, All, length, refl, sym, ◌∙◌, List, [], ◌∷◌, Ok, Err, None, Bool, true, false, arith}
+use Rattle.std.proofs.Common.{◌≡◌, ℕ, All, refl, sym, ◌∙◌, List, [], ◌∷◌, None, Bool, true, false, arith}
 use Rattle.std.specs.Prelude.{codes, pos}
 use Rattle.std.specs.Fmt.{digits}
 use Rattle.std.proofs.lemmas.List.Elements.{All-push}
@@ -10,13 +10,11 @@ use Rattle.esr_history.specs.declared.event.Event.TheVariants as event
 use Rattle.esr_history.specs.declared.event.Reply.{Reply}
 use Rattle.esr_history.specs.declared.event.Reply.TheVariants as reply
 use Rattle.esr_history.specs.declared.event.Entry.{Entry}
-use Rattle.esr_history.specs.Machine.{Schedule}
 use Rattle.esr_script.specs.Command.{Command, begin_update, begin_query, read, write, commit}
 use Rattle.esr_session.specs.declared.receipt.Receipt.{Receipt}
 use Rattle.esr_session.specs.Receipts.{is_blocked, entry_of}
 use Rattle.esr_session.proofs.Good.{good_matches}
-use Rattle.esr_drive.specs.Plan.{Plan}
-use Rattle.esr_drive.specs.Blocks.{Answered, IsRun, AreRuns, start, more, event_of}
+use Rattle.esr_drive.specs.Blocks.{Answered, IsRun, AreRuns, start, more}
 use Rattle.esr_drive.specs.Drive.{IsDriveText}
 
 none : (P : Receipt → Type 0) → All P []

@@ -1,5 +1,5 @@
 -- A plan that is being made, as contracts see it.
-use Rattle.std.specs.Prelude.{◌≡◌, ◌≤◌, ℕ, List, [], ◌∷◌, ◌++◌, All, Option, Some, None, Result, Ok, Err, map, length, nat_lt, slice_get, if◌then◌else◌}
+use Rattle.std.specs.Prelude.{◌≡◌, ◌≤◌, ℕ, List, [], ◌∷◌, ◌++◌, All, Option, Some, None, Result, Err, map, length, nat_lt, slice_get, if◌then◌else◌}
 use Rattle.std.specs.Option.{option_map}
 use Rattle.esr_items.specs.Values.{IsValue}
 use Rattle.esr_items.specs.Weights.{IsWeight}

@@ -1,7 +1,7 @@
 -- The text of a drive: what it may write, by the file that it read.
-use Rattle.std.specs.Prelude.{◌≡◌, ℕ, ◌+◌, ℤ, pos, List, [], ◌∷◌, ◌++◌, Option, Some, None, Result, Ok, Err, length, map, unwrap_or, nat_eq, Bool, false, ◌&&◌}
+use Rattle.std.specs.Prelude.{◌≡◌, ℕ, ◌+◌, ℤ, pos, List, [], ◌∷◌, ◌++◌, Option, Some, None, Result, Ok, Err, length, map, unwrap_or, nat_eq, Bool, false}
 use Rattle.std.specs.List.{flat_map, find}
-use Rattle.std.specs.Option.{option_and_then, option_map_or, option_map}
+use Rattle.std.specs.Option.{option_and_then, option_map_or}
 use Rattle.std.specs.Io.KnownBytes.{Consumes}
 use Rattle.esr_items.specs.Weights.{weighted}
 use Rattle.esr_history.specs.Events.{numbers}

@@ -1,5 +1,5 @@
 -- A file that is being read, line by line.
-use Rattle.std.specs.Prelude.{◌≡◌, ℕ, ◌<◌, ◌≤◌, List, ◌++◌, Option, Some, Err, IfSome, length, drop}
+use Rattle.std.specs.Prelude.{◌≡◌, ℕ, ◌<◌, ◌≤◌, List, ◌++◌, Option, Err, IfSome, length, drop}
 use Rattle.esr_script.specs.Lines.{lines}
 use Rattle.esr_drive.specs.Plan.{cut_fault, plan_of}
 use Rattle.esr_drive.specs.declared.reading.Mark.{Mark}

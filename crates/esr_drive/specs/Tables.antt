@@ -1,5 +1,5 @@
 -- Tables of the names that transactions began by.
-use Rattle.std.specs.Prelude.{◌≡◌, ◌==◌, ◌-◌, ℕ, List, [], ◌∷◌, Bool, true, false, not, ◌&&◌, Option, Some, None, map, is_some, slice_set, unwrap_or, if◌then◌else◌}
+use Rattle.std.specs.Prelude.{◌==◌, ◌-◌, ℕ, List, [], ◌∷◌, Bool, not, ◌&&◌, Option, Some, None, map, is_some, slice_set, unwrap_or, if◌then◌else◌}
 use Rattle.esr_history.specs.Events.{is_refusal, beginning_of}
 use Rattle.esr_history.specs.declared.event.Entry.{Entry}
 use Rattle.esr_history.specs.declared.event.Reply.{Reply}

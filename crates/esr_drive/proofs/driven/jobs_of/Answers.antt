@@ -1,4 +1,4 @@
-use Rattle.std.proofs.Common.{rules, ◌≡◌, [], sym, ◌∙◌}
+use Rattle.std.proofs.Common.{rules, ◌≡◌, []}
 use Rattle.esr_drive.proofs.Jobs.{all_before, last_of, all_more, jobs_more}
 use Rattle.esr_drive.proofs.driven.jobs_of.Goals as goal
 

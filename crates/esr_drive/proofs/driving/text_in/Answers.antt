@@ -1,4 +1,4 @@
-use Rattle.std.proofs.Common.{rules, ◌≡◌, map}
+use Rattle.std.proofs.Common.{rules, map}
 use Rattle.esr_drive.specs.Sheets.{plan_in}
 use Rattle.esr_drive.proofs.Texts.{text_fault, engine_fault, drive_text}
 use Rattle.esr_drive.proofs.driving.text_in.Goals as goal

@@ -1,4 +1,4 @@
-use Rattle.std.proofs.Common.{rules, ◌≡◌, map, ap, ◌∙◌}
+use Rattle.std.proofs.Common.{rules, map, ap, ◌∙◌}
 use Rattle.esr_core.proofs.Replayed.{opened_values}
 use Rattle.esr_drive.proofs.opening.store_of.Goals as goal
 

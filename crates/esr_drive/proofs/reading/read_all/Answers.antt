@@ -1,9 +1,9 @@
-use Rattle.std.proofs.Common.{rules, ◌≡◌, ◌++◌, take, refl, ◌∙◌, arith}
+use Rattle.std.proofs.Common.{rules, ◌++◌, take, refl, ◌∙◌, arith}
 use Rattle.std.proofs.lemmas.Grind.{common_steps}
 use Rattle.std.specs.Prelude.{is_ok}
 use Rattle.std.specs.Io.KnownBytes.{Consumes}
 use Rattle.esr_history.specs.Watch.{inner, failed}
-use Rattle.esr_drive.proofs.Cuts.{mark_grown, taken, whole_fine, read_fault, extended, not_read_error, not_failed}
+use Rattle.esr_drive.proofs.Cuts.{mark_grown, taken, whole_fine, read_fault, not_read_error, not_failed}
 use Rattle.esr_drive.proofs.reading.read_all.Goals as goal
 
 pub returns-in-Ok-eq0-clause-fine : goal.returns-in-Ok-eq0-clause-fine

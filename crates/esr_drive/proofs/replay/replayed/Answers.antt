@@ -1,4 +1,4 @@
-use Rattle.std.proofs.Common.{rules, ◌≡◌, List, length, ◌+◌, sym, ap, ◌∙◌, arith}
+use Rattle.std.proofs.Common.{List, length, sym, ap, ◌∙◌, arith}
 use Rattle.std.specs.Prelude.{slice_get}
 use Rattle.esr_items.specs.Weights.{weighted}
 use Rattle.esr_history.specs.declared.event.Entry.{Entry}

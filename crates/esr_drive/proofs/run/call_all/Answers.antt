@@ -1,4 +1,4 @@
-use Rattle.std.proofs.Common.{◌≡◌, ◌+◌, ◌≤◌, length, [], List, take, sym, subst, ap, ◌∙◌, rules}
+use Rattle.std.proofs.Common.{◌+◌, ◌≤◌, length, [], List, take, sym, subst, rules}
 use Rattle.esr_items.specs.Weights.{weighted}
 use Rattle.esr_history.specs.declared.event.Reply.{Reply}
 use Rattle.esr_session.specs.declared.receipt.Receipt.{Receipt}

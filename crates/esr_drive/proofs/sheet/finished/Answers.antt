@@ -1,4 +1,4 @@
-use Rattle.std.proofs.Common.{rules, ◌≡◌, ap, sym, ◌∙◌}
+use Rattle.std.proofs.Common.{rules}
 use Rattle.esr_drive.proofs.Adding.{done_with, done_alone, sheet_sound}
 use Rattle.esr_drive.proofs.sheet.finished.Goals as goal
 use Rattle.esr_drive.proofs.sheet.finished.Goals.{in-None, in-Some+in_ok-push-in-Some}

@@ -1,5 +1,4 @@
-use Rattle.std.proofs.Common.{rules, ◌≡◌, ◌+◌, List, sym, ap, ◌∙◌, arith}
-use Rattle.std.specs.Prelude.{slice_get}
+use Rattle.std.proofs.Common.{sym, ◌∙◌, arith}
 use Rattle.esr_core.proofs.Replayed.{entry_there}
 use Rattle.esr_drive.specs.Tables.{is_begin}
 use Rattle.esr_drive.proofs.Noting.{count_step, count_one, count_none}

@@ -1,4 +1,4 @@
-use Rattle.std.proofs.Common.{rules, ◌≡◌}
+use Rattle.std.proofs.Common.{rules}
 use Rattle.esr_drive.specs.Drive.{finding_text}
 use Rattle.esr_drive.proofs.Told.{more_text, whole_text}
 use Rattle.esr_drive.specs.Tables.{names_in}

@@ -1,4 +1,4 @@
-use Rattle.std.proofs.Common.{◌≡◌, ◌++◌, List, OnOk, map, ap, subst, ◌∙◌}
+use Rattle.std.proofs.Common.{map, ap, ◌∙◌}
 use Rattle.esr_drive.proofs.Told.{told, same_end}
 use Rattle.esr_report.specs.Lines.{audit_line}
 use Rattle.esr_drive.specs.Tables.{names_in}

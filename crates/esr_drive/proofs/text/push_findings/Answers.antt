@@ -1,4 +1,4 @@
-use Rattle.std.proofs.Common.{rules, ◌≡◌, ap, ◌∙◌}
+use Rattle.std.proofs.Common.{ap, ◌∙◌}
 use Rattle.std.specs.List.{flat_map}
 use Rattle.esr_drive.specs.Drive.{finding_text}
 use Rattle.esr_drive.proofs.Told.{by_queries, same_end}

@@ -1,4 +1,4 @@
-use Rattle.std.proofs.Common.{rules, ◌≡◌, pos, None}
+use Rattle.std.proofs.Common.{rules, pos, None}
 use Rattle.esr_drive.proofs.Told.{items_text_more, items_text_all}
 use Rattle.esr_drive.proofs.text.push_items.Goals as goal
 

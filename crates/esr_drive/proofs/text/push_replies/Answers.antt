@@ -1,4 +1,4 @@
-use Rattle.std.proofs.Common.{rules, ◌≡◌, ◌≤◌, length, arith}
+use Rattle.std.proofs.Common.{rules, ◌≤◌, length, arith}
 use Rattle.esr_report.specs.Lines.{reply_line}
 use Rattle.esr_drive.specs.Calls.{answers_of}
 use Rattle.esr_drive.specs.Drive.{subject_of}

@@ -1,4 +1,4 @@
-use Rattle.std.proofs.Common.{◌≡◌, ◌++◌, ◌∷◌, [], rules}
+use Rattle.std.proofs.Common.{rules}
 use Rattle.esr_drive.proofs.Adding.{operation_added}
 use Rattle.esr_drive.proofs.draft.Draft.add_operation.Goals as goal
 

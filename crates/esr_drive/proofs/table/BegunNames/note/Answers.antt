@@ -1,4 +1,4 @@
-use Rattle.std.proofs.Common.{rules, ◌≡◌, ◌+◌, [], unwrap_or, sym, arith}
+use Rattle.std.proofs.Common.{rules, [], unwrap_or}
 use Rattle.esr_drive.specs.Plan.{new_name}
 use Rattle.esr_drive.specs.Blocks.{number_in}
 use Rattle.esr_drive.specs.Calls.{command_of}
