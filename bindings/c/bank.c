@@ -1,12 +1,13 @@
 /* A bank: tellers move money between accounts, each in a thread of its own, while a report adds all accounts up. The
  * report waits for nobody and may be off by what it allows; afterwards its audit tells by how much it was. */
+#define _POSIX_C_SOURCE 200809L
 #include "esr.h"
 #include <pthread.h>
-#include <sched.h>
 #include <stdio.h>
 #include <stdlib.h>
+#include <time.h>
 
-enum { ACCOUNTS = 8, OPENING = 1000, TELLERS = 3, TRANSFERS = 300, LIMIT = 100, TRIES = 50 };
+enum { ACCOUNTS = 8, OPENING = 1000, TELLERS = 3, TRANSFERS = 300, LIMIT = 100, TRIES = 10 };
 
 static esr_engine engine = ESR_CLOSED;
 static pthread_mutex_t lock = PTHREAD_MUTEX_INITIALIZER;
@@ -49,13 +50,19 @@ static void end(uint32_t txn, bool commits) {
     pthread_mutex_unlock(&lock);
 }
 
+/* Lets the others go on, longer each time. */
+static void pause_for(int round) {
+    struct timespec time = {0, 20000L << (round < 6 ? round : 6)};
+    nanosleep(&time, NULL);
+}
+
 /* Changes an account by an amount. What is blocked is tried again, but not for ever: two tellers may block one another. */
 static bool change(uint32_t txn, uint32_t account, int64_t amount) {
     for (int i = 0; i < TRIES; i++) {
         esr_reply reply = read_item(txn, account);
         if (reply.kind == ESR_VALUE) reply = write_item(txn, account, reply.value + amount);
         if (reply.kind == ESR_WROTE) return true;
-        sched_yield();
+        pause_for(i);
     }
     return false;
 }
@@ -66,7 +73,9 @@ static void *teller(void *seed) {
         random = random * 1103515245u + 12345u;
         uint32_t from = random / 65536 % ACCOUNTS, to = (from + 1 + random / 1024 % (ACCOUNTS - 1)) % ACCOUNTS;
         uint32_t txn = begin(false).txn;
-        bool moved = change(txn, from, -10) && change(txn, to, 10);
+        bool moved = change(txn, from, -10);
+        pause_for(0); /* as long as the money is nowhere */
+        moved = moved && change(txn, to, 10);
         end(txn, moved);
         done += moved;
     }
@@ -76,19 +85,20 @@ static void *teller(void *seed) {
 /* Adds all accounts up; where its limit is reached it starts anew. */
 static void *reporter(void *unused) {
     (void)unused;
-    for (;;) {
+    for (int round = 0;; round++) {
         uint32_t txn = begin(true).txn, account = 0;
         for (total = 0; account < ACCOUNTS; account++) {
             esr_reply reply = read_item(txn, account);
             if (reply.kind != ESR_VALUE) break;
             total += reply.value;
-            sched_yield();
+            pause_for(2);
         }
         end(txn, account == ACCOUNTS);
         if (account == ACCOUNTS) {
             report = txn;
             return NULL;
         }
+        pause_for(round);
     }
 }
 

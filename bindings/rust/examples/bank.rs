@@ -2,7 +2,7 @@
 //! report waits for nobody and may be off by what it allows; afterwards its audit tells by how much it was.
 
 use esr::{Engine, Error, Patience, Txn, transact};
-use std::{error, sync::Mutex, thread};
+use std::{error, sync::Mutex, thread, time::Duration};
 
 const ACCOUNTS: u32 = 8;
 const OPENING: i64 = 1000;
@@ -17,6 +17,7 @@ fn teller(bank: &Mutex<Engine>, mut random: u32) -> Result<(), Error> {
         transact(bank, LIMIT, Patience::default(), |update| {
             let taken = update.read(from)? - 10;
             update.write(from, taken)?;
+            thread::sleep(Duration::from_micros(20)); // as long as the money is nowhere
             let given = update.read(to)? + 10;
             update.write(to, given)
         })?;
@@ -30,14 +31,16 @@ fn report(bank: &Mutex<Engine>) -> Result<(Txn, i64), Error> {
         let query = bank.lock().unwrap().begin_query(LIMIT)?;
         let sum: Result<i64, Error> = (0..ACCOUNTS)
             .map(|account| {
-                thread::yield_now();
+                thread::sleep(Duration::from_micros(80));
                 bank.lock().unwrap().read(query, account)
             })
             .sum();
-        let mut bank = bank.lock().unwrap();
         match sum {
-            Ok(sum) => return bank.commit(query).map(|()| (query, sum)),
-            Err(Error::Refused(why)) if why.may_pass_later() => bank.abort(query)?,
+            Ok(sum) => return bank.lock().unwrap().commit(query).map(|()| (query, sum)),
+            Err(Error::Refused(why)) if why.may_pass_later() => {
+                bank.lock().unwrap().abort(query)?;
+                thread::sleep(Duration::from_micros(50));
+            }
             Err(error) => return Err(error),
         }
     }

@@ -180,6 +180,7 @@ fn renewed_over_committed_values(rt: HostRuntime) {
     let m = &mut machine;
     play(&rt, m, update(0), begun(1));
     play(&rt, m, write(1, 5), Reply::Wrote);
+    assert!(rt; m.has_active());
     assert!(rt; renew_at_last(m, rt.alloc()) == Err(RenewError::TransactionActive));
     play(&rt, m, commit(1), Reply::Committed);
     assert!(rt; renew_at_last(m, rt.alloc()) == Ok(()));
