@@ -1,4 +1,5 @@
-/* bdb TRANSACTIONS: the load over Berkeley DB, with its records, its log and its locks in memory. */
+/* bdb TRANSACTIONS [shared]: the load over Berkeley DB, with its records, its log and its locks in memory. With `shared` it
+ * is opened so that several threads may use it. */
 #include "load.h"
 #include <db.h>
 #include <string.h>
@@ -6,15 +7,15 @@
 static DB_ENV *environment;
 static DB *table;
 
-static void open_table(void) {
+static void open_table(uint32_t shared) {
     MUST(db_env_create(&environment, 0) == 0);
     MUST(environment->log_set_config(environment, DB_LOG_IN_MEMORY, 1) == 0);
     MUST(environment->set_lg_bsize(environment, 64 << 20) == 0);
     MUST(environment->set_cachesize(environment, 0, 64 << 20, 1) == 0);
     MUST(environment->open(environment, NULL,
-        DB_CREATE | DB_PRIVATE | DB_INIT_MPOOL | DB_INIT_TXN | DB_INIT_LOG | DB_INIT_LOCK, 0) == 0);
+        DB_CREATE | DB_PRIVATE | DB_INIT_MPOOL | DB_INIT_TXN | DB_INIT_LOG | DB_INIT_LOCK | shared, 0) == 0);
     MUST(db_create(&table, environment, 0) == 0);
-    MUST(table->open(table, NULL, NULL, "items", DB_BTREE, DB_CREATE | DB_AUTO_COMMIT, 0) == 0);
+    MUST(table->open(table, NULL, NULL, "items", DB_BTREE, DB_CREATE | DB_AUTO_COMMIT | shared, 0) == 0);
 }
 
 static int64_t value_of(DB_TXN *txn, uint32_t item, uint32_t flags) {
@@ -45,7 +46,7 @@ int main(int count, char **words) {
     long transactions = count > 1 ? atol(words[1]) : 100000;
     uint64_t state = 88172645463325252u;
     DB_TXN *txn;
-    open_table();
+    open_table(count > 2 ? DB_THREAD : 0);
     for (uint32_t item = 0; item < ITEMS; item++) set_value(NULL, item, 0);
     times from = now();
     for (long n = 0; n < transactions; n++) {

@@ -1,7 +1,9 @@
 /* engine TRANSACTIONS [THREADS]: the load over an engine. With THREADS, that many share it under one lock, which is taken
- * for each call, on items apart. Near its end a history is renewed. */
+ * for each call, on items apart. Near its end a history is renewed. malloc is told to keep what is freed, as the other
+ * programs keep their caches. */
 #include "esr.h"
 #include "load.h"
+#include <malloc.h>
 #include <pthread.h>
 
 enum { MOST = 65000 };
@@ -73,6 +75,7 @@ int main(int count, char **words) {
     long transactions = count > 1 ? atol(words[1]) : 100000;
     threads = count > 2 ? atoi(words[2]) : 0;
     MUST(threads >= 0 && threads <= 64);
+    MUST(mallopt(M_MMAP_MAX, 0) && mallopt(M_TRIM_THRESHOLD, 1 << 30) && mallopt(M_TOP_PAD, 64 << 20));
     share = threads ? transactions / threads : transactions;
     MUST(esr_open(&engine, values, ITEMS) == ESR_DONE);
     times from = now();
