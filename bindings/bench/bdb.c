@@ -52,7 +52,7 @@ int main(int count, char **words) {
     for (long n = 0; n < transactions; n++) {
         MUST(environment->txn_begin(environment, NULL, &txn, 0) == 0);
         for (int pair = 0; pair < PAIRS; pair++) {
-            uint32_t item = (uint32_t)(next(&state) % ITEMS);
+            uint32_t item = next_below(&state, ITEMS);
             set_value(txn, item, value_of(txn, item, DB_RMW) + 1);
         }
         MUST(txn->commit(txn, DB_TXN_NOSYNC) == 0);

@@ -63,7 +63,7 @@ static void *work(void *number) {
     uint64_t state = 88172645463325252u + 7919u * (uintptr_t)number;
     for (long n = 0; n < share; n++) {
         uint32_t txn = begin();
-        for (int pair = 0; pair < PAIRS; pair++) add_one(txn, from + (uint32_t)(next(&state) % span));
+        for (int pair = 0; pair < PAIRS; pair++) add_one(txn, from + next_below(&state, span));
         commit(txn);
     }
     return NULL;

@@ -28,6 +28,11 @@ static inline uint64_t next(uint64_t *state) {
     return *state;
 }
 
+/* The next number of it below a span, without a division. */
+static inline uint32_t next_below(uint64_t *state, uint32_t span) {
+    return (uint32_t)((next(state) >> 32) * span >> 32);
+}
+
 #define MUST(e) \
     do { \
         if (!(e)) { \

@@ -35,7 +35,7 @@ int main(int count, char **words) {
     for (long n = 0; n < transactions; n++) {
         run(begins);
         for (int pair = 0; pair < PAIRS; pair++) {
-            int item = (int)(next(&state) % ITEMS);
+            int item = (int)next_below(&state, ITEMS);
             int64_t value = value_of(reads, item);
             sqlite3_bind_int(writes, 1, item);
             sqlite3_bind_int64(writes, 2, value + 1);

@@ -8,7 +8,9 @@ ghost use Rattle.esr_cli.specs.Job.{request_of, HasWorkers};
 use esr_bundle::{Verdict, judge};
 use esr_cli::{Job, command};
 use esr_drive::{NoGate, drive};
+use esr_explain::explain;
 use esr_history::Watched;
+use esr_picture::picture;
 use esr_script::{audit, certify, certify_steps, run};
 use std::alloc::AllocError;
 use std::fmt::Display;
@@ -69,6 +71,8 @@ fn do_job<R: Input + Print + Eprint + AllocGlobal + Threads + Wait + Sync>(
             Ok(_) => Ok(ExitCode::from(1)),
             Err(fault) => fail(rt, &fault, 1),
         },
+        Job::Explain { name } => ended(rt, explain(alloc, &mut reader, &mut writer, name)),
+        Job::Picture { name } => ended(rt, picture(alloc, &mut reader, &mut writer, name)),
         Job::Audit { workers } => ended(rt, audit(rt, alloc, &mut reader, &mut writer, workers)),
         Job::Drive { workers } => ended(
             rt,

@@ -1,5 +1,6 @@
 mod bundles;
 mod devices;
 mod drives;
+mod pictures;
 mod scripts;
 mod watched;

@@ -16,8 +16,8 @@ use Rattle.esr_cert.specs.declared.problem.Chain.{Chain}
 use Rattle.esr_cert.specs.Views.{chain_of, problem_of}
 use Rattle.esr_cert.specs.Problem.{Problem, is_sound}
 use Rattle.esr_audit.specs.declared.reads.Reading.{Reading}
-use Rattle.esr_audit.specs.Reads.{gathered, items_in, values_in}
-use Rattle.esr_audit.proofs.Versions.{reading_of, versions_are}
+use Rattle.esr_audit.specs.Reads.{gathered, items_in, values_in, reading_of}
+use Rattle.esr_audit.proofs.Versions.{versions_are}
 use Rattle.esr_audit.proofs.Standing.{problem_from}
 use Rattle.esr_audit.proofs.Within.{state_in_range, sound, each_mapped}
 use Rattle.esr_audit.proofs.Readings as readings

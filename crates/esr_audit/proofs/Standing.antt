@@ -22,10 +22,10 @@ use Rattle.esr_cert.proofs.Sound as sound
 use Rattle.esr_audit.specs.declared.reads.Reading.{Reading}
 use Rattle.esr_order.specs.Near.{has_written}
 use Rattle.esr_audit.specs.Problems.{passes_at, places, items_read, writers_of, chain_for, StandsFor}
-use Rattle.esr_audit.specs.Reads.{gathered, items_in}
+use Rattle.esr_audit.specs.Reads.{gathered, items_in, reading_of}
 use Rattle.esr_audit.proofs.Smallest.{passes_here}
 use Rattle.esr_audit.proofs.Positions.{filter_agree, ascending_range}
-use Rattle.esr_audit.proofs.Versions.{reading_of, read_alike, gathered_stands}
+use Rattle.esr_audit.proofs.Versions.{read_alike, gathered_stands}
 
 -- the problem that is gathered from an order
 abbrev pub problem_from : Distance → Schedule → ℕ → Ordered → Problem

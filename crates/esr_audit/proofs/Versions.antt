@@ -11,14 +11,13 @@ use Rattle.esr_history.specs.Operations.{Operation}
 use Rattle.esr_history.specs.Serial.{values_by, state}
 use Rattle.esr_history.specs.Queries.{reads_by}
 use Rattle.esr_history.proofs.LastWriter.{last_value-append, last_value-some}
-use Rattle.esr_order.specs.Chains.{Chain, chain_from, some_chain, if_written, last_of, last_among, chain_among}
+use Rattle.esr_order.specs.Chains.{Chain, chain_from, some_chain, if_written, last_of, last_among, chain_among, writers_in}
 use Rattle.esr_order.specs.Orders.{Ordered, chain_at}
 use Rattle.esr_cert.specs.Problem as problems
 use Rattle.esr_audit.specs.declared.reads.Reading.{Reading}
 use Rattle.esr_order.specs.Near.{has_written}
 use Rattle.esr_audit.specs.Problems.{passes_at, places, writers_of, version_cost, chain_for}
-use Rattle.esr_order.specs.Reach.{writers_in}
-use Rattle.esr_audit.specs.Reads.{values_of, distance_sum, values_in, gathered}
+use Rattle.esr_audit.specs.Reads.{values_of, distance_sum, values_in, gathered, reading_of}
 use Rattle.esr_audit.proofs.Values.{values_none, values_some, writers_leave}
 use Rattle.esr_audit.proofs.Places.{length-places}
 
@@ -124,10 +123,6 @@ written_values c same = at c.writers c.values same
     at [] [] e = refl
     at [] (v ∷ vs) e = absurd (omega (arith, e))
     at (w ∷ ws) vs e = refl
-
--- the readings of a query
-abbrev pub reading_of : Operation → Reading
-reading_of o = record { item = o.item; value = o.value }
 
 sum_of_reads : (D : ℕ → ℤ → ℤ → ℕ) (x : ℕ) (v : ℤ) (os : List Operation) → distance_sum D x (values_of (map reading_of os) x) v ≡ sum_by (λ (o : Operation). cond (eqb o.item x) (D x o.value v) 0) os
 sum_of_reads D x v [] = refl

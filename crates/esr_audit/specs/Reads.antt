@@ -1,26 +1,22 @@
 -- What an auditor gathers: the values that a query read, and their distances from the versions of an item.
-use Rattle.std.specs.Prelude.{ℕ, ℤ, ◌==◌, List, [], ◌∷◌, Option, Some, None, filter, map, sum_by, if◌then◌else◌}
+use Rattle.std.specs.Prelude.{ℕ, ℤ, ◌==◌, List, [], ◌∷◌, Option, Some, None, filter, map, sum_by}
 use Rattle.std.specs.List.{list_any, range_with_len}
 use Rattle.esr_items.specs.Values.{value_at}
-use Rattle.esr_history.specs.declared.event.Event.{Event}
-use Rattle.esr_history.specs.declared.event.Event.TheVariants.{Read}
-use Rattle.esr_history.specs.declared.event.Reply.{Reply}
-use Rattle.esr_history.specs.declared.event.Entry.{Entry}
-use Rattle.esr_history.specs.Events.{is_refusal}
-use Rattle.esr_history.specs.Operations.{answer}
+use Rattle.esr_history.specs.Operations.{Operation}
+use Rattle.esr_order.specs.declared.accesses.Access.{Access}
+use Rattle.esr_order.specs.Chains.{writers_in}
 use Rattle.esr_order.specs.Chains as orders
 use Rattle.esr_order.specs.Orders.{Ordered, chain_at}
-use Rattle.esr_order.specs.Reach.{writers_in}
 use Rattle.esr_cert.specs.Problem.{Chain}
 use Rattle.esr_audit.specs.declared.reads.Reading.{Reading}
 
-abbrev pub read_of : ℕ → Event → Reply → Option Reading
-read_of q (Read t x) reply = if t.0 == q then Some (record { item = x.0; value = answer reply }) else None
-read_of q _ reply = None
+-- a read, as what was read of an item
+abbrev pub reading_of : Operation → Reading
+reading_of o = record { item = o.item; value = o.value }
 
--- what q read in an entry, if that is an accepted read by q
-abbrev pub read_at : ℕ → Entry → Option Reading
-read_at q e = if is_refusal e.reply then None else read_of q e.event e.reply
+-- the same of a read as it is listed
+abbrev pub read_of : Access → Reading
+read_of a = record { item = a.item.0; value = a.value }
 
 -- the values read of item x
 abbrev pub values_of : List Reading → ℕ → List ℤ

@@ -1,9 +1,10 @@
 //! Audits: what is found of the committed queries of a history.
-ghost use Rattle.std.specs.Prelude.{◌≡◌, ◌↔◌, true, false, List, map, All, IfOk, IfErr, IsErrOf, IsTrue};
+ghost use Rattle.std.specs.Prelude.{◌≡◌, ◌↔◌, false, List, map, All, IfOk, IfErr, IsErrOf, IsTrue};
 ghost use Rattle.std.specs.List.{filter_map, slice_get};
 ghost use Rattle.esr_history.specs.declared.event.Entry.{Entry};
 ghost use Rattle.esr_history.specs.Legal.{along};
-ghost use Rattle.esr_history.specs.Machine.{IsLegal};
+ghost use Rattle.esr_history.specs.Machine.{IsLegal, done};
+ghost use Rattle.esr_history.specs.Operations.{commit_order};
 ghost use Rattle.esr_history.specs.Queries.{is_committed_query};
 ghost use Rattle.esr_history.specs.Serial.{IsSerializable, committed_updates};
 ghost use Rattle.esr_history.specs.Totals.{IsWithinLimits};
@@ -61,8 +62,10 @@ fn find<M: Metric>(
     requires near { AreNear history.now.schedule q.0 (map (λ t. t.0) order.commits) }
     requires committed { IsTrue (is_committed_query history.now.schedule q.0) }
     ensures query { IfOk result (λ f. f.query ≡ q) }
-    ensures answer { IfOk result (λ f. IsAnswer M.distance_by history.now.schedule q.0 f.distance f.import (map (λ t. t.0) f.before.items)) }
-    ensures shown { IfOk result (λ f. IsShown M.distance_by history.now.schedule q.0 f.distance (map (λ t. t.0) f.before.items) f.problem (certificate_of f.certificate)) }
+    ensures answer { IfOk result (λ f. IsAnswer M.distance_by history.now.schedule q.0 f.distance f.import
+        (map (λ t. t.0) f.before.items)) }
+    ensures shown { IfOk result (λ f. IsShown M.distance_by history.now.schedule q.0 f.distance
+        (map (λ t. t.0) f.before.items) f.problem (certificate_of f.certificate)) }
     ensures near { IfOk result (λ f. AreNear history.now.schedule q.0 f.problem.updates) }
     ensures err { IfErr result (λ e. e ≡ AuditError.NoMemory) }
 {
@@ -95,48 +98,57 @@ pub fn audit_query<M: Metric>(
     q: TxnId,
 ) -> Result<Finding, AuditError>
     ensures query { IfOk result (λ f. f.query ≡ q) }
-    ensures answer { IfOk result (λ f. IsAnswer M.distance_by history.now.schedule q.0 f.distance f.import (map (λ t. t.0) f.before.items)) }
-    ensures shown { IfOk result (λ f. IsShown M.distance_by history.now.schedule q.0 f.distance (map (λ t. t.0) f.before.items) f.problem (certificate_of f.certificate)) }
+    ensures answer { IfOk result (λ f. IsAnswer M.distance_by history.now.schedule q.0 f.distance f.import
+        (map (λ t. t.0) f.before.items)) }
+    ensures shown { IfOk result (λ f. IsShown M.distance_by history.now.schedule q.0 f.distance
+        (map (λ t. t.0) f.before.items) f.problem (certificate_of f.certificate)) }
     ensures near { IfOk result (λ f. AreNear history.now.schedule q.0 f.problem.updates) }
-    ensures refused { IsErrOf result AuditError.NotACommittedQuery ↔ (is_committed_query history.now.schedule q.0 ≡ false) }
+    ensures refused { IsErrOf result AuditError.NotACommittedQuery
+        ↔ (is_committed_query history.now.schedule q.0 ≡ false) }
     ensures workers { ¬ IsErrOf result AuditError.WorkersOutOfRange }
     ensures stays { IfOk result (λ f. (rest : List Entry) → IsLegal M.distance_by (along history.now.schedule rest)
-        → IsAnswer M.distance_by (along history.now.schedule rest) q.0 f.distance f.import (map (λ t. t.0) f.before.items)) }
+        → IsAnswer M.distance_by (along history.now.schedule rest) q.0 f.distance f.import
+        (map (λ t. t.0) f.before.items)) }
 {
     let _legal = history.log(); // brings the invariant into the proof
     let order = Order::near(alloc, history, q)?;
     find(alloc, history, order, q)
 }
 
-/// What is found of a committed query.
+/// What is found of a committed query, beside the list of all transactions that committed.
 fn find_committed<M: Metric>(
     alloc: Global,
     history: &History<M>,
+    committed: &[TxnId],
     q: TxnId,
 ) -> Result<Finding, AuditError>
-    requires { IsTrue (is_committed_query history.now.schedule q.0) }
+    requires list { map (λ t. t.0) committed.now ≡ commit_order (done history.now.schedule) }
+    requires query { IsTrue (is_committed_query history.now.schedule q.0) }
     ensures query { IfOk result (λ f. f.query ≡ q) }
     ensures finding { IfOk result (IsFinding M.distance_by history.now.schedule) }
     ensures err { IfErr result (λ e. e ≡ AuditError.NoMemory) }
 {
-    let near = Order::near(alloc, history, q)?;
+    let near = Order::near_in(alloc, history, committed, q)?;
     find(alloc, history, near, q)
 }
 
-/// What is found of each of these committed queries.
+/// What is found of each of these committed queries, beside the list of all transactions that
+/// committed.
 fn findings_of<M: Metric>(
     alloc: Global,
     history: &History<M>,
+    committed: &[TxnId],
     queries: &[TxnId],
 ) -> Result<Vec<Finding>, AuditError>
-    requires { All (λ t. IsTrue (is_committed_query history.now.schedule t.0)) queries.now }
+    requires list { map (λ t. t.0) committed.now ≡ commit_order (done history.now.schedule) }
+    requires queries { All (λ t. IsTrue (is_committed_query history.now.schedule t.0)) queries.now }
     ensures queries { IfOk result (λ v. map (λ f. f.query) v.items ≡ queries.now) }
     ensures findings { IfOk result (λ v. All (IsFinding M.distance_by history.now.schedule) v.items) }
     ensures err { IfErr result (λ e. e ≡ AuditError.NoMemory) }
 {
     let mut findings = Vec::new(alloc);
     for q in queries {
-        let finding = find_committed(alloc, history, *q)?;
+        let finding = find_committed(alloc, history, committed, *q)?;
         match findings.push(finding) {
             Ok(()) => {}
             Err(_) => return Err(AuditError::NoMemory),
@@ -148,12 +160,17 @@ fn findings_of<M: Metric>(
 /// The committed updates of a history, and what is found of its committed queries.
 fn book_of<M: Metric>(alloc: Global, history: &History<M>) -> Result<Book, AuditError>
     ensures order { IfOk result (λ b. map (λ t. t.0) b.order.items ≡ committed_updates history.now.schedule) }
-    ensures queries { IfOk result (λ b. map (λ f. f.query.0) b.findings.items ≡ committed_queries history.now.schedule) }
+    ensures queries { IfOk result (λ b. map (λ f. f.query.0) b.findings.items
+        ≡ committed_queries history.now.schedule) }
     ensures findings { IfOk result (λ b. All (IsFinding M.distance_by history.now.schedule) b.findings.items) }
     ensures err { IfErr result (λ e. e ≡ AuditError.NoMemory) }
 {
-    let CommitLists { updates, queries } = commit_lists(alloc, history)?;
-    let findings = findings_of(alloc, history, &queries)?;
+    let CommitLists {
+        all,
+        updates,
+        queries,
+    } = commit_lists(alloc, history)?;
+    let findings = findings_of(alloc, history, &all, &queries)?;
     Ok(Book {
         order: updates,
         findings,
@@ -176,12 +193,15 @@ pub fn audit_history<M: Metric>(alloc: Global, history: &History<M>) -> Result<B
     ensures serializable { IsSerializable history.now.schedule }
     ensures limits { IsWithinLimits M.distance_by history.now.schedule }
     ensures order { IfOk result (λ b. map (λ t. t.0) b.order.items ≡ committed_updates history.now.schedule) }
-    ensures queries { IfOk result (λ b. map (λ f. f.query.0) b.findings.items ≡ committed_queries history.now.schedule) }
+    ensures queries { IfOk result (λ b. map (λ f. f.query.0) b.findings.items
+        ≡ committed_queries history.now.schedule) }
     ensures findings { IfOk result (λ b. All (IsFinding M.distance_by history.now.schedule) b.findings.items) }
-    ensures told { IfOk result (λ b. map told b.findings.items ≡ map (told_of M.distance_by history.now.schedule) (committed_queries history.now.schedule)) }
+    ensures told { IfOk result (λ b. map told b.findings.items
+        ≡ map (told_of M.distance_by history.now.schedule) (committed_queries history.now.schedule)) }
     ensures err { IfErr result (λ e. e ≡ AuditError.NoMemory) }
     ensures stays { IfOk result (λ b. (rest : List Entry) → IsLegal M.distance_by (along history.now.schedule rest)
-        → All (λ f. IsAnswer M.distance_by (along history.now.schedule rest) f.query.0 f.distance f.import (map (λ t. t.0) f.before.items)) b.findings.items) }
+        → All (λ f. IsAnswer M.distance_by (along history.now.schedule rest) f.query.0 f.distance f.import
+        (map (λ t. t.0) f.before.items)) b.findings.items) }
 {
     let _legal = history.log(); // brings the invariant into the proof
     book_of(alloc, history)

@@ -1,13 +1,13 @@
 //! The chains of a query's problem.
-ghost use Rattle.std.specs.Prelude.{◌≡◌, ◌+◌, ◌*◌, ◌<◌, ◌≤◌, ◌^◌, ◌∷◌, ◌++◌, ◌==◌, ℕ, ℤ, List, Some, length, map, filter, All, IfOk, IsTrue, ◌↔◌};
+ghost use Rattle.std.specs.Prelude.{◌≡◌, ◌+◌, ◌*◌, ◌<◌, ◌≤◌, ◌∷◌, ◌==◌, ℕ, Some, length, map, All, IfOk};
 ghost use Rattle.std.specs.List.{list_any};
-ghost use Rattle.esr_items.specs.Values.{IsValue, value_at};
+ghost use Rattle.esr_items.specs.Values.{IsValue};
 ghost use Rattle.esr_order.specs.Chains as orders;
 ghost use Rattle.esr_order.specs.Orders.{chain_at};
 ghost use Rattle.esr_cert.specs.Views.{chain_of as chain_view};
 ghost use Rattle.std.specs.Option.{option_map};
 ghost use Rattle.esr_order.specs.Chains.{seen_links};
-ghost use Rattle.esr_order.specs.Reach.{writers_in};
+ghost use Rattle.esr_order.specs.Chains.{writers_in};
 ghost use Rattle.esr_audit.specs.Reads.{values_of, distance_sum, values_in, gathered, items_in};
 
 use crate::reads::Reading;
@@ -62,7 +62,8 @@ fn costs_of<M: Metric>(
     requires values { All IsValue values.now }
     requires opening { IsValue opening }
     requires versions { All IsValue versions.now }
-    ensures { IfOk result (λ v. v.items ≡ map (distance_sum (M.distance_by (M.weights metric.now)) x.0 values.now) (opening ∷ versions.now)) }
+    ensures { IfOk result (λ v. v.items ≡ map (distance_sum (M.distance_by (M.weights metric.now)) x.0 values.now)
+        (opening ∷ versions.now)) }
 {
     let mut costs = Vec::new(alloc);
     costs.push(distance_to(metric, x, values, opening))?;
@@ -95,7 +96,8 @@ fn chain_of<M: Metric>(
     requires few { length readings.now ≤ 1000 }
     requires readings { All (λ r. IsValue r.value) readings.now }
     requires versions { All IsValue (values_in (chain_at order.now x.0)) }
-    ensures { IfOk result (λ c. chain_view c ≡ gathered (M.distance_by history.now.schedule.weights) history.now.schedule.opening order.now readings.now x.0) }
+    ensures { IfOk result (λ c. chain_view c ≡ gathered
+        (M.distance_by history.now.schedule.weights) history.now.schedule.opening order.now readings.now x.0) }
 {
     let values = values_read(alloc, readings, x.0)?;
     let (writers, versions) = writers_and_values(order.chain(x));
@@ -125,7 +127,10 @@ pub fn chains_of<M: Metric>(
     requires few { length readings.now ≤ 1000 }
     requires readings { All (λ r. IsValue r.value) readings.now }
     requires versions { (x : ℕ) → All IsValue (values_in (chain_at order.now x)) }
-    ensures { IfOk result (λ v. map chain_view v.items ≡ map (gathered (M.distance_by history.now.schedule.weights) history.now.schedule.opening order.now readings.now) (items_in readings.now (length history.now.schedule.opening))) }
+    ensures { IfOk result (λ v. map chain_view v.items
+        ≡ map
+        (gathered (M.distance_by history.now.schedule.weights) history.now.schedule.opening order.now readings.now)
+        (items_in readings.now (length history.now.schedule.opening))) }
 {
     let mut chains = Vec::new(alloc);
     for x in 0..history.items() {

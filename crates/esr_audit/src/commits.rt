@@ -2,6 +2,7 @@
 ghost use Rattle.std.specs.Prelude.{◌≡◌, ◌≤◌, not, filter, map, All, IfOk, IsTrue, vec_len};
 ghost use Rattle.esr_history.specs.Events.{is_query};
 ghost use Rattle.esr_history.specs.Machine.{done};
+ghost use Rattle.esr_history.specs.Operations.{commit_order};
 ghost use Rattle.esr_history.specs.Queries.{is_committed_query};
 ghost use Rattle.esr_history.specs.Serial.{committed_updates};
 ghost use Rattle.esr_audit.specs.Findings.{committed_queries};
@@ -12,9 +13,10 @@ use esr_items::Metric;
 use esr_order::committed;
 use std::alloc::{AllocError, Global};
 
-/// The transactions that committed, each kind in the order of its commits.
+/// The transactions that committed, and those of each kind, in the order of their commits.
 #[derive(Drop)]
 pub struct CommitLists {
+    pub all: Vec<TxnId>,
     pub updates: Vec<TxnId>,
     pub queries: Vec<TxnId>,
 }
@@ -23,32 +25,44 @@ pub struct CommitLists {
 fn lists_among<M: Metric>(
     alloc: Global,
     history: &History<M>,
-    txns: &[TxnId],
+    txns: Vec<TxnId>,
 ) -> Result<CommitLists, AllocError>
-    ensures updates { IfOk result (λ lists. lists.updates.items ≡ filter (λ t. not (is_query (done history.now.schedule) t.0)) txns.now) }
-    ensures queries { IfOk result (λ lists. lists.queries.items ≡ filter (λ t. is_query (done history.now.schedule) t.0) txns.now) }
+    ensures all { IfOk result (λ lists. lists.all.items ≡ txns.items) }
+    ensures updates { IfOk result (λ lists. lists.updates.items
+        ≡ filter (λ t. not (is_query (done history.now.schedule) t.0)) txns.items) }
+    ensures queries { IfOk result (λ lists. lists.queries.items
+        ≡ filter (λ t. is_query (done history.now.schedule) t.0) txns.items) }
 {
     let mut updates = Vec::new(alloc);
     let mut queries = Vec::new(alloc);
-    for t in txns {
+    for t in &txns {
         if is_query(history, *t) {
             queries.push(*t)?;
         } else {
             updates.push(*t)?;
         }
     }
-    Ok(CommitLists { updates, queries })
+    Ok(CommitLists {
+        all: txns,
+        updates,
+        queries,
+    })
 }
 
-/// The committed updates and the committed queries of a history, each in commit order.
+/// The transactions that committed in a history, its committed updates and its committed queries,
+/// each in commit order.
 pub fn commit_lists<M: Metric>(alloc: Global, history: &History<M>) -> Result<CommitLists, NoMemory>
-    ensures updates { IfOk result (λ lists. map (λ t. t.0) lists.updates.items ≡ committed_updates history.now.schedule) }
-    ensures queries { IfOk result (λ lists. map (λ t. t.0) lists.queries.items ≡ committed_queries history.now.schedule) }
-    ensures committed { IfOk result (λ lists. All (λ t. IsTrue (is_committed_query history.now.schedule t.0)) lists.queries.items) }
+    ensures all { IfOk result (λ lists. map (λ t. t.0) lists.all.items ≡ commit_order (done history.now.schedule)) }
+    ensures updates { IfOk result (λ lists. map (λ t. t.0) lists.updates.items
+        ≡ committed_updates history.now.schedule) }
+    ensures queries { IfOk result (λ lists. map (λ t. t.0) lists.queries.items
+        ≡ committed_queries history.now.schedule) }
+    ensures committed { IfOk result (λ lists. All (λ t. IsTrue
+        (is_committed_query history.now.schedule t.0)) lists.queries.items) }
     ensures few { IfOk result (λ lists. vec_len lists.queries ≤ 65535) }
 {
     let _legal = history.log(); // brings the invariant into the proof
     let txns = committed(alloc, history)?;
-    let lists = lists_among(alloc, history, &txns)?;
+    let lists = lists_among(alloc, history, txns)?;
     Ok(lists)
 }

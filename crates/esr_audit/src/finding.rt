@@ -4,6 +4,7 @@ use esr_cert::{Certificate, Problem};
 use esr_history::{NoMemory, TxnId};
 use esr_order::OrderError;
 use std::alloc::AllocError;
+use thiserror::Error;
 
 /// What an audit finds of a committed query.
 ///
@@ -36,13 +37,16 @@ pub struct Book {
 }
 
 /// Why an audit gives no answer.
-#[derive(Clone, Copy, PartialEq, Eq, Debug)]
+#[derive(Clone, Copy, PartialEq, Eq, Debug, Error)]
 pub enum AuditError {
     /// The transaction is no query, or has not committed.
+    #[error("not a committed query")]
     NotACommittedQuery = 1,
     /// Memory was refused.
+    #[error("out of memory")]
     NoMemory = 2,
     /// An audit has 1 to 64 workers.
+    #[error("workers out of range")]
     WorkersOutOfRange = 3,
 }
 

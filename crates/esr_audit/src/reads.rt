@@ -1,14 +1,13 @@
 //! What a query read.
-ghost use Rattle.std.specs.Prelude.{◌≡◌, IfOk, reverse};
-ghost use Rattle.std.specs.List.{filter_map, slice_get};
+ghost use Rattle.std.specs.Prelude.{◌≡◌, not, filter, map, IfOk};
 ghost use Rattle.esr_history.specs.Events.{is_query};
 ghost use Rattle.esr_history.specs.Machine.{done};
-ghost use Rattle.esr_history.specs.Operations.{answer};
-ghost use Rattle.esr_audit.specs.Reads.{read_at};
+ghost use Rattle.esr_history.specs.Queries.{reads_by};
+ghost use Rattle.esr_audit.specs.Reads.{read_of, reading_of};
 
-use esr_history::{Entry, Event, History, Log, Reply, TxnId};
+use esr_history::{History, TxnId};
 use esr_items::Metric;
-use esr_order::places_of_txn;
+use esr_order::{Access, accesses_of};
 use std::alloc::{AllocError, Global};
 
 /// A value that was read of an item.
@@ -18,59 +17,30 @@ pub struct Reading {
     pub value: i64,
 }
 
-fn answered(reply: Reply) -> i64
-    ensures { result ≡ answer reply }
+/// The reads among these accesses.
+fn readings_among(alloc: Global, accesses: &[Access]) -> Result<Vec<Reading>, AllocError>
+    ensures { IfOk result (λ v. v.items ≡ map read_of (filter (λ a. not a.writes) accesses.now)) }
 {
-    match reply {
-        Reply::Value(value) => value,
-        _ => 0,
-    }
-}
-
-/// What the query read in an entry, if that is an accepted read by it.
-fn reading_in(entry: Entry, q: TxnId) -> Option<Reading>
-    ensures { result ≡ read_at q.0 entry }
-{
-    if entry.is_refused() {
-        return None;
-    }
-    match entry.event {
-        Event::Read { txn, item } => {
-            if txn.0 == q.0 {
-                Some(Reading {
-                    item: item.0,
-                    value: answered(entry.reply),
-                })
-            } else {
-                None
-            }
-        }
-        _ => None,
-    }
-}
-
-/// What the query read in the entries at these places, the last first.
-fn readings_at(alloc: Global, log: &Log, at: &[u64], q: TxnId) -> Result<Vec<Reading>, AllocError>
-    ensures { IfOk result (λ v. v.items ≡ filter_map (read_at q.0) (filter_map (slice_get log.now.entries) (reverse at.now))) }
-{
-    at.iter()
-        .rev()
-        .filter_map(|i| log.get(*i as usize))
-        .filter_map(|entry| reading_in(entry, q))
+    accesses
+        .iter()
+        .filter(|a| !a.writes)
+        .map(|a| Reading {
+            item: a.item.0,
+            value: a.value,
+        })
         .collect(alloc)
 }
 
-/// What the query read, in order. It goes along the links of the query.
+/// What the query read, in order.
 pub fn readings<M: Metric>(
     alloc: Global,
     history: &History<M>,
     q: TxnId,
 ) -> Result<Vec<Reading>, AllocError>
-    ensures { IfOk result (λ v. v.items ≡ filter_map (read_at q.0) history.now.schedule.entries) }
+    ensures { IfOk result (λ v. v.items ≡ map reading_of (reads_by history.now.schedule q.0)) }
 {
-    let at = places_of_txn(alloc, history, q)?;
-    let readings = readings_at(alloc, history.log(), &at, q)?;
-    Ok(readings)
+    let accesses = accesses_of(alloc, history, q)?;
+    readings_among(alloc, &accesses)
 }
 
 /// Whether the transaction is a query.

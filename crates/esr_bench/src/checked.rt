@@ -2,7 +2,7 @@
 //!
 //! Each update comes before the next four. There are six chains of 99 writers for each hundred updates, each a run of
 //! neighbours, and all costs of a chain are the same. So the flow that fills each chain is worth what every set costs.
-ghost use Rattle.std.specs.Prelude.{◌≡◌, ◌≤◌, ◌<◌};
+ghost use Rattle.std.specs.Prelude.{◌≤◌, ◌<◌};
 
 use esr_cert::{BundleFault, Certificate, Chain, Problem};
 use esr_history::TxnId;

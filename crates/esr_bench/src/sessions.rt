@@ -1,7 +1,7 @@
 //! Measures the calls of sessions on one engine, beside the steps of a machine that one thread has
 //! for itself.
 
-ghost use Rattle.std.specs.Prelude.{◌≡◌, ◌≤◌, ◌<◌, [], map};
+ghost use Rattle.std.specs.Prelude.{◌≡◌, ◌<◌, [], map};
 
 use anyhow::{Result, anyhow};
 use esr_core::Machine;

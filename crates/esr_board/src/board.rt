@@ -1,11 +1,12 @@
 //! The board and its seats.
-ghost use Rattle.std.specs.Prelude.{◌≡◌, ◌+◌, ◌≤◌, [], length, nat_eq};
+ghost use Rattle.std.specs.Prelude.{◌≡◌, ◌≤◌, [], length, nat_eq};
 ghost use Rattle.esr_board.specs.Claims.{passes_of};
 
 use crate::hand::{Hand, Plan};
 use crate::rule::Fair;
 use atomic_table::{Seat, Table};
 use std::alloc::Global;
+use thiserror::Error;
 
 mod calls;
 
@@ -42,16 +43,20 @@ pub struct BoardSeat {
 }
 
 /// Why a board was not made.
-#[derive(Clone, Copy, PartialEq, Eq, Debug)]
+#[derive(Clone, Copy, PartialEq, Eq, Debug, Error)]
 pub enum BoardError {
     /// A board has at most 65,535 jobs.
+    #[error("more than 65,535 jobs")]
     TooManyJobs = 1,
     /// A board has 1 to 64 seats.
+    #[error("seats out of range")]
     SeatsOutOfRange = 2,
     /// Out of memory.
+    #[error("out of memory")]
     NoMemory = 3,
 }
 
 /// A seat that drew a number was not given back.
-#[derive(Clone, Copy, PartialEq, Eq, Debug)]
+#[derive(Clone, Copy, PartialEq, Eq, Debug, Error)]
+#[error("a seat was not given back")]
 pub struct ClaimsMissing;

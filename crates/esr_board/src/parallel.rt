@@ -48,13 +48,15 @@ fn shares<M: Metric + Sync, R: Threads + Sync, G: Gate + Sync>(
 ) -> Result<Vec<Worked>, AllocError>
     requires seats { All (λ s. IsSeatOf board.now s × (drawn s ≡ [])) seats.items }
     requires jobs { (length jobs.now ≡ jobs_of board.now) × AreCommitted history.now.schedule jobs.now }
-    ensures { IfOk result (λ v. (vec_len v ≡ vec_len seats) × All (IsWorked M.distance_by history.now.schedule jobs.now board.now) v.items) }
+    ensures { IfOk result (λ v. (vec_len v ≡ vec_len seats)
+        × All (IsWorked M.distance_by history.now.schedule jobs.now board.now) v.items) }
 {
     thread::map_vec(
         rt,
         seats,
         &|seat: BoardSeat| -> Worked
-            requires { IsSeatOf board.now seat × (drawn seat ≡ []) × (length jobs.now ≡ jobs_of board.now) × AreCommitted history.now.schedule jobs.now }
+            requires { IsSeatOf board.now seat × (drawn seat ≡ []) × (length jobs.now ≡ jobs_of board.now)
+                × AreCommitted history.now.schedule jobs.now }
             ensures { IsWorked M.distance_by history.entry.now.schedule jobs.entry.now board.entry.now result }
         { worked(alloc, history, jobs, board, seat, gate) },
     )
@@ -88,9 +90,12 @@ fn gather<M: Metric>(
 ) -> Result<Gathered, AuditError>
     requires all { All (IsWorked M.distance_by history.now.schedule jobs.now board.now) all.items }
     requires len { length jobs.now ≡ jobs_of board.now }
-    ensures seats { IfOk result (λ g. (vec_len g.seats ≡ vec_len all) × All (λ s. IsSeatOf board.now s × (0 < count_past (jobs_of board.now) (drawn s))) g.seats.items) }
-    ensures slots { IfOk result (λ g. (vec_len g.slots ≡ length jobs.now) × AreRight M.distance_by history.now.schedule jobs.now g.slots.items) }
-    ensures filled { IfOk result (λ g. (k : ℕ) → k < jobs_of board.now → 0 < times k (all_drawn g.seats.items) → IsFilled g.slots.items k) }
+    ensures seats { IfOk result (λ g. (vec_len g.seats ≡ vec_len all)
+        × All (λ s. IsSeatOf board.now s × (0 < count_past (jobs_of board.now) (drawn s))) g.seats.items) }
+    ensures slots { IfOk result (λ g. (vec_len g.slots ≡ length jobs.now)
+        × AreRight M.distance_by history.now.schedule jobs.now g.slots.items) }
+    ensures filled { IfOk result (λ g. (k : ℕ) → k < jobs_of board.now → 0 < times k (all_drawn g.seats.items)
+        → IsFilled g.slots.items k) }
     ensures err { IfErr result (λ e. e ≡ AuditError.NoMemory) }
 {
     let Ok(mut slots) = vacant(alloc, jobs.len()) else {
@@ -186,16 +191,25 @@ pub fn audit_parallel<M: Metric + Sync, R: Threads + Sync, G: Gate + Sync>(
     gate: &G,
 ) -> Result<Book, AuditError>
     ensures order { IfOk result (λ b. map (λ t. t.0) b.order.items ≡ committed_updates history.now.schedule) }
-    ensures queries { IfOk result (λ b. map (λ f. f.query.0) b.findings.items ≡ committed_queries history.now.schedule) }
+    ensures queries { IfOk result (λ b. map (λ f. f.query.0) b.findings.items
+        ≡ committed_queries history.now.schedule) }
     ensures findings { IfOk result (λ b. All (IsFinding M.distance_by history.now.schedule) b.findings.items) }
-    ensures told { IfOk result (λ b. map told b.findings.items ≡ map (told_of M.distance_by history.now.schedule) (committed_queries history.now.schedule)) }
+    ensures told { IfOk result (λ b. map told b.findings.items
+        ≡ map (told_of M.distance_by history.now.schedule) (committed_queries history.now.schedule)) }
     ensures workers { (result ≡ Err AuditError.WorkersOutOfRange) ↔ ((workers ≡ 0) ⊎ (64 < workers)) }
     ensures err { IfErr result (λ e. (e ≡ AuditError.NoMemory) ⊎ (e ≡ AuditError.WorkersOutOfRange)) }
 {
     if workers == 0 || workers > MOST_SEATS {
         return Err(AuditError::WorkersOutOfRange);
     }
-    let Ok(CommitLists { updates, queries }) = commit_lists(alloc, history) else {
+    let Ok(
+        CommitLists {
+            all: _,
+            updates,
+            queries,
+        },
+    ) = commit_lists(alloc, history)
+    else {
         return Err(AuditError::NoMemory);
     };
     match findings_by(rt, alloc, history, &queries, workers, gate) {

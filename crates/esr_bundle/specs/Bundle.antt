@@ -1,5 +1,5 @@
 -- Bundles: the tree of a problem with its certificate, its text, and what a tree stands for.
-use Rattle.std.specs.Prelude.{◌≡◌, ℕ, ◌+◌, List, [], ◌∷◌, map, Bool, ◌&&◌, nat_le, codes, if◌then◌else◌, Option, Some, None, option_and_then, Result, Ok, Err}
+use Rattle.std.specs.Prelude.{ℕ, ◌+◌, List, [], ◌∷◌, map, Bool, ◌&&◌, nat_le, codes, if◌then◌else◌, Option, Some, None, option_and_then, Result, Ok, Err}
 use Rattle.std.specs.List.{list_all}
 use Rattle.serde_json.specs.Data.{Data, number, unsigned, array, object, Members, no_members, member}
 use Rattle.serde_json.specs.View.{items_of}
@@ -38,14 +38,20 @@ chain_data chain = object (
 abbrev pub chains_data : List Chain → Data
 chains_data chains = array (items_of (map chain_data chains))
 
--- an empty list is not written
+-- an empty list is not written, nor a number that there is not; the others by what joins a member to the rest
+abbrev pub list_by : (List ℕ → Data → Members → Members) → List ℕ → List ℕ → Members → Members
+list_by join key [] rest = rest
+list_by join key (n ∷ ns) rest = join key (numbers_data (n ∷ ns)) rest
+
+abbrev pub number_by : (List ℕ → Data → Members → Members) → List ℕ → Option ℕ → Members → Members
+number_by join key None rest = rest
+number_by join key (Some n) rest = join key (number_data n) rest
+
 abbrev pub list_member : List ℕ → List ℕ → Members → Members
-list_member key [] rest = rest
-list_member key (n ∷ ns) rest = member key (numbers_data (n ∷ ns)) rest
+list_member key ns rest = list_by member key ns rest
 
 abbrev pub number_member : List ℕ → Option ℕ → Members → Members
-number_member key None rest = rest
-number_member key (Some n) rest = member key (number_data n) rest
+number_member key n rest = number_by member key n rest
 
 abbrev pub problem_data : Problem → Data
 problem_data p = object (

@@ -1,6 +1,7 @@
 -- The verdict on the bytes of a bundle, the line that is written for it, and how a judgement ends.
 use Rattle.std.specs.Prelude.{◌≡◌, ℕ, ◌<◌, ◌≤◌, List, [], ◌∷◌, ◌++◌, length, codes, decimal, Bool, true, false, Option, Some, None, Result, Ok, Err}
 use Rattle.std.specs.Io.KnownBytes.{Consumes}
+use Rattle.esr_history.specs.Watch.{BeginsWith}
 use Rattle.esr_cert.specs.Problem.{Problem}
 use Rattle.esr_cert.specs.Certificate.{Certificate, fault}
 use Rattle.esr_cert.specs.Faults.{fault_number, bundle_fault_number}
@@ -37,10 +38,6 @@ verdict_line (Bad fault) = codes "bad " ++ decimal fault ++ 10 ∷ []
 abbrev pub max_bytes : ℕ
 max_bytes = 64000000
 
--- the second is a prefix of the whole
-abbrev pub BeginsWith : List ℕ → List ℕ → Type 0
-BeginsWith whole start = (rest : List ℕ) × (whole ≡ start ++ rest)
-
 -- A judgement that was given the input, left these bytes of it and ended so wrote this.
 abbrev pub IsJudgedBy : List ℕ → Option (List ℕ) → Result Verdict JudgeFault → List ℕ → Type 0
 -- the input was read to its end, and the line of its verdict was written
@@ -53,15 +50,9 @@ IsJudgedBy input left (Err ends.NoMemory) written = written ≡ []
 
 -- whether a read failed, and whether a write did
 abbrev pub is_read_fault : {T : Type 0} → Result T JudgeFault → Bool
-is_read_fault (Ok done) = false
 is_read_fault (Err ends.Read) = true
-is_read_fault (Err ends.Write) = false
-is_read_fault (Err ends.TooLong) = false
-is_read_fault (Err ends.NoMemory) = false
+is_read_fault _ = false
 
 abbrev pub is_write_fault : {T : Type 0} → Result T JudgeFault → Bool
-is_write_fault (Ok done) = false
-is_write_fault (Err ends.Read) = false
 is_write_fault (Err ends.Write) = true
-is_write_fault (Err ends.TooLong) = false
-is_write_fault (Err ends.NoMemory) = false
+is_write_fault _ = false

@@ -1,7 +1,7 @@
 //! Fields of a JSON tree: numbers and lists of them, and the members of an object.
-ghost use Rattle.std.specs.Prelude.{◌≡◌, ◌≢◌, ◌++◌, ◌≤◌, Some, None, IfOk, IfErr, map, option_map};
+ghost use Rattle.std.specs.Prelude.{◌≡◌, ◌≢◌, ◌≤◌, Some, None, IfOk, IfErr, map};
 ghost use Rattle.serde_json.specs.Find.{get};
-ghost use Rattle.serde_json.specs.View.{view, items_view};
+ghost use Rattle.serde_json.specs.View.{view};
 ghost use Rattle.esr_bundle.specs.Fields.{number_of, numbers_of, pair_of, pairs_of, rows_of, has_keys, one_if, field, numbers_if, number_if};
 
 use esr_cert::BundleFault;
@@ -11,7 +11,8 @@ use std::alloc::Global;
 /// A list of numbers.
 pub fn numbers(alloc: Global, value: &Value) -> Result<Vec<u64>, BundleFault>
     ensures ok { IfOk result (λ v. numbers_of (view value.now) ≡ Some v.items) }
-    ensures err { IfErr result (λ e. e ≢ BundleFault.NoMemory → (e ≡ BundleFault.Shape) × (numbers_of (view value.now) ≡ None)) }
+    ensures err { IfErr result (λ e. e ≢ BundleFault.NoMemory → (e ≡ BundleFault.Shape)
+        × (numbers_of (view value.now) ≡ None)) }
 {
     let Some(items) = value.as_array() else {
         return Err(BundleFault::Shape);
@@ -41,7 +42,8 @@ fn pair(value: &Value) -> Option<(u64, u64)>
 /// A list of pairs of numbers.
 pub fn pairs(alloc: Global, value: &Value) -> Result<Vec<(u64, u64)>, BundleFault>
     ensures ok { IfOk result (λ v. pairs_of (view value.now) ≡ Some v.items) }
-    ensures err { IfErr result (λ e. e ≢ BundleFault.NoMemory → (e ≡ BundleFault.Shape) × (pairs_of (view value.now) ≡ None)) }
+    ensures err { IfErr result (λ e. e ≢ BundleFault.NoMemory → (e ≡ BundleFault.Shape)
+        × (pairs_of (view value.now) ≡ None)) }
 {
     let Some(items) = value.as_array() else {
         return Err(BundleFault::Shape);
@@ -61,7 +63,8 @@ pub fn pairs(alloc: Global, value: &Value) -> Result<Vec<(u64, u64)>, BundleFaul
 /// A list of lists of numbers.
 pub fn rows(alloc: Global, value: &Value) -> Result<Vec<Vec<u64>>, BundleFault>
     ensures ok { IfOk result (λ v. rows_of (view value.now) ≡ Some (map (λ r. r.items) v.items)) }
-    ensures err { IfErr result (λ e. e ≢ BundleFault.NoMemory → (e ≡ BundleFault.Shape) × (rows_of (view value.now) ≡ None)) }
+    ensures err { IfErr result (λ e. e ≢ BundleFault.NoMemory → (e ≡ BundleFault.Shape)
+        × (rows_of (view value.now) ≡ None)) }
 {
     let Some(items) = value.as_array() else {
         return Err(BundleFault::Shape);
@@ -125,7 +128,8 @@ pub fn number_at(value: &Value, key: &str) -> Result<u64, BundleFault>
 /// The list of numbers at a key.
 pub fn numbers_at(alloc: Global, value: &Value, key: &str) -> Result<Vec<u64>, BundleFault>
     ensures ok { IfOk result (λ v. field numbers_of key.now (view value.now) ≡ Some v.items) }
-    ensures err { IfErr result (λ e. e ≢ BundleFault.NoMemory → (e ≡ BundleFault.Shape) × (field numbers_of key.now (view value.now) ≡ None)) }
+    ensures err { IfErr result (λ e. e ≢ BundleFault.NoMemory → (e ≡ BundleFault.Shape)
+        × (field numbers_of key.now (view value.now) ≡ None)) }
 {
     let Some(found) = value.get(key) else {
         return Err(BundleFault::Shape);
@@ -136,7 +140,8 @@ pub fn numbers_at(alloc: Global, value: &Value, key: &str) -> Result<Vec<u64>, B
 /// The list of numbers at a key, and no numbers where there is no such key.
 pub fn numbers_if(alloc: Global, value: &Value, key: &str) -> Result<Vec<u64>, BundleFault>
     ensures ok { IfOk result (λ v. numbers_if (get key.now (view value.now)) ≡ Some v.items) }
-    ensures err { IfErr result (λ e. e ≢ BundleFault.NoMemory → (e ≡ BundleFault.Shape) × (numbers_if (get key.now (view value.now)) ≡ None)) }
+    ensures err { IfErr result (λ e. e ≢ BundleFault.NoMemory → (e ≡ BundleFault.Shape)
+        × (numbers_if (get key.now (view value.now)) ≡ None)) }
 {
     match value.get(key) {
         Some(found) => numbers(alloc, found),

@@ -1,6 +1,6 @@
 //! The judgement of a bundle: bytes in, one line out.
-ghost use Rattle.std.specs.Prelude.{◌≡◌, ◌≢◌, ◌⊎◌, ◌↔◌, ◌||◌, ◌+◌, ◌++◌, ◌≤◌, ◌<◌, ℕ, List, [], IsOk, IfOk, IfErr, OnOk, IfSome, IsErrOf, IsTrue, true, false, take, length, Some};
-ghost use Rattle.std.specs.Io.KnownBytes.{Appends, Consumes, IsAtEnd, Keeps};
+ghost use Rattle.std.specs.Prelude.{◌≡◌, ◌≢◌, ◌⊎◌, ◌||◌, ◌+◌, ◌++◌, ◌≤◌, ◌<◌, ℕ, List, IsOk, IfOk, IfErr, IsErrOf, false, length, Some};
+ghost use Rattle.std.specs.Io.KnownBytes.{Appends, Consumes, IsAtEnd};
 ghost use Rattle.esr_history.specs.Watch.{inner, failed};
 ghost use Rattle.esr_cert.specs.Faults.{bundle_fault_number};
 ghost use Rattle.esr_bundle.specs.Judge.{IsVerdictOf, IsJudgedBy, verdict_line, max_bytes, is_read_fault, is_write_fault};
@@ -79,7 +79,8 @@ fn read_all<R: Read>(alloc: Global, reader: &mut Watched<R>) -> Result<Vec<u8>, 
     ensures ok { IfOk result (λ v. Consumes (R.remaining (inner reader.old)) (R.remaining (inner reader.new)) v.items
         × IsAtEnd (R.remaining (inner reader.new)) × (length v.items ≤ max_bytes)) }
     ensures long { IsErrOf result JudgeFault.TooLong → (taken : List ℕ)
-        × Consumes (R.remaining (inner reader.old)) (R.remaining (inner reader.new)) taken × (max_bytes < length taken) }
+        × Consumes (R.remaining (inner reader.old)) (R.remaining (inner reader.new)) taken
+        × (max_bytes < length taken) }
     ensures failed { failed reader.new ≡ (failed reader.old || is_read_fault result) }
     ensures write { is_write_fault result ≡ false }
 {
@@ -142,40 +143,6 @@ fn verdict_line(alloc: Global, verdict: Verdict) -> Result<Vec<u8>, AllocError>
     Ok(line)
 }
 
-/// Writes the bytes, and gives how many were taken: all of them, or those before a failure.
-fn send<W: Write>(bytes: &[u8], writer: &mut Watched<W>) -> (usize, Result<(), JudgeFault>)
-    ensures bound { result.0 ≤ length bytes.now }
-    ensures taken { Appends (W.contents (inner writer.old)) (W.contents (inner writer.new)) (take result.0 bytes.now) }
-    ensures ok { OnOk result.1 (result.0 ≡ length bytes.now) }
-    ensures faults { IfErr result.1 (λ e. e ≡ JudgeFault.Write) }
-    ensures failed { failed writer.new ≡ (failed writer.old || is_write_fault result.1) }
-{
-    let mut sent = 0;
-    while sent < bytes.len() {
-        match writer.write(&bytes[sent..]) {
-            Ok(0) | Err(_) => return (sent, Err(JudgeFault::Write)),
-            Ok(count) => sent += count,
-        }
-    }
-    (sent, Ok(()))
-}
-
-/// Writes all of the bytes and flushes.
-fn send_all<W: Write>(bytes: &[u8], writer: &mut Watched<W>) -> Result<(), JudgeFault>
-    ensures sent { (n : ℕ) × Appends (W.contents (inner writer.old)) (W.contents (inner writer.new)) (take n bytes.now) × OnOk result (n ≡ length bytes.now) }
-    ensures faults { IfErr result (λ e. e ≡ JudgeFault.Write) }
-    ensures failed { failed writer.new ≡ (failed writer.old || is_write_fault result) }
-{
-    let (_, result) = send(bytes, writer);
-    if let Err(fault) = result {
-        return Err(fault);
-    }
-    if writer.flush().is_err() {
-        return Err(JudgeFault::Write);
-    }
-    Ok(())
-}
-
 /// Reads a bundle to its end and writes one line: `valid W` where the certificate shows that W is the least cost,
 /// `invalid K` with the number of its first fault, or `bad K` with the number of the bundle's fault.
 ///
@@ -206,8 +173,8 @@ pub fn judge<R: Read, W: Write>(
     let Ok(line) = verdict_line(alloc, verdict) else {
         return Err(JudgeFault::NoMemory);
     };
-    if let Err(fault) = send_all(&line, writer) {
-        return Err(fault);
+    match writer.send_all(&line) {
+        Ok(()) => Ok(verdict),
+        Err(_) => Err(JudgeFault::Write),
     }
-    Ok(verdict)
 }

@@ -5,7 +5,6 @@ mod draft;
 mod fields;
 mod judging;
 mod reading;
-mod shape;
 mod sound;
 mod writing;
 

@@ -1,23 +1,25 @@
 //! From bytes to a problem and a certificate.
-ghost use Rattle.std.specs.Prelude.{◌≡◌, ◌≢◌, ◌++◌, Some, None, IfOk, IfErr, map};
+ghost use Rattle.std.specs.Prelude.{◌≡◌, ◌≢◌, Some, None, IfOk, IfErr, map};
 ghost use Rattle.serde_json.specs.View.{view};
 ghost use Rattle.esr_bundle.specs.Fields.{list_of};
 ghost use Rattle.esr_bundle.specs.Bundle.{chain_of, problem_of, certificate_of, parts_of};
-ghost use Rattle.esr_bundle.specs.Drafts.{drafted_chain, drafted_problem, drafted_certificate};
+ghost use Rattle.esr_cert.specs.Drafts.{drafted_chain, drafted_problem};
+ghost use Rattle.esr_bundle.specs.Drafts.{drafted_certificate};
 ghost use Rattle.esr_bundle.specs.Reading.{IsTree, HasNoTree, IsReadingOf};
 
-use crate::draft::{CertificateDraft, ChainDraft, ProblemDraft};
+use crate::draft::CertificateDraft;
 use crate::fields::{
     at, has_keys, number_at, number_if, numbers_at, numbers_if, one_if, pairs, rows,
 };
 use crate::sound::finished;
-use esr_cert::{BundleFault, Certificate, Problem};
+use esr_cert::{BundleFault, Certificate, ChainDraft, Problem, ProblemDraft};
 use serde_json::Value;
 use std::alloc::Global;
 
 fn chain(alloc: Global, value: &Value) -> Result<ChainDraft, BundleFault>
     ensures ok { IfOk result (λ k. chain_of (view value.now) ≡ Some (drafted_chain k)) }
-    ensures err { IfErr result (λ e. e ≢ BundleFault.NoMemory → (e ≡ BundleFault.Shape) × (chain_of (view value.now) ≡ None)) }
+    ensures err { IfErr result (λ e. e ≢ BundleFault.NoMemory → (e ≡ BundleFault.Shape)
+        × (chain_of (view value.now) ≡ None)) }
 {
     if !has_keys(value, 3) {
         return Err(BundleFault::Shape);
@@ -34,7 +36,8 @@ fn chain(alloc: Global, value: &Value) -> Result<ChainDraft, BundleFault>
 
 fn chains(alloc: Global, value: &Value) -> Result<Vec<ChainDraft>, BundleFault>
     ensures ok { IfOk result (λ v. list_of chain_of (view value.now) ≡ Some (map drafted_chain v.items)) }
-    ensures err { IfErr result (λ e. e ≢ BundleFault.NoMemory → (e ≡ BundleFault.Shape) × (list_of chain_of (view value.now) ≡ None)) }
+    ensures err { IfErr result (λ e. e ≢ BundleFault.NoMemory → (e ≡ BundleFault.Shape)
+        × (list_of chain_of (view value.now) ≡ None)) }
 {
     let Some(items) = value.as_array() else {
         return Err(BundleFault::Shape);
@@ -51,7 +54,8 @@ fn chains(alloc: Global, value: &Value) -> Result<Vec<ChainDraft>, BundleFault>
 
 fn problem(alloc: Global, value: &Value) -> Result<ProblemDraft, BundleFault>
     ensures ok { IfOk result (λ p. problem_of (view value.now) ≡ Some (drafted_problem p)) }
-    ensures err { IfErr result (λ e. e ≢ BundleFault.NoMemory → (e ≡ BundleFault.Shape) × (problem_of (view value.now) ≡ None)) }
+    ensures err { IfErr result (λ e. e ≢ BundleFault.NoMemory → (e ≡ BundleFault.Shape)
+        × (problem_of (view value.now) ≡ None)) }
 {
     if !has_keys(value, 3 + one_if(value, "must")) {
         return Err(BundleFault::Shape);
@@ -70,7 +74,8 @@ fn problem(alloc: Global, value: &Value) -> Result<ProblemDraft, BundleFault>
 
 fn certificate(alloc: Global, value: &Value) -> Result<CertificateDraft, BundleFault>
     ensures ok { IfOk result (λ c. certificate_of (view value.now) ≡ Some (drafted_certificate c)) }
-    ensures err { IfErr result (λ e. e ≢ BundleFault.NoMemory → (e ≡ BundleFault.Shape) × (certificate_of (view value.now) ≡ None)) }
+    ensures err { IfErr result (λ e. e ≢ BundleFault.NoMemory → (e ≡ BundleFault.Shape)
+        × (certificate_of (view value.now) ≡ None)) }
 {
     if !has_keys(
         value,
@@ -97,7 +102,8 @@ fn certificate(alloc: Global, value: &Value) -> Result<CertificateDraft, BundleF
 /// The numbers of a bundle.
 fn parts(alloc: Global, value: &Value) -> Result<(ProblemDraft, CertificateDraft), BundleFault>
     ensures ok { IfOk result (λ b. parts_of (view value.now) ≡ Some (drafted_problem b.0, drafted_certificate b.1)) }
-    ensures err { IfErr result (λ e. e ≢ BundleFault.NoMemory → (e ≡ BundleFault.Shape) × (parts_of (view value.now) ≡ None)) }
+    ensures err { IfErr result (λ e. e ≢ BundleFault.NoMemory → (e ≡ BundleFault.Shape)
+        × (parts_of (view value.now) ≡ None)) }
 {
     if !has_keys(value, 2) {
         return Err(BundleFault::Shape);

@@ -1,14 +1,14 @@
 //! From drafts to a problem and a certificate.
-ghost use Rattle.std.specs.Prelude.{◌≡◌, ◌≢◌, ℕ, List, map, true, false, Some, None, Ok, Err, IsOk, IfOk, IfErr};
+ghost use Rattle.std.specs.Prelude.{◌≡◌, ◌≢◌, map, true, false, Some, None, Ok, Err, IsOk, IfOk, IfErr};
 ghost use Rattle.std.specs.List.{list_all};
 ghost use Rattle.esr_cert.specs.Faults.{problem_fault};
 ghost use Rattle.esr_cert.specs.Views as views;
 ghost use Rattle.esr_bundle.specs.Bundle.{is_position, is_pair_of_positions, is_chain_of_positions, judged};
-ghost use Rattle.esr_bundle.specs.Drafts.{drafted_chain, drafted_problem, drafted_certificate};
+ghost use Rattle.esr_cert.specs.Drafts.{drafted_chain, drafted_problem};
+ghost use Rattle.esr_bundle.specs.Drafts.{drafted_certificate};
 
-use crate::draft::{CertificateDraft, ChainDraft, ProblemDraft};
-use crate::shape::has_shape;
-use esr_cert::{BundleFault, Certificate, Chain, Problem};
+use crate::draft::CertificateDraft;
+use esr_cert::{BundleFault, Certificate, Chain, ChainDraft, Problem, ProblemDraft, has_shape};
 use esr_history::TxnId;
 use esr_items::ItemId;
 use std::alloc::Global;
@@ -29,7 +29,8 @@ fn position(number: u64) -> Result<u32, BundleFault>
 fn positions(alloc: Global, numbers: &[u64]) -> Result<Vec<u32>, BundleFault>
     ensures ok { IfOk result (λ v. v.items ≡ numbers.now) }
     ensures fits { IsOk result → list_all is_position numbers.now ≡ true }
-    ensures err { IfErr result (λ e. e ≢ BundleFault.NoMemory → (e ≡ BundleFault.Range) × (list_all is_position numbers.now ≡ false)) }
+    ensures err { IfErr result (λ e. e ≢ BundleFault.NoMemory → (e ≡ BundleFault.Range)
+        × (list_all is_position numbers.now ≡ false)) }
 {
     let mut found = Vec::with_capacity(alloc, numbers.len())?;
     for number in numbers {
@@ -43,7 +44,8 @@ fn positions(alloc: Global, numbers: &[u64]) -> Result<Vec<u32>, BundleFault>
 
 fn transactions(alloc: Global, numbers: &[u64]) -> Result<Vec<TxnId>, BundleFault>
     ensures ok { IfOk result (λ v. map (λ t. t.0) v.items ≡ numbers.now) }
-    ensures err { IfErr result (λ e. e ≢ BundleFault.NoMemory → (e ≡ BundleFault.Range) × (list_all is_position numbers.now ≡ false)) }
+    ensures err { IfErr result (λ e. e ≢ BundleFault.NoMemory → (e ≡ BundleFault.Range)
+        × (list_all is_position numbers.now ≡ false)) }
 {
     let mut found = Vec::with_capacity(alloc, numbers.len())?;
     for number in numbers {
@@ -57,7 +59,8 @@ fn transactions(alloc: Global, numbers: &[u64]) -> Result<Vec<TxnId>, BundleFaul
 
 fn pairs(alloc: Global, draft: &[(u64, u64)]) -> Result<Vec<(u32, u32)>, BundleFault>
     ensures ok { IfOk result (λ v. v.items ≡ draft.now) }
-    ensures err { IfErr result (λ e. e ≢ BundleFault.NoMemory → (e ≡ BundleFault.Range) × (list_all is_pair_of_positions draft.now ≡ false)) }
+    ensures err { IfErr result (λ e. e ≢ BundleFault.NoMemory → (e ≡ BundleFault.Range)
+        × (list_all is_pair_of_positions draft.now ≡ false)) }
 {
     let mut found = Vec::with_capacity(alloc, draft.len())?;
     for (u, v) in draft {
@@ -72,7 +75,8 @@ fn pairs(alloc: Global, draft: &[(u64, u64)]) -> Result<Vec<(u32, u32)>, BundleF
 
 fn chain(alloc: Global, draft: &ChainDraft) -> Result<Chain, BundleFault>
     ensures ok { IfOk result (λ k. views.chain_of k ≡ drafted_chain draft.now) }
-    ensures err { IfErr result (λ e. e ≢ BundleFault.NoMemory → (e ≡ BundleFault.Range) × (is_chain_of_positions (drafted_chain draft.now) ≡ false)) }
+    ensures err { IfErr result (λ e. e ≢ BundleFault.NoMemory → (e ≡ BundleFault.Range)
+        × (is_chain_of_positions (drafted_chain draft.now) ≡ false)) }
 {
     let item = position(draft.item)?;
     let writers = positions(alloc, &draft.writers)?;
@@ -86,7 +90,8 @@ fn chain(alloc: Global, draft: &ChainDraft) -> Result<Chain, BundleFault>
 
 fn chains(alloc: Global, drafts: &[ChainDraft]) -> Result<Vec<Chain>, BundleFault>
     ensures ok { IfOk result (λ v. map views.chain_of v.items ≡ map drafted_chain drafts.now) }
-    ensures err { IfErr result (λ e. e ≢ BundleFault.NoMemory → (e ≡ BundleFault.Range) × (list_all is_chain_of_positions (map drafted_chain drafts.now) ≡ false)) }
+    ensures err { IfErr result (λ e. e ≢ BundleFault.NoMemory → (e ≡ BundleFault.Range)
+        × (list_all is_chain_of_positions (map drafted_chain drafts.now) ≡ false)) }
 {
     let mut found = Vec::with_capacity(alloc, drafts.len())?;
     for draft in drafts {
@@ -112,7 +117,7 @@ fn problem(alloc: Global, draft: &ProblemDraft) -> Result<Problem, BundleFault>
     let before = pairs(alloc, &draft.before)?;
     let chains = chains(alloc, &draft.chains)?;
     let must = positions(alloc, &draft.must)?;
-    Problem::new(alloc, updates, before, chains, must)
+    Problem::of_shape(alloc, updates, before, chains, must)
 }
 
 /// The problem and the certificate of the numbers of a bundle.
@@ -121,8 +126,10 @@ pub fn finished(
     draft: ProblemDraft,
     certificate: CertificateDraft,
 ) -> Result<(Problem, Certificate), BundleFault>
-    ensures ok { IfOk result (λ b. judged (drafted_problem draft, drafted_certificate certificate) ≡ Ok (b.0, views.certificate_of b.1)) }
-    ensures err { IfErr result (λ e. e ≢ BundleFault.NoMemory → judged (drafted_problem draft, drafted_certificate certificate) ≡ Err e) }
+    ensures ok { IfOk result (λ b. judged (drafted_problem draft, drafted_certificate certificate)
+        ≡ Ok (b.0, views.certificate_of b.1)) }
+    ensures err { IfErr result (λ e. e ≢ BundleFault.NoMemory
+        → judged (drafted_problem draft, drafted_certificate certificate) ≡ Err e) }
 {
     let problem = problem(alloc, &draft)?;
     let set = positions(alloc, &certificate.set)?;

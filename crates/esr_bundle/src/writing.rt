@@ -96,7 +96,8 @@ fn put_positions(
     key: &str,
     list: &[u32],
 ) -> Result<(), AllocError>
-    ensures { OnOk result (members_view members.new.entries ≡ with_list key.now list.now (members_view members.old.entries)) }
+    ensures { OnOk result (members_view members.new.entries
+        ≡ with_list key.now list.now (members_view members.old.entries)) }
 {
     if list.is_empty() {
         return Ok(());
@@ -111,7 +112,8 @@ fn put_numbers(
     key: &str,
     list: &[u64],
 ) -> Result<(), AllocError>
-    ensures { OnOk result (members_view members.new.entries ≡ with_list key.now list.now (members_view members.old.entries)) }
+    ensures { OnOk result (members_view members.new.entries
+        ≡ with_list key.now list.now (members_view members.old.entries)) }
 {
     if list.is_empty() {
         return Ok(());
@@ -126,7 +128,8 @@ fn put_number(
     key: &str,
     number: Option<u64>,
 ) -> Result<(), AllocError>
-    ensures { OnOk result (members_view members.new.entries ≡ with_number key.now number (members_view members.old.entries)) }
+    ensures { OnOk result (members_view members.new.entries
+        ≡ with_number key.now number (members_view members.old.entries)) }
 {
     match number {
         Some(number) => put(members, alloc, key, Value::from(number)),

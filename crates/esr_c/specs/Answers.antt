@@ -1,6 +1,7 @@
 -- What C is told: replies and refusals by numbers.
-use Rattle.std.specs.Prelude.{◌≡◌, ◌*◌, ◌+◌, ◌^◌, ℕ, ℤ, List, [], length, map, Option, Some, None, IfSome, pos, take, ◌⊎◌}
+use Rattle.std.specs.Prelude.{◌≡◌, ◌≢◌, ◌↔◌, ◌*◌, ◌+◌, ◌^◌, ℕ, ℤ, List, [], length, map, Option, Some, None, IfSome, pos, take, ◌⊎◌}
 use Rattle.esr_items.specs.Values.{gap}
+use Rattle.esr_history.specs.declared.limits.TheConstants.{MOST_ENTRIES}
 use Rattle.esr_history.specs.declared.event.Entry.{Entry}
 use Rattle.esr_history.specs.declared.event.Event.{Event}
 use Rattle.esr_history.specs.declared.event.Reply.{Reply}
@@ -123,6 +124,14 @@ status_number Active = 16
 -- the statuses of an event
 abbrev pub IsEventStatus : ℕ → Type 0
 IsEventStatus n = (n ≡ 0) ⊎ ((n ≡ 12) ⊎ ((n ≡ 13) ⊎ (n ≡ 14)))
+
+-- A call that gave the engine an event ended with this status: 0 exactly where the machine's reply is told and stands in the history. Else nothing has changed.
+pub record IsEventCall (event : Event) (old new : Option Schedule) (before after : EsrReply) (status : ℕ) : Type 0 where
+  pub known : IsEventStatus status
+  pub closed : status ≡ 14 ↔ (old ≡ None)
+  pub full : IfSome old (λ h. (status ≡ 12) ↔ (length h.entries ≡ MOST_ENTRIES))
+  pub reply : status ≡ 0 → IsReply event old new after
+  pub err : status ≢ 0 → (new ≡ old) × (after ≡ before)
 
 -- the statuses of an opening, of a renewal, of values, and of an audit or a bundle
 abbrev pub IsOpenStatus : ℕ → Type 0

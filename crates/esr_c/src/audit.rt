@@ -83,7 +83,8 @@ pub(crate) fn show_values(
     ensures known { IsValuesStatus (status_number result) }
     ensures open { result ≢ Status.Closed }
     ensures values { result ≡ Status.Done → AreValuesIn machine.now count.new values.new }
-    ensures small { result ≡ Status.TooSmall → (length values.old < count.new) × (count.new ≡ length machine.now.opening) }
+    ensures small { result ≡ Status.TooSmall → (length values.old < count.new)
+        × (count.new ≡ length machine.now.opening) }
     ensures kept { result ≢ Status.Done → values.new ≡ values.old }
 {
     match machine.committed_values(alloc) {
@@ -122,7 +123,8 @@ pub(crate) fn show_finding(
     ensures open { result ≢ Status.Closed }
     ensures refused { (result ≡ Status.NotACommittedQuery) ↔ (is_committed_query machine.now query ≡ false) }
     ensures found { result ≡ Status.Done → IsFound machine.now query finding.new before.new }
-    ensures small { result ≡ Status.TooSmall → (length before.old < finding.new.count) × IsCounted machine.now query finding.new }
+    ensures small { result ≡ Status.TooSmall → (length before.old < finding.new.count)
+        × IsCounted machine.now query finding.new }
     ensures kept { result ≢ Status.Done → before.new ≡ before.old }
 {
     let found = match found(alloc, machine, query) {
@@ -162,7 +164,8 @@ pub(crate) fn show_bundle(
     ensures open { result ≢ Status.Closed }
     ensures refused { (result ≡ Status.NotACommittedQuery) ↔ (is_committed_query machine.now query ≡ false) }
     ensures bundle { result ≡ Status.Done → IsBundleIn machine.now query count.new bytes.new }
-    ensures small { result ≡ Status.TooSmall → (length bytes.old < count.new) × IsBundleLong machine.now query count.new }
+    ensures small { result ≡ Status.TooSmall → (length bytes.old < count.new)
+        × IsBundleLong machine.now query count.new }
     ensures kept { result ≢ Status.Done → bytes.new ≡ bytes.old }
 {
     match bundled(alloc, machine, query) {

@@ -1,9 +1,8 @@
 // Engines as C holds them.
-ghost use Rattle.std.specs.Prelude.{◌⊎◌, ◌<◌, ◌≤◌, Any, IsTrue, true, IsErrOf, ◌≡◌, ◌≢◌, IfOk, IfErr, ◌↔◌, length, is_some, None, Some, IsSome, IfSome, MatchOption};
+ghost use Rattle.std.specs.Prelude.{◌⊎◌, ◌<◌, ◌≤◌, Any, IsTrue, true, IsErrOf, ◌≡◌, ◌≢◌, IfOk, IfErr, ◌↔◌, length, is_some, None, Some, IsSome, MatchOption};
 ghost use Rattle.esr_items.specs.Values.{IsValue};
-ghost use Rattle.esr_history.specs.Machine.{reply_to, extended};
 ghost use Rattle.esr_core.specs.Renewed.{committed_values, has_active};
-ghost use Rattle.esr_c.specs.Answers.{plain, told, fresh, status_number, IsEventStatus, IsOpenStatus, IsRenewStatus, IsSound, GoesOn};
+ghost use Rattle.esr_c.specs.Answers.{fresh, status_number, IsEventCall, IsOpenStatus, IsRenewStatus, IsSound, GoesOn};
 
 use crate::held::{Held, give, nothing, take};
 use crate::reply::{EsrReply, tell};
@@ -66,7 +65,8 @@ pub(crate) fn opened(machine: Box<Machine<Plain>, Global>) -> EsrEngine
 
 /// The machine of an engine, which is closed from then on.
 pub(crate) fn out_of(alloc: Global, engine: &mut EsrEngine) -> Option<Box<Machine<Plain>, Global>>
-    ensures machine { MatchOption result (engine.old.held.machine ≡ None) (λ b. engine.old.held.machine ≡ Some b.value) }
+    ensures machine { MatchOption result (engine.old.held.machine ≡ None)
+        (λ b. engine.old.held.machine ≡ Some b.value) }
     ensures closed { engine.new.held.machine ≡ None }
 {
     if !engine.is_open {
@@ -86,8 +86,9 @@ fn is_value(v: i64) -> bool
 #[tactic(auto, using(crate::proofs::Opens::opened_values))]
 fn made(alloc: Global, opening: &[i64]) -> Result<Box<Machine<Plain>, Global>, Status>
     ensures ok { IfOk result (λ b. b.value ≡ fresh opening.now) }
-    ensures many { IsErrOf result Status.TooManyItems ↔ (4096 < length opening.now) }
-    ensures range { IsErrOf result Status.OutOfRange ↔ ((length opening.now ≤ 4096) × Any (λ v. ¬ IsValue v) opening.now) }
+    ensures many { IsErrOf result Status.TooManyItems ↔ (MOST_ITEMS < length opening.now) }
+    ensures range { IsErrOf result Status.OutOfRange ↔
+        ((length opening.now ≤ MOST_ITEMS) × Any (λ v. ¬ IsValue v) opening.now) }
     ensures err { IfErr result (λ e. (e ≡ Status.TooManyItems) ⊎ ((e ≡ Status.OutOfRange) ⊎ (e ≡ Status.NoMemory))) }
 {
     if opening.len() > MOST_ITEMS {
@@ -115,8 +116,9 @@ fn made(alloc: Global, opening: &[i64]) -> Result<Box<Machine<Plain>, Global>, S
 pub(crate) fn open(alloc: Global, engine: &mut EsrEngine, opening: &[i64]) -> Status
     ensures known { IsOpenStatus (status_number result) }
     ensures open { result ≡ Status.Open ↔ IsSome engine.old.held.machine }
-    ensures many { result ≡ Status.TooManyItems ↔ (engine.old.held.machine ≡ None) × (4096 < length opening.now) }
-    ensures range { result ≡ Status.OutOfRange ↔ (engine.old.held.machine ≡ None) × (length opening.now ≤ 4096) × Any (λ v. ¬ IsValue v) opening.now }
+    ensures many { result ≡ Status.TooManyItems ↔ (engine.old.held.machine ≡ None) × (MOST_ITEMS < length opening.now) }
+    ensures range { result ≡ Status.OutOfRange ↔ (engine.old.held.machine ≡ None) × (length opening.now ≤ MOST_ITEMS)
+        × Any (λ v. ¬ IsValue v) opening.now }
     ensures opened { result ≡ Status.Done → engine.new.held.machine ≡ Some (fresh opening.now) }
     ensures err { result ≢ Status.Done → engine.new.held.machine ≡ engine.old.held.machine }
 {
@@ -133,19 +135,15 @@ pub(crate) fn open(alloc: Global, engine: &mut EsrEngine, opening: &[i64]) -> St
 }
 
 /// Answers an event.
+#[inline(always)]
 pub(crate) fn step(
     alloc: Global,
     engine: &mut EsrEngine,
     event: Event,
     reply: &mut EsrReply,
 ) -> Status
-    ensures known { IsEventStatus (status_number result) }
-    ensures closed { result ≡ Status.Closed ↔ (engine.old.held.machine ≡ None) }
-    ensures reply { result ≡ Status.Done → IfSome engine.old.held.machine (λ h. reply.new ≡ told (reply_to plain h event)) }
-    ensures added { result ≡ Status.Done → IfSome engine.old.held.machine (λ h. engine.new.held.machine ≡ Some (extended h event (reply_to plain h event))) }
-    ensures err { result ≢ Status.Done → engine.new.held.machine ≡ engine.old.held.machine }
-    ensures told { result ≢ Status.Done → reply.new ≡ reply.old }
-    ensures full { IfSome engine.old.held.machine (λ h. (result ≡ Status.Full) ↔ (length h.entries ≡ 1000000)) }
+    ensures { IsEventCall event engine.old.held.machine engine.new.held.machine reply.old reply.new
+        (status_number result) }
 {
     let Some(mut machine) = out_of(alloc, engine) else {
         return Status::Closed;

@@ -2,13 +2,14 @@
 //! holds a machine. `bindings/c/esr.h` declares what is here.
 #![tactic(auto)]
 
+ghost use Rattle.esr_items.specs.declared.TheConstants.{MOST_ITEMS};
 ghost use Rattle.std.specs.Prelude.{IsSome, Any, ◌≡◌, ◌≢◌, ◌↔◌, ◌<◌, ◌≤◌, length, None, Some, IfSome, true, false};
 ghost use Rattle.esr_items.specs.Values.{IsValue};
 ghost use Rattle.esr_history.specs.declared.event.Event.TheVariants.{BeginUpdate, BeginQuery, Read, Write, Commit, Abort};
 ghost use Rattle.esr_history.specs.Queries.{is_committed_query};
 ghost use Rattle.esr_history.specs.Totals.{IsWithinLimits};
 ghost use Rattle.esr_core.specs.Renewed.{committed_values, has_active};
-ghost use Rattle.esr_c.specs.Answers.{plain, fresh, IsReply, IsTotal, IsFound, IsCounted, IsBundleIn, IsBundleLong, AreValuesIn, GoesOn, IsSound, IsEventStatus, IsOpenStatus, IsRenewStatus, IsValuesStatus, IsAuditStatus};
+ghost use Rattle.esr_c.specs.Answers.{plain, fresh, IsEventCall, IsTotal, IsFound, IsCounted, IsBundleIn, IsBundleLong, AreValuesIn, GoesOn, IsSound, IsOpenStatus, IsRenewStatus, IsValuesStatus, IsAuditStatus};
 
 mod audit;
 mod engine;
@@ -33,8 +34,9 @@ use std::alloc::Global;
 pub extern "C" fn esr_open(alloc: Global, engine: &mut EsrEngine, opening: &[i64]) -> u32
     ensures status { IsOpenStatus result }
     ensures open { result ≡ 15 ↔ IsSome engine.old.held.machine }
-    ensures many { result ≡ 1 ↔ (engine.old.held.machine ≡ None) × (4096 < length opening.now) }
-    ensures range { result ≡ 2 ↔ (engine.old.held.machine ≡ None) × (length opening.now ≤ 4096) × Any (λ v. ¬ IsValue v) opening.now }
+    ensures many { result ≡ 1 ↔ (engine.old.held.machine ≡ None) × (MOST_ITEMS < length opening.now) }
+    ensures range { result ≡ 2 ↔ (engine.old.held.machine ≡ None) × (length opening.now ≤ MOST_ITEMS)
+        × Any (λ v. ¬ IsValue v) opening.now }
     ensures opened { result ≡ 0 → engine.new.held.machine ≡ Some (fresh opening.now) }
     ensures err { result ≢ 0 → engine.new.held.machine ≡ engine.old.held.machine }
 {
@@ -52,11 +54,8 @@ pub extern "C" fn esr_begin_update(
     limit: u64,
     reply: &mut EsrReply,
 ) -> u32
-    ensures status { IsEventStatus result }
-    ensures closed { result ≡ 14 ↔ (engine.old.held.machine ≡ None) }
-    ensures full { IfSome engine.old.held.machine (λ h. (result ≡ 12) ↔ (length h.entries ≡ 1000000)) }
-    ensures reply { result ≡ 0 → IsReply (BeginUpdate limit) engine.old.held.machine engine.new.held.machine reply.new }
-    ensures err { result ≢ 0 → (engine.new.held.machine ≡ engine.old.held.machine) × (reply.new ≡ reply.old) }
+    ensures { IsEventCall
+        (BeginUpdate limit) engine.old.held.machine engine.new.held.machine reply.old reply.new result }
 {
     step(alloc, engine, Event::BeginUpdate { limit }, reply).number()
 }
@@ -70,11 +69,8 @@ pub extern "C" fn esr_begin_query(
     strict: bool,
     reply: &mut EsrReply,
 ) -> u32
-    ensures status { IsEventStatus result }
-    ensures closed { result ≡ 14 ↔ (engine.old.held.machine ≡ None) }
-    ensures full { IfSome engine.old.held.machine (λ h. (result ≡ 12) ↔ (length h.entries ≡ 1000000)) }
-    ensures reply { result ≡ 0 → IsReply (BeginQuery limit strict) engine.old.held.machine engine.new.held.machine reply.new }
-    ensures err { result ≢ 0 → (engine.new.held.machine ≡ engine.old.held.machine) × (reply.new ≡ reply.old) }
+    ensures { IsEventCall
+        (BeginQuery limit strict) engine.old.held.machine engine.new.held.machine reply.old reply.new result }
 {
     step(alloc, engine, Event::BeginQuery { limit, strict }, reply).number()
 }
@@ -88,11 +84,8 @@ pub extern "C" fn esr_read(
     item: u32,
     reply: &mut EsrReply,
 ) -> u32
-    ensures status { IsEventStatus result }
-    ensures closed { result ≡ 14 ↔ (engine.old.held.machine ≡ None) }
-    ensures full { IfSome engine.old.held.machine (λ h. (result ≡ 12) ↔ (length h.entries ≡ 1000000)) }
-    ensures reply { result ≡ 0 → IsReply (Read (record { 0 = txn }) (record { 0 = item })) engine.old.held.machine engine.new.held.machine reply.new }
-    ensures err { result ≢ 0 → (engine.new.held.machine ≡ engine.old.held.machine) × (reply.new ≡ reply.old) }
+    ensures { IsEventCall (Read (record { 0 = txn })
+        (record { 0 = item })) engine.old.held.machine engine.new.held.machine reply.old reply.new result }
 {
     let event = Event::Read {
         txn: TxnId(txn),
@@ -111,11 +104,8 @@ pub extern "C" fn esr_write(
     value: i64,
     reply: &mut EsrReply,
 ) -> u32
-    ensures status { IsEventStatus result }
-    ensures closed { result ≡ 14 ↔ (engine.old.held.machine ≡ None) }
-    ensures full { IfSome engine.old.held.machine (λ h. (result ≡ 12) ↔ (length h.entries ≡ 1000000)) }
-    ensures reply { result ≡ 0 → IsReply (Write (record { 0 = txn }) (record { 0 = item }) value) engine.old.held.machine engine.new.held.machine reply.new }
-    ensures err { result ≢ 0 → (engine.new.held.machine ≡ engine.old.held.machine) × (reply.new ≡ reply.old) }
+    ensures { IsEventCall (Write (record { 0 = txn })
+        (record { 0 = item }) value) engine.old.held.machine engine.new.held.machine reply.old reply.new result }
 {
     let event = Event::Write {
         txn: TxnId(txn),
@@ -133,11 +123,8 @@ pub extern "C" fn esr_commit(
     txn: u32,
     reply: &mut EsrReply,
 ) -> u32
-    ensures status { IsEventStatus result }
-    ensures closed { result ≡ 14 ↔ (engine.old.held.machine ≡ None) }
-    ensures full { IfSome engine.old.held.machine (λ h. (result ≡ 12) ↔ (length h.entries ≡ 1000000)) }
-    ensures reply { result ≡ 0 → IsReply (Commit (record { 0 = txn })) engine.old.held.machine engine.new.held.machine reply.new }
-    ensures err { result ≢ 0 → (engine.new.held.machine ≡ engine.old.held.machine) × (reply.new ≡ reply.old) }
+    ensures { IsEventCall
+        (Commit (record { 0 = txn })) engine.old.held.machine engine.new.held.machine reply.old reply.new result }
 {
     step(alloc, engine, Event::Commit { txn: TxnId(txn) }, reply).number()
 }
@@ -150,11 +137,8 @@ pub extern "C" fn esr_abort(
     txn: u32,
     reply: &mut EsrReply,
 ) -> u32
-    ensures status { IsEventStatus result }
-    ensures closed { result ≡ 14 ↔ (engine.old.held.machine ≡ None) }
-    ensures full { IfSome engine.old.held.machine (λ h. (result ≡ 12) ↔ (length h.entries ≡ 1000000)) }
-    ensures reply { result ≡ 0 → IsReply (Abort (record { 0 = txn })) engine.old.held.machine engine.new.held.machine reply.new }
-    ensures err { result ≢ 0 → (engine.new.held.machine ≡ engine.old.held.machine) × (reply.new ≡ reply.old) }
+    ensures { IsEventCall
+        (Abort (record { 0 = txn })) engine.old.held.machine engine.new.held.machine reply.old reply.new result }
 {
     step(alloc, engine, Event::Abort { txn: TxnId(txn) }, reply).number()
 }
@@ -197,7 +181,8 @@ pub extern "C" fn esr_values(
     ensures closed { result ≡ 14 ↔ (engine.old.held.machine ≡ None) }
     ensures same { engine.new.held.machine ≡ engine.old.held.machine }
     ensures values { result ≡ 0 → IfSome engine.old.held.machine (λ h. AreValuesIn h count.new values.new) }
-    ensures small { result ≡ 7 → (length values.old < count.new) × IfSome engine.old.held.machine (λ h. count.new ≡ length h.opening) }
+    ensures small { result ≡ 7 → (length values.old < count.new)
+        × IfSome engine.old.held.machine (λ h. count.new ≡ length h.opening) }
     ensures kept { result ≢ 0 → values.new ≡ values.old }
 {
     let Some(machine) = out_of(alloc, engine) else {
@@ -225,7 +210,8 @@ pub extern "C" fn esr_audit(
     ensures refused { IfSome engine.old.held.machine (λ h. (result ≡ 6) ↔ (is_committed_query h query ≡ false)) }
     ensures same { engine.new.held.machine ≡ engine.old.held.machine }
     ensures found { result ≡ 0 → IfSome engine.old.held.machine (λ h. IsFound h query finding.new before.new) }
-    ensures small { result ≡ 7 → (length before.old < finding.new.count) × IfSome engine.old.held.machine (λ h. IsCounted h query finding.new) }
+    ensures small { result ≡ 7 → (length before.old < finding.new.count)
+        × IfSome engine.old.held.machine (λ h. IsCounted h query finding.new) }
     ensures kept { result ≢ 0 → before.new ≡ before.old }
 {
     let Some(machine) = out_of(alloc, engine) else {
@@ -253,7 +239,8 @@ pub extern "C" fn esr_bundle(
     ensures refused { IfSome engine.old.held.machine (λ h. (result ≡ 6) ↔ (is_committed_query h query ≡ false)) }
     ensures same { engine.new.held.machine ≡ engine.old.held.machine }
     ensures bundle { result ≡ 0 → IfSome engine.old.held.machine (λ h. IsBundleIn h query count.new bytes.new) }
-    ensures small { result ≡ 7 → (length bytes.old < count.new) × IfSome engine.old.held.machine (λ h. IsBundleLong h query count.new) }
+    ensures small { result ≡ 7 → (length bytes.old < count.new)
+        × IfSome engine.old.held.machine (λ h. IsBundleLong h query count.new) }
     ensures kept { result ≢ 0 → bytes.new ≡ bytes.old }
 {
     let Some(machine) = out_of(alloc, engine) else {
@@ -273,7 +260,8 @@ pub extern "C" fn esr_renew(alloc: Global, engine: &mut EsrEngine) -> u32
     ensures status { IsRenewStatus result }
     ensures closed { result ≡ 14 ↔ (engine.old.held.machine ≡ None) }
     ensures active { IfSome engine.old.held.machine (λ h. (result ≡ 16) ↔ (has_active h ≡ true)) }
-    ensures renewed { result ≡ 0 → IfSome engine.old.held.machine (λ h. engine.new.held.machine ≡ Some (fresh (committed_values h))) }
+    ensures renewed { result ≡ 0 → IfSome engine.old.held.machine
+        (λ h. engine.new.held.machine ≡ Some (fresh (committed_values h))) }
     ensures serializable { result ≡ 0 → IfSome engine.old.held.machine GoesOn }
     ensures err { result ≢ 0 → engine.new.held.machine ≡ engine.old.held.machine }
 {

@@ -9,6 +9,7 @@ pub mod Steps
 pub mod Search
 pub mod Distinct
 pub mod Touches
+mod Gains
 mod Balance
 mod Rows
 pub mod Worth

@@ -2,7 +2,10 @@
 use Rattle.std.proofs.Common.{◌*◌, ◌≡◌, ℕ, zero, suc, ◌+◌, ◌<◌, ◌≤◌, Bool, true, false, not, ◌&&◌, ◌||◌, eqb, ltb, leb, List, [], ◌∷◌, length, get_or, map, sum_by, Contains, refl, sym, ap, ◌∙◌, subst, arith, true≢false, inl, inr}
 use Rattle.std.specs.List.{list_all, list_any}
 use Rattle.std.proofs.lemmas.Bool.{and_parts, and_from, or_cases, ltb-true, leb-true, eqb-true, lt-ltb}
-use Rattle.std.proofs.lemmas.List.{length-map}
+use Rattle.std.specs.List.{All}
+use Rattle.std.proofs.lemmas.List.{length-map, get_or-map, get_or_default}
+use Rattle.esr_cert.specs.declared.problem.Chain as code
+use Rattle.esr_cert.specs.Views.{chain_of}
 use Rattle.esr_cert.specs.Problem.{Chain, Problem, size, is_closed, is_ascending, pair_lt, are_pairs_ascending, has_pair, are_linked, is_distinct, chain_has_shape, has_shape, max_txn, max_item, greatest, max_cost, chain_is_in_range, is_in_range, is_sound}
 use Rattle.esr_cert.proofs.Distinct.{distinct_few, ascending_few, all_at}
 
@@ -160,19 +163,19 @@ pub record AreFew (p : Problem) : Type 0 where
   pub writers : (i : ℕ) (d : Chain) → i < length p.chains → length (get_or p.chains i d).writers ≤ 65535
   pub must : length p.must ≤ 65535
 
-abbrev code : ℕ × ℕ → ℕ
-code e = 65536 * e.0 + e.1
+abbrev coded : ℕ × ℕ → ℕ
+coded e = 65536 * e.0 + e.1
 
-codes_ascend : (pairs : List (ℕ × ℕ)) → are_pairs_ascending pairs ≡ true → list_all (λ (e : ℕ × ℕ). ltb e.0 65536 && ltb e.1 65536) pairs ≡ true → is_ascending (map code pairs) ≡ true
+codes_ascend : (pairs : List (ℕ × ℕ)) → are_pairs_ascending pairs ≡ true → list_all (λ (e : ℕ × ℕ). ltb e.0 65536 && ltb e.1 65536) pairs ≡ true → is_ascending (map coded pairs) ≡ true
 codes_ascend [] h r = refl
 codes_ascend (a ∷ []) h r = refl
 codes_ascend (a ∷ b ∷ pairs) h r =
     let both : (pair_lt a b ≡ true) × (are_pairs_ascending (b ∷ pairs) ≡ true) = and_parts (pair_lt a b) (are_pairs_ascending (b ∷ pairs)) h in
     let small : ((ltb a.0 65536 && ltb a.1 65536) ≡ true) × (list_all (λ (e : ℕ × ℕ). ltb e.0 65536 && ltb e.1 65536) (b ∷ pairs) ≡ true) = and_parts (ltb a.0 65536 && ltb a.1 65536) (list_all (λ (e : ℕ × ℕ). ltb e.0 65536 && ltb e.1 65536) (b ∷ pairs)) r in
     let second : a.1 < 65536 = ltb-true a.1 65536 (and_parts (ltb a.0 65536) (ltb a.1 65536) small.0).1 in
-    and_from (ltb (code a) (code b)) (is_ascending (map code (b ∷ pairs))) (lt-ltb (code a) (code b) (below second both.0)) (codes_ascend (b ∷ pairs) both.1 small.1)
+    and_from (ltb (coded a) (coded b)) (is_ascending (map coded (b ∷ pairs))) (lt-ltb (coded a) (coded b) (below second both.0)) (codes_ascend (b ∷ pairs) both.1 small.1)
   where
-    below : a.1 < 65536 → pair_lt a b ≡ true → code a < code b
+    below : a.1 < 65536 → pair_lt a b ≡ true → coded a < coded b
     below s h =
         elim (or_cases (ltb a.0 b.0) (eqb a.0 b.0 && ltb a.1 b.1) h) [
           | inl l ↦ omega (arith, ltb-true a.0 b.0 l)
@@ -190,7 +193,7 @@ are_few p h =
     and_from (ltb e.0 65536) (ltb e.1 65536) (lt-ltb e.0 65536 (omega (arith, ltb-true e.0 (size p) f.0))) (lt-ltb e.1 65536 (omega (arith, ltb-true e.1 (size p) f.1))) in
     let in_bounds : list_all (λ (e : ℕ × ℕ). ltb e.0 65536 && ltb e.1 65536) p.before ≡ true = all_from (λ (e : ℕ × ℕ). ltb e.0 65536 && ltb e.1 65536) p.before small in
     record {
-      pairs = omega (arith, ascending_few 4294967296 (map code p.before) (codes_ascend p.before s.pairs in_bounds) (codes_small p.before in_bounds), length-map p.before code);
+      pairs = omega (arith, ascending_few 4294967296 (map coded p.before) (codes_ascend p.before s.pairs in_bounds) (codes_small p.before in_bounds), length-map p.before coded);
       chains = omega (arith, ascending_few 4096 (map (λ (chain : Chain). chain.item) p.chains) s.items (items_small p.chains r.chains), length-map p.chains (λ (chain : Chain). chain.item));
       writers = λ i d l.
           let shape : chain_has_shape p.before (get_or p.chains i d) ≡ true = all_at (chain_has_shape p.before) p.chains s.chains i d l in
@@ -199,12 +202,12 @@ are_few p h =
       must = omega (arith, ascending_few (size p) p.must s.must r.must);
     }
   where
-    codes_small : (pairs : List (ℕ × ℕ)) → list_all (λ (e : ℕ × ℕ). ltb e.0 65536 && ltb e.1 65536) pairs ≡ true → list_all (λ t. ltb t 4294967296) (map code pairs) ≡ true
+    codes_small : (pairs : List (ℕ × ℕ)) → list_all (λ (e : ℕ × ℕ). ltb e.0 65536 && ltb e.1 65536) pairs ≡ true → list_all (λ t. ltb t 4294967296) (map coded pairs) ≡ true
     codes_small [] k = refl
     codes_small (e ∷ pairs) k =
         let b : ((ltb e.0 65536 && ltb e.1 65536) ≡ true) × (list_all (λ (e : ℕ × ℕ). ltb e.0 65536 && ltb e.1 65536) pairs ≡ true) = and_parts (ltb e.0 65536 && ltb e.1 65536) (list_all (λ (e : ℕ × ℕ). ltb e.0 65536 && ltb e.1 65536) pairs) k in
         let f : (ltb e.0 65536 ≡ true) × (ltb e.1 65536 ≡ true) = and_parts (ltb e.0 65536) (ltb e.1 65536) b.0 in
-        and_from (ltb (code e) 4294967296) (list_all (λ t. ltb t 4294967296) (map code pairs)) (lt-ltb (code e) 4294967296 (omega (arith, ltb-true e.0 65536 f.0, ltb-true e.1 65536 f.1))) (codes_small pairs b.1)
+        and_from (ltb (coded e) 4294967296) (list_all (λ t. ltb t 4294967296) (map coded pairs)) (lt-ltb (coded e) 4294967296 (omega (arith, ltb-true e.0 65536 f.0, ltb-true e.1 65536 f.1))) (codes_small pairs b.1)
 
     items_small : (chains : List Chain) → list_all (chain_is_in_range (size p)) chains ≡ true → list_all (λ t. ltb t 4096) (map (λ (chain : Chain). chain.item) chains) ≡ true
     items_small [] k = refl
@@ -212,3 +215,26 @@ are_few p h =
         let b : (chain_is_in_range (size p) chain ≡ true) × (list_all (chain_is_in_range (size p)) chains ≡ true) = and_parts (chain_is_in_range (size p) chain) (list_all (chain_is_in_range (size p)) chains) k in
         let f : (leb chain.item max_item ≡ true) × (list_all (λ w. ltb w (size p)) chain.writers ≡ true) = and_parts (leb chain.item max_item) (list_all (λ w. ltb w (size p)) chain.writers) b.0 in
         and_from (ltb chain.item 4096) (list_all (λ t. ltb t 4096) (map (λ (chain : Chain). chain.item) chains)) (lt-ltb chain.item 4096 (omega (arith, leb-true chain.item max_item f.0))) (items_small chains b.1)
+
+-- ---- positions are below the count of updates, read from the lists of the code
+
+pub pairs_known : (p : Problem) → IsProblem p → (n : ℕ) (before : List (ℕ × ℕ)) → size p ≡ n → before ≡ p.before → All (λ pair. (pair.0 < n) × (pair.1 < n)) before
+pairs_known p ok n before size_is is k d l =
+    let pair : ℕ × ℕ = get_or before k d in
+    let at : get_or p.before k pair ≡ pair = ap (λ (xs : List (ℕ × ℕ)). get_or xs k pair) (sym is) ∙ get_or_default before k pair d l in
+    let both : (pair.0 < size p) × (pair.1 < size p) = ok.pairs pair.0 pair.1 (k, omega (arith, ap length is), at) in
+    (omega (arith, both.0, size_is), omega (arith, both.1, size_is))
+
+pub musts_known : (p : Problem) → IsProblem p → (n : ℕ) (must : List ℕ) → size p ≡ n → must ≡ p.must → All (λ u. u < n) must
+musts_known p ok n must size_is is k d l =
+    let u : ℕ = get_or must k d in
+    let at : get_or p.must k u ≡ u = ap (λ (xs : List ℕ). get_or xs k u) (sym is) ∙ get_or_default must k u d l in
+    omega (arith, ok.musts u (k, omega (arith, ap length is), at), size_is)
+
+pub writers_known : (p : Problem) → IsProblem p → (n : ℕ) (chains : List code.Chain) → size p ≡ n → map chain_of chains ≡ p.chains → All (λ chain. All (λ u. u < n) chain.writers.items) chains
+writers_known p ok n chains size_is is k d l j e m =
+    let chain : code.Chain = get_or chains k d in
+    let inside : k < length p.chains = omega (arith, ap length is, length-map chains chain_of) in
+    let here : get_or p.chains k (chain_of chain) ≡ chain_of chain = ap (λ (xs : List Chain). get_or xs k (chain_of chain)) (sym is) ∙ get_or-map chain_of chains k d (chain_of chain) l in
+    let u : ℕ = get_or chain.writers.items j e in
+    omega (arith, (ok.chains (chain_of chain) (k, inside, here)).writers u (j, m, get_or_default chain.writers.items j u e m), size_is)

@@ -1,5 +1,5 @@
 -- The sums at a node over the touches of a problem are those over the arcs of its network.
-use Rattle.std.proofs.Common.{append_assoc, ◌≡◌, ◌≢◌, ℕ, zero, suc, ◌+◌, ◌<◌, List, [], ◌∷◌, ◌++◌, Bool, true, false, eqb, refl, sym, ap, ◌∙◌, arith, length, get_or, map, flat_map, sum_by, drop, true≢false, ne_eqb}
+use Rattle.std.proofs.Common.{◌≡◌, ◌≢◌, ℕ, zero, suc, ◌+◌, ◌<◌, List, [], ◌∷◌, ◌++◌, Bool, true, false, eqb, refl, sym, ap, ◌∙◌, arith, length, get_or, map, flat_map, sum_by, drop, true≢false, ne_eqb}
 use Rattle.std.specs.List.{concat}
 use Rattle.std.proofs.lemmas.List.{drop_more}
 use Rattle.std.proofs.lemmas.List.Sums.{sum_by-cons, sum_by-append}
@@ -7,25 +7,19 @@ use Rattle.esr_cert.specs.Problem.{Chain, Problem, size}
 use Rattle.esr_cert.specs.Network.{Arc, links, chain_links, back_arc, must_arc, network}
 use Rattle.esr_cert.specs.Flow.{carried, inflow, outflow}
 use Rattle.esr_cert.specs.Certificate.{Certificate, amounts, are_rows_matched}
-use Rattle.esr_cert.specs.Index.{link_touches, chain_touches, pair_touches, must_touches, all_touches, amount_in, amount_out}
+use Rattle.esr_cert.specs.Index.{Touch, link_touches, chain_touches, pair_touches, must_touches, all_touches, at_node, amount_in, amount_out}
 use Rattle.esr_cert.specs.declared.index.Place.TheVariants.{Writer, First, Second, Must}
-use Rattle.esr_cert.specs.declared.index.Touch.{Touch}
 use Rattle.esr_cert.proofs.Cut.{pick, pick_zero}
 use Rattle.esr_cert.proofs.Flows.{carried_append}
 use Rattle.esr_cert.proofs.Sound.{IsProblem}
 use Rattle.esr_cert.proofs.Matched.{IsMatched, AreWhole, MatchesFirst, first_matched, are_whole, carried_parts}
 
--- the touches of one chain more
-pub chains_more : (touches : List Touch) (k : ℕ) (chain : Chain) (rest : List Chain) {chains : List Chain} {all : List Touch} → chains ≡ chain ∷ rest → touches ++ chain_touches k chains ≡ all → (touches ++ link_touches k 0 chain.writers) ++ chain_touches (k + 1) rest ≡ all
-chains_more touches k chain rest e h =
-    append_assoc touches (link_touches k 0 chain.writers) (chain_touches (k + 1) rest) ∙ ap (λ (chains : List Chain). touches ++ chain_touches k chains) (sym e) ∙ h
-
 -- what an update has at a touch
 abbrev pub in_at : Certificate → ℕ → Touch → ℕ
-in_at c v touch = pick (eqb touch.node v) (amount_in c touch.place)
+in_at c v = at_node (amount_in c) v
 
 abbrev pub out_at : Certificate → ℕ → Touch → ℕ
-out_at c v touch = pick (eqb touch.node v) (amount_out c touch.place)
+out_at c v = at_node (amount_out c) v
 
 -- ---- one chain
 

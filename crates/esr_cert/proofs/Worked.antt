@@ -1,10 +1,12 @@
 -- Problems and certificates, worked by hand.
-use Rattle.std.proofs.Common.{◌≡◌, [], ◌∷◌, length, true, false, Some, None, refl}
+use Rattle.std.proofs.Common.{◌≡◌, [], ◌∷◌, length, sum_by, true, false, Some, None, refl}
 use Rattle.esr_cert.specs.Problem.{Problem, in_set, is_closed, cost, has_shape, is_in_range, is_sound}
 use Rattle.esr_cert.specs.Network.{network}
 use Rattle.esr_cert.specs.Flow.{inflow, outflow, worth}
 use Rattle.esr_cert.specs.Cut.{with_source, across}
 use Rattle.esr_cert.specs.Certificate.{Certificate, amounts, fault}
+use Rattle.esr_cert.specs.Index.{all_touches, at_node, amount_in, is_balanced}
+use Rattle.esr_cert.specs.declared.index.Place.TheVariants.{Writer, Second}
 use Rattle.esr_cert.specs.declared.certificate.Fault.TheVariants.{SetNotAscending, UnknownUpdate, SetNotClosed, OverCapacity, NotConserved, WorthNotCost, TooManyAugmentations}
 
 -- two updates in a row, and two items that a query read: the second wrote both, the first one of them
@@ -49,6 +51,19 @@ in_at_the_second = refl
 
 out_at_the_second : outflow (network report).arcs (amounts after_both) 1 ≡ 1
 out_at_the_second = refl
+
+-- the second update is a writer of each item, and the second of the pair
+in_at_its_touches : sum_by (at_node (amount_in after_both) 1) (all_touches report.before report.chains report.must) ≡ 1
+in_at_its_touches = refl
+
+three_touches : sum_by (at_node (λ _. 1) 1) (all_touches report.before report.chains report.must) ≡ 3
+three_touches = refl
+
+second_is_balanced : is_balanced after_both (Writer 0 1 ∷ Writer 1 0 ∷ Second 0 ∷ []) ≡ true
+second_is_balanced = refl
+
+second_with_more_out : is_balanced (record after_both { back_flow = 1 ∷ [] }) (Writer 0 1 ∷ Writer 1 0 ∷ Second 0 ∷ []) ≡ false
+second_with_more_out = refl
 
 report_certified : fault report after_both ≡ None
 report_certified = refl

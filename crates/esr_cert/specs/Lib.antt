@@ -4,6 +4,7 @@ pub mod Flow
 pub mod Cut
 pub mod Certificate
 pub mod Views
+pub mod Drafts
 pub mod Index
 pub mod Faults
 pub mod Parts

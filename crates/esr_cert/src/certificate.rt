@@ -1,6 +1,8 @@
 ghost use Rattle.std.specs.Prelude.{◌≡◌};
 ghost use Rattle.esr_cert.specs.Faults.{fault_number};
 
+use thiserror::Error;
+
 /// A set of updates and a flow that show the least cost of a problem.
 #[derive(Debug, Drop)]
 pub struct Certificate {
@@ -19,21 +21,28 @@ pub struct Certificate {
 }
 
 /// Why a certificate is refused: the first that applies.
-#[derive(Clone, Copy, Debug, PartialEq, Eq)]
+#[derive(Clone, Copy, Debug, PartialEq, Eq, Error)]
 pub enum Fault {
     /// The set is not strictly ascending.
+    #[error("set not ascending")]
     SetNotAscending = 1,
     /// The set has a position at which there is no update.
+    #[error("unknown update in the set")]
     UnknownUpdate = 2,
     /// The set lacks an update before one of its own, or one that it must hold.
+    #[error("set not closed")]
     SetNotClosed = 3,
     /// A list of amounts has not one for each arc, or an amount is above its arc's capacity.
+    #[error("amount above its capacity")]
     OverCapacity = 4,
     /// At an update the amounts in differ from the amounts out.
+    #[error("flow not conserved")]
     NotConserved = 5,
     /// The worth is not the flow's, or not the set's cost.
+    #[error("the flow's value is not the set's cost")]
     WorthNotCost = 6,
     /// The count of augmentations is above nodes times arcs.
+    #[error("too many augmentations")]
     TooManyAugmentations = 7,
 }
 

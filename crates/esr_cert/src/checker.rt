@@ -1,17 +1,17 @@
 //! The check of a certificate. It goes over each arc a fixed number of times, and takes no memory. Members of the set
 //! are found by binary search.
-ghost use Rattle.std.specs.Prelude.{◌≡◌, ℕ, ◌+◌, ◌*◌, ◌<◌, ◌≤◌, ◌^◌, ◌||◌, not, List, length, get_or, map, Bool, true, IsOk};
+ghost use Rattle.std.specs.Prelude.{◌≡◌, ℕ, ◌+◌, ◌*◌, ◌<◌, ◌≤◌, ◌^◌, ◌||◌, not, length, get_or, map, Bool, true, IsOk};
 ghost use Rattle.std.specs.List.{list_all, sum, sum_by};
 ghost use Rattle.esr_cert.specs.Problem.{in_set, is_ascending, is_closed, version, chain_cost, cost};
 ghost use Rattle.esr_cert.specs.Network.{network};
 ghost use Rattle.esr_cert.specs.Flow.{is_conserved};
 ghost use Rattle.esr_cert.specs.Certificate.{amounts, is_within, is_tight, is_short, fault, or_fault};
-ghost use Rattle.esr_cert.specs.Index.{amount_in, amount_out, are_balanced};
+ghost use Rattle.esr_cert.specs.Index.{amount_in, amount_out, is_balanced, are_balanced};
 ghost use Rattle.esr_cert.specs.Parts.{is_row_within, are_rows_within};
 ghost use Rattle.esr_cert.specs.Views.{chain_of, rows_of, certificate_of};
 
 use crate::certificate::{Certificate, Fault};
-use crate::index::{Place, Touch};
+use crate::index::Place;
 use crate::lists::{are_below, contains, is_ascending};
 use crate::problem::{Chain, Problem};
 
@@ -110,35 +110,31 @@ fn amounts_at(certificate: &Certificate, place: Place) -> (u64, u64)
     }
 }
 
-/// Whether at each update as much comes in as goes out, where the touches of one update stand side by side.
-fn are_balanced(certificate: &Certificate, touches: &[Touch]) -> bool
-    ensures { result ≡ are_balanced (certificate_of certificate.now) 0 0 0 touches.now }
+/// Whether as much comes to an update as goes from it, of the places that it has part in.
+fn is_balanced(certificate: &Certificate, places: &[Place]) -> bool
+    ensures { result ≡ is_balanced (certificate_of certificate.now) places.now }
 {
-    let mut node = 0;
     let mut into: u128 = 0;
     let mut from: u128 = 0;
-    for touch in touches {
-        let (more_into, more_from) = amounts_at(certificate, touch.place);
-        if touch.node == node {
-            into += u128::from(more_into);
-            from += u128::from(more_from);
-        } else {
-            if into != from {
-                return false;
-            }
-            node = touch.node;
-            into = u128::from(more_into);
-            from = u128::from(more_from);
-        }
+    for place in places {
+        let (more_into, more_from) = amounts_at(certificate, *place);
+        into += u128::from(more_into);
+        from += u128::from(more_from);
     }
     into == from
+}
+
+fn are_balanced(certificate: &Certificate, rows: &[Vec<Place>]) -> bool
+    ensures { result ≡ are_balanced (certificate_of certificate.now) rows.now }
+{
+    rows.iter().all(|row| is_balanced(certificate, row))
 }
 
 fn is_conserved(problem: &Problem, certificate: &Certificate) -> bool
     requires { is_within problem.now (certificate_of certificate.now) ≡ true }
     ensures { result ≡ is_conserved (network problem.now) (amounts (certificate_of certificate.now)) }
 {
-    are_balanced(certificate, problem.touches())
+    are_balanced(certificate, problem.rows())
 }
 
 /// How many writers there are up to and with the last one in the set.
@@ -235,7 +231,8 @@ fn is_short(problem: &Problem, augmentations: Option<u64>) -> bool
 /// costs just that: the flow shows the one (weak duality), and the cost of the set is compared.
 pub fn check(problem: &Problem, certificate: &Certificate) -> Result<(), Fault>
     ensures answer { result ≡ or_fault (fault problem.now (certificate_of certificate.now)) }
-    ensures least { IsOk result → (has : ℕ → Bool) → is_closed problem.now has ≡ true → certificate.now.worth ≤ cost problem.now has }
+    ensures least { IsOk result → (has : ℕ → Bool) → is_closed problem.now has ≡ true
+        → certificate.now.worth ≤ cost problem.now has }
     ensures closed { IsOk result → is_closed problem.now (in_set certificate.now.set.items) ≡ true }
     ensures met { IsOk result → certificate.now.worth ≡ cost problem.now (in_set certificate.now.set.items) }
 {

@@ -1,6 +1,7 @@
 //! For each update the amounts of a certificate that it has part in.
-ghost use Rattle.std.specs.Prelude.{◌≡◌, ℕ, ◌+◌, ◌*◌, ◌<◌, ◌≤◌, List, ◌++◌, length, map, IfOk, All};
-ghost use Rattle.esr_cert.specs.Index.{link_touches, chain_touches, pair_touches, must_touches, IsIndex};
+ghost use Rattle.std.specs.Prelude.{◌≡◌, ◌*◌, ◌<◌, ◌≤◌, [], ◌∷◌, length, map, IfOk, All, Vec};
+ghost use Rattle.std.specs.declared.alloc.Global.{Global};
+ghost use Rattle.esr_cert.specs.Index.{link_touches, chain_touches, pair_touches, must_touches, Adds, IsIndex};
 ghost use Rattle.esr_cert.specs.Views.{chain_of};
 
 use crate::problem::Chain;
@@ -10,7 +11,7 @@ use std::alloc::{AllocError, Global};
 #[derive(Clone, Copy, Debug)]
 pub enum Place {
     /// On the arc to the writer at this place of a chain, and on the arc from it.
-    Writer { chain: u32, writer: u32 },
+    Writer { chain: u16, writer: u16 },
     /// On the arc of a pair, into the first.
     First(u32),
     /// On the arc of a pair, out of the second.
@@ -19,96 +20,147 @@ pub enum Place {
     Must(u32),
 }
 
-/// An update, by its position, with amounts that it has part in. A problem keeps its touches sorted by update, so that
-/// a check sums what comes to each and goes from it in one walk.
-#[derive(Clone, Copy, Debug)]
-pub struct Touch {
-    pub node: u32,
-    pub place: Place,
-}
-
-fn push_writers(touches: &mut Vec<Touch>, chain: u32, writers: &[u32]) -> Result<(), AllocError>
-    requires { length writers.now ≤ 65535 }
-    ensures { IfOk result (λ _. touches.new.items ≡ touches.old.items ++ link_touches chain 0 writers.now) }
+/// Counts one more at an update.
+fn count_one(counts: &mut [u32], update: u32)
+    requires { update < length counts.old }
+    ensures { length counts.new ≡ length counts.old }
 {
-    for (i, node) in writers.iter().enumerate() {
-        let writer = i as u32;
-        touches.push(Touch {
-            node: *node,
-            place: Place::Writer { chain, writer },
-        })?;
-    }
-    Ok(())
+    let i = update as usize;
+    counts[i] = counts[i].saturating_add(1);
 }
 
-fn push_chains(touches: &mut Vec<Touch>, chains: &[Chain]) -> Result<(), AllocError>
-    requires few { length chains.now ≤ 4096 }
-    requires short { All (λ chain. length chain.writers.items ≤ 65535) chains.now }
-    ensures { IfOk result (λ _. touches.new.items ≡ touches.old.items ++ chain_touches 0 (map chain_of chains.now)) }
+/// Counts one more at each update of a list.
+fn count_each(counts: &mut [u32], updates: &[u32])
+    requires { All (λ u. u < length counts.old) updates.now }
+    ensures { length counts.new ≡ length counts.old }
 {
-    for (k, chain) in chains.iter().enumerate() {
-        push_writers(touches, k as u32, &chain.writers)?;
+    for update in updates {
+        count_one(counts, *update);
     }
-    Ok(())
 }
 
-fn push_pairs(touches: &mut Vec<Touch>, before: &[(u32, u32)]) -> Result<(), AllocError>
-    requires { length before.now ≤ 4294967296 }
-    ensures { IfOk result (λ _. touches.new.items ≡ touches.old.items ++ pair_touches 0 before.now) }
+fn count_chains(counts: &mut [u32], chains: &[Chain])
+    requires { All (λ chain. All (λ u. u < length counts.old) chain.writers.items) chains.now }
+    ensures { length counts.new ≡ length counts.old }
 {
-    for (i, (u, v)) in before.iter().enumerate() {
-        let pair = i as u32;
-        touches.push(Touch {
-            node: *u,
-            place: Place::First(pair),
-        })?;
-        touches.push(Touch {
-            node: *v,
-            place: Place::Second(pair),
-        })?;
-    }
-    Ok(())
-}
-
-fn push_must(touches: &mut Vec<Touch>, must: &[u32]) -> Result<(), AllocError>
-    requires { length must.now ≤ 65535 }
-    ensures { IfOk result (λ _. touches.new.items ≡ touches.old.items ++ must_touches 0 must.now) }
-{
-    for (i, node) in must.iter().enumerate() {
-        touches.push(Touch {
-            node: *node,
-            place: Place::Must(i as u32),
-        })?;
-    }
-    Ok(())
-}
-
-/// How many touches there are.
-fn count_of(before: &[(u32, u32)], chains: &[Chain], must: &[u32]) -> usize {
-    let mut count = before.len().saturating_mul(2).saturating_add(must.len());
     for chain in chains {
-        count = count.saturating_add(chain.writers.len());
+        count_each(counts, &chain.writers);
     }
-    count
 }
 
-/// All touches of a problem, those of one update side by side.
-pub fn index_of(
+fn count_pairs(counts: &mut [u32], before: &[(u32, u32)])
+    requires { All (λ pair. (pair.0 < length counts.old) × (pair.1 < length counts.old)) before.now }
+    ensures { length counts.new ≡ length counts.old }
+{
+    for (u, v) in before {
+        count_one(counts, *u);
+        count_one(counts, *v);
+    }
+}
+
+/// A row without places for each of n updates, with room for as many as will come.
+fn empty_rows(
     alloc: Global,
+    n: usize,
     before: &[(u32, u32)],
     chains: &[Chain],
     must: &[u32],
-) -> Result<Vec<Touch>, AllocError>
-    requires pairs { length before.now ≤ 4294967296 }
-    requires chains { length chains.now ≤ 4096 }
-    requires writers { All (λ chain. length chain.writers.items ≤ 65535) chains.now }
-    requires must { length must.now ≤ 65535 }
-    ensures { IfOk result (λ touches. IsIndex before.now (map chain_of chains.now) must.now touches.items) }
+) -> Result<Vec<Vec<Place>>, AllocError>
+    requires pairs { All (λ pair. (pair.0 < n) × (pair.1 < n)) before.now }
+    requires chains { All (λ chain. All (λ u. u < n) chain.writers.items) chains.now }
+    requires must { All (λ u. u < n) must.now }
+    ensures count { IfOk result (λ rows. length rows.items ≡ n) }
+    ensures empty { IfOk result (λ rows. All (λ row. row.items ≡ []) rows.items) }
 {
-    let mut touches = Vec::with_capacity(alloc, count_of(before, chains, must))?;
-    push_chains(&mut touches, chains)?;
-    push_pairs(&mut touches, before)?;
-    push_must(&mut touches, must)?;
-    touches.sort_unstable_by_key(|touch| touch.node);
-    Ok(touches)
+    let mut counts = vec![in alloc; 0u32; n]?;
+    count_chains(&mut counts, chains);
+    count_pairs(&mut counts, before);
+    count_each(&mut counts, must);
+    let mut rows = Vec::with_capacity(alloc, n)?;
+    for count in &counts {
+        let row = Vec::with_capacity(alloc, *count as usize)?;
+        rows.push(row)?;
+    }
+    Ok(rows)
+}
+
+/// Adds a place to an update's row.
+fn add(rows: &mut [Vec<Place>], update: u32, place: Place) -> Result<(), AllocError>
+    requires { update < length rows.old }
+    ensures { IfOk result (λ _. Adds (record { node = update; place = place } ∷ []) rows.old rows.new) }
+{
+    rows[update as usize].push(place)?;
+    Ok(())
+}
+
+fn add_writers(rows: &mut [Vec<Place>], chain: u16, writers: &[u32]) -> Result<(), AllocError>
+    requires few { length writers.now ≤ 65535 }
+    requires known { All (λ u. u < length rows.old) writers.now }
+    ensures { IfOk result (λ _. Adds (link_touches chain 0 writers.now) rows.old rows.new) }
+{
+    for (i, update) in writers.iter().enumerate() {
+        let writer = i as u16;
+        add(rows, *update, Place::Writer { chain, writer })?;
+    }
+    Ok(())
+}
+
+fn add_chains(rows: &mut [Vec<Place>], chains: &[Chain]) -> Result<(), AllocError>
+    requires few { length chains.now ≤ 4096 }
+    requires short { All (λ chain. length chain.writers.items ≤ 65535) chains.now }
+    requires known { All (λ chain. All (λ u. u < length rows.old) chain.writers.items) chains.now }
+    ensures { IfOk result (λ _. Adds (chain_touches 0 (map chain_of chains.now)) rows.old rows.new) }
+{
+    for (k, chain) in chains.iter().enumerate() {
+        add_writers(rows, k as u16, &chain.writers)?;
+    }
+    Ok(())
+}
+
+fn add_pairs(rows: &mut [Vec<Place>], before: &[(u32, u32)]) -> Result<(), AllocError>
+    requires few { length before.now ≤ 4294967296 }
+    requires known { All (λ pair. (pair.0 < length rows.old) × (pair.1 < length rows.old)) before.now }
+    ensures { IfOk result (λ _. Adds (pair_touches 0 before.now) rows.old rows.new) }
+{
+    for (i, (u, v)) in before.iter().enumerate() {
+        let pair = i as u32;
+        add(rows, *u, Place::First(pair))?;
+        add(rows, *v, Place::Second(pair))?;
+    }
+    Ok(())
+}
+
+fn add_must(rows: &mut [Vec<Place>], must: &[u32]) -> Result<(), AllocError>
+    requires few { length must.now ≤ 65535 }
+    requires known { All (λ u. u < length rows.old) must.now }
+    ensures { IfOk result (λ _. Adds (must_touches 0 must.now) rows.old rows.new) }
+{
+    for (i, update) in must.iter().enumerate() {
+        add(rows, *update, Place::Must(i as u32))?;
+    }
+    Ok(())
+}
+
+/// For each of n updates the places that it has part in.
+pub fn index_of(
+    alloc: Global,
+    n: usize,
+    before: &[(u32, u32)],
+    chains: &[Chain],
+    must: &[u32],
+) -> Result<Vec<Vec<Place>>, AllocError>
+    requires few_pairs { length before.now ≤ 4294967296 }
+    requires few_chains { length chains.now ≤ 4096 }
+    requires few_writers { All (λ chain. length chain.writers.items ≤ 65535) chains.now }
+    requires few_must { length must.now ≤ 65535 }
+    requires pairs { All (λ pair. (pair.0 < n) × (pair.1 < n)) before.now }
+    requires writers { All (λ chain. All (λ u. u < n) chain.writers.items) chains.now }
+    requires must { All (λ u. u < n) must.now }
+    ensures { IfOk result (λ rows. IsIndex n before.now (map chain_of chains.now) must.now rows.items) }
+{
+    let mut rows = empty_rows(alloc, n, before, chains, must)?;
+    add_chains(&mut rows, chains)?;
+    add_pairs(&mut rows, before)?;
+    add_must(&mut rows, must)?;
+    Ok(rows)
 }

@@ -7,17 +7,21 @@
 
 mod certificate;
 mod checker;
+mod draft;
 mod index;
 mod lists;
 mod network;
+mod parts;
 mod problem;
 mod range;
 mod shape;
 
 pub use certificate::{Certificate, Fault};
 pub use checker::check;
+pub use draft::{ChainDraft, ProblemDraft};
 pub use network::Arc;
 pub use problem::{BundleFault, Chain, Problem};
+pub use shape::has_shape;
 
 #[cfg(test)]
 mod tests;

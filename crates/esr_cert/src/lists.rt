@@ -1,7 +1,7 @@
-//! Tests of lists of numbers and of pairs.
-ghost use Rattle.std.specs.Prelude.{◌≡◌, ℕ, ◌+◌, ◌-◌, ◌<◌, ◌≤◌, nat_lt, true};
+//! Tests of lists of positions.
+ghost use Rattle.std.specs.Prelude.{◌≡◌, ◌-◌, ◌<◌, nat_lt, true};
 ghost use Rattle.std.specs.List.{list_all};
-ghost use Rattle.esr_cert.specs.Problem.{in_set, is_ascending, pair_lt, are_pairs_ascending, has_pair};
+ghost use Rattle.esr_cert.specs.Problem.{in_set, is_ascending};
 
 /// Whether each number is below the next.
 pub fn is_ascending(numbers: &[u32]) -> bool
@@ -28,30 +28,4 @@ pub fn contains(set: &[u32], number: u32) -> bool
     ensures { result ≡ in_set set.now number }
 {
     set.binary_search(&number).is_ok()
-}
-
-fn pair_lt(a: (u32, u32), b: (u32, u32)) -> bool
-    ensures { result ≡ pair_lt a b }
-{
-    a.0 < b.0 || (a.0 == b.0 && a.1 < b.1)
-}
-
-/// Whether each pair comes before the next, by its first and then by its second.
-pub fn are_pairs_ascending(pairs: &[(u32, u32)]) -> bool
-    ensures { result ≡ are_pairs_ascending pairs.now }
-{
-    for i in 1..pairs.len() {
-        if !pair_lt(pairs[i - 1], pairs[i]) {
-            return false;
-        }
-    }
-    true
-}
-
-/// Whether an ascending list of pairs has a pair.
-pub fn has_pair(pairs: &[(u32, u32)], u: u32, v: u32) -> bool
-    requires { are_pairs_ascending pairs.now ≡ true }
-    ensures { result ≡ has_pair pairs.now u v }
-{
-    pairs.binary_search(&(u, v)).is_ok()
 }

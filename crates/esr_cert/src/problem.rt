@@ -1,16 +1,17 @@
-ghost use Rattle.std.specs.Prelude.{◌≡◌, ◌≢◌, ℕ, ◌≤◌, List, map, Bool, true, IsOk, IfOk, IfErr, Some, None};
-ghost use Rattle.esr_cert.specs.Problem.{size, is_sound};
+ghost use Rattle.std.specs.Prelude.{◌≡◌, ◌≢◌, ◌≤◌, map, true, IsOk, IfOk, IfErr, Some, None};
+ghost use Rattle.esr_cert.specs.Problem.{size, has_shape, is_sound};
 ghost use Rattle.esr_cert.specs.Faults.{problem_fault, bundle_fault_number};
 ghost use Rattle.esr_cert.specs.Index.{IsIndex};
 ghost use Rattle.esr_cert.specs.Views.{chain_of, problem_of};
 
-use crate::index::{Touch, index_of};
+use crate::index::{Place, index_of};
+use crate::parts::have_shape;
 use crate::range::is_in_range;
-use crate::shape::has_shape;
 use esr_history::TxnId;
 use esr_items::ItemId;
 use std::alloc::{AllocError, Global};
 use std::marker::Model;
+use thiserror::Error;
 
 /// An item that the query read.
 #[derive(Debug, Drop)]
@@ -23,15 +24,19 @@ pub struct Chain {
 }
 
 /// Why parts make no problem, or bytes no bundle.
-#[derive(Clone, Copy, Debug, PartialEq, Eq)]
+#[derive(Clone, Copy, Debug, PartialEq, Eq, Error)]
 pub enum BundleFault {
     /// The bytes are no JSON. Parts never have this fault.
+    #[error("not JSON")]
     Json = 1,
     /// A rule of shape is broken.
+    #[error("wrong shape")]
     Shape = 2,
     /// The shape is right, and a number is out of its range.
+    #[error("number out of range")]
     Range = 3,
     /// Memory was refused.
+    #[error("out of memory")]
     NoMemory = 4,
 }
 
@@ -68,11 +73,11 @@ pub struct Problem {
     before: Vec<(u32, u32)>,
     chains: Vec<Chain>,
     must: Vec<u32>,
-    touches: Vec<Touch>,
+    rows: Vec<Vec<Place>>,
 }
 
 impl Model for Problem {
-    ghost use Rattle.std.specs.Prelude.{◌≡◌, true, map};
+    ghost use Rattle.std.specs.Prelude.{◌≡◌, true, length, map};
     ghost use Rattle.esr_cert.specs.Problem as spec;
 
     ghost Value = { spec.Problem };
@@ -82,7 +87,9 @@ impl Model for Problem {
 
     ghost view = { λ p. problem_of p.updates.items p.before.items p.chains.items p.must.items };
 
-    ghost invariant = { λ p. (spec.is_sound (problem_of p.updates.items p.before.items p.chains.items p.must.items) ≡ true) × IsIndex p.before.items (map chain_of p.chains.items) p.must.items p.touches.items };
+    ghost invariant = { λ p. (spec.is_sound (problem_of p.updates.items p.before.items p.chains.items p.must.items)
+        ≡ true) × IsIndex (length p.updates.items) p.before.items
+        (map chain_of p.chains.items) p.must.items p.rows.items };
 }
 
 impl Problem {
@@ -98,12 +105,34 @@ impl Problem {
         must: Vec<u32>,
     ) -> Result<Problem, BundleFault>
         ensures ok { IfOk result (λ p. p ≡ problem_of updates.items before.items chains.items must.items) }
-        ensures sound { IsOk result → problem_fault (problem_of updates.items before.items chains.items must.items) ≡ None }
-        ensures err { IfErr result (λ e. e ≢ BundleFault.NoMemory → problem_fault (problem_of updates.items before.items chains.items must.items) ≡ Some e) }
+        ensures sound { IsOk result → problem_fault (problem_of updates.items before.items chains.items must.items)
+            ≡ None }
+        ensures err { IfErr result (λ e. e ≢ BundleFault.NoMemory
+            → problem_fault (problem_of updates.items before.items chains.items must.items) ≡ Some e) }
     {
-        if !has_shape(alloc, &updates, &before, &chains, &must)? {
+        if !have_shape(alloc, &updates, &before, &chains, &must)? {
             return Err(BundleFault::Shape);
         }
+        Problem::of_shape(alloc, updates, before, chains, must)
+    }
+
+    /// A problem of these parts, which break no rule of shape: it is not tried again.
+    ///
+    /// `Range` where a rule of range is broken, or `NoMemory` where memory was refused.
+    pub fn of_shape(
+        alloc: Global,
+        updates: Vec<TxnId>,
+        before: Vec<(u32, u32)>,
+        chains: Vec<Chain>,
+        must: Vec<u32>,
+    ) -> Result<Problem, BundleFault>
+        requires shape { has_shape (problem_of updates.items before.items chains.items must.items) ≡ true }
+        ensures ok { IfOk result (λ p. p ≡ problem_of updates.items before.items chains.items must.items) }
+        ensures sound { IsOk result → problem_fault (problem_of updates.items before.items chains.items must.items)
+            ≡ None }
+        ensures err { IfErr result (λ e. e ≢ BundleFault.NoMemory
+            → problem_fault (problem_of updates.items before.items chains.items must.items) ≡ Some e) }
+    {
         if !is_in_range(&updates, &before, &chains, &must) {
             return Err(BundleFault::Range);
         }
@@ -122,13 +151,13 @@ impl Problem {
         requires sound { is_sound (problem_of updates.items before.items chains.items must.items) ≡ true }
         ensures { IfOk result (λ p. p ≡ problem_of updates.items before.items chains.items must.items) }
     {
-        let touches = index_of(alloc, &before, &chains, &must)?;
+        let rows = index_of(alloc, updates.len(), &before, &chains, &must)?;
         Ok(Problem {
             updates,
             before,
             chains,
             must,
-            touches,
+            rows,
         })
     }
 
@@ -165,11 +194,11 @@ impl Problem {
         &self.must
     }
 
-    /// What each update has part in, those of one update side by side.
-    pub(crate) fn touches(&self) -> &[Touch]
-        ensures index { IsIndex self.now.before self.now.chains self.now.must result.now }
+    /// For each update the places that it has part in.
+    pub(crate) fn rows(&self) -> &[Vec<Place>]
+        ensures index { IsIndex (size self.now) self.now.before self.now.chains self.now.must result.now }
         ensures sound { is_sound self.now ≡ true }
     {
-        &self.touches
+        &self.rows
     }
 }

@@ -1,7 +1,7 @@
 //! The rules of range.
-ghost use Rattle.std.specs.Prelude.{◌≡◌, ℕ, ◌+◌, ◌-◌, ◌*◌, ◌<◌, ◌≤◌, ◌&&◌, List, length, map, nat_lt, nat_le, Bool, true};
+ghost use Rattle.std.specs.Prelude.{◌≡◌, ◌+◌, ◌-◌, ◌*◌, ◌<◌, ◌&&◌, map, nat_lt, nat_le, true};
 ghost use Rattle.std.specs.List.{list_all, sum_by};
-ghost use Rattle.esr_cert.specs.Problem.{max_txn, max_item, max_cost, greatest, chain_is_in_range, is_in_range};
+ghost use Rattle.esr_cert.specs.Problem.{max_txn, greatest, chain_is_in_range, is_in_range};
 ghost use Rattle.esr_cert.specs.Views.{chain_of, problem_of};
 
 use crate::lists::are_below;

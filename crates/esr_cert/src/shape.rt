@@ -1,45 +1,78 @@
-//! The rules of shape.
-ghost use Rattle.std.specs.Prelude.{◌≡◌, ℕ, ◌+◌, ◌-◌, ◌<◌, ◌≤◌, ◌&&◌, ◌==◌, List, length, map, nat_lt, Bool, true, IfOk};
+//! The rules of shape, over the numbers of a draft.
+ghost use Rattle.std.specs.Prelude.{◌≡◌, ◌+◌, ◌-◌, ◌<◌, ◌&&◌, ◌==◌, map, nat_lt, true, IfOk};
 ghost use Rattle.std.specs.List.{list_all};
-ghost use Rattle.esr_cert.specs.Problem.{is_ascending, is_distinct, are_pairs_ascending, are_linked, chain_has_shape, has_shape};
-ghost use Rattle.esr_cert.specs.Views.{chain_of, problem_of};
+ghost use Rattle.esr_cert.specs.Problem.{pair_lt, is_ascending, is_distinct, are_pairs_ascending, has_pair, are_linked, chain_has_shape, has_shape};
+ghost use Rattle.esr_cert.specs.Drafts.{drafted_chain, drafted_problem};
 
-use crate::lists::{are_pairs_ascending, has_pair, is_ascending};
-use crate::problem::Chain;
-use esr_history::TxnId;
+use crate::draft::{ChainDraft, ProblemDraft};
 use std::alloc::{AllocError, Global};
 
-/// Whether no number stands twice.
-fn is_distinct(alloc: Global, updates: &[TxnId]) -> Result<bool, AllocError>
-    ensures { IfOk result (λ b. b ≡ is_distinct (map (λ t. t.0) updates.now)) }
+/// Whether each number is below the next.
+fn is_ascending(numbers: &[u64]) -> bool
+    ensures { result ≡ is_ascending numbers.now }
 {
-    let mut numbers = Vec::new(alloc);
-    for update in updates {
-        numbers.push(update.0)?;
-    }
-    numbers.sort_unstable();
-    Ok(is_ascending(&numbers))
-}
-
-fn are_pairs_forward(pairs: &[(u32, u32)]) -> bool
-    ensures { result ≡ list_all (λ e. nat_lt e.0 e.1) pairs.now }
-{
-    pairs.iter().all(|(u, v)| *u < *v)
-}
-
-fn are_items_ascending(chains: &[Chain]) -> bool
-    ensures { result ≡ is_ascending (map (λ chain. chain.item) (map chain_of chains.now)) }
-{
-    for i in 1..chains.len() {
-        if chains[i].item.0 <= chains[i - 1].item.0 {
+    for i in 1..numbers.len() {
+        if numbers[i] <= numbers[i - 1] {
             return false;
         }
     }
     true
 }
 
+/// Whether no number occurs twice.
+fn is_distinct(alloc: Global, updates: &[u64]) -> Result<bool, AllocError>
+    ensures { IfOk result (λ b. b ≡ is_distinct updates.now) }
+{
+    let mut numbers = updates.to_vec(alloc)?;
+    numbers.sort_unstable();
+    Ok(is_ascending(&numbers))
+}
+
+fn pair_lt(a: (u64, u64), b: (u64, u64)) -> bool
+    ensures { result ≡ pair_lt a b }
+{
+    a.0 < b.0 || (a.0 == b.0 && a.1 < b.1)
+}
+
+/// Whether each pair comes before the next, by its first and then by its second.
+fn are_pairs_ascending(pairs: &[(u64, u64)]) -> bool
+    ensures { result ≡ are_pairs_ascending pairs.now }
+{
+    for i in 1..pairs.len() {
+        if !pair_lt(pairs[i - 1], pairs[i]) {
+            return false;
+        }
+    }
+    true
+}
+
+fn are_pairs_forward(pairs: &[(u64, u64)]) -> bool
+    ensures { result ≡ list_all (λ e. nat_lt e.0 e.1) pairs.now }
+{
+    pairs.iter().all(|(u, v)| *u < *v)
+}
+
+fn are_items_ascending(chains: &[ChainDraft]) -> bool
+    ensures { result ≡ is_ascending (map (λ chain. chain.item) (map drafted_chain chains.now)) }
+{
+    for i in 1..chains.len() {
+        if chains[i].item <= chains[i - 1].item {
+            return false;
+        }
+    }
+    true
+}
+
+/// Whether an ascending list of pairs has a pair.
+fn has_pair(pairs: &[(u64, u64)], u: u64, v: u64) -> bool
+    requires { are_pairs_ascending pairs.now ≡ true }
+    ensures { result ≡ has_pair pairs.now u v }
+{
+    pairs.binary_search(&(u, v)).is_ok()
+}
+
 /// Whether each two neighbours are a pair.
-fn are_linked(before: &[(u32, u32)], writers: &[u32]) -> bool
+fn are_linked(before: &[(u64, u64)], writers: &[u64]) -> bool
     requires { are_pairs_ascending before.now ≡ true }
     ensures { result ≡ are_linked before.now writers.now }
 {
@@ -51,9 +84,9 @@ fn are_linked(before: &[(u32, u32)], writers: &[u32]) -> bool
     true
 }
 
-fn chain_has_shape(before: &[(u32, u32)], chain: &Chain) -> bool
+fn chain_has_shape(before: &[(u64, u64)], chain: &ChainDraft) -> bool
     requires { are_pairs_ascending before.now ≡ true }
-    ensures { result ≡ chain_has_shape before.now (chain_of chain.now) }
+    ensures { result ≡ chain_has_shape before.now (drafted_chain chain.now) }
 {
     if chain.costs.len() != chain.writers.len() + 1 {
         return false;
@@ -64,9 +97,9 @@ fn chain_has_shape(before: &[(u32, u32)], chain: &Chain) -> bool
     are_linked(before, &chain.writers)
 }
 
-fn chains_have_shape(before: &[(u32, u32)], chains: &[Chain]) -> bool
+fn chains_have_shape(before: &[(u64, u64)], chains: &[ChainDraft]) -> bool
     requires { are_pairs_ascending before.now ≡ true }
-    ensures { result ≡ list_all (chain_has_shape before.now) (map chain_of chains.now) }
+    ensures { result ≡ list_all (chain_has_shape before.now) (map drafted_chain chains.now) }
 {
     for chain in chains {
         if !chain_has_shape(before, chain) {
@@ -77,29 +110,23 @@ fn chains_have_shape(before: &[(u32, u32)], chains: &[Chain]) -> bool
 }
 
 /// Whether no rule of shape is broken.
-pub fn has_shape(
-    alloc: Global,
-    updates: &[TxnId],
-    before: &[(u32, u32)],
-    chains: &[Chain],
-    must: &[u32],
-) -> Result<bool, AllocError>
-    ensures { IfOk result (λ b. b ≡ has_shape (problem_of updates.now before.now chains.now must.now)) }
+pub fn has_shape(alloc: Global, draft: &ProblemDraft) -> Result<bool, AllocError>
+    ensures { IfOk result (λ b. b ≡ has_shape (drafted_problem draft.now)) }
 {
-    if !is_distinct(alloc, updates)? {
+    if !is_distinct(alloc, &draft.updates)? {
         return Ok(false);
     }
-    if !are_pairs_ascending(before) {
+    if !are_pairs_ascending(&draft.before) {
         return Ok(false);
     }
-    if !are_pairs_forward(before) {
+    if !are_pairs_forward(&draft.before) {
         return Ok(false);
     }
-    if !are_items_ascending(chains) {
+    if !are_items_ascending(&draft.chains) {
         return Ok(false);
     }
-    if !chains_have_shape(before, chains) {
+    if !chains_have_shape(&draft.before, &draft.chains) {
         return Ok(false);
     }
-    Ok(is_ascending(must))
+    Ok(is_ascending(&draft.must))
 }

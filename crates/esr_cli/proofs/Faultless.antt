@@ -22,7 +22,7 @@ use Rattle.clap.proofs.OnLiterals.{clap_on_literals}
 use Rattle.clap.specs.declared.error.Error.{Error}
 use Rattle.clap.specs.declared.error.kind.ErrorKind.TheVariants as kind
 use Rattle.esr_cli.specs.Job as asked
-use Rattle.esr_cli.specs.Program.{certify, name_rule, parallel, program, steps_rule, workers_rule}
+use Rattle.esr_cli.specs.Program.{certify, name_rule, named, parallel, program, steps_rule, workers_rule}
 use Rattle.esr_cli.specs.Job.{HasWorkers, IsCall, IsPlainWord, Request, Spells, SpellsWorkers, bool_of, certify_in, number_of, request_in, request_in_one, request_of, workers_in}
 use Rattle.esr_cli.specs.declared.Job.{Job}
 use Rattle.esr_cli.proofs.Rows.{HasFirst, IsFit, default_there, first_passes, given_there, has_text, level_good}
@@ -108,6 +108,9 @@ IsServed s = (words : List Text) → level_fault s [] nothing_held words false [
 abbrev certify_shape : Shape
 certify_shape = built_leaf certify.top
 
+abbrev named_shape : Text → Shape
+named_shape name = built_leaf (named name).top
+
 abbrev parallel_shape : Text → Shape
 parallel_shape name = built_leaf (parallel name).top
 
@@ -124,6 +127,23 @@ query_is_given rows none = go (is_given (codes "NAME") rows) none
     go : (b : Bool) → check_kinds false false (not b || false) ≡ [] → b ≡ true
     go true h = refl
     go false h = absurd (cc)
+
+name_is_given : (name : Text) (rows : List Row) → check_fault (named_shape name) rows false ≡ [] → is_given (codes "NAME") rows ≡ true
+name_is_given name rows none = go (is_given (codes "NAME") rows) none
+  where
+    go : (b : Bool) → check_kinds false false (not b || false) ≡ [] → b ≡ true
+    go true h = refl
+    go false h = absurd (cc)
+
+named_served : (name : Text) → (ask : Text → Request) → ((t : Text) → HasWorkers (ask t))
+    → ((rows : List Row) → request_in_one name rows ≡ option_map ask (first_of (codes "NAME") rows)) → IsServed (named_shape name)
+named_served name ask within asks words none =
+    let s = named_shape name in
+    let rows = rows_after s.rules [] words in
+    let given = has_text (codes "NAME") (λ _. true) rows
+    (level_good (codes "NAME") (λ _. true) s words (query_fit, (other_fit _ _ _ refl, tt)) none)
+    (given_there (codes "NAME") rows (name_is_given name rows (check_none s words none))) in
+    subst (λ o. IsSomeAnd o HasWorkers) (sym (asks rows)) (rw given.first (within given.text))
 
 certified : (rows : List Row) (name text : Text) → first_of (codes "NAME") rows ≡ Some name → one_of (codes "steps") rows ≡ Some text → is_bool_text text ≡ true
     → IsSomeAnd (certify_in rows) HasWorkers
@@ -187,10 +207,16 @@ served = (
     (
       inr (λ words none. tt),
       (
-        inr (parallel_served (codes "audit") asked.audit (λ n low high. (low, high)) (λ rows. refl)),
+        inr (named_served (codes "explain") asked.explain (λ t. tt) (λ rows. refl)),
         (
-          inr (parallel_served (codes "drive") asked.drive (λ n low high. (low, high)) (λ rows. refl)),
-          (inl refl, tt),
+          inr (named_served (codes "picture") asked.picture (λ t. tt) (λ rows. refl)),
+          (
+            inr (parallel_served (codes "audit") asked.audit (λ n low high. (low, high)) (λ rows. refl)),
+            (
+              inr (parallel_served (codes "drive") asked.drive (λ n low high. (low, high)) (λ rows. refl)),
+              (inl refl, tt),
+            ),
+          ),
         ),
       ),
     ),
@@ -321,6 +347,20 @@ steps_taken name query plain = record {
   asks = rw (not_dashes query plain, no_long query plain, no_short query plain) refl;
 }
 
+explain_taken : (name query : Text) → IsPlainWord query → IsTaken (name ∷ codes "explain" ∷ query ∷ []) (asked.explain query)
+unfolding clap_on_literals
+explain_taken name query plain = record {
+  faultless = rw (not_dashes query plain, no_long query plain, no_short query plain) refl;
+  asks = rw (not_dashes query plain, no_long query plain, no_short query plain) refl;
+}
+
+picture_taken : (name query : Text) → IsPlainWord query → IsTaken (name ∷ codes "picture" ∷ query ∷ []) (asked.picture query)
+unfolding clap_on_literals
+picture_taken name query plain = record {
+  faultless = rw (not_dashes query plain, no_long query plain, no_short query plain) refl;
+  asks = rw (not_dashes query plain, no_long query plain, no_short query plain) refl;
+}
+
 -- a number does not begin with `-`
 no_minus : (xs : List ℕ) → is_unsigned_in 1 64 (45 ∷ xs) ≡ true → ⊥
 no_minus xs passes =
@@ -359,6 +399,8 @@ taken words asked.run spells = called words _ _ spells run_taken
 taken words (asked.certify query false) spells = called words _ _ spells.1 (λ name. certify_taken name query spells.0)
 taken words (asked.certify query true) spells = called words _ _ spells.1 (λ name. steps_taken name query spells.0)
 taken words asked.check spells = called words _ _ spells check_taken
+taken words (asked.explain query) spells = called words _ _ spells.1 (λ name. explain_taken name query spells.0)
+taken words (asked.picture query) spells = called words _ _ spells.1 (λ name. picture_taken name query spells.0)
 taken words (asked.audit n) (inl (is, call)) = subst (λ n. IsTaken words (asked.audit n)) (sym is) (called words _ _ call audit_taken)
 taken words (asked.audit n) (inr (text, passes, is, call)) = subst (λ n. IsTaken words (asked.audit n)) (sym is) (called words _ _ call (λ name. audit_counted name text passes))
 taken words (asked.drive n) (inl (is, call)) = subst (λ n. IsTaken words (asked.drive n)) (sym is) (called words _ _ call drive_taken)

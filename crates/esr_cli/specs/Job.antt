@@ -13,6 +13,8 @@ pub data Request : Type 0 where
   run : Request
   certify : Text → Bool → Request
   check : Request
+  explain : Text → Request
+  picture : Text → Request
   audit : ℕ → Request
   drive : ℕ → Request
 
@@ -20,6 +22,8 @@ abbrev pub request_of : Job → Request
 request_of job.Run = run
 request_of (job.Certify name steps) = certify name.now steps
 request_of job.Check = check
+request_of (job.Explain name) = explain name.now
+request_of (job.Picture name) = picture name.now
 request_of (job.Audit workers) = audit workers
 request_of (job.Drive workers) = drive workers
 
@@ -53,9 +57,11 @@ request_in_one name rows =
     if bytes_eq name (codes "run") then Some run
     else (if bytes_eq name (codes "certify") then certify_in rows
     else (if bytes_eq name (codes "check") then Some check
+    else (if bytes_eq name (codes "explain") then option_map explain (first_of (codes "NAME") rows)
+    else (if bytes_eq name (codes "picture") then option_map picture (first_of (codes "NAME") rows)
     else (if bytes_eq name (codes "audit") then option_map audit (workers_in rows)
     else (if bytes_eq name (codes "drive") then option_map drive (workers_in rows)
-    else None))))
+    else None))))))
 
 abbrev pub request_in : Option (Text × List Row) → Option Request
 request_in None = None
@@ -81,5 +87,7 @@ Spells words run = IsCall words (codes "run" ∷ [])
 Spells words (certify name false) = IsPlainWord name × IsCall words (codes "certify" ∷ name ∷ [])
 Spells words (certify name true) = IsPlainWord name × IsCall words (codes "certify" ∷ codes "--steps" ∷ name ∷ [])
 Spells words check = IsCall words (codes "check" ∷ [])
+Spells words (explain name) = IsPlainWord name × IsCall words (codes "explain" ∷ name ∷ [])
+Spells words (picture name) = IsPlainWord name × IsCall words (codes "picture" ∷ name ∷ [])
 Spells words (audit workers) = SpellsWorkers (codes "audit") workers words
 Spells words (drive workers) = SpellsWorkers (codes "drive") workers words

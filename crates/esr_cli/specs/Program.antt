@@ -26,11 +26,18 @@ workers_rule = record (new_rule (codes "workers")) {
 abbrev pub certify : App
 certify = with_rule (with_rule (new_app (codes "certify")) steps_rule) name_rule
 
+-- a subcommand of one query
+abbrev pub named : Text → App
+named name = with_rule (new_app name) name_rule
+
 abbrev pub parallel : Text → App
 parallel name = with_rule (new_app name) workers_rule
 
 abbrev pub scripts : App
 scripts = with_subcommand (with_subcommand (with_subcommand esr (new_app (codes "run")).top) certify.top) (new_app (codes "check")).top
 
+abbrev pub queries : App
+queries = with_subcommand (with_subcommand scripts (named (codes "explain")).top) (named (codes "picture")).top
+
 abbrev pub program : App
-program = with_subcommand (with_subcommand scripts (parallel (codes "audit")).top) (parallel (codes "drive")).top
+program = with_subcommand (with_subcommand queries (parallel (codes "audit")).top) (parallel (codes "drive")).top

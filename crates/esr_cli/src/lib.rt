@@ -7,7 +7,7 @@ ghost use Rattle.clap.specs.Words.{subcommand_of, subcommand_rows_of, FailsBy};
 ghost use Rattle.clap.specs.Walk.{texts};
 ghost use Rattle.clap.specs.declared.builder.command.Command.TheViews.{out-Command};
 ghost use Rattle.clap.specs.declared.error.kind.ErrorKind.TheVariants.{OutOfMemory};
-ghost use Rattle.esr_cli.specs.Program.{certify, parallel, program, scripts};
+ghost use Rattle.esr_cli.specs.Program.{certify, named, parallel, program, queries, scripts};
 ghost use Rattle.esr_cli.specs.Job.{certify_in, request_in, request_of, steps_in, workers_in, HasWorkers, Spells};
 
 #[cfg(test)]
@@ -27,6 +27,10 @@ pub enum Job<'a> {
     Certify { name: &'a str, steps: bool },
     /// Judges a bundle.
     Check,
+    /// Runs a script without writing its lines, and explains the query `name`.
+    Explain { name: &'a str },
+    /// Runs a script without writing its lines, and draws the query `name`.
+    Picture { name: &'a str },
     /// Runs a script without writing its lines, and audits each committed query
     /// with so many workers, 1 to 64.
     Audit { workers: u64 },
@@ -79,6 +83,15 @@ fn certify<'a>(alloc: Global) -> Result<Command<'a>, AllocError>
         .arg(name)
 }
 
+/// `name NAME`
+fn named<'a>(alloc: Global, name: &'a str, about: &'a str) -> Result<Command<'a>, AllocError>
+    ensures app { IfOk result (λ c. app_of c ≡ named name.entry.now) }
+    ensures local { IfOk result (λ c. (out-Command c).has_globals ≡ false) }
+{
+    let query = Arg::new(alloc, "NAME").required(true).help("The query");
+    Command::new(alloc, name).about(about).arg(query)
+}
+
 /// `name [--workers W]`
 fn parallel<'a>(alloc: Global, name: &'a str, about: &'a str) -> Result<Command<'a>, AllocError>
     ensures app { IfOk result (λ c. app_of c ≡ parallel name.entry.now) }
@@ -113,6 +126,23 @@ fn scripts<'a>(alloc: Global) -> Result<Command<'a>, AllocError>
         .subcommand(check)
 }
 
+/// The same with the jobs that show one query to a person.
+fn queries<'a>(alloc: Global) -> Result<Command<'a>, AllocError>
+    ensures { IfOk result (λ c. app_of c ≡ queries) }
+{
+    let explain = named(
+        alloc,
+        "explain",
+        "Runs a script from standard input and tells what a query read and was charged",
+    )?;
+    let picture = named(
+        alloc,
+        "picture",
+        "Runs a script from standard input and writes a picture of a query, an SVG",
+    )?;
+    scripts(alloc)?.subcommand(explain)?.subcommand(picture)
+}
+
 fn program<'a>(alloc: Global) -> Result<Command<'a>, AllocError>
     ensures { IfOk result (λ c. app_of c ≡ program) }
 {
@@ -126,7 +156,7 @@ fn program<'a>(alloc: Global) -> Result<Command<'a>, AllocError>
         "drive",
         "Runs the sessions of a drive file from standard input, each on a thread",
     )?;
-    scripts(alloc)?.subcommand(audit)?.subcommand(drive)
+    queries(alloc)?.subcommand(audit)?.subcommand(drive)
 }
 
 fn query<'a>(given: &ArgMatches<'a>) -> Option<&'a str>
@@ -164,6 +194,12 @@ fn job_of<'a>(matches: &ArgMatches<'a>) -> Option<Job<'a>>
         "run" => Some(Job::Run),
         "certify" => certify_job(given),
         "check" => Some(Job::Check),
+        "explain" => Some(Job::Explain {
+            name: query(given)?,
+        }),
+        "picture" => Some(Job::Picture {
+            name: query(given)?,
+        }),
         "audit" => Some(Job::Audit {
             workers: workers(given)?,
         }),

@@ -4,7 +4,7 @@ use std::test::Fail;
 
 #[test]
 fn words_ask_for_their_jobs(rt: HostRuntime) -> Result<(), Fail> {
-    let lines: [(&[&str], Job<'static>); 11] = [
+    let lines: [(&[&str], Job<'static>); 14] = [
         (&["esr", "run"], Job::Run),
         (&["esr", "check"], Job::Check),
         (
@@ -35,6 +35,9 @@ fn words_ask_for_their_jobs(rt: HostRuntime) -> Result<(), Fail> {
                 steps: false,
             },
         ),
+        (&["esr", "explain", "q"], Job::Explain { name: "q" }),
+        (&["esr", "explain", "--", "-q"], Job::Explain { name: "-q" }),
+        (&["esr", "picture", "q"], Job::Picture { name: "q" }),
         (&["esr", "audit"], Job::Audit { workers: 4 }),
         (
             &["esr", "audit", "--workers", "1"],
@@ -59,7 +62,7 @@ fn words_ask_for_their_jobs(rt: HostRuntime) -> Result<(), Fail> {
 
 #[test]
 fn other_words_are_mistakes_or_ask_for_help(rt: HostRuntime) {
-    let lines: [(&[&str], ErrorKind, i32); 15] = [
+    let lines: [(&[&str], ErrorKind, i32); 18] = [
         (&["esr"], ErrorKind::MissingSubcommand, 2),
         (&["esr", "walk"], ErrorKind::InvalidSubcommand, 2),
         (&["esr", "run", "now"], ErrorKind::UnknownArgument, 2),
@@ -67,6 +70,9 @@ fn other_words_are_mistakes_or_ask_for_help(rt: HostRuntime) {
         (&["esr", "certify"], ErrorKind::MissingRequiredArgument, 2),
         (&["esr", "certify", "q", "r"], ErrorKind::UnknownArgument, 2),
         (&["esr", "check", "q"], ErrorKind::UnknownArgument, 2),
+        (&["esr", "explain"], ErrorKind::MissingRequiredArgument, 2),
+        (&["esr", "explain", "q", "r"], ErrorKind::UnknownArgument, 2),
+        (&["esr", "picture"], ErrorKind::MissingRequiredArgument, 2),
         (
             &["esr", "audit", "--workers", "0"],
             ErrorKind::ValueValidation,

@@ -17,7 +17,8 @@ use Rattle.esr_history.specs.declared.event.Refusal.TheVariants.{TooManyReads}
 use Rattle.esr_history.specs.Events.{numbers, reads, reads_any, is_query, is_update, is_active, holds_read, reads_of, all_reads_of}
 use Rattle.esr_history.specs.Machine.{Distance, Schedule, done, due_in, first_reason, refusal, reasons, Charge, import_full, export_full}
 use Rattle.esr_history.specs.ItemLocks.{ItemLocks, query_reads}
-use Rattle.esr_history.proofs.Lawful.{none_applies, when_none, not_ended}
+use Rattle.esr_history.proofs.Allowed.{none_applies, read_allowed}
+use Rattle.esr_history.proofs.Lawful.{when_none, not_ended}
 use Rattle.esr_ledgers.specs.declared.account.Account.{Account}
 use Rattle.esr_ledgers.specs.declared.ledgers.Quote.{Quote}
 use Rattle.esr_ledgers.specs.declared.ledgers.Quote.TheVariants.{Fits, Import, Export}
@@ -57,12 +58,12 @@ reads_le es t x = sum_by-le-sum_by (λ e. if reads t x e then 1 else 0) (λ e. i
     one e = le (reads t x e) (reads_any t e) (any e)
 
 pub read_active : (d : Distance) (h : Schedule) (t : TxnId) (x : ItemId) → refusal d h (Read t x) ≡ None → is_active (done h) t.0 ≡ true
-read_active d h t x none = let why = none_applies (reasons d h (Read t x)) none in not_ended h t.0 why.1.0
+read_active d h t x none = not_ended h t.0 (read_allowed d h t x (none_applies (reasons d h (Read t x)) none)).active
 
 pub read_few : (d : Distance) (h : Schedule) (t : TxnId) (x : ItemId) → refusal d h (Read t x) ≡ None → is_query (done h) t.0 ≡ true → all_reads_of (done h) t.0 < 1000
 read_few d h t x none query =
-    let why = none_applies (reasons d h (Read t x)) none in
-    let both : (is_query (done h) t.0 && nat_le 1000 (all_reads_of (done h) t.0)) ≡ false = when_none (is_query (done h) t.0 && nat_le 1000 (all_reads_of (done h) t.0)) TooManyReads why.1.1.1.0 in
+    let allowed = read_allowed d h t x (none_applies (reasons d h (Read t x)) none) in
+    let both : (is_query (done h) t.0 && nat_le 1000 (all_reads_of (done h) t.0)) ≡ false = when_none (is_query (done h) t.0 && nat_le 1000 (all_reads_of (done h) t.0)) TooManyReads allowed.few in
     let few : nat_le 1000 (all_reads_of (done h) t.0) ≡ false = rw query at both in
     grind (arith, nat_tests)
 
@@ -71,9 +72,9 @@ module _ (d : Distance) (h : Schedule) (items : List Versions) (table : List Tra
   pub read_fits : (t u : TxnId) (x : ItemId) (amount : ℕ) → refusal d h (Read t x) ≡ None → is_query (done h) t.0 ≡ true → is_update (done h) u.0 ≡ true → due_in d h (Read t x) ≡ charges_by u.0 ((t, amount) ∷ [])
       → quote_of accounts u ((t, amount) ∷ []) ≡ Fits
   read_fits t u x amount none query update owed =
-      let why = none_applies (reasons d h (Read t x)) none in
+      let allowed = read_allowed d h t x (none_applies (reasons d h (Read t x)) none) in
       let no_reason : first_reason (import_full d h (due_in d h (Read t x)) ∷ export_full d h (due_in d h (Read t x)) ∷ []) ≡ None =
-      ap (λ (r : Option Refusal). first_reason (r ∷ export_full d h (due_in d h (Read t x)) ∷ [])) why.1.1.1.1.1.0 ∙ ap (λ (r : Option Refusal). first_reason (None ∷ r ∷ [])) why.1.1.1.1.1.1.0 in
+      ap (λ (r : Option Refusal). first_reason (r ∷ export_full d h (due_in d h (Read t x)) ∷ [])) allowed.imports ∙ ap (λ (r : Option Refusal). first_reason (None ∷ r ∷ [])) allowed.exports in
       fits_from (quote_of accounts u ((t, amount) ∷ []))
       (ap (λ (as' : List Account). reason_of (quote_of as' u ((t, amount) ∷ []))) tie.books
       ∙ (sym (quote_reason d h u (t, amount) [] update (query, tt))

@@ -13,7 +13,8 @@ use Rattle.esr_history.specs.declared.event.Refusal.TheVariants.{QueryMayNotWrit
 use Rattle.esr_history.specs.Events.{numbers, is_query, is_update, is_active, holds_read, reads_of, current_value}
 use Rattle.esr_history.specs.Machine.{Distance, Schedule, Charge, done, due_in, first_reason, not_begun, ended, no_item, query_writes, out_of_range, write_blocked, import_full, export_full, refusal}
 use Rattle.esr_history.specs.ItemLocks.{ItemLocks, query_reads}
-use Rattle.esr_history.proofs.Lawful.{none_applies, when_none, not_ended, update_from}
+use Rattle.esr_history.proofs.Allowed.{WriteOpen, none_applies, write_open}
+use Rattle.esr_history.proofs.Lawful.{when_none, not_ended, update_from}
 use Rattle.esr_history.proofs.Orderly.{active_parts}
 use Rattle.esr_ledgers.specs.declared.account.Account.{Account}
 use Rattle.esr_ledgers.specs.Books.{AreCharges, charged}
@@ -29,15 +30,16 @@ use Rattle.esr_core.proofs.Reasons.{write_split, write_first}
 abbrev pub barred : Schedule → TxnId → ItemId → ℤ → Option Refusal
 barred h t x v = first_reason (not_begun h t.0 ∷ ended h t.0 ∷ no_item h x.0 ∷ query_writes h t.0 ∷ out_of_range v ∷ write_blocked h t.0 x.0 ∷ [])
 
+open_of : (h : Schedule) (t : TxnId) (x : ItemId) (v : ℤ) → barred h t x v ≡ None → WriteOpen h t x v
+open_of h t x v none =
+    write_open h t x v (none_applies (not_begun h t.0 ∷ ended h t.0 ∷ no_item h x.0 ∷ query_writes h t.0 ∷ out_of_range v ∷ write_blocked h t.0 x.0 ∷ []) none)
+
 pub active_of : (h : Schedule) (t : TxnId) (x : ItemId) (v : ℤ) → barred h t x v ≡ None → is_active (done h) t.0 ≡ true
-active_of h t x v none =
-    let why = none_applies (not_begun h t.0 ∷ ended h t.0 ∷ no_item h x.0 ∷ query_writes h t.0 ∷ out_of_range v ∷ write_blocked h t.0 x.0 ∷ []) none in
-    not_ended h t.0 why.1.0
+active_of h t x v none = not_ended h t.0 (open_of h t x v none).active
 
 pub update_of : (h : Schedule) (t : TxnId) (x : ItemId) (v : ℤ) → barred h t x v ≡ None → is_update (done h) t.0 ≡ true
 update_of h t x v none =
-    let why = none_applies (not_begun h t.0 ∷ ended h t.0 ∷ no_item h x.0 ∷ query_writes h t.0 ∷ out_of_range v ∷ write_blocked h t.0 x.0 ∷ []) none in
-    update_from (done h) t.0 (active_parts (done h) t.0 (active_of h t x v none)).0 (when_none (is_query (done h) t.0) QueryMayNotWrite why.1.1.1.0)
+    update_from (done h) t.0 (active_parts (done h) t.0 (active_of h t x v none)).0 (when_none (is_query (done h) t.0) QueryMayNotWrite (open_of h t x v none).update)
 
 pub barred_first : (d : Distance) (h : Schedule) (t : TxnId) (x : ItemId) (v : ℤ) (why : Refusal) → barred h t x v ≡ Some why → refusal d h (Write t x v) ≡ Some why
 barred_first d h t x v why is =

@@ -1,6 +1,7 @@
 -- A plan that is being made, as contracts see it.
 use Rattle.std.specs.Prelude.{◌≡◌, ◌≤◌, ℕ, List, [], ◌∷◌, ◌++◌, All, Option, Some, None, Result, Err, map, length, nat_lt, slice_get, if◌then◌else◌}
 use Rattle.std.specs.Option.{option_map}
+use Rattle.esr_items.specs.declared.TheConstants.{MOST_ITEMS}
 use Rattle.esr_items.specs.Values.{IsValue}
 use Rattle.esr_items.specs.Weights.{IsWeight}
 use Rattle.esr_report.specs.Names.{position_of}
@@ -54,7 +55,7 @@ pub record IsSound (d : Draft) : Type 0 where
   pub in_range : All IsValue d.values.items
   pub weighed : All IsWeight (weights_of d.weights.items)
   pub opened : IsOpened d
-  pub items : length d.names ≤ 4096
+  pub items : length d.names ≤ MOST_ITEMS
   pub blocks : length (blocks_of d) ≤ 64
   pub every : length d.places.items ≡ length d.begun
   pub earlier : d.earlier ≤ length d.begun

@@ -8,15 +8,8 @@ use Rattle.esr_drive.specs.declared.fault.DriveFault.{DriveFault}
 use Rattle.esr_drive.specs.declared.fault.DriveFault.TheVariants as fault
 
 abbrev pub is_write_fault : {T : Type 0} → Result T DriveFault → Bool
-is_write_fault (Ok done) = false
-is_write_fault (Err fault.Read) = false
 is_write_fault (Err fault.Write) = true
-is_write_fault (Err fault.LineTooLong) = false
-is_write_fault (Err fault.NoMemory) = false
-is_write_fault (Err fault.HistoryFull) = false
-is_write_fault (Err fault.TooManyLines) = false
-is_write_fault (Err (fault.BadScript line error)) = false
-is_write_fault (Err fault.Close) = false
+is_write_fault _ = false
 
 -- the faults of the engine, and of memory
 abbrev pub is_engine_fault : DriveFault → Bool

@@ -1,5 +1,6 @@
 -- A plan as contracts see it.
 use Rattle.std.specs.Prelude.{◌≡◌, ◌≤◌, All, length, map}
+use Rattle.esr_items.specs.declared.TheConstants.{MOST_ITEMS}
 use Rattle.esr_items.specs.Values.{IsValue}
 use Rattle.esr_items.specs.Weights.{IsWeight}
 use Rattle.esr_drive.specs.declared.sheet.Sheet.{Sheet}
@@ -16,6 +17,6 @@ pub record IsSound (s : Sheet) : Type 0 where
   pub weights : length s.weights.items ≡ length s.names
   pub in_range : All IsValue s.values.items
   pub weighed : All IsWeight (weights_of s.weights.items)
-  pub items : length s.names ≤ 4096
+  pub items : length s.names ≤ MOST_ITEMS
   pub blocks : length s.blocks.items ≤ 64
   pub resolved : All (λ b. AreResolved s.names b.items) s.blocks.items

@@ -1,6 +1,6 @@
 //! Makes the plan of a drive file, line after line.
 
-ghost use Rattle.std.specs.Prelude.{◌≡◌, ℕ, ◌+◌, ◌<◌, ◌≤◌, ◌⊎◌, ◌^◌, true, false, Ok, Err, Some, None, OnOk, IfOk, IfErr, length};
+ghost use Rattle.std.specs.Prelude.{◌≡◌, ◌+◌, ◌<◌, ◌≤◌, ◌⊎◌, ◌^◌, true, false, Ok, Err, Some, None, OnOk, IfOk, IfErr, length};
 ghost use Rattle.esr_items.specs.Weights.{is_weight};
 ghost use Rattle.esr_script.specs.Lines.{lines};
 ghost use Rattle.esr_script.specs.View.{view};
@@ -75,7 +75,8 @@ impl<'a> Draft<'a> {
     /// Declares an item, with a weight where one is given.
     fn add_item(&mut self, name: &str, value: i64, weight: Option<u64>) -> Result<(), Wrong>
         requires { IsSound self.old }
-        ensures ok { OnOk result (IsSound self.new × (with_item (plan_in self.old) name.now value weight ≡ Ok (plan_in self.new))) }
+        ensures ok { OnOk result (IsSound self.new × (with_item (plan_in self.old) name.now value weight
+            ≡ Ok (plan_in self.new))) }
         ensures err { IfErr result (IsWrong (with_item (plan_in self.old) name.now value weight)) }
         ensures begun { self.new.begun ≡ self.old.begun }
     {
@@ -165,7 +166,8 @@ impl<'a> Draft<'a> {
         requires sound { IsSound self.old }
         requires plain { new_name (command_of call) ≡ None }
         requires resolved { IsResolved self.old.names (current_calls self.old) call }
-        ensures ok { OnOk result (IsSound self.new × (with_operation (plan_in self.old) (command_of call.entry) ≡ Ok (plan_in self.new))) }
+        ensures ok { OnOk result (IsSound self.new × (with_operation (plan_in self.old) (command_of call.entry)
+            ≡ Ok (plan_in self.new))) }
         ensures err { IfErr result (IsWrong (with_operation (plan_in self.old) (command_of call.entry))) }
         ensures begun { self.new.begun ≡ self.old.begun }
     {
@@ -184,7 +186,8 @@ impl<'a> Draft<'a> {
         requires named { new_name (command_of call) ≡ Some name.now }
         requires resolved { IsResolved self.old.names (current_calls self.old) call }
         requires room { length self.old.begun < 2 ^ 32 }
-        ensures ok { OnOk result (IsSound self.new × (with_begin (plan_in self.old) name.now (command_of call.entry) ≡ Ok (plan_in self.new))) }
+        ensures ok { OnOk result (IsSound self.new × (with_begin (plan_in self.old) name.now (command_of call.entry)
+            ≡ Ok (plan_in self.new))) }
         ensures err { IfErr result (IsWrong (with_begin (plan_in self.old) name.now (command_of call.entry))) }
         ensures begun { OnOk result (length self.new.begun ≤ length self.old.begun + 1) }
     {
@@ -208,7 +211,8 @@ impl<'a> Draft<'a> {
     fn add_command(&mut self, line: Line<'a>) -> Result<(), Wrong>
         requires sound { IsSound self.old }
         requires room { length self.old.begun < 2 ^ 32 }
-        ensures ok { OnOk result (IsSound self.new × (with_command (plan_in self.old) (view line.entry) ≡ Ok (plan_in self.new))) }
+        ensures ok { OnOk result (IsSound self.new × (with_command (plan_in self.old) (view line.entry)
+            ≡ Ok (plan_in self.new))) }
         ensures err { IfErr result (IsWrong (with_command (plan_in self.old) (view line.entry))) }
         ensures begun { OnOk result (length self.new.begun ≤ length self.old.begun + 1) }
     {
@@ -255,7 +259,8 @@ impl<'a> Draft<'a> {
     fn add_line(&mut self, alloc: Global, line: &'a [u8]) -> Result<(), Wrong>
         requires sound { IsSound self.old }
         requires room { length self.old.begun < 2 ^ 32 }
-        ensures ok { OnOk result (IsSound self.new × (with_line (plan_in self.old) line.entry.now ≡ Ok (plan_in self.new))) }
+        ensures ok { OnOk result (IsSound self.new × (with_line (plan_in self.old) line.entry.now
+            ≡ Ok (plan_in self.new))) }
         ensures err { IfErr result (IsWrong (with_line (plan_in self.old) line.entry.now)) }
         ensures begun { OnOk result (length self.new.begun ≤ length self.old.begun + 1) }
     {
@@ -277,7 +282,8 @@ impl<'a> Draft<'a> {
 pub fn draft_of<'a>(alloc: Global, bytes: &'a [u8]) -> Result<Draft<'a>, DriveFault>
     requires { length (lines bytes.now) ≤ 2000000 }
     ensures ok { IfOk result (λ d. IsSound d × (plan_from 1 nothing (lines bytes.entry.now) ≡ Ok (plan_in d))) }
-    ensures err { IfErr result (λ e. (e ≡ DriveFault.NoMemory) ⊎ (plan_from 1 nothing (lines bytes.entry.now) ≡ Err e)) }
+    ensures err { IfErr result (λ e. (e ≡ DriveFault.NoMemory)
+        ⊎ (plan_from 1 nothing (lines bytes.entry.now) ≡ Err e)) }
 {
     let mut draft = Draft::new(alloc);
     let mut unread = bytes;

@@ -82,7 +82,8 @@ fn drive_blocks<N: Naming + Send + Sync, R: Threads + Wait + Sync, G: Gate + Syn
     requires weights { metric ≡ N.weights }
     requires blocks { length blocks.now ≤ 64 }
     ensures faults { IfErr result (λ e. is_engine_fault e ≡ true) }
-    ensures driven { IfOk result (λ d. IsDriven (map (λ w. w.committed) items) metric (map (λ b. b.items) blocks.now) d.history.schedule (map (λ r. r.items) d.replies.items)) }
+    ensures driven { IfOk result (λ d. IsDriven (map (λ w. w.committed) items) metric
+        (map (λ b. b.items) blocks.now) d.history.schedule (map (λ r. r.items) d.replies.items)) }
 {
     let Ok(mut engine) = Engine::<Weighted, N>::new(alloc, blank, items, metric) else {
         return Err(DriveFault::NoMemory);
@@ -123,7 +124,8 @@ pub fn run_plan<R: Threads + Wait + Sync, G: Gate + Sync>(
 ) -> Result<Driven, DriveFault>
     requires { length blocks.now ≤ 64 }
     ensures faults { IfErr result (λ e. is_engine_fault e ≡ true) }
-    ensures driven { IfOk result (λ d. IsDriven (map (λ w. w.committed) items) metric (map (λ b. b.items) blocks.now) d.history.schedule (map (λ r. r.items) d.replies.items)) }
+    ensures driven { IfOk result (λ d. IsDriven (map (λ w. w.committed) items) metric
+        (map (λ b. b.items) blocks.now) d.history.schedule (map (λ r. r.items) d.replies.items)) }
 {
     drive_blocks::<Brand, R, G>(rt, alloc, Blank::new(65), items, metric, blocks, gate)
 }

@@ -14,7 +14,6 @@ use crate::driven::{Driven, run_plan};
 use crate::fault::DriveFault;
 use crate::opening::{metric_of, store_of};
 use crate::reading::read_all;
-use crate::sending::send_all;
 use crate::sheet::{Sheet, sheet_of};
 use crate::table::begun_names;
 use crate::text::{push_blocks, push_findings, push_items, push_totals};
@@ -50,11 +49,11 @@ pub fn drive<R: Threads + Wait + Sync, I: Read, O: Write, G: Gate + Sync>(
         Ok(bytes) => bytes,
         Err(fault) => return Err(fault),
     };
-    let mut out = match text_in(rt, alloc, &bytes, workers, gate) {
+    let out = match text_in(rt, alloc, &bytes, workers, gate) {
         Ok(out) => out,
         Err(fault) => return Err(fault),
     };
-    send_all(&mut out, writer)
+    writer.send_all(&out).map_err(|_| DriveFault::Write)
 }
 
 /// The text of the file.
@@ -100,7 +99,9 @@ fn text_from<R: Threads + Sync>(
 ) -> Result<Vec<u8>, AllocError>
     requires workers { (1 ≤ workers) × (workers ≤ 64) }
     requires sound { IsSound sheet.now }
-    requires driven { IsDriven sheet.now.values.items (weights_of sheet.now.weights.items) (map (λ b. b.items) sheet.now.blocks.items) driven.now.history.schedule (map (λ r. r.items) driven.now.replies.items) }
+    requires driven { IsDriven sheet.now.values.items (weights_of sheet.now.weights.items)
+        (map (λ b. b.items) sheet.now.blocks.items) driven.now.history.schedule
+        (map (λ r. r.items) driven.now.replies.items) }
     ensures { IfOk result (λ out. out.items ≡ text_of (plan_in sheet.now) driven.now.history.schedule
         (all_answers (map (λ b. b.items) sheet.now.blocks.items) (map (λ r. r.items) driven.now.replies.items))) }
 {

@@ -10,7 +10,6 @@ mod opening;
 mod reading;
 mod replay;
 mod run;
-mod sending;
 mod sheet;
 mod table;
 mod text;

@@ -1,5 +1,6 @@
 //! The items of a plan, as a machine opens with them.
 
+ghost use Rattle.esr_items.specs.declared.TheConstants.{MOST_ITEMS};
 ghost use Rattle.std.specs.Prelude.{◌≡◌, ◌≤◌, All, IfOk, length, map};
 ghost use Rattle.esr_items.specs.Values.{IsValue};
 ghost use Rattle.esr_items.specs.Weights.{IsWeight};
@@ -10,7 +11,7 @@ use std::alloc::{AllocError, Global};
 
 /// The items with these values.
 pub fn store_of(alloc: Global, values: &[i64]) -> Result<Store, AllocError>
-    requires many { length values.now ≤ 4096 }
+    requires many { length values.now ≤ MOST_ITEMS }
     requires range { All IsValue values.now }
     ensures { IfOk result (λ items. map (λ w. w.committed) items ≡ values.now) }
 {
@@ -26,7 +27,7 @@ pub fn store_of(alloc: Global, values: &[i64]) -> Result<Store, AllocError>
 
 /// The distance by the weights: 1 where none was given.
 pub fn metric_of(alloc: Global, given: &[Option<u32>]) -> Result<Weighted, AllocError>
-    requires many { length given.now ≤ 4096 }
+    requires many { length given.now ≤ MOST_ITEMS }
     requires range { All IsWeight (weights_of given.now) }
     ensures { IfOk result (λ metric. metric ≡ weights_of given.now) }
 {

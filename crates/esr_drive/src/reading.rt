@@ -1,6 +1,6 @@
 //! Reads a drive file, and cuts it into lines. Reading stops at the first line that is too long, or is one too many.
 
-ghost use Rattle.std.specs.Prelude.{◌≡◌, ℕ, List, true, false, ◌<◌, ◌≤◌, ◌↔◌, [], ◌∷◌, ◌++◌, None, Some, IfOk, IfErr, IsErrOf, IsTrue, MatchOption, MatchResult, length, nat_eq};
+ghost use Rattle.std.specs.Prelude.{◌≡◌, ℕ, List, false, ◌<◌, ◌≤◌, ◌↔◌, [], ◌∷◌, ◌++◌, None, Some, IfOk, IfErr, IsErrOf, IsTrue, MatchOption, MatchResult, length, nat_eq};
 ghost use Rattle.std.specs.List.{position};
 ghost use Rattle.std.specs.Io.KnownBytes.{Consumes, IsAtEnd};
 ghost use Rattle.esr_history.specs.Watch.{inner, failed};
@@ -10,12 +10,9 @@ ghost use Rattle.esr_drive.specs.Readings.{IsMark, IsLineFault, IsReadFault, res
 
 use crate::fault::DriveFault;
 use esr_history::Watched;
+use esr_script::{MAX_LINE_BYTES, MAX_LINES};
 use std::alloc::{AllocError, Global};
 use std::io::Read;
-
-const MAX_LINES: u64 = 2_000_000;
-
-const MAX_LINE_BYTES: usize = 200;
 
 /// How many bytes are asked for at once.
 const ROOM: usize = 65536;
@@ -28,7 +25,8 @@ fn find_line_feed(bytes: &[u8]) -> Option<usize>
 
 /// The first line, and what stands after its line feed.
 pub fn first_line(bytes: &[u8]) -> Option<(&[u8], &[u8])>
-    ensures { MatchOption result (bytes.now ≡ []) (λ p. (lines bytes.now ≡ p.0.now ∷ lines p.1.now) × (length p.1.now < length bytes.now)) }
+    ensures { MatchOption result (bytes.now ≡ []) (λ p. (lines bytes.now ≡ p.0.now ∷ lines p.1.now)
+        × (length p.1.now < length bytes.now)) }
 {
     if bytes.is_empty() {
         return None;
@@ -97,7 +95,8 @@ fn room(alloc: Global) -> Result<Vec<u8>, AllocError>
 /// Reads to the end, or to the first line that ends the reading.
 pub fn read_all<R: Read>(alloc: Global, reader: &mut Watched<R>) -> Result<Vec<u8>, DriveFault>
     requires { failed reader.old ≡ false }
-    ensures ok { IfOk result (λ bytes. Consumes (R.remaining (inner reader.old)) (R.remaining (inner reader.new)) bytes.items) }
+    ensures ok { IfOk result (λ bytes. Consumes (R.remaining (inner reader.old))
+        (R.remaining (inner reader.new)) bytes.items) }
     ensures end { IfOk result (λ bytes. IsAtEnd (R.remaining (inner reader.new))) }
     ensures fine { IfOk result (λ bytes. cut_fault 0 (lines bytes.items) ≡ None) }
     ensures faults { IfErr result (IsReadFault (R.remaining (inner reader.old))) }

@@ -1,5 +1,6 @@
 //! A closed history, given to a machine again.
 
+ghost use Rattle.esr_history.specs.declared.limits.TheConstants.{MOST_ENTRIES};
 ghost use Rattle.std.specs.Prelude.{◌≡◌, ◌<◌, ◌≤◌, IfOk, OnOk, length, map};
 ghost use Rattle.esr_items.specs.Weights.{weighted};
 ghost use Rattle.esr_history.specs.Machine.{extended, reply_to};
@@ -11,7 +12,7 @@ use std::alloc::Global;
 
 /// Gives the machine an event, for which it has room.
 fn step_again(machine: &mut Machine<Weighted>, event: Event) -> Result<(), NoMemory>
-    requires { length machine.old.entries < 1000000 }
+    requires { length machine.old.entries < MOST_ENTRIES }
     ensures { OnOk result (machine.new ≡ extended machine.old event (reply_to weighted machine.old event)) }
 {
     match machine.step(event) {
@@ -31,7 +32,7 @@ pub fn replayed(
 ) -> Result<Machine<Weighted>, NoMemory>
     requires opening { history.now.schedule.opening ≡ map (λ w. w.committed) items }
     requires weights { history.now.schedule.weights ≡ metric }
-    requires most { length history.now.schedule.entries ≤ 1000000 }
+    requires most { length history.now.schedule.entries ≤ MOST_ENTRIES }
     ensures { IfOk result (λ m. m ≡ history.now.schedule) }
 {
     let log = history.log();

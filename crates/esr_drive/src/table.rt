@@ -1,10 +1,8 @@
 //! Which name each transaction of a history began by.
 
-ghost use Rattle.std.specs.Prelude.{◌≡◌, ◌<◌, ℕ, List, [], IfOk, length, map, slice_get, slice_index_or, replicate};
-ghost use Rattle.std.specs.Option.{option_map};
+ghost use Rattle.std.specs.Prelude.{◌≡◌, ◌<◌, IfOk, length, map};
 ghost use Rattle.esr_history.specs.Links.{begun_count};
-ghost use Rattle.esr_drive.specs.Calls.{command_of, answers_of};
-ghost use Rattle.esr_drive.specs.Blocks.{Answered};
+ghost use Rattle.esr_drive.specs.Calls.{answers_of};
 ghost use Rattle.esr_drive.specs.Drive.{names_of};
 ghost use Rattle.esr_drive.specs.Driven.{AreAnswered, all_answers};
 ghost use Rattle.esr_drive.specs.Tables.{answered, names_in, with_begun, noted, is_begin};
@@ -96,7 +94,9 @@ pub fn begun_names<'a>(
     replies: &[Vec<Reply>],
 ) -> Result<BegunNames<'a>, AllocError>
     requires { AreAnswered (map (λ b. b.items) blocks.now) (map (λ r. r.items) replies.now) }
-    ensures { IfOk result (λ table. names_in table ≡ names_of history.now.schedule (all_answers (map (λ b. b.items) blocks.now) (map (λ r. r.items) replies.now))) }
+    ensures { IfOk result (λ table. names_in table
+        ≡ names_of history.now.schedule (all_answers (map (λ b. b.items) blocks.now)
+        (map (λ r. r.items) replies.now))) }
 {
     let count = begun_count(history.log());
     let mut table = BegunNames {

@@ -1,5 +1,7 @@
 //! The text of a drive, part by part.
 
+ghost use Rattle.esr_history.specs.declared.limits.TheConstants.{MOST_ENTRIES};
+ghost use Rattle.esr_items.specs.declared.TheConstants.{MOST_ITEMS};
 ghost use Rattle.std.specs.Prelude.{◌≡◌, ◌<◌, ◌≤◌, slice_index_or, ◌++◌, [], OnOk, All, length, map};
 ghost use Rattle.std.specs.List.{flat_map};
 ghost use Rattle.esr_items.specs.Weights.{weighted};
@@ -27,7 +29,7 @@ use std::thread::Threads;
 
 /// The name at a place.
 fn name_at(names: &Names, place: usize) -> &str
-    requires { place < 4096 }
+    requires { place < MOST_ITEMS }
     ensures { result.now ≡ slice_index_or names.now place [] }
 {
     match names.name_of(place as u32) {
@@ -58,7 +60,7 @@ pub fn push_items(
     values: &[i64],
     weights: &[Option<u32>],
 ) -> Result<(), AllocError>
-    requires len { length names.now ≤ 4096 }
+    requires len { length names.now ≤ MOST_ITEMS }
     requires values { length values.now ≡ length names.now }
     requires weights { length weights.now ≡ length names.now }
     ensures { OnOk result (out.new.items ≡ out.old.items ++ items_text names.now values.now weights.now) }
@@ -90,7 +92,8 @@ fn push_replies(
     replies: &[Reply],
 ) -> Result<(), AllocError>
     requires { length replies.now ≡ length calls.now }
-    ensures { OnOk result (out.new.items ≡ out.old.items ++ replies_text (names_in names.now) (answers_of calls.now replies.now)) }
+    ensures { OnOk result (out.new.items ≡ out.old.items
+        ++ replies_text (names_in names.now) (answers_of calls.now replies.now)) }
 {
     for i in 0..calls.len() {
         push_reply(out, names, &calls[i], &replies[i])?;
@@ -107,7 +110,8 @@ pub fn push_blocks(
 ) -> Result<(), AllocError>
     requires { AreAnswered (map (λ b. b.items) blocks.now) (map (λ r. r.items) replies.now) }
     ensures { OnOk result (out.new.items ≡ out.old.items
-        ++ blocks_text (names_in names.now) 0 (all_answers (map (λ b. b.items) blocks.now) (map (λ r. r.items) replies.now))) }
+        ++ blocks_text (names_in names.now) 0 (all_answers (map (λ b. b.items) blocks.now)
+        (map (λ r. r.items) replies.now))) }
 {
     for i in 0..blocks.len() {
         session_line(out, i as u64)?;
@@ -186,9 +190,10 @@ pub fn push_totals(
 ) -> Result<(), AllocError>
     requires opening { history.now.schedule.opening ≡ map (λ w. w.committed) items }
     requires weights { history.now.schedule.weights ≡ metric }
-    requires most { length history.now.schedule.entries ≤ 1000000 }
+    requires most { length history.now.schedule.entries ≤ MOST_ENTRIES }
     ensures { OnOk result (out.new.items ≡ out.old.items
-        ++ totals_line (all_imports weighted history.now.schedule) (all_exports weighted history.now.schedule) (length history.now.schedule.entries)) }
+        ++ totals_line (all_imports weighted history.now.schedule) (all_exports weighted history.now.schedule)
+        (length history.now.schedule.entries)) }
 {
     let Ok(machine) = replayed(alloc, items, metric, history) else {
         return Err(AllocError);

@@ -63,7 +63,8 @@ pub fn gather<N: Naming>(alloc: Global, all: Vec<Ran<N>>) -> Result<Gathered<N>,
     ensures sessions { IfOk result (λ g. g.sessions.items ≡ map (λ ran. ran.session) all.items) }
     ensures replies { IfOk result (λ g. map (λ ran. ran.outcome) all.items ≡ map (λ r. Ok r) g.replies.items) }
     ensures engine { IfErr result (λ e. is_engine_fault e ≡ true) }
-    ensures told { IfErr result (λ e. (e ≡ DriveFault.NoMemory) ⊎ (told_fault (map (λ ran. ran.outcome) all.items) ≡ Some e)) }
+    ensures told { IfErr result (λ e. (e ≡ DriveFault.NoMemory)
+        ⊎ (told_fault (map (λ ran. ran.outcome) all.items) ≡ Some e)) }
 {
     let mut sessions = Vec::new(alloc);
     let mut replies = Vec::new(alloc);

@@ -32,16 +32,15 @@ contains_from (t ∷ steps) s h =
     ]
 
 -- the entries of a node's steps
-lists_from : (arcs : List Arc) (flow : List ℕ) (v : ℕ) (steps : List Step) → HasSteps arcs v steps → Lists arcs flow v (map (entry_of arcs flow) steps)
+lists_from : (arcs : List Arc) (flow : List ℕ) (v : ℕ) (steps : List Step) → HasSteps arcs v steps → Lists arcs flow v steps (map (entry_of arcs flow) steps)
 lists_from arcs flow v steps h = record {
+  count = length-map steps (entry_of arcs flow);
   entries = λ k l.
       let inside : k < length steps = omega (arith, length-map steps (entry_of arcs flow)) in
       let is : entry_at (map (entry_of arcs flow) steps) k ≡ entry_of arcs flow (step_at steps k) = get_or-map (entry_of arcs flow) steps k (Along 0) (entry_at [] 0) inside in
       let (a, s) = h.starts k inside in
-      subst (IsEntry arcs flow v) (sym is) (record { in_arcs = a; starts = s; leads = refl; ahead = refl; back = refl });
-  all = λ step l e.
-      let (k, m, q) = contains_from steps step (h.all step l e) in
-      (k, omega (arith, length-map steps (entry_of arcs flow)), get_or-map (entry_of arcs flow) steps k step (entry_of arcs flow step) m ∙ ap (entry_of arcs flow) q);
+      subst (IsEntry arcs flow v (step_at steps k)) (sym is) (record { in_arcs = a; starts = s; leads = refl; ahead = refl; back = refl });
+  all = λ step l e. contains_from steps step (h.all step l e);
 }
 
 -- a mapped list with two of its places written over, where the others keep their values
@@ -69,10 +68,10 @@ module _ {S E : Type 0} (f h : S → E) (steps : List S) (entries : List E) (p q
 -- the entry of a step of another arc
 same_entry : (arcs : List Arc) (flow : List ℕ) (i x : ℕ) (t : Step) → arc_of t ≢ i → entry_of arcs (set flow i x) t ≡ entry_of arcs flow t
 same_entry arcs flow i x (Along j) ne =
-    let by : ℕ → Entry = λ n. record { to = (arc_at arcs j).to; step = Along j; ahead = within 1 (left_of (arc_at arcs j).capacity n); back = within 1 (Some n) } in
+    let by : ℕ → Entry = λ n. record { to = (arc_at arcs j).to; ahead = within 1 (left_of (arc_at arcs j).capacity n); back = within 1 (Some n) } in
     ap by (get_or-set_other flow i j x 0 ne)
 same_entry arcs flow i x (Against j) ne =
-    let by : ℕ → Entry = λ n. record { to = (arc_at arcs j).from; step = Against j; ahead = within 1 (Some n); back = within 1 (left_of (arc_at arcs j).capacity n) } in
+    let by : ℕ → Entry = λ n. record { to = (arc_at arcs j).from; ahead = within 1 (Some n); back = within 1 (left_of (arc_at arcs j).capacity n) } in
     ap by (get_or-set_other flow i j x 0 ne)
 
 module _ (g : Graph) (ok : IsGraph g) where
@@ -88,12 +87,18 @@ module _ (g : Graph) (ok : IsGraph g) where
       let place : place_of g.places.items s ≡ span.begin + k = ap (place_of g.places.items) (sym is) ∙ ok.places.place (span.begin + k) inside in
       (omega arith, ap (step_at g.steps.items) place ∙ is)
 
-  pub row_lists : (flow : List ℕ) (entries : List Entry) → AreEntries g flow entries → (v : ℕ) → v < g.nodes → Lists g.arcs.items flow v (row_in entries (span_at g.spans.items v))
+  row_lists : (flow : List ℕ) (entries : List Entry) → AreEntries g flow entries → (v : ℕ) → v < g.nodes → Lists g.arcs.items flow v (row_in g.steps.items (span_at g.spans.items v)) (row_in entries (span_at g.spans.items v))
   row_lists flow entries are v l =
       let span : Span = span_at g.spans.items v in
       let same : row_in entries span ≡ map (entry_of g.arcs.items flow) (row_in g.steps.items span) =
       ap (λ es. row_in es span) are ∙ ap (take (span.end - span.begin)) (drop-map (entry_of g.arcs.items flow) span.begin g.steps.items) ∙ take-map (entry_of g.arcs.items flow) (span.end - span.begin) (drop span.begin g.steps.items) in
-      subst (Lists g.arcs.items flow v) (sym same) (lists_from g.arcs.items flow v (row_in g.steps.items span) (ok.lists v l))
+      subst (Lists g.arcs.items flow v (row_in g.steps.items span)) (sym same) (lists_from g.arcs.items flow v (row_in g.steps.items span) (ok.lists v l))
+
+  -- the steps and the entries of a node as they were read
+  pub lists_read : (flow : List ℕ) (entries : List Entry) → AreEntries g flow entries → (v : ℕ) → v < g.nodes → (steps : List Step) (row : List Entry) → steps ≡ row_in g.steps.items (span_at g.spans.items v) → row ≡ row_in entries (span_at g.spans.items v) → Lists g.arcs.items flow v steps row
+  lists_read flow entries are v l steps row steps_are row_is =
+      subst (λ list. Lists g.arcs.items flow v list row) (sym steps_are)
+      (subst (Lists g.arcs.items flow v (row_in g.steps.items (span_at g.spans.items v))) (sym row_is) (row_lists flow entries are v l))
 
   -- a step that does not lie at the places of an arc's two steps is of another arc
   other_arc : (i k : ℕ) (t : Step) → place_of g.places.items t ≡ k → k ≢ place_of g.places.items (Along i) → k ≢ place_of g.places.items (Against i) → arc_of t ≢ i

@@ -7,8 +7,9 @@ use Rattle.esr_cert.specs.Network.{arc_at, Network, IsNetwork, network}
 use Rattle.esr_cert.proofs.Sound.{IsProblem}
 use Rattle.esr_cert.proofs.Least.{is_network}
 use Rattle.esr_flow.specs.declared.graph.Graph.{Graph}
-use Rattle.esr_flow.specs.Graph.{net_of, IsGraph, ArePlaces}
-use Rattle.esr_flow.proofs.RowsLaws.{Covers}
+use Rattle.esr_flow.specs.Graph.{net_of, IsGraph, ArePlaces, HasSteps}
+use Rattle.esr_flow.specs.Rows.{AreRows}
+use Rattle.esr_flow.proofs.StepsLaws.{has_steps}
 
 pub ends_of : (p : Problem) → IsProblem p → (arcs : List Arc) (n : ℕ) → arcs ≡ (network p).arcs → n ≡ size p → (i : ℕ) (d : Arc) → i < length arcs → ((get_or arcs i d).from < n + 2) × ((get_or arcs i d).to < n + 2)
 ends_of p ok arcs n e m i d l =
@@ -25,13 +26,13 @@ net_is p g a b c d =
     let by_sink : ℕ → Network = λ n. record { nodes = size p + 2; arcs = (network p).arcs; source = size p; sink = n } in
     ap by_nodes a ∙ ap by_arcs b ∙ ap by_source c ∙ ap by_sink d
 
-pub graph_is : (p : Problem) → IsProblem p → (g : Graph) → net_of g ≡ network p → Covers g.arcs.items g.nodes g.spans.items g.steps.items → ArePlaces g.arcs.items g.steps.items g.places.items → g.nodes < 2 ^ 32 → IsGraph g
-graph_is p ok g e covers places few = record {
+pub graph_is : (p : Problem) → IsProblem p → (g : Graph) → net_of g ≡ network p → AreRows g.arcs.items g.nodes g.spans.items g.steps.items → ArePlaces g.arcs.items g.steps.items g.places.items → g.nodes < 2 ^ 32 → IsGraph g
+graph_is p ok g e rows places few = record {
   is_network = subst IsNetwork (sym e) (is_network p ok);
-  count = covers.count;
-  ordered = covers.ordered;
-  inside = covers.inside;
-  lists = covers.lists;
+  count = rows.count;
+  ordered = rows.ordered;
+  inside = rows.inside;
+  lists = λ v l. subst (HasSteps g.arcs.items v) (sym (rows.row v l)) (has_steps g.arcs.items v);
   places = places;
   sink_is_node = omega (arith, ap (λ n. n.sink) e, ap (λ n. n.nodes) e);
   few = few;

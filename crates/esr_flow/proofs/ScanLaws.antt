@@ -9,30 +9,30 @@ use Rattle.esr_flow.specs.declared.graph.Entry.{Entry}
 use Rattle.esr_flow.specs.declared.search.Visit.{Visit}
 use Rattle.esr_flow.specs.Residual.{arc_of, start, finish, IsResidual}
 use Rattle.esr_cert.specs.Network.{Network, IsNetwork}
-use Rattle.esr_flow.specs.Graph.{IsEntry, Lists, entry_of}
+use Rattle.esr_flow.specs.Graph.{step_at, IsEntry, Lists}
 use Rattle.esr_flow.specs.Search.{visit_at, is_marked, Leads, Searched, FoundSink}
 use Rattle.esr_flow.proofs.SearchLaws.{visit_more, next_head, unmarked_far}
 
 -- the first k steps of the row are done
-pub record Scanning (net : Network) (flow : List ℕ) (row : List Entry) (visits : List Visit) (marks : List Bool) (head level k : ℕ) : Type 0 where
+pub record Scanning (net : Network) (flow : List ℕ) (steps : List Step) (row : List Entry) (visits : List Visit) (marks : List Bool) (head level k : ℕ) : Type 0 where
   pub searched : Searched net flow visits marks head
   pub in_visits : head < length visits
-  pub lists : Lists net.arcs flow (visit_at visits head).node row
+  pub lists : Lists net.arcs flow (visit_at visits head).node steps row
   pub next_level : level ≡ (visit_at visits head).level + 1
   pub unfound : is_marked marks net.sink ≡ false
-  pub row_done : (i : ℕ) (d : Entry) → i < k → i < length row → IsResidual net.arcs flow (get_or row i d).step → Leads net.arcs visits (visit_at visits head).level (get_or row i d).step
+  pub row_done : (i : ℕ) → i < k → i < length row → IsResidual net.arcs flow (step_at steps i) → Leads net.arcs visits (visit_at visits head).level (step_at steps i)
 
 abbrev pub none_at : Entry
-none_at = record { to = 0; step = Along 0; ahead = false; back = false }
+none_at = record { to = 0; ahead = false; back = false }
 
-abbrev pub visit_of : Entry → ℕ → ℕ → Visit
-visit_of e level head = record { node = e.to; level = level; step = e.step; parent = head }
+abbrev pub visit_of : Step → Entry → ℕ → ℕ → Visit
+visit_of s e level head = record { node = e.to; level = level; step = s; parent = head }
 
 -- a step of a node has a place in the node's row
-place_of : (arcs : List Arc) (flow : List ℕ) (v : ℕ) (row : List Entry) (s : Step) → Lists arcs flow v row → arc_of s < length arcs → start arcs s ≡ v → (k : ℕ) × (k < length row) × ((get_or row k none_at).step ≡ s)
-place_of arcs flow v row s h l e =
+place_of : (arcs : List Arc) (flow : List ℕ) (v : ℕ) (steps : List Step) (row : List Entry) (s : Step) → Lists arcs flow v steps row → arc_of s < length arcs → start arcs s ≡ v → (k : ℕ) × (k < length row) × (step_at steps k ≡ s)
+place_of arcs flow v steps row s h l e =
     let (k, m, q) = h.all s l e in
-    (k, m, ap (λ (x : Entry). x.step) (get_or_default row k none_at (entry_of arcs flow s) m ∙ q))
+    (k, omega (arith, h.count), get_or_default steps k (Along 0) s m ∙ q)
 
 leads_more : (arcs : List Arc) (visits : List Visit) (x : Visit) (level : ℕ) (s : Step) → Leads arcs visits level s → Leads arcs (visits ++ x ∷ []) level s
 leads_more arcs visits x level s (j, l, e, m) =
@@ -43,115 +43,115 @@ finish_in : (net : Network) → IsNetwork net → (s : Step) → arc_of s < leng
 finish_in net ok (Along i) k = (ok.ends i k).1
 finish_in net ok (Against i) k = (ok.ends i k).0
 
-module _ (net : Network) (ok : IsNetwork net) (flow : List ℕ) (row : List Entry) (visits : List Visit) (marks : List Bool) (head level k : ℕ) where
-  at_k : (P : Entry → Type 0) (e : Entry) → k < length row → e ≡ get_or row k none_at → P e → ((i : ℕ) (d : Entry) → i < k → i < length row → P (get_or row i d)) → (i : ℕ) (d : Entry) → i < k + 1 → i < length row → P (get_or row i d)
-  at_k P e l is p before i d a b =
+module _ (net : Network) (ok : IsNetwork net) (flow : List ℕ) (steps : List Step) (row : List Entry) (visits : List Visit) (marks : List Bool) (head level k : ℕ) where
+  at_k : (P : Step → Type 0) → P (step_at steps k) → ((i : ℕ) → i < k → i < length row → P (step_at steps i)) → (i : ℕ) → i < k + 1 → i < length row → P (step_at steps i)
+  at_k P p before i a b =
       elim (cases_eq i k) [
-        | inl q ↦ subst P (is ∙ get_or_default row k none_at d l ∙ ap (λ n. get_or row n d) (sym q)) p
-        | inr ne ↦ before i d (omega arith) b
+        | inl q ↦ subst (λ n. P (step_at steps n)) (sym q) p
+        | inr ne ↦ before i (omega arith) b
       ]
 
-  entry_in : (e : Entry) → Scanning net flow row visits marks head level k → k < length row → e ≡ get_or row k none_at → IsEntry net.arcs flow (visit_at visits head).node e
-  entry_in e h l is = subst (IsEntry net.arcs flow (visit_at visits head).node) (sym is) (h.lists.entries k l)
+  entry_in : (e : Entry) → Scanning net flow steps row visits marks head level k → k < length row → e ≡ get_or row k none_at → IsEntry net.arcs flow (visit_at visits head).node (step_at steps k) e
+  entry_in e h l is = subst (IsEntry net.arcs flow (visit_at visits head).node (step_at steps k)) (sym is) (h.lists.entries k l)
 
-  pub entry_marked : (e : Entry) → Scanning net flow row visits marks head level k → k < length row → e ≡ get_or row k none_at → e.to < length marks
-  entry_marked e h l is = let q : IsEntry net.arcs flow (visit_at visits head).node e = entry_in e h l is in omega (arith, q.leads, finish_in net ok e.step q.in_arcs, h.searched.marks_length)
+  pub entry_marked : (e : Entry) → Scanning net flow steps row visits marks head level k → k < length row → e ≡ get_or row k none_at → e.to < length marks
+  entry_marked e h l is = let q : IsEntry net.arcs flow (visit_at visits head).node (step_at steps k) e = entry_in e h l is in omega (arith, q.leads, finish_in net ok (step_at steps k) q.in_arcs, h.searched.marks_length)
 
   -- a step that has no room
-  pub scan_skip : (e : Entry) → Scanning net flow row visits marks head level k → k < length row → e ≡ get_or row k none_at → e.ahead ≡ false → Scanning net flow row visits marks head level (k + 1)
-  scan_skip e h l is f = let q : IsEntry net.arcs flow (visit_at visits head).node e = entry_in e h l is in record {
+  pub scan_skip : (e : Entry) → Scanning net flow steps row visits marks head level k → k < length row → e ≡ get_or row k none_at → e.ahead ≡ false → Scanning net flow steps row visits marks head level (k + 1)
+  scan_skip e h l is f = let q : IsEntry net.arcs flow (visit_at visits head).node (step_at steps k) e = entry_in e h l is in record {
     searched = h.searched;
     in_visits = h.in_visits;
     lists = h.lists;
     next_level = h.next_level;
     unfound = h.unfound;
-    row_done = at_k (λ t. IsResidual net.arcs flow t.step → Leads net.arcs visits (visit_at visits head).level t.step) e l is
+    row_done = at_k (λ t. IsResidual net.arcs flow t → Leads net.arcs visits (visit_at visits head).level t)
         (λ r. absurd (true≢false (sym r.1 ∙ sym q.ahead ∙ f)))
         h.row_done;
   }
 
   -- a step to a node that was visited; the node is in range, so it does not matter what stands past the end
-  pub scan_marked : (e : Entry) → Scanning net flow row visits marks head level k → k < length row → e ≡ get_or row k none_at → get_or marks e.to true ≡ true → Scanning net flow row visits marks head level (k + 1)
+  pub scan_marked : (e : Entry) → Scanning net flow steps row visits marks head level k → k < length row → e ≡ get_or row k none_at → get_or marks e.to true ≡ true → Scanning net flow steps row visits marks head level (k + 1)
   scan_marked e h l is m =
-      let q : IsEntry net.arcs flow (visit_at visits head).node e = entry_in e h l is in
-      let t : is_marked marks (finish net.arcs e.step) ≡ true = ap (is_marked marks) (sym q.leads) ∙ get_or_default marks e.to false true (omega (arith, q.leads, finish_in net ok e.step q.in_arcs, h.searched.marks_length)) ∙ m in
+      let q : IsEntry net.arcs flow (visit_at visits head).node (step_at steps k) e = entry_in e h l is in
+      let t : is_marked marks (finish net.arcs (step_at steps k)) ≡ true = ap (is_marked marks) (sym q.leads) ∙ get_or_default marks e.to false true (omega (arith, q.leads, finish_in net ok (step_at steps k) q.in_arcs, h.searched.marks_length)) ∙ m in
       record {
         searched = h.searched;
         in_visits = h.in_visits;
         lists = h.lists;
         next_level = h.next_level;
         unfound = h.unfound;
-        row_done = at_k (λ t. IsResidual net.arcs flow t.step → Leads net.arcs visits (visit_at visits head).level t.step) e l is
+        row_done = at_k (λ t. IsResidual net.arcs flow t → Leads net.arcs visits (visit_at visits head).level t)
             (λ r.
-            let v : (j : ℕ) × (j < length visits) × ((visit_at visits j).node ≡ finish net.arcs e.step) = h.searched.visited (finish net.arcs e.step) t in
+            let v : (j : ℕ) × (j < length visits) × ((visit_at visits j).node ≡ finish net.arcs (step_at steps k)) = h.searched.visited (finish net.arcs (step_at steps k)) t in
             (v.0, v.1, v.2, h.searched.near v.0 v.1 h.in_visits))
             h.row_done;
       }
 
-  searched_more : (e : Entry) → Scanning net flow row visits marks head level k → k < length row → e ≡ get_or row k none_at → e.ahead ≡ true → is_marked marks e.to ≡ false → Searched net flow (visits ++ visit_of e level head ∷ []) (set marks e.to true) head
+  searched_more : (e : Entry) → Scanning net flow steps row visits marks head level k → k < length row → e ≡ get_or row k none_at → e.ahead ≡ true → is_marked marks e.to ≡ false → Searched net flow (visits ++ visit_of (step_at steps k) e level head ∷ []) (set marks e.to true) head
   searched_more e h l is r f =
-      let q : IsEntry net.arcs flow (visit_at visits head).node e = entry_in e h l is in
-      let more : Searched net flow (visits ++ record { node = finish net.arcs e.step; level = (visit_at visits head).level + 1; step = e.step; parent = head } ∷ []) (set marks (finish net.arcs e.step) true) head =
-      visit_more net flow visits marks head e.step ok h.searched h.in_visits (q.in_arcs, sym q.ahead ∙ r) q.starts (ap (is_marked marks) (sym q.leads) ∙ f) in
-      subst (λ n. Searched net flow (visits ++ visit_of e n head ∷ []) (set marks e.to true) head) (sym h.next_level)
-      (subst (λ n. Searched net flow (visits ++ record { node = n; level = (visit_at visits head).level + 1; step = e.step; parent = head } ∷ []) (set marks n true) head) (sym q.leads) more)
+      let q : IsEntry net.arcs flow (visit_at visits head).node (step_at steps k) e = entry_in e h l is in
+      let more : Searched net flow (visits ++ record { node = finish net.arcs (step_at steps k); level = (visit_at visits head).level + 1; step = (step_at steps k); parent = head } ∷ []) (set marks (finish net.arcs (step_at steps k)) true) head =
+      visit_more net flow visits marks head (step_at steps k) ok h.searched h.in_visits (q.in_arcs, sym q.ahead ∙ r) q.starts (ap (is_marked marks) (sym q.leads) ∙ f) in
+      subst (λ n. Searched net flow (visits ++ visit_of (step_at steps k) e n head ∷ []) (set marks e.to true) head) (sym h.next_level)
+      (subst (λ n. Searched net flow (visits ++ record { node = n; level = (visit_at visits head).level + 1; step = (step_at steps k); parent = head } ∷ []) (set marks n true) head) (sym q.leads) more)
 
-  same_head : (e : Entry) → head < length visits → visit_at (visits ++ visit_of e level head ∷ []) head ≡ visit_at visits head
-  same_head e l = get_or_append_left visits (visit_of e level head ∷ []) (record { node = 0; level = 0; step = Along 0; parent = 0 }) head l
+  same_head : (e : Entry) → head < length visits → visit_at (visits ++ visit_of (step_at steps k) e level head ∷ []) head ≡ visit_at visits head
+  same_head e l = get_or_append_left visits (visit_of (step_at steps k) e level head ∷ []) (record { node = 0; level = 0; step = Along 0; parent = 0 }) head l
 
   -- a step to a node that was not
-  pub scan_visit : (e : Entry) → Scanning net flow row visits marks head level k → k < length row → e ≡ get_or row k none_at → e.ahead ≡ true → is_marked marks e.to ≡ false → e.to ≢ net.sink → Scanning net flow row (visits ++ visit_of e level head ∷ []) (set marks e.to true) head level (k + 1)
+  pub scan_visit : (e : Entry) → Scanning net flow steps row visits marks head level k → k < length row → e ≡ get_or row k none_at → e.ahead ≡ true → is_marked marks e.to ≡ false → e.to ≢ net.sink → Scanning net flow steps row (visits ++ visit_of (step_at steps k) e level head ∷ []) (set marks e.to true) head level (k + 1)
   scan_visit e h l is r f ne =
-      let q : IsEntry net.arcs flow (visit_at visits head).node e = entry_in e h l is in
-      let same : visit_at (visits ++ visit_of e level head ∷ []) head ≡ visit_at visits head = same_head e h.in_visits in
-      let len : length (visits ++ visit_of e level head ∷ []) ≡ length visits + 1 = length_push visits (visit_of e level head) in
-      let new : visit_at (visits ++ visit_of e level head ∷ []) (length visits) ≡ visit_of e level head = get_or_push visits (visit_of e level head) (record { node = 0; level = 0; step = Along 0; parent = 0 }) (length visits) refl in
+      let q : IsEntry net.arcs flow (visit_at visits head).node (step_at steps k) e = entry_in e h l is in
+      let same : visit_at (visits ++ visit_of (step_at steps k) e level head ∷ []) head ≡ visit_at visits head = same_head e h.in_visits in
+      let len : length (visits ++ visit_of (step_at steps k) e level head ∷ []) ≡ length visits + 1 = length_push visits (visit_of (step_at steps k) e level head) in
+      let new : visit_at (visits ++ visit_of (step_at steps k) e level head ∷ []) (length visits) ≡ visit_of (step_at steps k) e level head = get_or_push visits (visit_of (step_at steps k) e level head) (record { node = 0; level = 0; step = Along 0; parent = 0 }) (length visits) refl in
       record {
         searched = searched_more e h l is r f;
         in_visits = omega (arith, len, h.in_visits);
-        lists = subst (λ x. Lists net.arcs flow x.node row) (sym same) h.lists;
+        lists = subst (λ x. Lists net.arcs flow x.node steps row) (sym same) h.lists;
         next_level = omega (arith, h.next_level, ap (λ x. x.level) same);
         unfound = get_or-set_other marks e.to net.sink true false (λ g. ne (sym g)) ∙ h.unfound;
-        row_done = subst (λ x. (i : ℕ) (d : Entry) → i < k + 1 → i < length row → IsResidual net.arcs flow (get_or row i d).step → Leads net.arcs (visits ++ visit_of e level head ∷ []) x.level (get_or row i d).step) (sym same)
-            (at_k (λ t. IsResidual net.arcs flow t.step → Leads net.arcs (visits ++ visit_of e level head ∷ []) (visit_at visits head).level t.step) e l is
+        row_done = subst (λ x. (i : ℕ) → i < k + 1 → i < length row → IsResidual net.arcs flow (step_at steps i) → Leads net.arcs (visits ++ visit_of (step_at steps k) e level head ∷ []) x.level (step_at steps i)) (sym same)
+            (at_k (λ t. IsResidual net.arcs flow t → Leads net.arcs (visits ++ visit_of (step_at steps k) e level head ∷ []) (visit_at visits head).level t)
             (λ g. (length visits, omega (arith, len), ap (λ x. x.node) new ∙ q.leads, omega (arith, ap (λ x. x.level) new, h.next_level)))
-            (λ i d a b g. leads_more net.arcs visits (visit_of e level head) (visit_at visits head).level (get_or row i d).step (h.row_done i d a b g)));
+            (λ i a b g. leads_more net.arcs visits (visit_of (step_at steps k) e level head) (visit_at visits head).level (step_at steps i) (h.row_done i a b g)));
       }
 
   -- a step to the sink
-  pub scan_found : (e : Entry) → Scanning net flow row visits marks head level k → k < length row → e ≡ get_or row k none_at → e.ahead ≡ true → is_marked marks e.to ≡ false → e.to ≡ net.sink → FoundSink net flow (visits ++ visit_of e level head ∷ [])
+  pub scan_found : (e : Entry) → Scanning net flow steps row visits marks head level k → k < length row → e ≡ get_or row k none_at → e.ahead ≡ true → is_marked marks e.to ≡ false → e.to ≡ net.sink → FoundSink net flow (visits ++ visit_of (step_at steps k) e level head ∷ [])
   scan_found e h l is r f at =
-      let len : length (visits ++ visit_of e level head ∷ []) - 1 ≡ length visits = omega (arith, length_push visits (visit_of e level head)) in
-      let new : visit_at (visits ++ visit_of e level head ∷ []) (length (visits ++ visit_of e level head ∷ []) - 1) ≡ visit_of e level head =
-      ap (visit_at (visits ++ visit_of e level head ∷ [])) len ∙ get_or_push visits (visit_of e level head) (record { node = 0; level = 0; step = Along 0; parent = 0 }) (length visits) refl in
+      let len : length (visits ++ visit_of (step_at steps k) e level head ∷ []) - 1 ≡ length visits = omega (arith, length_push visits (visit_of (step_at steps k) e level head)) in
+      let new : visit_at (visits ++ visit_of (step_at steps k) e level head ∷ []) (length (visits ++ visit_of (step_at steps k) e level head ∷ []) - 1) ≡ visit_of (step_at steps k) e level head =
+      ap (visit_at (visits ++ visit_of (step_at steps k) e level head ∷ [])) len ∙ get_or_push visits (visit_of (step_at steps k) e level head) (record { node = 0; level = 0; step = Along 0; parent = 0 }) (length visits) refl in
       record {
         marks = set marks e.to true;
         head = head;
         searched = searched_more e h l is r f;
         at_sink = ap (λ x. x.node) new ∙ at;
-        in_visits = omega (arith, length_push visits (visit_of e level head), h.in_visits);
+        in_visits = omega (arith, length_push visits (visit_of (step_at steps k) e level head), h.in_visits);
         only = only;
         nearest = λ other p. omega (arith, ap (λ x. x.level) new, h.next_level, unmarked_far net flow visits marks head net.sink h.searched h.in_visits h.unfound other p);
       }
     where
-      only : (j : ℕ) → j < length (visits ++ visit_of e level head ∷ []) → (visit_at (visits ++ visit_of e level head ∷ []) j).node ≡ net.sink → (visit_at (visits ++ visit_of e level head ∷ []) j).level ≡ (visit_at (visits ++ visit_of e level head ∷ []) (length (visits ++ visit_of e level head ∷ []) - 1)).level
+      only : (j : ℕ) → j < length (visits ++ visit_of (step_at steps k) e level head ∷ []) → (visit_at (visits ++ visit_of (step_at steps k) e level head ∷ []) j).node ≡ net.sink → (visit_at (visits ++ visit_of (step_at steps k) e level head ∷ []) j).level ≡ (visit_at (visits ++ visit_of (step_at steps k) e level head ∷ []) (length (visits ++ visit_of (step_at steps k) e level head ∷ []) - 1)).level
       only j l q =
-          let split : (j < length visits) ⊎ (j ≡ length visits) = (let m : j < length visits + 1 = omega (arith, length_push visits (visit_of e level head)) in grind arith) in
+          let split : (j < length visits) ⊎ (j ≡ length visits) = (let m : j < length visits + 1 = omega (arith, length_push visits (visit_of (step_at steps k) e level head)) in grind arith) in
           elim split [
             | inl m ↦
-                let old : visit_at (visits ++ visit_of e level head ∷ []) j ≡ visit_at visits j = get_or_append_left visits (visit_of e level head ∷ []) (record { node = 0; level = 0; step = Along 0; parent = 0 }) j m in
+                let old : visit_at (visits ++ visit_of (step_at steps k) e level head ∷ []) j ≡ visit_at visits j = get_or_append_left visits (visit_of (step_at steps k) e level head ∷ []) (record { node = 0; level = 0; step = Along 0; parent = 0 }) j m in
                 absurd (true≢false (sym (h.searched.marked j m) ∙ ap (is_marked marks) (sym (ap (λ x. x.node) old) ∙ q) ∙ h.unfound))
             | inr z ↦
-                ap (λ n. (visit_at (visits ++ visit_of e level head ∷ []) n).level) (let g : j ≡ length (visits ++ visit_of e level head ∷ []) - 1 = omega (arith, length_push visits (visit_of e level head)) in g)
+                ap (λ n. (visit_at (visits ++ visit_of (step_at steps k) e level head ∷ []) n).level) (let g : j ≡ length (visits ++ visit_of (step_at steps k) e level head ∷ []) - 1 = omega (arith, length_push visits (visit_of (step_at steps k) e level head)) in g)
           ]
 
   -- the whole row
-  pub scan_end : length row ≤ k → Scanning net flow row visits marks head level k → Searched net flow visits marks (head + 1) × (is_marked marks net.sink ≡ false) × (head < length visits)
+  pub scan_end : length row ≤ k → Scanning net flow steps row visits marks head level k → Searched net flow visits marks (head + 1) × (is_marked marks net.sink ≡ false) × (head < length visits)
   scan_end l h = (
     next_head net flow visits marks head h.searched h.in_visits (λ s r q.
-        let c : (i : ℕ) × (i < length row) × ((get_or row i none_at).step ≡ s) = place_of net.arcs flow (visit_at visits head).node row s h.lists r.0 q in
+        let c : (i : ℕ) × (i < length row) × (step_at steps i ≡ s) = place_of net.arcs flow (visit_at visits head).node steps row s h.lists r.0 q in
         subst (λ t. Leads net.arcs visits (visit_at visits head).level t) c.2
-        (h.row_done c.0 none_at (omega (arith, c.1)) c.1 (subst (IsResidual net.arcs flow) (sym c.2) r))),
+        (h.row_done c.0 (omega (arith, c.1)) c.1 (subst (IsResidual net.arcs flow) (sym c.2) r))),
     h.unfound,
     h.in_visits,
   )

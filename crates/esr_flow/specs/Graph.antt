@@ -1,6 +1,5 @@
 -- A network with the steps that start at each node, which lie together, and entries of the steps that tell which of them have room.
-use Rattle.std.specs.Prelude.{◌≡◌, ℕ, ◌-◌, ◌<◌, ◌≤◌, ◌||◌, ◌==◌, Bool, true, false, List, [], ◌∷◌, length, get_or, take, drop, map, Contains, Vec, ◌^◌}
-use Rattle.std.specs.declared.alloc.Global.{Global}
+use Rattle.std.specs.Prelude.{◌≡◌, ℕ, ◌-◌, ◌<◌, ◌≤◌, ◌||◌, ◌==◌, Bool, true, false, List, [], ◌∷◌, length, get_or, take, drop, map, Contains, ◌^◌}
 use Rattle.esr_cert.specs.declared.network.Arc.{Arc}
 use Rattle.esr_cert.specs.Network.{Network, IsNetwork}
 use Rattle.esr_flow.specs.declared.step.Step.{Step}
@@ -45,14 +44,6 @@ span_at spans v = get_or spans v (record { begin = 0; end = 0 })
 abbrev pub row_in : {X : Type 0} → List X → Span → List X
 row_in list span = take (span.end - span.begin) (drop span.begin list)
 
--- the first n rows of steps, one after another, with their spans
-pub record IsLaid (rows : List (Vec Step Global)) (n : ℕ) (spans : List Span) (steps : List Step) : Type 0 where
-  pub count : length spans ≡ n
-  pub ordered : (v : ℕ) → v < n → (span_at spans v).begin ≤ (span_at spans v).end
-  pub inside : (v : ℕ) → v < n → (span_at spans v).end ≤ length steps
-  pub row : (v : ℕ) (row : Vec Step Global) → v < n → get_or rows v row ≡ row → row_in steps (span_at spans v) ≡ row.items
-  pub covered : (k : ℕ) → k < length steps → (v : ℕ) × (v < n) × ((span_at spans v).begin ≤ k) × (k < (span_at spans v).end)
-
 -- the place of a step
 abbrev pub place_of : List Places → Step → ℕ
 place_of places (Along i) = (get_or places i (record { along = 0; against = 0 })).along
@@ -76,24 +67,25 @@ pub record IsGraph (g : Graph) : Type 0 where
 
 -- the entry of a step: where it leads, and whether the step and its opposite have room for one more
 abbrev pub entry_of : List Arc → List ℕ → Step → Entry
-entry_of arcs flow step = record { to = finish arcs step; step = step; ahead = within 1 (room arcs flow step); back = within 1 (room arcs flow (opposite step)) }
+entry_of arcs flow step = record { to = finish arcs step; ahead = within 1 (room arcs flow step); back = within 1 (room arcs flow (opposite step)) }
 
 abbrev pub entry_at : List Entry → ℕ → Entry
-entry_at entries k = get_or entries k (record { to = 0; step = Along 0; ahead = false; back = false })
+entry_at entries k = get_or entries k (record { to = 0; ahead = false; back = false })
 
 -- the entries of a graph's steps, with the residual amounts of a flow
 abbrev pub AreEntries : Graph → List ℕ → List Entry → Type 0
 AreEntries g flow entries = entries ≡ map (entry_of g.arcs.items flow) g.steps.items
 
--- an entry of a node's row: a step that starts there, where it leads, and what has room
-pub record IsEntry (arcs : List Arc) (flow : List ℕ) (v : ℕ) (e : Entry) : Type 0 where
-  pub in_arcs : arc_of e.step < length arcs
-  pub starts : start arcs e.step ≡ v
-  pub leads : e.to ≡ finish arcs e.step
-  pub ahead : e.ahead ≡ within 1 (room arcs flow e.step)
-  pub back : e.back ≡ within 1 (room arcs flow (opposite e.step))
+-- a step that starts at a node and its entry: where the step leads, and what has room
+pub record IsEntry (arcs : List Arc) (flow : List ℕ) (v : ℕ) (step : Step) (e : Entry) : Type 0 where
+  pub in_arcs : arc_of step < length arcs
+  pub starts : start arcs step ≡ v
+  pub leads : e.to ≡ finish arcs step
+  pub ahead : e.ahead ≡ within 1 (room arcs flow step)
+  pub back : e.back ≡ within 1 (room arcs flow (opposite step))
 
--- a row has the entries of the steps that start at a node, and no others
-pub record Lists (arcs : List Arc) (flow : List ℕ) (v : ℕ) (row : List Entry) : Type 0 where
-  pub entries : (k : ℕ) → k < length row → IsEntry arcs flow v (entry_at row k)
-  pub all : (step : Step) → arc_of step < length arcs → start arcs step ≡ v → Contains row (entry_of arcs flow step)
+-- the steps that start at a node, and no others, and a row of their entries
+pub record Lists (arcs : List Arc) (flow : List ℕ) (v : ℕ) (steps : List Step) (row : List Entry) : Type 0 where
+  pub count : length row ≡ length steps
+  pub entries : (k : ℕ) → k < length row → IsEntry arcs flow v (step_at steps k) (entry_at row k)
+  pub all : (step : Step) → arc_of step < length arcs → start arcs step ≡ v → Contains steps step

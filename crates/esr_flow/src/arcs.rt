@@ -1,5 +1,5 @@
 //! The arcs of a problem's network.
-ghost use Rattle.std.specs.Prelude.{◌≡◌, ℕ, ◌+◌, ◌<◌, ◌≤◌, true, List, ◌++◌, length, get_or, map, flat_map, IfOk};
+ghost use Rattle.std.specs.Prelude.{◌≡◌, ℕ, ◌+◌, ◌<◌, ◌≤◌, ◌++◌, length, get_or, map, flat_map, IfOk};
 ghost use Rattle.esr_cert.specs.declared.problem.Chain.{Chain};
 ghost use Rattle.esr_cert.specs.Views.{chain_of};
 ghost use Rattle.esr_cert.specs.Network.{links, chain_links, back_arc, must_arc, network};
@@ -10,8 +10,8 @@ use std::alloc::{AllocError, Global};
 /// Adds the arcs of a chain.
 fn push_links(
     arcs: &mut Vec<Arc>,
-    source: usize,
-    sink: usize,
+    source: u32,
+    sink: u32,
     writers: &[u32],
     costs: &[u64],
 ) -> Result<(), AllocError>
@@ -20,11 +20,7 @@ fn push_links(
 {
     let mut from = source;
     for (j, cost) in costs.iter().enumerate() {
-        let to = if j < writers.len() {
-            writers[j] as usize
-        } else {
-            sink
-        };
+        let to = if j < writers.len() { writers[j] } else { sink };
         arcs.push(Arc {
             from,
             to,
@@ -36,10 +32,12 @@ fn push_links(
 }
 
 /// Adds the arcs of all chains.
-fn push_chains(arcs: &mut Vec<Arc>, source: usize, chains: &[Chain]) -> Result<(), AllocError>
-    requires chains { (k : ℕ) (d : Chain) → k < length chains.now → length (get_or chains.now k d).costs.items ≡ length (get_or chains.now k d).writers.items + 1 }
+fn push_chains(arcs: &mut Vec<Arc>, source: u32, chains: &[Chain]) -> Result<(), AllocError>
+    requires chains { (k : ℕ) (d : Chain) → k < length chains.now
+        → length (get_or chains.now k d).costs.items ≡ length (get_or chains.now k d).writers.items + 1 }
     requires source { source ≤ 65535 }
-    ensures { IfOk result (λ _. arcs.new.items ≡ arcs.old.items ++ flat_map (λ chain. chain_links source (chain_of chain)) chains.now) }
+    ensures { IfOk result (λ _. arcs.new.items ≡ arcs.old.items
+        ++ flat_map (λ chain. chain_links source (chain_of chain)) chains.now) }
 {
     for chain in chains {
         push_links(arcs, source, source + 1, &chain.writers, &chain.costs)?;
@@ -53,8 +51,8 @@ fn push_backs(arcs: &mut Vec<Arc>, before: &[(u32, u32)]) -> Result<(), AllocErr
 {
     for pair in before {
         arcs.push(Arc {
-            from: pair.1 as usize,
-            to: pair.0 as usize,
+            from: pair.1,
+            to: pair.0,
             capacity: None,
         })?;
     }
@@ -62,13 +60,13 @@ fn push_backs(arcs: &mut Vec<Arc>, before: &[(u32, u32)]) -> Result<(), AllocErr
 }
 
 /// Adds the arcs into the updates that a set must hold.
-fn push_musts(arcs: &mut Vec<Arc>, source: usize, must: &[u32]) -> Result<(), AllocError>
+fn push_musts(arcs: &mut Vec<Arc>, source: u32, must: &[u32]) -> Result<(), AllocError>
     ensures { IfOk result (λ _. arcs.new.items ≡ arcs.old.items ++ map (must_arc source) must.now) }
 {
     for u in must {
         arcs.push(Arc {
             from: source,
-            to: *u as usize,
+            to: *u,
             capacity: None,
         })?;
     }
@@ -88,7 +86,7 @@ fn count_of(problem: &Problem) -> usize {
 pub fn arcs_of(alloc: Global, problem: &Problem) -> Result<Vec<Arc>, AllocError>
     ensures { IfOk result (λ arcs. arcs.items ≡ (network problem.now).arcs) }
 {
-    let source = problem.updates().len();
+    let source = problem.updates().len() as u32;
     let mut arcs = Vec::with_capacity(alloc, count_of(problem))?;
     push_chains(&mut arcs, source, problem.chains())?;
     push_backs(&mut arcs, problem.before())?;

@@ -1,21 +1,20 @@
-//! The arcs of a network, the steps that start at each node, and entries of steps with their residual amounts.
-ghost use Rattle.std.specs.Prelude.{◌≡◌, ℕ, ◌+◌, ◌^◌, ◌<◌, ◌≤◌, true, if◌then◌else◌, ◌==◌, List, [], ◌∷◌, ◌++◌, length, get_or, set, map, IfOk, Vec};
+//! The arcs of a network, the steps that start at each node, and for each step an entry of what has room.
+ghost use Rattle.std.specs.Prelude.{◌≡◌, ◌<◌, true, length, set, IfOk, Vec};
 ghost use Rattle.std.specs.declared.alloc.Global.{Global};
 ghost use Rattle.esr_flow.specs.declared.step.Step.{Step};
 ghost use Rattle.esr_cert.specs.Flow.{within};
-ghost use Rattle.esr_flow.specs.Residual.{room, arc_of, start, finish, opposite};
+ghost use Rattle.esr_flow.specs.Residual.{room, arc_of, finish};
 ghost use Rattle.esr_flow.specs.Graph.{entry_of};
 
-use crate::step::Step;
+use crate::step::{ShortStep, Step};
 use esr_cert::Arc;
 use std::alloc::{AllocError, Global};
 
-/// A step, the node that it leads to, and whether the step and its opposite have room for one
-/// more. A search comes by each entry, so entries are kept small.
+/// The node that a step leads to, and whether the step and its opposite have room for one more.
+/// A search comes by each entry, so entries are kept small, and their steps beside them.
 #[derive(Clone, Copy)]
 pub struct Entry {
     pub to: u32,
-    pub step: Step,
     pub ahead: bool,
     pub back: bool,
 }
@@ -50,7 +49,7 @@ pub struct Graph {
     pub nodes: usize,
     pub arcs: Vec<Arc>,
     pub spans: Vec<Span>,
-    pub steps: Vec<Step>,
+    pub steps: Vec<ShortStep>,
     pub places: Vec<Places>,
     pub source: usize,
     pub sink: usize,
@@ -58,6 +57,16 @@ pub struct Graph {
 
 impl Graph {
     ghost use Rattle.esr_flow.specs.Graph.{IsGraph, AreEntries, row_in, span_at};
+
+    /// The steps that start at a node.
+    pub fn steps_at(&self, v: usize) -> &[ShortStep]
+        requires graph { IsGraph self.now }
+        requires node { v < self.now.nodes }
+        ensures { result.now ≡ row_in self.now.steps.items (span_at self.now.spans.items v) }
+    {
+        let span = self.spans[v];
+        &self.steps[span.begin..span.end]
+    }
 
     /// The entries of a node.
     pub fn row<'a>(&self, entries: &'a [Entry], v: usize) -> &'a [Entry]
@@ -78,7 +87,7 @@ impl Graph {
     {
         let mut entries = Vec::with_capacity(alloc, self.steps.len())?;
         for step in &self.steps {
-            entries.push(entry_of(&self.arcs, flow, *step))?;
+            entries.push(entry_of(&self.arcs, flow, step.step()))?;
         }
         Ok(entries)
     }
@@ -117,20 +126,18 @@ pub fn room_of(arcs: &[Arc], flow: &[u64], step: Step) -> Option<u64>
 /// The entry of a step.
 pub fn entry_of(arcs: &[Arc], flow: &[u64], step: Step) -> Entry
     requires arc { arc_of step < length arcs.now }
-    requires few { finish arcs.now step < 2 ^ 32 }
     requires flow { length flow.now ≡ length arcs.now }
     ensures { result ≡ entry_of arcs.now flow.now step }
 {
     Entry {
-        to: finish_of(arcs, step) as u32,
-        step,
+        to: finish_of(arcs, step),
         ahead: has_one(room_of(arcs, flow, step)),
         back: has_one(room_of(arcs, flow, step.opposite())),
     }
 }
 
 /// The node that a step leads to.
-pub fn finish_of(arcs: &[Arc], step: Step) -> usize
+pub fn finish_of(arcs: &[Arc], step: Step) -> u32
     requires { arc_of step < length arcs.now }
     ensures { result ≡ finish arcs.now step }
 {

@@ -1,8 +1,7 @@
 //! A greatest flow, by shortest augmenting paths.
-ghost use Rattle.std.specs.Prelude.{◌≡◌, ℕ, ◌+◌, ◌*◌, ◌^◌, ◌<◌, ◌≤◌, ◌≢◌, Bool, true, false, length, get_or, set, take, IfOk, List, None};
+ghost use Rattle.std.specs.Prelude.{◌≡◌, ℕ, ◌+◌, ◌*◌, ◌^◌, ◌<◌, ◌≤◌, false, length, set, take, IfOk, List, None};
 ghost use Rattle.esr_flow.specs.declared.step.Step.{Step};
-ghost use Rattle.esr_cert.specs.Network.{Network, IsNetwork};
-ghost use Rattle.esr_flow.specs.Residual.{arc_of, lesser, least_room, shift, raise, IsPath};
+ghost use Rattle.esr_flow.specs.Residual.{arc_of, lesser, least_room, shift, raise};
 ghost use Rattle.esr_cert.specs.Flow.{amount_at, IsFlow, worth};
 ghost use Rattle.esr_flow.specs.Augmentation.{IsReach, Augments, Takes};
 ghost use Rattle.esr_flow.specs.Graph.{net_of, IsGraph, AreEntries};
@@ -166,7 +165,8 @@ pub fn find_maximum(alloc: Global, graph: &Graph) -> Result<MaximumFlow, AllocEr
     ensures amounts { IfOk result (λ m. (i : ℕ) → amount_at m.flow.items i ≤ m.worth) }
     ensures phases { IfOk result (λ m. m.phases ≤ m.augmentations) }
     ensures reach { IfOk result (λ m. IsReach (net_of graph.now) m.flow.items (is_marked m.marks.items)) }
-    ensures end { IfOk result (λ m. (is_marked m.marks.items graph.now.sink ≡ false) × (length m.marks.items ≡ graph.now.nodes)) }
+    ensures end { IfOk result (λ m. (is_marked m.marks.items graph.now.sink ≡ false)
+        × (length m.marks.items ≡ graph.now.nodes)) }
 {
     let mut flow = vec![in alloc; 0u64; graph.arcs.len()]?;
     let mut entries = graph.entries(alloc, &flow)?;

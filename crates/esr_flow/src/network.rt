@@ -6,7 +6,7 @@ ghost use Rattle.esr_flow.specs.Graph.{net_of, IsGraph};
 
 use crate::arcs::arcs_of;
 use crate::graph::Graph;
-use crate::rows::{Rows, lay, places_of, steps_of};
+use crate::rows::{Rows, rows_of};
 use esr_cert::Problem;
 use esr_history::NoMemory;
 use std::alloc::{AllocError, Global};
@@ -20,9 +20,11 @@ fn graph_of(alloc: Global, problem: &Problem) -> Result<Graph, AllocError>
     let source = problem.updates().len();
     let nodes = source + 2;
     let arcs = arcs_of(alloc, problem)?;
-    let rows = steps_of(alloc, nodes, &arcs)?;
-    let Rows { spans, steps } = lay(alloc, &rows, arcs.len().saturating_mul(2))?;
-    let places = places_of(alloc, &arcs, &steps)?;
+    let Rows {
+        spans,
+        steps,
+        places,
+    } = rows_of(alloc, nodes, &arcs)?;
     Ok(Graph {
         nodes,
         arcs,

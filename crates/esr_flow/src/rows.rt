@@ -1,106 +1,97 @@
-//! The steps that start at each node, laid one after another.
-ghost use Rattle.std.specs.Prelude.{◌≡◌, ℕ, ◌+◌, ◌<◌, ◌≤◌, if◌then◌else◌, ◌==◌, List, [], ◌∷◌, ◌++◌, length, get_or, map, IfOk, Vec};
-ghost use Rattle.std.specs.declared.alloc.Global.{Global};
-ghost use Rattle.esr_cert.specs.declared.network.Arc.{Arc};
-ghost use Rattle.esr_flow.specs.declared.step.Step.{Step};
+//! The steps that start at each node, in rows that lie one after another.
+ghost use Rattle.std.specs.Prelude.{◌≡◌, ◌<◌, ◌≤◌, length, set, sum, All, IfOk};
 ghost use Rattle.esr_flow.specs.Residual.{arc_of};
-ghost use Rattle.esr_flow.specs.Graph.{HasSteps, IsLaid, AreOnce, ArePlaces, step_at};
+ghost use Rattle.esr_flow.specs.Graph.{ArePlaces, span_at};
+ghost use Rattle.esr_flow.specs.Rows.{lengthen, AreDegrees, AreBegun, AreRows};
 
 use crate::graph::{Places, Span};
-use crate::step::Step;
+use crate::step::{ShortStep, Step};
 use esr_cert::Arc;
 use std::alloc::{AllocError, Global};
 
-/// The most arcs, and the most steps, that numbers of 32 bits count.
-const MOST: usize = 4_294_967_295;
+/// The most arcs whose steps numbers of 32 bits count.
+const MOST: usize = 2_147_483_647;
 
-/// Adds a step to a node's row.
-fn add_step(steps: &mut Vec<Vec<Step>>, node: usize, step: Step) -> Result<(), AllocError>
-    requires { node < length steps.old.items }
-    ensures { IfOk result (λ _. (length steps.new.items ≡ length steps.old.items) × ((u : ℕ) (d : Vec Step Global) → u < length steps.old.items → (get_or steps.new.items u d).items ≡ (if u == node then (get_or steps.old.items u d).items ++ step ∷ [] else (get_or steps.old.items u d).items))) }
-{
-    steps[node].push(step)?;
-    Ok(())
-}
-
-/// How many steps start at each node.
+/// How many steps start at each node: the arcs that leave it, and those that come to it.
 fn degrees_of(alloc: Global, nodes: usize, arcs: &[Arc]) -> Result<Vec<usize>, AllocError>
-    requires { (i : ℕ) (d : Arc) → i < length arcs.now → ((get_or arcs.now i d).from < nodes) × ((get_or arcs.now i d).to < nodes) }
-    ensures { IfOk result (λ degrees. length degrees.items ≡ nodes) }
+    requires few { length arcs.now ≤ 2147483647 }
+    requires ends { All (λ arc. (arc.from < nodes) × (arc.to < nodes)) arcs.now }
+    ensures { IfOk result (λ degrees. AreDegrees arcs.now nodes degrees.items) }
 {
     let mut degrees = vec![in alloc; 0usize; nodes]?;
     for arc in arcs {
-        degrees[arc.from] = degrees[arc.from].saturating_add(1);
-        degrees[arc.to] = degrees[arc.to].saturating_add(1);
+        let from = arc.from as usize;
+        degrees[from] += 1;
+        let to = arc.to as usize;
+        degrees[to] += 1;
     }
     Ok(degrees)
 }
 
-/// For each node the steps that start at it.
-pub fn steps_of(alloc: Global, nodes: usize, arcs: &[Arc]) -> Result<Vec<Vec<Step>>, AllocError>
-    requires { (i : ℕ) (d : Arc) → i < length arcs.now → ((get_or arcs.now i d).from < nodes) × ((get_or arcs.now i d).to < nodes) }
-    ensures rows { IfOk result (λ steps. length steps.items ≡ nodes) }
-    ensures lists { IfOk result (λ steps. (v : ℕ) (row : Vec Step Global) → v < nodes → get_or steps.items v row ≡ row → HasSteps arcs.now v row.items) }
+/// Where rows of some lengths begin, one after another. So far nothing lies in them.
+fn begin_rows(alloc: Global, lengths: &[usize]) -> Result<Vec<Span>, AllocError>
+    requires { sum lengths.now ≤ 4294967294 }
+    ensures { IfOk result (λ spans. AreBegun lengths.now spans.items) }
+{
+    let mut spans = Vec::with_capacity(alloc, lengths.len())?;
+    let mut begin = 0;
+    for length in lengths {
+        spans.push(Span { begin, end: begin })?;
+        begin += *length;
+    }
+    Ok(spans)
+}
+
+/// The steps of all nodes, where those of each lie, and where the two of each arc.
+#[derive(Drop)]
+pub struct Rows {
+    pub spans: Vec<Span>,
+    pub steps: Vec<ShortStep>,
+    pub places: Vec<Places>,
+}
+
+impl Rows {
+    /// Adds a step to a node's row, and answers where it lies.
+    fn add_step(&mut self, node: usize, step: Step) -> usize
+        requires node { node < length self.old.spans.items }
+        requires arc { arc_of step < 2147483648 }
+        requires room { (span_at self.old.spans.items node).end < length self.old.steps.items }
+        ensures place { result ≡ (span_at self.old.spans.items node).end }
+        ensures spans { self.new.spans.items ≡ lengthen self.old.spans.items node }
+        ensures steps { self.new.steps.items ≡ set self.old.steps.items (span_at self.old.spans.items node).end step }
+        ensures places { self.new.places.items ≡ self.old.places.items }
+    {
+        let place = self.spans[node].end;
+        self.steps[place] = ShortStep::of(step);
+        self.spans[node].end = place + 1;
+        place
+    }
+}
+
+/// For each node the steps that start at it: first they are counted, then each is put into its row.
+pub fn rows_of(alloc: Global, nodes: usize, arcs: &[Arc]) -> Result<Rows, AllocError>
+    requires { All (λ arc. (arc.from < nodes) × (arc.to < nodes)) arcs.now }
+    ensures rows { IfOk result (λ rows. AreRows arcs.now nodes rows.spans.items rows.steps.items) }
+    ensures places { IfOk result (λ rows. ArePlaces arcs.now rows.steps.items rows.places.items) }
 {
     if arcs.len() > MOST {
         return Err(AllocError);
     }
-    let degrees = degrees_of(alloc, nodes, arcs)?;
-    let mut steps = Vec::with_capacity(alloc, nodes)?;
-    for degree in &degrees {
-        let row = Vec::with_capacity(alloc, *degree)?;
-        steps.push(row)?;
-    }
+    let spans = begin_rows(alloc, &degrees_of(alloc, nodes, arcs)?)?;
+    let steps = vec![in alloc; ShortStep::of(Step::Along(0)); 2 * arcs.len()]?;
+    let places = Vec::with_capacity(alloc, arcs.len())?;
+    let mut rows = Rows {
+        spans,
+        steps,
+        places,
+    };
     for (i, arc) in arcs.iter().enumerate() {
-        add_step(&mut steps, arc.from, Step::Along(i as u32))?;
-        add_step(&mut steps, arc.to, Step::Against(i as u32))?;
-    }
-    Ok(steps)
-}
-
-/// The steps of all nodes, and where those of each lie.
-#[derive(Drop)]
-pub struct Rows {
-    pub spans: Vec<Span>,
-    pub steps: Vec<Step>,
-}
-
-/// Lays the rows, which have so many steps, one after another.
-pub fn lay(alloc: Global, rows: &[Vec<Step>], count: usize) -> Result<Rows, AllocError>
-    ensures { IfOk result (λ laid. IsLaid rows.now (length rows.now) laid.spans.items laid.steps.items) }
-{
-    let mut spans = Vec::with_capacity(alloc, rows.len())?;
-    let mut steps = Vec::with_capacity(alloc, count)?;
-    for row in rows {
-        let begin = steps.len();
-        steps.extend_from_slice(row)?;
-        spans.push(Span {
-            begin,
-            end: steps.len(),
+        let along = rows.add_step(arc.from as usize, Step::Along(i as u32));
+        let against = rows.add_step(arc.to as usize, Step::Against(i as u32));
+        rows.places.push(Places {
+            along: along as u32,
+            against: against as u32,
         })?;
     }
-    Ok(Rows { spans, steps })
-}
-
-/// Where the two steps of each arc lie.
-pub fn places_of(alloc: Global, arcs: &[Arc], steps: &[Step]) -> Result<Vec<Places>, AllocError>
-    requires arcs { (k : ℕ) → k < length steps.now → arc_of (step_at steps.now k) < length arcs.now }
-    requires once { AreOnce steps.now }
-    ensures { IfOk result (λ places. ArePlaces arcs.now steps.now places.items) }
-{
-    if steps.len() > MOST {
-        return Err(AllocError);
-    }
-    let nowhere = Places {
-        along: 0,
-        against: 0,
-    };
-    let mut places = vec![in alloc; nowhere; arcs.len()]?;
-    for (k, step) in steps.iter().enumerate() {
-        match *step {
-            Step::Along(i) => places[i as usize].along = k as u32,
-            Step::Against(i) => places[i as usize].against = k as u32,
-        }
-    }
-    Ok(places)
+    Ok(rows)
 }

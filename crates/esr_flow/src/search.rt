@@ -1,15 +1,11 @@
 //! Breadth-first search of the residual network.
-ghost use Rattle.std.specs.Prelude.{◌≡◌, ℕ, ◌+◌, ◌-◌, ◌<◌, ◌≤◌, ◌≢◌, Bool, true, false, length, get_or, IfOk, IsTrue, IsFalse, reverse, List, Contains, slice_index_or};
+ghost use Rattle.std.specs.Prelude.{◌≡◌, ◌+◌, ◌-◌, ◌<◌, ◌≤◌, true, false, length, IfOk};
 ghost use Rattle.esr_flow.specs.declared.step.Step.{Step};
-ghost use Rattle.esr_cert.specs.Network.{Network, IsNetwork, arc_at};
-ghost use Rattle.esr_cert.specs.Flow.{within, amount_at};
-ghost use Rattle.esr_flow.specs.Residual.{room, arc_of, start, finish, IsResidual, IsPath};
-ghost use Rattle.esr_flow.specs.Augmentation.{IsReach};
 ghost use Rattle.esr_flow.specs.Graph.{net_of, IsGraph, AreEntries, Lists};
-ghost use Rattle.esr_flow.specs.Search.{Searched, visit_at, is_marked, IsShortestPath, AfterScan, FoundSink, IsFound, Guides, IsGuided, label_at};
+ghost use Rattle.esr_flow.specs.Search.{Searched, visit_at, is_marked, IsShortestPath, AfterScan, FoundSink, IsFound, Guides, label_at};
 
 use crate::graph::{Entry, Graph};
-use crate::step::Step;
+use crate::step::{ShortStep, Step};
 use std::alloc::{AllocError, Global};
 
 /// A node that was reached, by a step from the node of an earlier visit.
@@ -25,27 +21,29 @@ pub struct Visit {
 fn scan(
     graph: &Graph,
     _flow: &[u64],
+    steps: &[ShortStep],
     row: &[Entry],
     visits: &mut Vec<Visit>,
     marks: &mut Vec<bool>,
     head: usize,
 ) -> Result<bool, AllocError>
     requires graph { IsGraph graph.now }
-    requires row { Lists graph.now.arcs.items _flow.now (visit_at visits.old.items head).node row.now }
+    requires row { Lists graph.now.arcs.items _flow.now (visit_at visits.old.items head).node steps.now row.now }
     requires head { head < length visits.old.items }
     requires searched { Searched (net_of graph.now) _flow.now visits.old.items marks.old.items head }
     requires sink { is_marked marks.old.items graph.now.sink ≡ false }
-    ensures { IfOk result (λ found. AfterScan (net_of graph.now) _flow.now visits.new.items marks.new.items head found) }
+    ensures { IfOk result
+        (λ found. AfterScan (net_of graph.now) _flow.now visits.new.items marks.new.items head found) }
 {
     let level = visits[head].level + 1;
-    for entry in row {
+    for (i, entry) in row.iter().enumerate() {
         let node = entry.to as usize;
         if !marks[node] {
             if entry.ahead {
                 visits.push(Visit {
                     node,
                     level,
-                    step: entry.step,
+                    step: steps[i].step(),
                     parent: head,
                 })?;
                 marks[node] = true;
@@ -89,7 +87,8 @@ fn labels_of(
 ) -> Result<Vec<usize>, AllocError>
     requires { FoundSink (net_of graph.now) _flow.now visits.now }
     ensures guides { IfOk result (λ labels. Guides (net_of graph.now) _flow.now labels.items) }
-    ensures source { IfOk result (λ labels. (visit_at visits.now (length visits.now - 1)).level ≤ label_at labels.items graph.now.source) }
+    ensures source { IfOk result (λ labels. (visit_at visits.now (length visits.now - 1)).level
+        ≤ label_at labels.items graph.now.source) }
 {
     let last = visits[visits.len() - 1].level;
     let mut labels = vec![in alloc; 0usize; graph.nodes]?;
@@ -129,8 +128,9 @@ pub fn search(
     })?;
     let mut head = 0;
     while head < visits.len() {
+        let steps = graph.steps_at(visits[head].node);
         let row = graph.row(entries, visits[head].node);
-        if scan(graph, flow, row, &mut visits, &mut marks, head)? {
+        if scan(graph, flow, steps, row, &mut visits, &mut marks, head)? {
             let path = path_to_last(alloc, graph, flow, &visits)?;
             let labels = labels_of(alloc, graph, flow, &visits)?;
             return Ok(Found::Path(path, labels));

@@ -102,10 +102,13 @@ pub struct Solved {
 pub fn solve(alloc: Global, net: &Network) -> Result<Solved, NoMemory>
     ensures certifies { IfOk result (λ s. Certifies net.now.problem.now (certificate_of s.certificate)) }
     ensures least { IfOk result (λ s. IsSmallestLeast net.now.problem.now (in_set s.certificate.set.items)) }
-    ensures takes { IfOk result (λ s. Takes (network net.now.problem.now) s.augmentations (amounts (certificate_of s.certificate))) }
+    ensures takes { IfOk result (λ s. Takes (network net.now.problem.now) s.augmentations
+        (amounts (certificate_of s.certificate))) }
     ensures worth { IfOk result (λ s. s.augmentations ≤ s.certificate.worth) }
-    ensures few { IfOk result (λ s. s.augmentations ≤ (size net.now.problem.now + 2) * length (network net.now.problem.now).arcs) }
-    ensures amounts { IfOk result (λ s. (i : ℕ) → get_or (amounts (certificate_of s.certificate)) i 0 ≤ s.certificate.worth) }
+    ensures few { IfOk result (λ s. s.augmentations ≤ (size net.now.problem.now + 2) * length
+        (network net.now.problem.now).arcs) }
+    ensures amounts { IfOk result (λ s. (i : ℕ) → get_or (amounts (certificate_of s.certificate)) i 0
+        ≤ s.certificate.worth) }
     ensures count { IfOk result (λ s. s.certificate.augmentations ≡ Some s.augmentations) }
     ensures phases { IfOk result (λ s. s.phases ≤ s.augmentations) }
 {

@@ -1,15 +1,14 @@
 //! Walks from the sink back to the source, against steps on which labels fall.
-ghost use Rattle.std.specs.Prelude.{◌≡◌, ℕ, ◌+◌, ◌<◌, ◌≤◌, Bool, true, false, length, get_or, reverse, IfOk, IfSome, List};
+ghost use Rattle.std.specs.Prelude.{◌≡◌, ◌+◌, ◌<◌, ◌≤◌, true, length, IfOk, IfSome};
 ghost use Rattle.esr_flow.specs.declared.step.Step.{Step};
-ghost use Rattle.esr_cert.specs.Network.{Network, IsNetwork};
 ghost use Rattle.esr_cert.specs.Flow.{within};
-ghost use Rattle.esr_flow.specs.Residual.{room, arc_of, start, finish, opposite, IsPath};
-ghost use Rattle.esr_flow.specs.Graph.{net_of, IsGraph, AreEntries, Lists, entry_at};
+ghost use Rattle.esr_flow.specs.Residual.{room, opposite};
+ghost use Rattle.esr_flow.specs.Graph.{net_of, IsGraph, AreEntries, Lists, step_at, entry_at};
 ghost use Rattle.esr_flow.specs.Search.{Guides, IsGuided, label_at};
 ghost use Rattle.esr_flow.specs.Maximum.{InArcs};
 
 use crate::graph::{Entry, Graph, finish_of};
-use crate::step::Step;
+use crate::step::{ShortStep, Step};
 use std::alloc::{AllocError, Global};
 
 /// The first place of a node's row, from a place on, with a step that leads to a
@@ -19,16 +18,18 @@ fn next_back(
     flow: &[u64],
     labels: &[usize],
     at: usize,
+    _steps: &[ShortStep],
     row: &[Entry],
     from: usize,
 ) -> usize
     requires graph { IsGraph graph.now }
     requires node { at < graph.now.nodes }
-    requires row { Lists graph.now.arcs.items flow.now at row.now }
+    requires row { Lists graph.now.arcs.items flow.now at _steps.now row.now }
     requires flow { length flow.now ≡ length graph.now.arcs.items }
     requires labels { length labels.now ≡ graph.now.nodes }
     ensures later { from ≤ result }
-    ensures room { result < length row.now → within 1 (room graph.now.arcs.items flow.now (opposite (entry_at row.now result).step)) ≡ true }
+    ensures room { result < length row.now → within 1
+        (room graph.now.arcs.items flow.now (opposite (step_at _steps.now result))) ≡ true }
     ensures up { result < length row.now → label_at labels.now at < label_at labels.now (entry_at row.now result).to }
 {
     let label = labels[at];
@@ -62,17 +63,18 @@ pub fn walk(
     let mut path = Vec::with_capacity(alloc, labels[graph.source])?;
     let mut at = graph.sink;
     while at != graph.source {
+        let steps = graph.steps_at(at);
         let row = graph.row(entries, at);
-        let i = next_back(graph, flow, labels, at, row, next[at]);
+        let i = next_back(graph, flow, labels, at, steps, row, next[at]);
         if i < row.len() {
             next[at] = i + 1;
-            path.push(row[i].step.opposite())?;
+            path.push(steps[i].step().opposite())?;
             at = row[i].to as usize;
         } else {
             next[at] = i;
             match path.pop() {
                 None => return Ok(None),
-                Some(step) => at = finish_of(&graph.arcs, step),
+                Some(step) => at = finish_of(&graph.arcs, step) as usize,
             }
         }
     }
@@ -88,7 +90,7 @@ pub fn rewind(graph: &Graph, next: &mut [usize], path: &[Step])
     ensures { length next.new ≡ length next.old }
 {
     for step in path {
-        let node = finish_of(&graph.arcs, *step);
+        let node = finish_of(&graph.arcs, *step) as usize;
         next[node] = next[node].saturating_sub(1);
     }
 }

@@ -11,7 +11,8 @@ use Rattle.esr_history.specs.Events.{is_refusal, beginnings, is_begun}
 use Rattle.esr_history.specs.Machine.{Distance, Schedule, done, reply_to, reasons, refusal, acceptance, answered, not_begun, no_item, IsLegal}
 use Rattle.esr_history.specs.Legal.{legal_induction}
 use Rattle.esr_history.specs.Links.{item_of, txn_of, ender, begun_by, begun_count, accepted_item, accepted_txn, accepted_end, is_key, IsFit, IsNumbered}
-use Rattle.esr_history.proofs.Lawful.{NoneApplies, none_applies, when_none, begun_number}
+use Rattle.esr_history.proofs.Allowed.{NoneApplies, none_applies}
+use Rattle.esr_history.proofs.Lawful.{when_none, begun_number}
 use Rattle.esr_history.proofs.Linking.{last_same, count_refused, count_same, count_more}
 
 -- an accepted reply is the acceptance, and no reason to refuse applies

@@ -297,6 +297,13 @@ facts_are es (suc k) begins b end are some l is at =
     found (beginnings (accepted es)) k b end inside (is ∙ (ap (λ m. get_or begins m b) e ∙ ap (λ l. get_or l k b) are))
     ∙ ap (facts_by (slice_get (beginnings (accepted es)) k)) at
 
+pub lasts_length : (key : Entry → Option ℕ) (es : List Entry) (n : ℕ) → length (lasts_by key es n) ≡ n
+lasts_length key es n = at 0 n
+  where
+    at : (a n : ℕ) → length (map (λ k. coded (last_place key k es)) (range_with_len a n)) ≡ n
+    at a zero = refl
+    at a (suc n) = ap suc (at (a + 1) n)
+
 pub zeros : (n : ℕ) → replicate n 0 ≡ lasts_by accepted_item [] n
 zeros n = at 0 n
   where

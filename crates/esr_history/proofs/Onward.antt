@@ -18,7 +18,8 @@ use Rattle.esr_history.specs.Machine.{Distance, Schedule, Charge, done, extended
 use Rattle.esr_history.specs.Legal.{along, legal_induction, legal_induction_after}
 use Rattle.esr_history.specs.Queries.{begins}
 use Rattle.esr_history.proofs.Lists.{filter_map_push}
-use Rattle.esr_history.proofs.Lawful.{done-refused, done-accepted, none_applies, NoneApplies, not_ended}
+use Rattle.esr_history.proofs.Allowed.{NoneApplies, none_applies, read_allowed, write_allowed}
+use Rattle.esr_history.proofs.Lawful.{done-refused, done-accepted, not_ended}
 use Rattle.esr_history.proofs.Orderly.{beginning-kept, active_parts}
 use Rattle.esr_history.proofs.Traces.{Trace, read_of, write_of, with_abort, with_begins, with_commit, with_operation}
 use Rattle.esr_history.proofs.Locking.{known}
@@ -101,13 +102,13 @@ module _ (d : Distance) (g : Schedule) (q : ℕ) (h : Schedule) (after : IsAfter
   accepted_after (BeginUpdate l) is none = begun_after (BeginUpdate l) (acceptance h (BeginUpdate l)) is refl refl refl refl refl
   accepted_after (BeginQuery l s) is none = begun_after (BeginQuery l s) (acceptance h (BeginQuery l s)) is refl refl refl refl refl
   accepted_after (Read t x) is none =
-      let act : is_active (done h) t.0 ≡ true = not_ended h t.0 none.1.0 in
+      let act : is_active (done h) t.0 ≡ true = not_ended h t.0 (read_allowed d h t x none).active in
       let r : Reply = Value (current_value h.opening (done h) x.0) in
       let o = read_of t.0 x.0 (current_value h.opening (done h) x.0) in
       from (Read t x) r is (with_operation (trace h) o) (operation_trace d h (Read t x) r o refl refl refl refl refl)
       (same_with_operation q (trace g) (trace h) o (active_trace h t.0 act).open_ended after.same) (uncharged (Read t x) r refl (read_free d h q over t x act))
   accepted_after (Write t x v) is none =
-      let act : is_active (done h) t.0 ≡ true = not_ended h t.0 none.1.0 in
+      let act : is_active (done h) t.0 ≡ true = not_ended h t.0 (write_allowed d h t x v none).uncharged.active in
       from (Write t x v) Wrote is (with_operation (trace h) (write_of t.0 x.0 v)) (operation_trace d h (Write t x v) Wrote (write_of t.0 x.0 v) refl refl refl refl refl)
       (same_with_operation q (trace g) (trace h) (write_of t.0 x.0 v) (active_trace h t.0 act).open_ended after.same) (uncharged (Write t x v) Wrote refl (write_free d h q over t x v))
   accepted_after (Commit t) is none =

@@ -24,7 +24,8 @@ use Rattle.esr_history.specs.Legal.{legal_induction}
 use Rattle.esr_history.specs.Operations.{Operation, operation_by, operation_of, operations, committer, commit_order}
 use Rattle.esr_history.proofs.Lists.{filter_map_push, find_none}
 use Rattle.esr_history.proofs.Orderly.{beginning-push, beginning-kept, update_begun, active_parts}
-use Rattle.esr_history.proofs.Lawful.{done-refused, done-accepted, none_applies, NoneApplies, not_ended, begun_number, update_from, when_none}
+use Rattle.esr_history.proofs.Allowed.{NoneApplies, none_applies, read_allowed, write_allowed, end_allowed}
+use Rattle.esr_history.proofs.Lawful.{done-refused, done-accepted, not_ended, begun_number, update_from, when_none}
 use Rattle.esr_history.proofs.Charges.{import-push}
 use Rattle.esr_history.proofs.Membership.{In, any-from_In}
 use Rattle.esr_history.proofs.Traces.{Setting, Trace, Keeps, ended_in, query_in, read_of, write_of, current_in, committed_in, read_count_in, Active, NoOtherWriter, NoOtherUser, with_operation, with_commit, with_abort, with_begins, Reached, Reached.nothing, Reached.begin, Reached.read_update, Reached.read_query, Reached.write, Reached.commit, Reached.abort}
@@ -287,15 +288,17 @@ module _ (d : Distance) (h : Schedule) where
   accepted_step (BeginUpdate l) reached none = begin_step (BeginUpdate l) (acceptance h (BeginUpdate l)) refl refl refl refl (λ q. refl) reached
   accepted_step (BeginQuery l s) reached none = begin_step (BeginQuery l s) (acceptance h (BeginQuery l s)) refl refl refl refl (λ q. refl) reached
   accepted_step (Read t x) reached none =
-      let act : is_active (done h) t.0 ≡ true = not_ended h t.0 none.1.0 in
+      let allowed = read_allowed d h t x none in
+      let act : is_active (done h) t.0 ≡ true = not_ended h t.0 allowed.active in
       elim (cases_Bool (is_query (done h) t.0)) [
         | inl query ↦ query_reads t x reached act query
-        | inr not_query ↦ update_reads t x reached act not_query (sym (ap (λ b. if b then None else blocked_by (other_writer (done h) t.0 x.0)) not_query) ∙ none.1.1.1.1.0)
+        | inr not_query ↦ update_reads t x reached act not_query (sym (ap (λ b. if b then None else blocked_by (other_writer (done h) t.0 x.0)) not_query) ∙ allowed.free)
       ]
   accepted_step (Write t x v) reached none =
-      write_step t x v reached (not_ended h t.0 none.1.0) (when_none (is_query (done h) t.0) QueryMayNotWrite none.1.1.1.0) none.1.1.1.1.1.0
-  accepted_step (Commit t) reached none = commit_step t reached (not_ended h t.0 none.1.0)
-  accepted_step (Abort t) reached none = abort_step t reached (not_ended h t.0 none.1.0)
+      let allowed = (write_allowed d h t x v none).uncharged in
+      write_step t x v reached (not_ended h t.0 allowed.active) (when_none (is_query (done h) t.0) QueryMayNotWrite allowed.update) allowed.free
+  accepted_step (Commit t) reached none = commit_step t reached (not_ended h t.0 (end_allowed h t none).active)
+  accepted_step (Abort t) reached none = abort_step t reached (not_ended h t.0 (end_allowed h t none).active)
 
   pub reached_step : (e : Event) (r : Reply) → r ≡ reply_to d h e → IsReached d h → IsReached d (extended h e r)
   reached_step e r is reached = at (refusal d h e) refl

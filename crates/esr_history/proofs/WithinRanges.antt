@@ -20,7 +20,8 @@ use Rattle.esr_history.specs.Legal.{legal_induction}
 use Rattle.esr_history.specs.Operations.{Operation, operation_by, operations}
 use Rattle.esr_history.specs.Ranges.{IsWithinRanges}
 use Rattle.esr_history.proofs.Lists.{filter_map_push}
-use Rattle.esr_history.proofs.Lawful.{done-refused, done-accepted, none_applies, NoneApplies, not_ended, when_none}
+use Rattle.esr_history.proofs.Allowed.{NoneApplies, none_applies, read_allowed, write_allowed}
+use Rattle.esr_history.proofs.Lawful.{done-refused, done-accepted, not_ended, when_none}
 use Rattle.esr_history.proofs.Orderly.{is_update-push, active_parts}
 use Rattle.esr_history.proofs.Membership.{In, each_in, In-of_filter, In-append_cases}
 use Rattle.esr_history.proofs.Traces.{writes_item, is_among, after_writes}
@@ -110,13 +111,13 @@ module _ (d : Distance) (h : Schedule) (was : InRanges h) where
       begin_in_ranges (BeginQuery l s) (acceptance h (BeginQuery l s)) (record { query = true; strict = s; limit = l }) refl refl refl (λ t. refl) (when_none (nat_le 65535 (length (beginnings (done h)))) TooManyTransactions none.1.0)
   accepted_in_ranges (Read t x) none =
       about (Read t x) (acceptance h (Read t x)) refl (same_begins (Read t x) refl) reads
-      (single (λ o. (AllByRecursion IsValue h.opening → IsValue o.value) × (o.item < length h.opening)) (record { txn = t.0; item = x.0; writes = false; value = current_value h.opening (done h) x.0 }) (λ opened. current-range opened x.0, item_below x.0 none.1.1.0))
+      (single (λ o. (AllByRecursion IsValue h.opening → IsValue o.value) × (o.item < length h.opening)) (record { txn = t.0; item = x.0; writes = false; value = current_value h.opening (done h) x.0 }) (λ opened. current-range opened x.0, item_below x.0 (read_allowed d h t x none).item))
     where
       act : is_active (done h) t.0 ≡ true
-      act = not_ended h t.0 none.1.0
+      act = not_ended h t.0 (read_allowed d h t x none).active
 
       room : is_query (done h) t.0 ≡ true → all_reads_of (done h) t.0 < 1000
-      room query = leb-false 1000 (all_reads_of (done h) t.0) (sym (ap (λ b. b && nat_le 1000 (all_reads_of (done h) t.0)) query) ∙ when_none (is_query (done h) t.0 && nat_le 1000 (all_reads_of (done h) t.0)) TooManyReads none.1.1.1.0)
+      room query = leb-false 1000 (all_reads_of (done h) t.0) (sym (ap (λ b. b && nat_le 1000 (all_reads_of (done h) t.0)) query) ∙ when_none (is_query (done h) t.0 && nat_le 1000 (all_reads_of (done h) t.0)) TooManyReads (read_allowed d h t x none).few)
 
       reads : (u : ℕ) → is_update (done h ++ Read t x ∷ []) u ≡ false → all_reads_of (done h ++ Read t x ∷ []) u ≤ 1000
       reads u fails =
@@ -137,7 +138,7 @@ module _ (d : Distance) (h : Schedule) (was : InRanges h) where
   accepted_in_ranges (Write t x v) none =
       about (Write t x v) (acceptance h (Write t x v)) refl (same_begins (Write t x v) refl) (fewer_reads (Write t x v) (λ u. refl))
       (single (λ o. (AllByRecursion IsValue h.opening → IsValue o.value) × (o.item < length h.opening)) (record { txn = t.0; item = x.0; writes = true; value = v })
-      (λ _. leb-true (unsigned_abs v) (10 ^ 12) (not-false (is_value v) (when_none (not (is_value v)) ValueOutOfRange none.1.1.1.1.0)), item_below x.0 none.1.1.0))
+      (λ _. leb-true (unsigned_abs v) (10 ^ 12) (not-false (is_value v) (when_none (not (is_value v)) ValueOutOfRange (write_allowed d h t x v none).uncharged.value)), item_below x.0 (write_allowed d h t x v none).uncharged.item))
   accepted_in_ranges (Commit t) none = about (Commit t) (acceptance h (Commit t)) refl (same_begins (Commit t) refl) (fewer_reads (Commit t) (λ u. refl)) (λ o i. absurd i)
   accepted_in_ranges (Abort t) none = about (Abort t) (acceptance h (Abort t)) refl (same_begins (Abort t) refl) (fewer_reads (Abort t) (λ u. refl)) (λ o i. absurd i)
 

@@ -128,12 +128,19 @@ pub record IsFit (n : ℕ) (es : List Entry) : Type 0 where
   pub txns : (t : ℕ) → begun_count es < t → last_place accepted_txn t es ≡ None
   pub ends : (t : ℕ) → begun_count es < t → last_place accepted_end t es ≡ None
 
--- there is room for one more begin, and for one more entry, whose place has a code of 32 bits
-abbrev pub HasRoomToBegin : Links → Type 0
-HasRoomToBegin l = (length l.txns.items < vec_capacity l.txns) × (length l.ends.items < vec_capacity l.ends) × (length l.begins.items < vec_capacity l.begins)
+-- there is room for so many more begins, and for so many more entries, whose places have codes of 32 bits
+abbrev pub HasRoomToBegin : ℕ → Links → Type 0
+HasRoomToBegin k l =
+    (length l.txns.items + k ≤ vec_capacity l.txns)
+    × (length l.ends.items + k ≤ vec_capacity l.ends)
+    × (length l.begins.items + k ≤ vec_capacity l.begins)
 
-abbrev pub HasRoom : Links → Type 0
-HasRoom l = (length l.on_item.items + 1 < 2 ^ 32) × (length l.on_item.items < vec_capacity l.on_item) × (length l.of_txn.items < vec_capacity l.of_txn) × HasRoomToBegin l
+abbrev pub HasRoom : ℕ → Links → Type 0
+HasRoom k l =
+    (length l.on_item.items + k < 2 ^ 32)
+    × (length l.on_item.items + k ≤ vec_capacity l.on_item)
+    × (length l.of_txn.items + k ≤ vec_capacity l.of_txn)
+    × HasRoomToBegin k l
 
 -- What an accepted event leaves of the tables, where its place has the code.
 

@@ -1,5 +1,5 @@
 -- What a clause reads of a watched reader or writer.
-use Rattle.std.specs.Prelude.{Bool, true, not, ◌&&◌, ℕ, nat_eq, Result, Ok, Err}
+use Rattle.std.specs.Prelude.{Bool, true, not, ◌&&◌, ◌≡◌, ◌++◌, List, ℕ, nat_eq, Result, Ok, Err}
 use Rattle.esr_history.specs.declared.watched.Watched.{Watched}
 
 -- `w.inner`, the reader or writer that is watched
@@ -14,3 +14,7 @@ failed w = w.failed
 abbrev pub took_none : {E : Type 0} → Result ℕ E → ℕ → Bool
 took_none (Ok n) length = nat_eq n 0 && not (nat_eq length 0)
 took_none (Err e) length = true
+
+-- the second is a prefix of the whole
+abbrev pub BeginsWith : List ℕ → List ℕ → Type 0
+BeginsWith whole prefix = (rest : List ℕ) × (whole ≡ prefix ++ rest)

@@ -1,5 +1,5 @@
 //! What each transaction has imported, summed as charges come.
-ghost use Rattle.std.specs.Prelude.{◌≡◌, ◌+◌, ◌<◌, ◌^◌, ◌++◌, ◌∷◌, [], ℕ, List, false, length, slice_index_or, vec_capacity, IfOk};
+ghost use Rattle.std.specs.Prelude.{◌≡◌, ◌+◌, ◌<◌, ◌≤◌, ◌^◌, ◌∷◌, [], ℕ, false, length, slice_index_or, vec_capacity, IfOk};
 ghost use Rattle.esr_history.specs.declared.event.Entry.{Entry};
 ghost use Rattle.esr_history.specs.Events.{is_refusal};
 ghost use Rattle.esr_history.specs.Imports.{imported, with_number, AreImports, AreDue};
@@ -20,28 +20,26 @@ pub fn no_imports(alloc: Global) -> Result<Vec<u64>, AllocError>
 /// Makes a place for the import of a transaction that begins, where there is room for it.
 fn open(imports: &mut Vec<u64>, event: Event)
     requires { length imports.old.items < vec_capacity imports.old }
-    ensures { imports.new.items ≡ with_number imports.old.items event }
+    ensures places { imports.new.items ≡ with_number imports.old.items event }
+    ensures room { (k : ℕ) → length imports.old.items + (k + 1) ≤ vec_capacity imports.old
+        → length imports.new.items + k ≤ vec_capacity imports.new }
 {
     match event {
-        Event::BeginUpdate { limit: _ } => {
-            let _ = imports.push(0);
-        }
+        Event::BeginUpdate { limit: _ } => imports.push_reserved(0),
         Event::BeginQuery {
             limit: _,
             strict: _,
-        } => {
-            let _ = imports.push(0);
-        }
+        } => imports.push_reserved(0),
         _ => {}
     }
 }
 
 /// Adds to the import of each transaction what the charges import to it.
-fn add_charges(imports: &mut Vec<u64>, charges: &[(TxnId, u64)])
-    requires { (t : ℕ) → slice_index_or imports.old.items t 0 + imported charges.now t < 2 ^ 64 }
-    ensures len { length imports.new.items ≡ length imports.old.items }
-    ensures sums { (t : ℕ) → t < length imports.old.items
-        → slice_index_or imports.new.items t 0 ≡ slice_index_or imports.old.items t 0 + imported charges.now t }
+fn add_charges(imports: &mut [u64], charges: &[(TxnId, u64)])
+    requires { (t : ℕ) → slice_index_or imports.old t 0 + imported charges.now t < 2 ^ 64 }
+    ensures len { length imports.new ≡ length imports.old }
+    ensures sums { (t : ℕ) → t < length imports.old
+        → slice_index_or imports.new t 0 ≡ slice_index_or imports.old t 0 + imported charges.now t }
 {
     for charge in charges {
         let (t, amount) = *charge;
@@ -51,12 +49,26 @@ fn add_charges(imports: &mut Vec<u64>, charges: &[(TxnId, u64)])
     }
 }
 
+/// The table before the first transaction again. Its room stays.
+pub fn clear(imports: &mut Vec<u64>)
+    requires { 0 < length imports.old.items }
+    ensures table { imports.new.items ≡ 0 ∷ [] }
+    ensures room { length imports.new.items ≤ vec_capacity imports.new }
+{
+    imports.truncate(1);
+    imports.fill(0);
+}
+
 /// Adds what an entry imports, with its charges, where there is room for one more transaction.
 pub fn note(imports: &mut Vec<u64>, entry: Entry, charges: &[(TxnId, u64)])
     requires room { length imports.old.items < vec_capacity imports.old }
-    requires fits { is_refusal entry.reply ≡ false → (t : ℕ) → slice_index_or imports.old.items t 0 + imported charges.now t < 2 ^ 64 }
-    ensures { (d : Distance) (h : Schedule) → IsLegal d h → entry.reply ≡ reply_to d h entry.event → AreDue d h entry.event entry.reply charges.now
+    requires fits { is_refusal entry.reply ≡ false → (t : ℕ)
+        → slice_index_or imports.old.items t 0 + imported charges.now t < 2 ^ 64 }
+    ensures imports { (d : Distance) (h : Schedule) → IsLegal d h → entry.reply ≡ reply_to d h entry.event
+        → AreDue d h entry.event entry.reply charges.now
         → AreImports d h imports.old.items → AreImports d (extended h entry.event entry.reply) imports.new.items }
+    ensures room { (k : ℕ) → length imports.old.items + (k + 1) ≤ vec_capacity imports.old
+        → length imports.new.items + k ≤ vec_capacity imports.new }
 {
     if entry.is_refused() {
         return;

@@ -1,9 +1,9 @@
 //! Places of earlier entries: of the same item, and of the same transaction.
-ghost use Rattle.std.specs.Prelude.{◌≡◌, ◌+◌, ◌^◌, ◌<◌, ◌≤◌, ◌++◌, ◌∷◌, [], ℕ, List, Some, None, length, map, slice_get, slice_index_or, slice_set, IfOk, OnOk, OnErr, vec_capacity};
-ghost use Rattle.std.specs.Option.{option_map};
+ghost use Rattle.esr_items.specs.declared.TheConstants.{MOST_ITEMS};
+ghost use Rattle.std.specs.Prelude.{◌≡◌, ◌+◌, ◌^◌, ◌<◌, ◌≤◌, ◌++◌, ◌∷◌, [], ℕ, List, Some, None, length, slice_index_or, slice_set, IfOk, OnOk, vec_capacity};
 ghost use Rattle.esr_history.specs.declared.event.Entry.{Entry};
 ghost use Rattle.esr_history.specs.declared.event.Reply.TheVariants.{Begun};
-ghost use Rattle.esr_history.specs.Links.{with_key, txns_after, ends_after, begins_after, IsNumbered, item_of, begun_by, txn_of, key_at, decoded, AreLinks, IsFit, HasRoom, HasRoomToBegin, begun_count, last_place, earlier, facts_of, accepted_item, accepted_txn, item_in, txn_in};
+ghost use Rattle.esr_history.specs.Links.{with_key, txns_after, ends_after, begins_after, IsNumbered, item_of, begun_by, txn_of, key_at, decoded, AreLinks, IsFit, HasRoom, HasRoomToBegin, last_place, earlier, facts_of, accepted_item, accepted_txn, item_in, txn_in};
 
 use crate::event::{Entry, Event, Reply};
 use std::alloc::{AllocError, Global};
@@ -36,8 +36,8 @@ pub struct Links {
     begins: Vec<Begin>,
 }
 
-/// The most places that have a code of 32 bits.
-const MOST_PLACES: usize = 4_294_967_294;
+/// The most codes of 32 bits: as many places have one.
+const MOST_CODES: usize = 4_294_967_295;
 
 fn item_of(event: Event) -> Option<u32>
     ensures { result ≡ item_of event }
@@ -112,10 +112,17 @@ fn place(code: u32) -> Option<u64>
     }
 }
 
+/// For how many more elements a list has room.
+pub fn spare<T>(list: &Vec<T>) -> usize
+    ensures { length list.now.items + result ≡ vec_capacity list.now }
+{
+    list.capacity() - list.len()
+}
+
 impl Links {
     /// The tables of no entries.
     pub fn new(alloc: Global, items: usize) -> Result<Links, AllocError>
-        requires { items ≤ 4096 }
+        requires { items ≤ MOST_ITEMS }
         ensures { IfOk result (λ l. AreLinks items [] l) }
     {
         let mut txns = Vec::new(alloc);
@@ -136,10 +143,10 @@ impl Links {
     /// it is given too where no further place has a code of 32 bits.
     pub fn reserve(&mut self) -> Result<(), AllocError>
         ensures same { (n : ℕ) (es : List Entry) → AreLinks n es self.old → AreLinks n es self.new }
-        ensures room { HasRoom self.old → HasRoom self.new }
-        ensures ok { OnOk result (HasRoom self.new) }
+        ensures room { (k : ℕ) → HasRoom k self.old → HasRoom k self.new }
+        ensures ok { OnOk result (HasRoom 1 self.new) }
     {
-        if self.on_item.len() >= MOST_PLACES {
+        if self.on_item.len() >= MOST_CODES {
             return Err(AllocError);
         }
         self.on_item.reserve(1)?;
@@ -150,30 +157,61 @@ impl Links {
         Ok(())
     }
 
+    /// For how many more entries there is room, whatever their events.
+    pub fn room(&self) -> usize
+        requires { HasRoom 0 self.now }
+        ensures room { HasRoom result self.now }
+        ensures some { HasRoom 1 self.now → 0 < result }
+    {
+        let entries = spare(&self.on_item).min(spare(&self.of_txn));
+        let begins = spare(&self.txns)
+            .min(spare(&self.ends))
+            .min(spare(&self.begins));
+        entries.min(begins).min(MOST_CODES - self.on_item.len())
+    }
+
+    /// Leaves the tables of no entries, over as many items.
+    pub fn clear(&mut self)
+        ensures links { (n : ℕ) (es : List Entry) → AreLinks n es self.old → AreLinks n [] self.new }
+        ensures room { HasRoom 0 self.old → HasRoom 0 self.new }
+    {
+        self.on_item.clear();
+        self.of_txn.clear();
+        self.items.fill(0);
+        self.txns.truncate(1);
+        self.txns.fill(0);
+        self.ends.truncate(1);
+        self.ends.fill(0);
+        self.begins.clear();
+    }
+
     /// Notes an accepted begin.
     fn add_begin(&mut self, query: bool, limit: u64, code: u32)
-        requires { HasRoomToBegin self.old }
+        requires { HasRoomToBegin 1 self.old }
         ensures on_item { self.new.on_item ≡ self.old.on_item }
         ensures of_txn { self.new.of_txn ≡ self.old.of_txn }
         ensures items { self.new.items ≡ self.old.items }
         ensures txns { self.new.txns.items ≡ self.old.txns.items ++ code ∷ [] }
         ensures ends { self.new.ends.items ≡ self.old.ends.items ++ 0 ∷ [] }
-        ensures begins { self.new.begins.items ≡ self.old.begins.items ++ (record { query = query; limit = limit }) ∷ [] }
+        ensures begins { self.new.begins.items ≡ self.old.begins.items ++ (record { query = query; limit = limit })
+            ∷ [] }
+        ensures room { (k : ℕ) → HasRoomToBegin (k + 1) self.old → HasRoomToBegin k self.new }
     {
-        let _ = self.txns.push(code);
-        let _ = self.ends.push(0);
-        let _ = self.begins.push(Begin { query, limit });
+        self.txns.push_reserved(code);
+        self.ends.push_reserved(0);
+        self.begins.push_reserved(Begin { query, limit });
     }
 
     /// Notes an accepted event, whose place has the code.
     fn note(&mut self, event: Event, code: u32)
-        requires { HasRoomToBegin self.old }
+        requires { HasRoomToBegin 1 self.old }
         ensures on_item { self.new.on_item ≡ self.old.on_item }
         ensures of_txn { self.new.of_txn ≡ self.old.of_txn }
         ensures items { self.new.items.items ≡ with_key self.old.items.items (item_of event) code }
         ensures txns { self.new.txns.items ≡ txns_after self.old.txns.items event code }
         ensures ends { self.new.ends.items ≡ ends_after self.old.ends.items event code }
         ensures begins { self.new.begins.items ≡ begins_after self.old.begins.items event }
+        ensures room { (k : ℕ) → HasRoomToBegin (k + 1) self.old → HasRoomToBegin k self.new }
     {
         match event {
             Event::BeginUpdate { limit } => self.add_begin(false, limit, code),
@@ -215,12 +253,14 @@ impl Links {
 
     /// Adds an entry, for which there is room.
     pub fn add(&mut self, entry: Entry)
-        requires { HasRoom self.old }
-        ensures { (n : ℕ) (es : List Entry) → AreLinks n es self.old → IsFit n es → IsNumbered es entry.event entry.reply → AreLinks n (es ++ entry ∷ []) self.new }
+        requires { HasRoom 1 self.old }
+        ensures links { (n : ℕ) (es : List Entry) → AreLinks n es self.old → IsFit n es
+            → IsNumbered es entry.event entry.reply → AreLinks n (es ++ entry ∷ []) self.new }
+        ensures room { (k : ℕ) → HasRoom (k + 1) self.old → HasRoom k self.new }
     {
         let (on_item, of_txn, code) = self.next(entry);
-        let _ = self.on_item.push(on_item);
-        let _ = self.of_txn.push(of_txn);
+        self.on_item.push_reserved(on_item);
+        self.of_txn.push_reserved(of_txn);
         if !entry.is_refused() {
             self.note(entry.event, code);
         }
@@ -242,14 +282,16 @@ impl Links {
 
     /// The place of the last accepted operation on an item.
     pub fn last_on_item(&self, x: u32) -> Option<u64>
-        ensures { (n : ℕ) (es : List Entry) → AreLinks n es self.now → IsFit n es → result ≡ last_place accepted_item x es }
+        ensures { (n : ℕ) (es : List Entry) → AreLinks n es self.now → IsFit n es
+            → result ≡ last_place accepted_item x es }
     {
         place(at_key(&self.items, Some(x)))
     }
 
     /// The place of the last accepted entry of a transaction.
     pub fn last_of_txn(&self, t: u32) -> Option<u64>
-        ensures { (n : ℕ) (es : List Entry) → AreLinks n es self.now → IsFit n es → result ≡ last_place accepted_txn t es }
+        ensures { (n : ℕ) (es : List Entry) → AreLinks n es self.now → IsFit n es
+            → result ≡ last_place accepted_txn t es }
     {
         place(at_key(&self.txns, Some(t)))
     }

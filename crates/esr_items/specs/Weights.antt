@@ -3,12 +3,13 @@ use Rattle.std.specs.Prelude.{◌≡◌, ℕ, ℤ, ◌+◌, ◌*◌, ◌^◌, �
 use Rattle.std.proofs.Common.{◌∙◌, sym, ap, arith}
 use Rattle.std.proofs.lemmas.Bool.Decides.{nat_tests}
 use Rattle.std.proofs.Math.Nat.{mul-add, mul-zero, mul-le-mul, mul-le-mul_left, eq_of_mul-eq-mul_left}
+use Rattle.esr_items.specs.declared.metric.TheConstants.{LARGEST_WEIGHT}
 use Rattle.esr_items.specs.Values.{gap, IsValue}
 use Rattle.esr_items.specs.Gaps.{gap-zero, gap-same, gap_comm, gap-triangle, gap-most}
 
 -- a weight that an item may have
 abbrev pub IsWeight : ℕ → Type 0
-IsWeight w = (1 ≤ w) × (w ≤ 1000)
+IsWeight w = (1 ≤ w) × (w ≤ LARGEST_WEIGHT)
 
 -- the same as a test
 abbrev pub is_weight : ℕ → Bool

@@ -1,21 +1,26 @@
-ghost use Rattle.std.specs.Prelude.{◌≡◌, ℤ, ◌<◌, ◌≤◌, length, map, slice_set, IfOk, IsErrOf, Any, IsTrue, ◌↔◌};
+ghost use Rattle.std.specs.Prelude.{◌≡◌, ◌<◌, ◌≤◌, length, map, IfOk, IsErrOf, Any, IsTrue, ◌↔◌};
 ghost use Rattle.esr_items.specs.Values.{IsValue, opened, committed_at, current_at, current_set, kept, undone};
 
 use crate::metric::ItemId;
 use crate::{LARGEST_VALUE, MOST_ITEMS};
 use std::alloc::Global;
 use std::marker::Model;
+use thiserror::Error;
 
 /// Why `Store::new` or `Weighted::new` fails, with the number of each reason.
-#[derive(Clone, Copy, PartialEq, Eq, Debug)]
+#[derive(Clone, Copy, PartialEq, Eq, Debug, Error)]
 pub enum ItemsError {
     /// There are more than 4,096 items.
+    #[error("more than 4,096 items")]
     TooManyItems = 1,
     /// A value is above 1,000,000,000,000 or below its negative.
+    #[error("value out of range")]
     ValueOutOfRange = 2,
     /// An allocation failed.
+    #[error("out of memory")]
     NoMemory = 3,
     /// A weight is 0 or above 1,000.
+    #[error("weight out of range")]
     WeightOutOfRange = 4,
 }
 
@@ -34,6 +39,7 @@ pub struct Store {
 }
 
 impl Model for Store {
+    ghost use Rattle.esr_items.specs.declared.TheConstants.{MOST_ITEMS};
     ghost use Rattle.std.specs.Prelude.{List, ◌≤◌, length, All};
     ghost use Rattle.esr_items.specs.declared.store.Versions.{Versions};
     ghost use Rattle.esr_items.specs.Values.{AreValues};
@@ -42,7 +48,7 @@ impl Model for Store {
 
     ghost view = { λ s. s.items.items };
 
-    ghost invariant = { λ s. (length s.items.items ≤ 4096) × All AreValues s.items.items };
+    ghost invariant = { λ s. (length s.items.items ≤ MOST_ITEMS) × All AreValues s.items.items };
 }
 
 fn is_value(v: i64) -> bool
@@ -55,8 +61,10 @@ impl Store {
     /// A store in which each item has the value given, as its committed and its current value.
     pub fn new(alloc: Global, values: Vec<i64>) -> Result<Store, ItemsError>
         ensures ok { IfOk result (λ s. s ≡ map opened values.items) }
-        ensures many { IsErrOf result ItemsError.TooManyItems ↔ (4096 < length values.items) }
-        ensures range { IsErrOf result ItemsError.ValueOutOfRange ↔ ((length values.items ≤ 4096) × Any (λ v. ¬ IsValue v) values.items) }
+        ensures many { IsErrOf result ItemsError.TooManyItems ↔ (MOST_ITEMS < length values.items) }
+        ensures range { IsErrOf result ItemsError.ValueOutOfRange
+            ↔ ((length values.items ≤ MOST_ITEMS) × Any (λ v. ¬ IsValue v) values.items) }
+        ensures weights { ¬ IsErrOf result ItemsError.WeightOutOfRange }
     {
         if values.len() > MOST_ITEMS {
             return Err(ItemsError::TooManyItems);
@@ -77,7 +85,7 @@ impl Store {
     /// How many items there are.
     pub fn len(&self) -> usize
         ensures len { result ≡ length self.now }
-        ensures most { result ≤ 4096 }
+        ensures most { result ≤ MOST_ITEMS }
     {
         self.items.len()
     }

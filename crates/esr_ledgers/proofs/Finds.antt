@@ -1,8 +1,11 @@
 -- A search through a list from its front.
-use Rattle.std.proofs.Common.{◌≡◌, ℕ, zero, suc, ◌+◌, ◌<◌, List, [], ◌∷◌, length, Bool, true, false, refl, arith, inl, inr, None, Some, get_or, take, add-one}
+use Rattle.std.proofs.Common.{◌≡◌, ℕ, zero, suc, ◌+◌, ◌-◌, ◌<◌, ap, sym, ◌∙◌, List, [], ◌∷◌, length, Bool, true, false, refl, arith, inl, inr, None, Some, get_or, take, add-one}
 use Rattle.std.specs.Prelude.{find}
 use Rattle.std.specs.List.{AllByRecursion}
-use Rattle.std.proofs.lemmas.Bool.{cases_Bool}
+use Rattle.std.proofs.lemmas.Bool.{cases_Bool, cases_lt}
+use Rattle.std.proofs.lemmas.List.{get_or_default}
+use Rattle.esr_history.specs.Ascending.{IsAscendingBy, IsGapFor}
+use Rattle.esr_history.proofs.Ascending.{rises}
 
 -- the first that passes is found
 pub find_first : {X : Type 0} (p : X → Bool) (xs : List X) (i : ℕ) (d : X) → i < length xs → find p (take i xs) ≡ None → p (get_or xs i d) ≡ true → find p xs ≡ Some (get_or xs i d)
@@ -34,3 +37,16 @@ find_none_all p (x ∷ xs) none =
       | inl passes ↦ let bad : Some x ≡ None = rw passes at none in absurd (cc)
       | inr fails ↦ (fails, find_none_all p xs (rw fails at none))
     ]
+
+-- a number above the last one of a list that ascends goes at its end
+pub gap_last : {X : Type 0} (key : X → ℕ) (xs : List X) → IsAscendingBy key xs → (t : ℕ) (x : X) → x ≡ get_or xs (length xs - 1) x → key x < t → IsGapFor key xs t (length xs)
+gap_last key xs ascends t x is below = record {
+  in_range = omega arith;
+  smaller_before = λ j d l.
+      let last : get_or xs (length xs - 1) d ≡ x = get_or_default xs (length xs - 1) d x (omega (arith, l)) ∙ sym is in
+      elim (cases_lt j (length xs - 1)) [
+        | inl earlier ↦ let rising = rises key xs ascends j (length xs - 1) d earlier (omega (arith, l)) in let top = ap key last in omega (arith, rising, top, below)
+        | inr at_end ↦ let same : j ≡ length xs - 1 = omega (arith, l, at_end) in let top = ap (λ i. key (get_or xs i d)) same ∙ ap key last in omega (arith, top, below)
+      ];
+  greater_after = λ j d l m. absurd (omega (arith, l, m));
+}

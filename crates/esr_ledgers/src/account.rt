@@ -1,4 +1,4 @@
-ghost use Rattle.std.specs.Prelude.{◌≡◌, ◌+◌, ◌<◌, ◌^◌, true, Some, IfOk, IfErr};
+ghost use Rattle.std.specs.Prelude.{◌≡◌, ◌+◌, ◌<◌, ◌^◌, true, Some, IfOk, IfErr, IsTrue, length};
 ghost use Rattle.esr_history.specs.Ascending.{IsAscendingBy, IsPlaceOf, IsGapFor};
 ghost use Rattle.esr_ledgers.specs.Books.{number, account_of, is_open, amount_at, raised};
 
@@ -13,12 +13,26 @@ pub struct Account {
     pub amount: u64,
 }
 
-/// Where the account of a transaction stands, or where it would go.
+/// Whether a number is above those of all accounts.
+fn is_above(accounts: &[Account], t: TxnId) -> bool
+    requires { IsAscendingBy number accounts.now }
+    ensures { IsTrue result → IsGapFor number accounts.now t.0 (length accounts.now) }
+{
+    match accounts.last() {
+        Some(account) => account.number.0 < t.0,
+        None => true,
+    }
+}
+
+/// Where the account of a transaction stands, or where it would go. Most are opened last.
 pub fn place_of(accounts: &[Account], t: TxnId) -> Result<usize, usize>
     requires { IsAscendingBy number accounts.now }
     ensures found { IfOk result (IsPlaceOf number accounts.now t.0) }
     ensures absent { IfErr result (IsGapFor number accounts.now t.0) }
 {
+    if is_above(accounts, t) {
+        return Err(accounts.len());
+    }
     accounts.binary_search_by_key(&t.0, |a| a.number.0)
 }
 

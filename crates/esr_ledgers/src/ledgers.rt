@@ -1,6 +1,6 @@
-ghost use Rattle.std.specs.Prelude.{◌≡◌, ℕ, ◌+◌, ◌*◌, ◌<◌, ◌≤◌, ◌^◌, [], true, false, All, OnOk, OnErr, length, nat_lt, find};
+ghost use Rattle.std.specs.Prelude.{◌≡◌, ◌+◌, ◌*◌, ◌<◌, ◌≤◌, ◌^◌, [], true, false, All, OnOk, OnErr, find};
 ghost use Rattle.esr_history.specs.Ascending.{IsAscendingBy};
-ghost use Rattle.esr_ledgers.specs.Books.{number, is_open, is_open_query, is_open_update, amount_at, limit_at, new_account, opened, total_of, would_pass, quote_of, imported, charged, AreCharges, imports, exports};
+ghost use Rattle.esr_ledgers.specs.Books.{number, is_open, is_open_query, is_open_update, amount_at, new_account, opened, total_of, would_pass, quote_of, imported, charged, AreCharges, imports, exports};
 
 use crate::account::{Account, find_account, place_of, raise};
 use esr_history::{NoMemory, TxnId};
@@ -98,6 +98,13 @@ impl Ledgers {
             accounts: Vec::new(alloc),
             total: 0,
         }
+    }
+
+    /// Makes room for so many accounts at once, as far as memory allows.
+    pub fn prepare(&mut self, accounts: usize)
+        ensures { self.new ≡ self.old }
+    {
+        let _ = self.accounts.reserve(accounts);
     }
 
     /// Opens the account of a query, which may import up to this limit.

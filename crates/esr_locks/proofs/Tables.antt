@@ -9,11 +9,12 @@ use Rattle.std.proofs.lemmas.List.{map-set, map-append, get_or-map, ext_get_or, 
 use Rattle.std.proofs.lemmas.List.Elements.{All-nil, All-push}
 use Rattle.std.proofs.lemmas.List.FromFn.{length-range_with_len, get_or-map-range_with_len, map-range_with_len_more}
 use Rattle.esr_items.specs.declared.metric.ItemId.{ItemId}
+use Rattle.esr_history.specs.declared.event.TxnId.{TxnId}
 use Rattle.esr_history.specs.ItemLocks.{ItemLocks}
 use Rattle.esr_history.proofs.Ascending.{any_placed}
 use Rattle.esr_history.proofs.Lists.{any_push}
 use Rattle.esr_locks.specs.Rows.{RowOf, HeldOf, nothing_held, empty_row, row_at, held_at, IsTable}
-use Rattle.esr_locks.specs.Tables.{no_locks, locks_at, is_writer, is_reader, is_query, has_lock, with_reader, with_query_read, released, lists_item}
+use Rattle.esr_locks.specs.Tables.{no_locks, locks_at, is_writer, is_reader, is_update, is_query, has_lock, with_reader, with_query_read, released, lists_item}
 
 -- the locks at an item, by the rows
 pub locks_at-rows : (rows : List RowOf) (x : ℕ) → x < length rows → locks_at (map (λ r. r.locks) rows) x ≡ (row_at rows x).locks
@@ -47,8 +48,23 @@ query_more t u l is = at (is_writer l u) (is_reader l u) (is_query l u) (t == u)
     at false false false true is_e h = inr (eqb-true t u is_e)
     at false false false false is_e h = absurd (false≢true h)
 
-pub reader_has : (t : ℕ) (l : ItemLocks) → is_reader l t ≡ true → has_lock l t ≡ true
-reader_has t l is = or_right (is_writer l t) (is_reader l t || is_query l t) (or_left (is_reader l t) (is_query l t) is)
+-- an update that has read or written the item holds a lock on it
+pub update_has : (t : ℕ) (l : ItemLocks) → is_update l t ≡ true → has_lock l t ≡ true
+update_has t l is = at (is_writer l t) (is_reader l t) (is_query l t) is
+  where
+    at : (w r q : Bool) → (w || r) ≡ true → (w || (r || q)) ≡ true
+    at true r q is = refl
+    at false true q is = refl
+    at false false q is = absurd (false≢true is)
+
+-- whether the writer is t, by its number
+pub wrote : (w : Option TxnId) (t : ℕ) → unwrap_or (option_map (λ u. u.0 == t) w) false ≡ unwrap_or (option_map (λ u. u == t) (option_map (λ u. u.0) w)) false
+wrote None t = refl
+wrote (Some u) t = refl
+
+pub not_not : (b : Bool) → not (not b) ≡ b
+not_not true = refl
+not_not false = refl
 
 pub query_has : (t : ℕ) (l : ItemLocks) → is_query l t ≡ true → has_lock l t ≡ true
 query_has t l is = or_right (is_writer l t) (is_reader l t || is_query l t) (or_right (is_reader l t) (is_query l t) is)

@@ -23,12 +23,15 @@ no_locks = record { writer = None; readers = []; queries = [] }
 abbrev pub locks_at : List ItemLocks → ℕ → ItemLocks
 locks_at locks x = slice_index_or locks x no_locks
 
--- whether transaction t has written the item, has read it as an update, or as a query
+-- whether transaction t has written the item, has read it as an update, has done one of these, or has read it as a query
 abbrev pub is_writer : ItemLocks → ℕ → Bool
 is_writer l t = unwrap_or (option_map (λ u. u == t) l.writer) false
 
 abbrev pub is_reader : ItemLocks → ℕ → Bool
 is_reader l t = list_any (λ u. u == t) l.readers
+
+abbrev pub is_update : ItemLocks → ℕ → Bool
+is_update l t = is_writer l t || is_reader l t
 
 abbrev pub is_query : ItemLocks → ℕ → Bool
 is_query l t = list_any (λ r. r.0 == t) l.queries

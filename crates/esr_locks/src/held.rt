@@ -1,23 +1,26 @@
 ghost use Rattle.std.specs.Prelude.{◌≡◌, ◌<◌, [], ◌∷◌, ◌++◌, OnOk, OnErr};
 ghost use Rattle.esr_locks.specs.Rows.{HeldOf};
 
+use crate::lists::reserve_one;
 use esr_items::ItemId;
+use smallvec::SmallVec;
 use std::alloc::{AllocError, Global};
 use std::marker::Model;
 
-/// The items that a transaction has locked. One that it has both read and written stands twice.
+/// The items that a transaction has locked. Up to six stand in the list itself, more in an
+/// allocation.
 #[derive(Drop)]
 pub struct Held {
-    list: Vec<ItemId>,
+    list: SmallVec<ItemId, 6>,
 }
 
 impl Model for Held {
-    ghost use Rattle.std.specs.Prelude.{◌-◌, length, vec_capacity};
+    ghost use Rattle.std.specs.Prelude.{◌-◌, length};
     ghost use Rattle.esr_locks.specs.Rows.{HeldOf};
 
     ghost Value = { HeldOf };
 
-    ghost view = { λ h. record { items = h.list.items; room = vec_capacity h.list - length h.list.items } };
+    ghost view = { λ h. record { items = h.list.items; room = h.list.capacity - length h.list.items } };
 }
 
 impl Held {
@@ -25,7 +28,7 @@ impl Held {
         ensures { result.items ≡ [] }
     {
         Held {
-            list: Vec::new(alloc),
+            list: SmallVec::new(alloc),
         }
     }
 
@@ -41,7 +44,7 @@ impl Held {
         ensures ok { OnOk result (0 < self.new.room) }
         ensures full { OnErr result (self.old.room ≡ 0) }
     {
-        self.list.reserve(1)
+        reserve_one(&mut self.list)
     }
 
     /// Adds an item, for which there is room.
@@ -49,6 +52,6 @@ impl Held {
         requires { 0 < self.old.room }
         ensures { self.new.items ≡ self.old.items ++ x ∷ [] }
     {
-        let _ = self.list.push(x);
+        self.list.push_reserved(x);
     }
 }

@@ -1,5 +1,5 @@
-ghost use Rattle.std.specs.Prelude.{◌≡◌, ℕ, ◌+◌, ◌<◌, ◌≤◌, ◌==◌, filter, find, not, All, IfOk, IfErr};
-ghost use Rattle.std.specs.List.{list_any, AllByRecursion};
+ghost use Rattle.std.specs.Prelude.{◌≡◌, ◌+◌, ◌<◌, ◌≤◌, ◌==◌, length, filter, find, not, All, IfOk, IfErr, OnOk, OnErr};
+ghost use Rattle.std.specs.List.{list_any, insert, AllByRecursion};
 ghost use Rattle.std.specs.Option.{option_map};
 ghost use Rattle.smallvec.specs.SmallVec.{HasRoomFor};
 ghost use Rattle.esr_history.specs.Ascending.{IsAscendingBy, IsPlaceOf, IsGapFor, placed};
@@ -7,6 +7,8 @@ ghost use Rattle.esr_locks.specs.Rows.{reader, first_reads, more_reads};
 
 use esr_history::TxnId;
 use smallvec::SmallVec;
+use std::alloc::{AllocError, Global};
+use std::default::MadeWith;
 
 /// An update that has read an item.
 #[derive(Clone, Copy)]
@@ -49,6 +51,36 @@ pub type Readers = SmallVec<Reader, 4>;
 /// Up to two queries stand in the list itself, more in an allocation.
 pub type Queries = SmallVec<QueryReads, 2>;
 
+/// Makes room for one more element in a full list.
+#[inline(never)]
+fn grow<T: MadeWith<Global> + Drop, const N: usize>(
+    list: &mut SmallVec<T, N>,
+) -> Result<(), AllocError>
+    ensures items { list.new.items ≡ list.old.items }
+    ensures ok { OnOk result (HasRoomFor list.new 1) }
+    ensures capacity { list.old.capacity ≤ list.new.capacity }
+    ensures err { OnErr result (list.new ≡ list.old) }
+    ensures full { OnErr result (¬ HasRoomFor list.old 1) }
+{
+    list.reserve(1)
+}
+
+/// Makes room for one more element. A full list is rare, and the test is shorter than the call.
+pub fn reserve_one<T: MadeWith<Global> + Drop, const N: usize>(
+    list: &mut SmallVec<T, N>,
+) -> Result<(), AllocError>
+    ensures items { list.new.items ≡ list.old.items }
+    ensures ok { OnOk result (HasRoomFor list.new 1) }
+    ensures capacity { list.old.capacity ≤ list.new.capacity }
+    ensures err { OnErr result (list.new ≡ list.old) }
+    ensures full { OnErr result (¬ HasRoomFor list.old 1) }
+{
+    if list.len() < list.capacity() {
+        return Ok(());
+    }
+    grow(list)
+}
+
 /// Where a reader stands among readers, or where it would go.
 fn reader_place(readers: &[Reader], t: TxnId) -> Result<usize, usize>
     requires { IsAscendingBy (λ r. r.update.0) readers.now }
@@ -74,6 +106,26 @@ pub fn other_reader(readers: &[Reader], t: TxnId) -> Option<TxnId>
     readers.iter().find(|r| r.update.0 != t.0).map(|r| r.update)
 }
 
+/// Whether `t` is a reader.
+pub fn is_reader(readers: &[Reader], t: TxnId) -> bool
+    ensures { result ≡ list_any (λ r. r.update.0 == t.0) readers.now }
+{
+    readers.iter().any(|r| r.update.0 == t.0)
+}
+
+/// Puts an element at a place, for which there is room. Most come last, and then none is moved.
+fn put<T: MadeWith<Global> + Drop, const N: usize>(list: &mut SmallVec<T, N>, at: usize, element: T)
+    requires place { at ≤ length list.old.items }
+    requires room { HasRoomFor list.old 1 }
+    ensures { list.new.items ≡ insert list.old.items at element }
+{
+    if at == list.len() {
+        list.push_reserved(element);
+    } else {
+        let _ = list.insert(at, element);
+    }
+}
+
 /// Adds a reader, and answers whether it was not there.
 pub fn add_reader(readers: &mut Readers, t: TxnId) -> bool
     requires ascending { IsAscendingBy (λ r. r.update.0) readers.old.items }
@@ -84,7 +136,7 @@ pub fn add_reader(readers: &mut Readers, t: TxnId) -> bool
     match reader_place(readers, t) {
         Ok(_) => false,
         Err(at) => {
-            let _ = readers.insert(at, Reader { update: t });
+            put(readers, at, Reader { update: t });
             true
         }
     }
@@ -107,7 +159,7 @@ pub fn count_read(queries: &mut Queries, q: TxnId) -> bool
             false
         }
         Err(at) => {
-            let _ = queries.insert(at, QueryReads { query: q, count: 1 });
+            put(queries, at, QueryReads { query: q, count: 1 });
             true
         }
     }

@@ -1,10 +1,12 @@
 ghost use Rattle.std.specs.Prelude.{◌≡◌, ℕ, ◌<◌, ◌≤◌, ◌==◌, Bool, false, ◌||◌, map, not, All, OnOk, OnErr, unwrap_or, None, if◌then◌else◌};
 ghost use Rattle.std.specs.Option.{option_map};
+ghost use Rattle.esr_history.specs.Ascending.{IsAscendingBy};
 ghost use Rattle.esr_locks.specs.Rows.{RowOf, reads_of};
-ghost use Rattle.esr_locks.specs.Tables.{no_locks, is_reader, is_writer, is_query, keeps_from_reading, keeps_from_writing, IsLeast, with_reader, with_writer, with_query_read, released};
+ghost use Rattle.esr_locks.specs.Tables.{no_locks, is_update, is_query, keeps_from_reading, keeps_from_writing, IsLeast, with_reader, with_writer, with_query_read, released};
 
 use crate::lists::{
-    Queries, QueryReads, Readers, add_reader, count_read, drop_query, drop_reader, other_reader,
+    Queries, QueryReads, Readers, add_reader, count_read, drop_query, drop_reader, is_reader,
+    other_reader, reserve_one,
 };
 use esr_history::TxnId;
 use std::alloc::{AllocError, Global};
@@ -29,11 +31,16 @@ impl Model for Row {
     ghost Value = { RowOf };
 
     ghost view = { λ r. record {
-      locks = record { writer = option_map (λ u. u.0) r.writer; readers = map (λ u. u.update.0) r.readers.items; queries = map reads_of r.queries.items };
+      locks = record {
+        writer = option_map (λ u. u.0) r.writer;
+        readers = map (λ u. u.update.0) r.readers.items;
+        queries = map reads_of r.queries.items;
+      };
       room = min (r.readers.capacity - length r.readers.items) (r.queries.capacity - length r.queries.items);
     } };
 
-    ghost invariant = { λ r. IsAscendingBy (λ u. u.update.0) r.readers.items × IsAscendingBy (λ q. q.query.0) r.queries.items × AllByRecursion (λ q. q.count ≤ 1000) r.queries.items };
+    ghost invariant = { λ r. IsAscendingBy (λ u. u.update.0) r.readers.items
+        × IsAscendingBy (λ q. q.query.0) r.queries.items × AllByRecursion (λ q. q.count ≤ 1000) r.queries.items };
 }
 
 /// Whether a transaction is the one that there is.
@@ -55,7 +62,8 @@ fn other_than(writer: Option<TxnId>, t: TxnId) -> Option<TxnId>
 
 /// The smaller of two smallest numbers.
 fn smaller_of(a: Option<TxnId>, b: Option<TxnId>) -> Option<TxnId>
-    ensures { (p q : ℕ → Bool) → IsLeast p (option_map (λ u. u.0) a) → IsLeast q (option_map (λ u. u.0) b) → IsLeast (λ u. p u || q u) (option_map (λ u. u.0) result) }
+    ensures { (p q : ℕ → Bool) → IsLeast p (option_map (λ u. u.0) a) → IsLeast q (option_map (λ u. u.0) b)
+        → IsLeast (λ u. p u || q u) (option_map (λ u. u.0) result) }
 {
     match (a, b) {
         (None, other) => other,
@@ -86,6 +94,7 @@ impl Row {
     /// The queries that have read the item, with their counts.
     pub fn queries(&self) -> &[QueryReads]
         ensures reads { map reads_of result.now ≡ self.now.locks.queries }
+        ensures ascending { IsAscendingBy (λ r. r.query.0) result.now }
         ensures most { All (λ r. r.count ≤ 1000) result.now }
     {
         &self.queries
@@ -111,33 +120,32 @@ impl Row {
         ensures ok { OnOk result (0 < self.new.room) }
         ensures full { OnErr result (self.old.room ≡ 0) }
     {
-        // A full list is rare, and this test is shorter than the call.
-        if self.readers.len() == self.readers.capacity() {
-            self.readers.reserve(1)?;
-        }
-        if self.queries.len() == self.queries.capacity() {
-            self.queries.reserve(1)?;
-        }
+        reserve_one(&mut self.readers)?;
+        reserve_one(&mut self.queries)?;
         Ok(())
     }
 
-    /// Adds a read by an update, and answers whether the update had not read the item.
+    /// Adds a read by an update, and answers whether the update had neither read nor written the
+    /// item.
     pub fn add_reader(&mut self, t: TxnId) -> bool
         requires { 0 < self.old.room }
         ensures locks { self.new.locks ≡ with_reader t.0 self.old.locks }
-        ensures fresh { result ≡ not (is_reader self.old.locks t.0) }
+        ensures fresh { result ≡ not (is_update self.old.locks t.0) }
     {
-        add_reader(&mut self.readers, t)
+        let has_written = is_it(self.writer, t);
+        let has_read = !add_reader(&mut self.readers, t);
+        !(has_written | has_read)
     }
 
-    /// Adds a write, and answers whether the update had not written the item.
+    /// Adds a write, and answers whether the update had neither read nor written the item.
     pub fn add_writer(&mut self, t: TxnId) -> bool
         ensures locks { self.new.locks ≡ with_writer t.0 self.old.locks }
-        ensures fresh { result ≡ not (is_writer self.old.locks t.0) }
+        ensures fresh { result ≡ not (is_update self.old.locks t.0) }
     {
-        let fresh = !is_it(self.writer, t);
+        let has_written = is_it(self.writer, t);
+        let has_read = is_reader(&self.readers, t);
         self.writer = Some(t);
-        fresh
+        !(has_written | has_read)
     }
 
     /// Adds a read by a query, and answers whether the query had not read the item.

@@ -1,6 +1,7 @@
-ghost use Rattle.std.specs.Prelude.{◌≡◌, ℕ, ◌+◌, ◌-◌, ◌*◌, ◌^◌, ◌<◌, ◌≤◌, ◌==◌, [], ◌∷◌, ◌++◌, length, map, All, IfOk, OnOk, OnErr, slice_set, true, if◌then◌else◌};
+ghost use Rattle.std.specs.Prelude.{◌≡◌, ℕ, ◌-◌, ◌<◌, ◌≤◌, ◌==◌, [], length, map, All, IfOk, OnOk, OnErr, slice_set, true, if◌then◌else◌};
 ghost use Rattle.std.specs.List.{range_with_len};
 ghost use Rattle.std.specs.Option.{option_map};
+ghost use Rattle.esr_history.specs.Ascending.{IsAscendingBy};
 ghost use Rattle.esr_locks.specs.Rows.{reads_of, row_at, held_at};
 ghost use Rattle.esr_locks.specs.Tables.{no_locks, locks_at, room_for, has_lock, lists_item, keeps_from_reading, keeps_from_writing, IsLeast, with_reader, with_writer, with_query_read, released};
 
@@ -33,7 +34,12 @@ impl Model for LockTable {
 
     ghost Value = { Table };
 
-    ghost view = { λ t. record { locks = map (λ r. r.locks) t.rows.items; item_rooms = map (λ r. r.room) t.rows.items; list_rooms = map (λ h. h.room) t.held.items } };
+    ghost view = { λ t. record {
+      locks = map (λ r. r.locks) t.rows.items;
+      item_rooms = map
+          (λ r. r.room) t.rows.items;
+      list_rooms = map (λ h. h.room) t.held.items;
+    } };
 
     ghost invariant = { λ t. IsTable t.rows.items t.held.items };
 }
@@ -65,7 +71,8 @@ fn make_lists(held: &mut Vec<Held>, alloc: Global, t: TxnId) -> Result<(), Alloc
 /// Takes out the list of a transaction.
 fn take_list(held: &mut Vec<Held>, alloc: Global, t: TxnId) -> Held
     ensures taken { result.items ≡ (held_at held.old.items t.0).items }
-    ensures left { (u : ℕ) → (held_at held.new.items u).items ≡ (if t.0 == u then [] else (held_at held.old.items u).items) }
+    ensures left { (u : ℕ) → (held_at held.new.items u).items
+        ≡ (if t.0 == u then [] else (held_at held.old.items u).items) }
 {
     let at = t.0 as usize;
     if at < held.len() {
@@ -79,7 +86,9 @@ fn take_list(held: &mut Vec<Held>, alloc: Global, t: TxnId) -> Held
 fn release_each(rows: &mut Vec<Row>, items: &[ItemId], t: TxnId)
     requires { All (λ i. i.0 < length rows.old.items) items.now }
     ensures len { length rows.new.items ≡ length rows.old.items }
-    ensures locks { (x : ℕ) → x < length rows.old.items → (row_at rows.new.items x).locks ≡ (if lists_item items.now x then released t.0 (row_at rows.old.items x).locks else (row_at rows.old.items x).locks) }
+    ensures locks { (x : ℕ) → x < length rows.old.items
+        → (row_at rows.new.items x).locks ≡ (if lists_item items.now x then released t.0
+        (row_at rows.old.items x).locks else (row_at rows.old.items x).locks) }
 {
     for x in items {
         rows[x.0 as usize].release(t);
@@ -99,6 +108,13 @@ impl LockTable {
             }),
             Err(_) => Err(NoMemory),
         }
+    }
+
+    /// Makes room for the lists of so many transactions at once, as far as memory allows.
+    pub fn prepare(&mut self, transactions: usize)
+        ensures { self.new ≡ self.old }
+    {
+        let _ = self.held.reserve(transactions);
     }
 
     /// The update that keeps transaction `t`, as an update, from reading the item: another that
@@ -131,15 +147,18 @@ impl LockTable {
     pub fn query_reads(&self, x: ItemId) -> &[QueryReads]
         requires { x.0 < length self.now.locks }
         ensures reads { map reads_of result.now ≡ (locks_at self.now.locks x.0).queries }
+        ensures ascending { IsAscendingBy (λ r. r.query.0) result.now }
         ensures most { All (λ r. r.count ≤ 1000) result.now }
     {
         self.rows[x.0 as usize].queries()
     }
 
-    /// The items on which a transaction holds a lock. An item may stand twice.
+    /// The items on which a transaction holds a lock. One that it has read as a query and as an
+    /// update may stand twice.
     pub fn items_of(&self, t: TxnId) -> &[ItemId]
         ensures within { All (λ i. i.0 < length self.now.locks) result.now }
-        ensures listed { (x : ℕ) → x < length self.now.locks → has_lock (locks_at self.now.locks x) t.0 ≡ true → lists_item result.now x ≡ true }
+        ensures listed { (x : ℕ) → x < length self.now.locks → has_lock (locks_at self.now.locks x) t.0 ≡ true
+            → lists_item result.now x ≡ true }
     {
         let at = t.0 as usize;
         if at < self.held.len() {

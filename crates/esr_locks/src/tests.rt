@@ -57,7 +57,7 @@ fn an_upgrade_waits_for_the_smallest_other_reader(rt: HostRuntime) {
     locks.add_write(u, A);
     assert!(rt; locks.write_holder(A) == Some(u));
     assert!(rt; locks.may_read_update(v, A) == Some(u));
-    assert!(rt; locks.items_of(u).len() == 2);
+    assert!(rt; locks.items_of(u).len() == 1);
     assert!(rt; locks.write_holder(B) == None);
     locks.release(u);
     assert!(rt; locks.write_holder(A) == None);

@@ -2,11 +2,13 @@ pub mod Writers
 pub mod Placed
 pub mod Ordered
 pub mod Entries
+pub mod Accessed
 pub mod Kept
 pub mod Tied
 pub mod Walked
 pub mod Fewer
-pub mod Backward
+pub mod Sought
+pub mod StepsAt
 pub mod Linked
 pub mod Amongst
 pub mod Sparse
@@ -15,7 +17,7 @@ pub mod Commits
 pub mod Amid
 pub mod KeptOnes
 pub mod NearLaws
-pub mod NearMarks
+pub mod Back
 pub mod ReadItems
 pub mod NearFound
 pub mod Divided

@@ -10,7 +10,7 @@ use Rattle.esr_history.proofs.Membership.{In, In-Contains, Contains-In, any-from
 use Rattle.esr_order.specs.Placements.{is_among, IsClosed}
 use Rattle.esr_order.specs.Chains.{update_at}
 use Rattle.esr_order.specs.Orders.{IsClosedOn}
-use Rattle.esr_order.specs.Near.{has_written, AreNear}
+use Rattle.esr_order.specs.Near.{has_written, IsNear, AreNear}
 use Rattle.esr_order.proofs.Ordered.{in_order}
 use Rattle.esr_order.proofs.Early.{must_positions}
 use Rattle.esr_order.proofs.Complete.{not_before_itself, range_below}
@@ -54,20 +54,20 @@ module _ (d : Distance) (h : Schedule) (q : ℕ) (legal : IsLegal d h) where
       (cases_order p.0 w.0) in
       In-Contains (must h q) u (subst (In u) musts (subst (λ z. In z (map (update_at h q) (range_with_len 0 n))) p.2 (in_mapped (update_at h q) (range_with_len 0 n) p.0 (range_in 0 n p.0 (omega arith) (omega arith)))))
 
+  -- who is before a near one is near
+  pub near_back : (u v : ℕ) → Contains (updates_of h q) u → is_before h u v ≡ true → Contains (updates_of h q) v → IsNear h q v → IsNear h q u
+  near_back u v cu b cv n =
+      elim n [
+        | inl wrote ↦ inr (inl ([], v, cv, wrote, b))
+        | inr m ↦ elim m [
+          | inl r ↦ inr (inl (v ∷ r.0, r.1, r.2, r.3, (cv, b, r.4)))
+          | inr must_see ↦ inr (inr (must_down u v cu b must_see))
+        ]
+      ]
+
   module _ (us : List ℕ) (near : AreNear h q us) where
     pub near_down : (u v : ℕ) → Contains (updates_of h q) u → is_before h u v ≡ true → Contains us v → Contains us u
-    near_down u v cu b cv =
-        let n = (near.near v).0 cv in
-        (near.near u).1 (
-          cu,
-          elim n.1 [
-            | inl wrote ↦ inr (inl ([], v, n.0, wrote, b))
-            | inr m ↦ elim m [
-              | inl r ↦ inr (inl (v ∷ r.0, r.1, r.2, r.3, (n.0, b, r.4)))
-              | inr must_see ↦ inr (inr (must_down u v cu b must_see))
-            ]
-          ],
-        )
+    near_down u v cu b cv = let n = (near.near v).0 cv in (near.near u).1 (cu, near_back u v cu b n.0 n.1)
 
     pub near_updates : (u : ℕ) → Contains us u → Contains (updates_of h q) u
     near_updates u c = ((near.near u).0 c).0

@@ -4,7 +4,7 @@ use Rattle.std.specs.Prelude.{if◌then◌else◌}
 use Rattle.std.specs.List.{filter_map, cons_option, slice_get, range_with_len}
 use Rattle.std.specs.List.Sorted.{IsStrictlyIncreasing}
 use Rattle.std.specs.Option.{option_map}
-use Rattle.std.proofs.lemmas.Bool.{cases_order, cases_Bool, eq-eqb}
+use Rattle.std.proofs.lemmas.Bool.{cases_order, eq-eqb}
 use Rattle.std.proofs.lemmas.Option.{same_Some}
 use Rattle.std.proofs.lemmas.List.Kept.{AllPairs-from_increasing}
 use Rattle.esr_history.specs.declared.event.Event.{Event}
@@ -15,7 +15,7 @@ use Rattle.esr_history.specs.declared.event.Entry.{Entry}
 use Rattle.esr_history.specs.Events.{is_refusal}
 use Rattle.esr_history.specs.Operations.{Operation, operation_of, operation_by}
 use Rattle.esr_history.specs.Links.{accepted_txn, txn_of, is_key, places_from}
-use Rattle.esr_history.proofs.Membership.{In, In-Contains, Contains-In, Pairs, Pairs-from_all, each_at, each_in}
+use Rattle.esr_history.proofs.Membership.{In, In-Contains, Contains-In, Pairs, Pairs-from_all, each_at}
 use Rattle.esr_order.specs.declared.scan.Step.{Step}
 use Rattle.esr_order.specs.Scans.{place_of, step_by, step_at}
 use Rattle.esr_order.specs.Listing.{IsTableOf}
@@ -57,20 +57,16 @@ sub_range g a (suc m) (x ∷ xs) rise low high none =
     (cases_order x a)
 
 -- what the entries at some rising places give is what all of them give, where no other gives anything
-pub sparse_pairs : {Y : Type 0} (f : Entry → Option Y) (es : List Entry) (at : List ℕ) → Pairs (λ i j. i < j) at → ((i : ℕ) → In i at → i < 0 + length es)
+pub sparse_entries : {Y : Type 0} (f : Entry → Option Y) (es : List Entry) (at : List ℕ) → IsStrictlyIncreasing at → ((i : ℕ) → In i at → i < 0 + length es)
     → ((i : ℕ) (e : Entry) → slice_get es i ≡ Some e → (In i at → ⊥) → f e ≡ None) → filter_map f (filter_map (slice_get es) at) ≡ filter_map f es
-sparse_pairs f es at rises inside gives =
+sparse_entries f es at rises inside gives =
     twice (slice_get es) f at
-    ∙ (sub_range (λ i. from f (slice_get es i)) 0 (length es) at rises (λ i j. omega arith) inside (λ i l h out. nothing i (slice_get es i) refl out)
+    ∙ (sub_range (λ i. from f (slice_get es i)) 0 (length es) at (Pairs-from_all (λ i j. i < j) at (AllPairs-from_increasing at rises)) (λ i j. omega arith) inside (λ i l h out. nothing i (slice_get es i) refl out)
     ∙ (sym (twice (slice_get es) f (range_with_len 0 (length es))) ∙ ap (filter_map f) (all_entries es)))
   where
     nothing : (i : ℕ) (o : Option Entry) → slice_get es i ≡ o → (In i at → ⊥) → from f o ≡ None
     nothing i None is out = refl
     nothing i (Some e) is out = gives i e is out
-
-pub sparse_entries : {Y : Type 0} (f : Entry → Option Y) (es : List Entry) (at : List ℕ) → IsStrictlyIncreasing at → ((i : ℕ) → In i at → i < 0 + length es)
-    → ((i : ℕ) (e : Entry) → slice_get es i ≡ Some e → (In i at → ⊥) → f e ≡ None) → filter_map f (filter_map (slice_get es) at) ≡ filter_map f es
-sparse_entries f es at rises inside gives = sparse_pairs f es at (Pairs-from_all (λ i j. i < j) at (AllPairs-from_increasing at rises)) inside gives
 
 -- the places of a key
 pub in_places : (key : Entry → Option ℕ) (k n : ℕ) (es : List Entry) (i : ℕ) (e : Entry) → slice_get es i ≡ Some e → is_key (key e) k ≡ true → In (n + i) (places_from key k n es)
@@ -94,33 +90,6 @@ places_inside key k n (f ∷ es) i j = at (is_key (key f) k) j (places_inside ke
     at : (b : Bool) → In i (if b then n ∷ places_from key k (n + 1) es else places_from key k (n + 1) es) → (In i (places_from key k (n + 1) es) → i < n + 1 + length es) → i < n + suc (length es)
     at true j rest = ⊎_elim (λ e. omega (arith, e)) (λ k. let l : i < n + 1 + length es = rest k in omega arith) j
     at false j rest = let l : i < n + 1 + length es = rest j in omega arith
-
-places_above : (key : Entry → Option ℕ) (k n m : ℕ) (es : List Entry) → m ≤ n → (i : ℕ) → In i (places_from key k n es) → m ≤ i
-places_above key k n m [] l i j = absurd j
-places_above key k n m (f ∷ es) l i j = at (is_key (key f) k) j (places_above key k (n + 1) m es (omega arith) i)
-  where
-    at : (b : Bool) → In i (if b then n ∷ places_from key k (n + 1) es else places_from key k (n + 1) es) → (In i (places_from key k (n + 1) es) → m ≤ i) → m ≤ i
-    at true j rest = ⊎_elim (λ e. omega (arith, e, l)) (λ k. rest k) j
-    at false j rest = rest j
-
--- the places of a key rise
-places_rise : (key : Entry → Option ℕ) (k n : ℕ) (es : List Entry) → Pairs (λ i j. i < j) (places_from key k n es)
-places_rise key k n [] = tt
-places_rise key k n (f ∷ es) = at (is_key (key f) k) (places_rise key k (n + 1) es)
-  where
-    at : (b : Bool) → Pairs (λ i j. i < j) (places_from key k (n + 1) es) → Pairs (λ i j. i < j) (if b then n ∷ places_from key k (n + 1) es else places_from key k (n + 1) es)
-    at true rest = (each_in (λ j. n < j) (places_from key k (n + 1) es) (λ j i. let l : n + 1 ≤ j = places_above key k (n + 1) (n + 1) es (omega arith) j i in omega arith), rest)
-    at false rest = rest
-
--- what only entries of a key give
-pub sparse_key : {Y : Type 0} (f : Entry → Option Y) (key : Entry → Option ℕ) (k : ℕ) → ((e : Entry) → is_key (key e) k ≡ false → f e ≡ None) → (es : List Entry)
-    → filter_map f (filter_map (slice_get es) (places_from key k 0 es)) ≡ filter_map f es
-sparse_key f key k only es =
-    sparse_pairs f es (places_from key k 0 es) (places_rise key k 0 es) (places_inside key k 0 es)
-    (λ i e is out. elim (cases_Bool (is_key (key e) k)) [
-      | inl has ↦ let z : 0 + i ≡ i = omega arith in absurd (out (subst (λ j. In j (places_from key k 0 es)) z (in_places key k 0 es i e is has)))
-      | inr hasnt ↦ only e hasnt
-    ])
 
 op_txn : (ev : Event) (r : Reply) (o : Operation) → operation_by ev r ≡ Some o → txn_of ev r ≡ Some o.txn
 op_txn (BeginUpdate l) r o is = absurd (cc)

@@ -16,6 +16,11 @@ pub record Chain : Type 0 where
 abbrev pub chain_from : (ℕ → Option ℤ) → ℕ → Chain
 chain_from last n = record { writers = filter (λ i. is_some (last i)) (range_with_len 0 n); values = filter_map last (range_with_len 0 n) }
 
+-- the updates that wrote an item, by their positions
+abbrev pub writers_in : Option Chain → List ℕ
+writers_in None = []
+writers_in (Some c) = c.writers
+
 -- a chain that has a writer
 abbrev pub if_written : List ℕ → Chain → Option Chain
 if_written [] c = None

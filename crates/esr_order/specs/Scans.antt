@@ -1,15 +1,16 @@
 -- What the entries of a log give, where they are accepted.
-use Rattle.std.specs.Prelude.{◌≡◌, ℕ, List, [], ◌∷◌, Bool, true, false, ◌==◌, Option, None, Some, Contains, is_some, nat_lt, slice_get, unwrap_or, if◌then◌else◌}
+use Rattle.std.specs.Prelude.{◌≡◌, ℕ, List, [], ◌∷◌, Bool, true, false, ◌==◌, Option, None, Some, Contains, is_some, filter, map, nat_lt, slice_get, unwrap_or, if◌then◌else◌}
 use Rattle.std.specs.Option.{option_map}
 use Rattle.esr_history.specs.declared.event.TxnId.{TxnId}
 use Rattle.esr_history.specs.declared.event.Event.{Event}
-use Rattle.esr_history.specs.declared.event.Event.TheVariants.{BeginQuery, Read, Commit}
+use Rattle.esr_history.specs.declared.event.Event.TheVariants.{BeginQuery, Commit}
 use Rattle.esr_history.specs.declared.event.Entry.{Entry}
 use Rattle.esr_history.specs.Events.{is_refusal, is_begun}
 use Rattle.esr_history.specs.declared.links.Facts.{Facts}
 use Rattle.esr_history.specs.Links.{accepted_end, last_place, facts_of}
 use Rattle.esr_history.specs.Machine.{Schedule, done}
-use Rattle.esr_history.specs.Operations.{Operation, operation_of}
+use Rattle.esr_history.specs.Operations.{Operation, operation_of, operations_in}
+use Rattle.esr_order.specs.declared.accesses.Access.{Access}
 use Rattle.esr_order.specs.declared.scan.Step.{Step}
 
 abbrev pub if_accepted : {Y : Type 0} → (Entry → Option Y) → Entry → Option Y
@@ -77,10 +78,13 @@ step_by places (Some o) = step_of places o
 abbrev pub step_at : List (Option ℕ) → Entry → Option Step
 step_at places e = if_accepted (λ n. step_by places (operation_of n)) e
 
--- the item that q read in an entry, if that is an accepted read by q
-abbrev pub item_read_by : ℕ → Event → Option ℕ
-item_read_by q (Read t x) = if t.0 == q then Some x.0 else None
-item_read_by q _ = None
+-- what was done in an entry, if that is an accepted read or write
+abbrev pub access_of : Operation → Access
+access_of o = record { txn = record { 0 = o.txn }; item = record { 0 = o.item }; writes = o.writes; value = o.value }
 
-abbrev pub item_read_at : ℕ → Entry → Option ℕ
-item_read_at q e = if_accepted (λ n. item_read_by q n.event) e
+abbrev pub access_in : Entry → Option Access
+access_in e = if_accepted (λ n. option_map access_of (operation_of n)) e
+
+-- what t read and wrote, in order
+abbrev pub accesses_in : List Entry → ℕ → List Access
+accesses_in entries t = map access_of (filter (λ o. o.txn == t) (operations_in entries))

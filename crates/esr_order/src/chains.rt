@@ -1,4 +1,4 @@
-ghost use Rattle.std.specs.Prelude.{◌≡◌, ◌<◌, ◌≤◌, ◌&&◌, ◌==◌, ℕ, List, IfOk, OnOk, All, AllPairs, filter, map};
+ghost use Rattle.std.specs.Prelude.{◌≡◌, ◌<◌, ◌≤◌, ℕ, List, IfOk, OnOk, All, AllPairs, filter, map};
 ghost use Rattle.std.specs.List.{range_with_len};
 ghost use Rattle.esr_order.specs.declared.scan.Step.{Step};
 ghost use Rattle.esr_order.specs.Ties.{on_item};
@@ -46,7 +46,8 @@ fn put_end(links: &mut Links, last: Option<Step>) -> Result<(), AllocError>
 
 /// The writers of an item, from its steps. Its writes are in the order of positions.
 fn links_of(alloc: Global, steps: &[Step]) -> Result<Links, AllocError>
-    ensures { IfOk result (λ l. (n : ℕ) → All (λ s. s.place < n) steps.now → AllPairs (λ a b. a.place ≤ b.place) (filter (λ s. s.writes) steps.now)
+    ensures { IfOk result (λ l. (n : ℕ) → All (λ s. s.place < n) steps.now
+        → AllPairs (λ a b. a.place ≤ b.place) (filter (λ s. s.writes) steps.now)
         → seen_links l ≡ chain_from (last_in (filter (λ s. s.writes) steps.now)) n) }
 {
     let mut links = Links {
@@ -66,8 +67,10 @@ fn links_of(alloc: Global, steps: &[Step]) -> Result<Links, AllocError>
 
 /// The writers of each item, of which the steps are given item by item.
 pub fn chains_of(alloc: Global, rows: &[Vec<Step>]) -> Result<Vec<Links>, AllocError>
-    ensures { IfOk result (λ v. (steps : List Step) (items n : ℕ) → map (λ r. r.items) rows.now ≡ map (λ x. on_item x steps) (range_with_len 0 items)
-        → All (λ s. s.place < n) steps → ((x : ℕ) → AllPairs (λ a b. a.place ≤ b.place) (filter (λ s. s.writes) (on_item x steps)))
+    ensures { IfOk result (λ v. (steps : List Step) (items n : ℕ)
+        → map (λ r. r.items) rows.now ≡ map (λ x. on_item x steps) (range_with_len 0 items)
+        → All (λ s. s.place < n) steps → ((x : ℕ)
+        → AllPairs (λ a b. a.place ≤ b.place) (filter (λ s. s.writes) (on_item x steps)))
         → map seen_links v.items ≡ map (λ x. chain_from (last_step steps x) n) (range_with_len 0 items)) }
 {
     let mut chains = Vec::new(alloc);

@@ -1,21 +1,22 @@
 //! The conflict order among the updates that a query could have seen, and the placements of queries.
 #![tactic(auto)]
 
+mod accesses;
 mod chains;
 mod laws;
 mod near;
 mod order;
 mod pairs;
-mod reach;
 mod scan;
+mod search;
 mod split;
 mod ties;
 mod walk;
 
+pub use accesses::{Access, accesses_of};
 pub use chains::Links;
 pub use laws::{
     least_sets_are_listed, least_sets_meet, longer_histories_agree, parts_are_closed_sets,
 };
 pub use order::{Order, OrderError};
-pub use scan::committed;
-pub use walk::places_of_txn;
+pub use scan::{committed, updates_before};

@@ -1,8 +1,7 @@
-ghost use Rattle.std.specs.Prelude.{◌≡◌, ◌↔◌, ◌<◌, ◌≤◌, ◌*◌, ◌^◌, length, map, filter, ℕ, All, AllPairs, ◌≢◌, ◌&&◌, true, false, IfOk, IsErrOf, MatchOption};
+ghost use Rattle.std.specs.Prelude.{◌≡◌, ◌↔◌, ◌<◌, ◌≤◌, ◌*◌, ◌^◌, length, map, filter, ℕ, All, AllPairs, ◌≢◌, false, IfOk, IsErrOf};
 ghost use Rattle.std.specs.List.{range_with_len};
 ghost use Rattle.std.specs.Option.{option_map};
-ghost use Rattle.esr_history.specs.Events.{accepted, is_query, is_committed};
-ghost use Rattle.esr_history.specs.Queries.{is_committed_query, is_strict};
+ghost use Rattle.esr_history.specs.Queries.{is_committed_query};
 ghost use Rattle.esr_order.specs.Chains.{seen_links};
 ghost use Rattle.esr_order.specs.Orders.{IsOrderOf, IsOrderAmong, chain_at, operations_of};
 ghost use Rattle.esr_order.specs.Chains.{nth};
@@ -10,26 +9,29 @@ ghost use Rattle.esr_order.specs.Near.{AreNear};
 ghost use Rattle.esr_order.specs.Placements.{is_among};
 ghost use Rattle.esr_history.specs.Queries.{must};
 ghost use Rattle.esr_history.specs.Serial.{is_before};
-ghost use Rattle.esr_history.specs.Operations.{operations};
+ghost use Rattle.esr_history.specs.Machine.{done};
+ghost use Rattle.esr_history.specs.Operations.{commit_order, operations};
 
 use crate::chains::{Links, chains_of};
-use crate::near::{items_read, kept, seeds_of};
 use crate::pairs::places_of;
-use crate::reach::mark_back;
 use crate::scan::{committed, count_must, is_committed_query, steps_of, updates_before};
+use crate::search::near_of;
 use crate::split::by_item;
 use crate::ties::pairs_of;
 use esr_history::{History, TxnId};
 use esr_items::{ItemId, Metric};
 use std::alloc::{AllocError, Global};
 use std::marker::Model;
+use thiserror::Error;
 
 /// Why there is no order of a query.
-#[derive(Clone, Copy, PartialEq, Eq, Debug)]
+#[derive(Clone, Copy, PartialEq, Eq, Debug, Error)]
 pub enum OrderError {
     /// The transaction is no query, or has not committed.
+    #[error("not a committed query")]
     NotACommittedQuery,
     /// Memory was refused.
+    #[error("out of memory")]
     NoMemory,
 }
 
@@ -62,7 +64,12 @@ impl Model for Order {
 
     ghost Value = { Ordered };
 
-    ghost view = { λ o. record { commits = o.commits.items; before = o.before.items; must = o.must.items; chains = map seen_links o.chains.items } };
+    ghost view = { λ o. record {
+      commits = o.commits.items;
+      before = o.before.items;
+      must = o.must.items;
+      chains = map seen_links o.chains.items;
+    } };
 }
 
 /// The first positions.
@@ -86,8 +93,10 @@ fn among<M: Metric>(
     requires keeps { AllPairs (λ u v. is_before history.now.schedule v u ≡ false) (map (λ t. t.0) commits.items) }
     requires first { first ≤ length commits.items }
     ensures commits { IfOk result (λ o. o.commits ≡ commits.items) }
-    ensures order { IfOk result (λ o. (q : ℕ) → map (nth (map (λ t. t.0) commits.items)) (range_with_len 0 first) ≡ must history.now.schedule q → IsOrderAmong history.now.schedule q (map (λ t. t.0) commits.items) o) }
-    ensures sparse { IfOk result (λ o. length o.before ≤ 2 * length (filter (λ p. is_among (map (λ t. t.0) commits.items) p.txn) (operations history.now.schedule))) }
+    ensures order { IfOk result (λ o. (q : ℕ) → map (nth (map (λ t. t.0) commits.items)) (range_with_len 0 first)
+        ≡ must history.now.schedule q → IsOrderAmong history.now.schedule q (map (λ t. t.0) commits.items) o) }
+    ensures sparse { IfOk result (λ o. length o.before ≤ 2 * length
+        (filter (λ p. is_among (map (λ t. t.0) commits.items) p.txn) (operations history.now.schedule))) }
 {
     let _legal = history.log(); // brings the invariant into the proof
     let places = places_of(alloc, &commits, 65535)?;
@@ -109,7 +118,8 @@ impl Order {
     pub fn of<M: Metric>(alloc: Global, history: &History<M>, q: TxnId) -> Result<Order, OrderError>
         ensures ok { IfOk result (λ o. IsOrderOf history.now.schedule q.0 o) }
         ensures sparse { IfOk result (λ o. length o.before ≤ 2 * length (operations_of history.now.schedule q.0)) }
-        ensures refused { IsErrOf result OrderError.NotACommittedQuery ↔ (is_committed_query history.now.schedule q.0 ≡ false) }
+        ensures refused { IsErrOf result OrderError.NotACommittedQuery
+            ↔ (is_committed_query history.now.schedule q.0 ≡ false) }
     {
         let _legal = history.log(); // brings the invariant into the proof
         if !is_committed_query(history, q) {
@@ -132,18 +142,38 @@ impl Order {
     ) -> Result<Order, OrderError>
         ensures near { IfOk result (λ o. AreNear history.now.schedule q.0 (map (λ t. t.0) o.commits)) }
         ensures ok { IfOk result (λ o. IsOrderAmong history.now.schedule q.0 (map (λ t. t.0) o.commits) o) }
-        ensures refused { IsErrOf result OrderError.NotACommittedQuery ↔ (is_committed_query history.now.schedule q.0 ≡ false) }
+        ensures refused { IsErrOf result OrderError.NotACommittedQuery
+            ↔ (is_committed_query history.now.schedule q.0 ≡ false) }
+    {
+        if !is_committed_query(history, q) {
+            return Err(OrderError::NotACommittedQuery);
+        }
+        let committed = committed(alloc, history)?;
+        Order::near_in(alloc, history, &committed, q)
+    }
+
+    /// The same for a caller who has the list of the transactions that committed, in the order of
+    /// their commits (`committed`), so that it is made once for many queries.
+    pub fn near_in<M: Metric>(
+        alloc: Global,
+        history: &History<M>,
+        committed: &[TxnId],
+        q: TxnId,
+    ) -> Result<Order, OrderError>
+        requires { map (λ t. t.0) committed.now ≡ commit_order (done history.now.schedule) }
+        ensures near { IfOk result (λ o. AreNear history.now.schedule q.0 (map (λ t. t.0) o.commits)) }
+        ensures ok { IfOk result (λ o. IsOrderAmong history.now.schedule q.0 (map (λ t. t.0) o.commits) o) }
+        ensures refused { IsErrOf result OrderError.NotACommittedQuery
+            ↔ (is_committed_query history.now.schedule q.0 ≡ false) }
     {
         let _legal = history.log(); // brings the invariant into the proof
-        let whole = Order::of(alloc, history, q)?;
-        let items = items_read(alloc, history, q)?;
-        let mut marks = seeds_of(alloc, &whole, &items)?;
-        mark_back(&mut marks, &whole.before);
-        let commits = kept(alloc, &whole.commits, &marks)?;
-        if commits.len() == whole.commits.len() {
-            return Ok(whole);
+        if !is_committed_query(history, q) {
+            return Err(OrderError::NotACommittedQuery);
         }
-        let order = among(alloc, history, commits, whole.must.len())?;
+        let updates = updates_before(alloc, history, committed, q)?;
+        let first = count_must(alloc, history, &updates, q)?;
+        let near = near_of(alloc, history, &updates, first, q)?;
+        let order = among(alloc, history, near, first)?;
         Ok(order)
     }
 

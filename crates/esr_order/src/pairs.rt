@@ -1,4 +1,4 @@
-ghost use Rattle.std.specs.Prelude.{◌≡◌, ◌<◌, ◌≤◌, ◌^◌, ◌≢◌, IfOk, All, AllPairs, length, map};
+ghost use Rattle.std.specs.Prelude.{◌<◌, ◌≤◌, ◌^◌, ◌≢◌, IfOk, All, AllPairs, length, map};
 ghost use Rattle.esr_order.specs.Listing.{IsTableOf};
 
 use esr_history::TxnId;

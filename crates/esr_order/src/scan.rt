@@ -1,16 +1,17 @@
 //! What the entries of a history give, found by its links.
-ghost use Rattle.std.specs.Prelude.{◌≡◌, ◌++◌, ◌∷◌, ℕ, List, true, not, ◌==◌, IfOk, OnOk, slice_get, length, map, filter, count_by, reverse, take};
+ghost use Rattle.std.specs.Prelude.{◌≡◌, ◌++◌, ◌∷◌, ℕ, List, true, ◌==◌, IfOk, OnOk, slice_get, length, map, filter, count_by, reverse, take};
 ghost use Rattle.std.specs.List.{filter_map, before_first};
 ghost use Rattle.std.specs.List.Sorted.{IsStrictlyIncreasing};
 ghost use Rattle.esr_history.specs.Events.{is_begun, is_update};
 ghost use Rattle.esr_history.specs.Machine.{done};
-ghost use Rattle.esr_history.specs.Operations.{answer, commit_order};
+ghost use Rattle.esr_history.specs.Operations.{commit_order};
 ghost use Rattle.esr_history.specs.Queries.{before_begin, is_committed_query, is_strict, updates_of, must};
 ghost use Rattle.esr_order.specs.Listing.{IsTableOf};
 ghost use Rattle.esr_order.specs.Scans.{commit_in, is_commit_at, is_strict_begin, has_ended_before, end_in, AreEnds, place_of, step_at};
 
+use crate::accesses::access_in;
 use crate::walk::{places_among, places_of_txn};
-use esr_history::{Entry, Event, History, Log, Reply, TxnId};
+use esr_history::{Entry, Event, History, Log, TxnId};
 use esr_items::Metric;
 use std::alloc::{AllocError, Global};
 
@@ -22,15 +23,6 @@ pub struct Step {
     pub item: u32,
     pub writes: bool,
     pub value: i64,
-}
-
-fn answered(reply: Reply) -> i64
-    ensures { result ≡ answer reply }
-{
-    match reply {
-        Reply::Value(value) => value,
-        _ => 0,
-    }
 }
 
 /// The transaction that commits in an entry, if that is accepted.
@@ -131,7 +123,8 @@ pub fn updates_before<M: Metric>(
     committed: &[TxnId],
     q: TxnId,
 ) -> Result<Vec<TxnId>, AllocError>
-    ensures { IfOk result (λ v. v.items ≡ filter (λ t. is_update (done history.now.schedule) t.0) (before_first (λ t. t.0 == q.0) committed.now)) }
+    ensures { IfOk result (λ v. v.items ≡ filter (λ t. is_update (done history.now.schedule) t.0)
+        (before_first (λ t. t.0 == q.0) committed.now)) }
 {
     committed
         .iter()
@@ -176,7 +169,8 @@ fn first_of(places: &[u64]) -> u64
 /// The begin of a transaction that has begun.
 fn begin_of<M: Metric>(alloc: Global, history: &History<M>, t: TxnId) -> Result<Begin, AllocError>
     requires { is_begun (done history.now.schedule) t.0 ≡ true }
-    ensures place { IfOk result (λ b. take b.place history.now.schedule.entries ≡ before_begin history.now.schedule t.0) }
+    ensures place { IfOk result (λ b. take b.place history.now.schedule.entries
+        ≡ before_begin history.now.schedule t.0) }
     ensures strict { IfOk result (λ b. b.strict ≡ is_strict (done history.now.schedule) t.0) }
 {
     let places = places_of_txn(alloc, history, t)?;
@@ -234,39 +228,26 @@ fn place_in(places: &[Option<u32>], t: u32) -> Option<u32>
 fn step_in(places: &[Option<u32>], entry: Entry) -> Option<Step>
     ensures { result ≡ step_at places.now entry }
 {
-    if entry.is_refused() {
+    let Some(access) = access_in(entry) else {
         return None;
-    }
-    match entry.event {
-        Event::Read { txn, item } => {
-            let value = answered(entry.reply);
-            place_in(places, txn.0).map(|place| Step {
-                place,
-                item: item.0,
-                writes: false,
-                value,
-            })
-        }
-        Event::Write { txn, item, value } => {
-            place_in(places, txn.0).map(|place| Step {
-                place,
-                item: item.0,
-                writes: true,
-                value,
-            })
-        }
-        _ => None,
-    }
+    };
+    place_in(places, access.txn.0).map(|place| Step {
+        place,
+        item: access.item.0,
+        writes: access.writes,
+        value: access.value,
+    })
 }
 
 /// The operations at these places of updates that have a position, in order.
-fn steps_at(
+pub fn steps_at(
     alloc: Global,
     log: &Log,
     at: &[u64],
     places: &[Option<u32>],
 ) -> Result<Vec<Step>, AllocError>
-    ensures { IfOk result (λ v. v.items ≡ filter_map (step_at places.now) (filter_map (slice_get log.now.entries) at.now)) }
+    ensures { IfOk result (λ v. v.items ≡ filter_map (step_at places.now)
+        (filter_map (slice_get log.now.entries) at.now)) }
 {
     at.iter()
         .filter_map(|i| log.get(*i as usize))

@@ -1,5 +1,5 @@
 //! Few pairs of updates that tie them like the whole conflict order.
-ghost use Rattle.std.specs.Prelude.{◌≡◌, ◌≤◌, ◌<◌, ◌++◌, ◌↔◌, ℕ, List, IfOk, OnOk, All, AllPairs, Contains, filter, length, map};
+ghost use Rattle.std.specs.Prelude.{◌≡◌, ◌≤◌, ◌<◌, ◌++◌, ℕ, List, IfOk, OnOk, All, AllPairs, Contains, filter, length, map};
 ghost use Rattle.std.specs.List.{range_with_len};
 ghost use Rattle.esr_order.specs.declared.scan.Step.{Step};
 ghost use Rattle.esr_order.specs.Listing.{IsBelow};
@@ -39,7 +39,8 @@ fn tie_all(pairs: &mut Vec<(u32, u32)>, since: &[u32], j: u32) -> Result<(), All
 /// The pairs of steps of one item: of each step with the last write before it, and of a
 /// write with the reads since the write before.
 fn ties_of(alloc: Global, steps: &[Step]) -> Result<Vec<(u32, u32)>, AllocError>
-    ensures { IfOk result (λ v. (x : ℕ) → All (λ s. s.item ≡ x) steps.now → IsTied steps.now v.items × AreNextPaired v.items (filter (λ s. s.writes) steps.now)) }
+    ensures { IfOk result (λ v. (x : ℕ) → All (λ s. s.item ≡ x) steps.now → IsTied steps.now v.items
+        × AreNextPaired v.items (filter (λ s. s.writes) steps.now)) }
 {
     let mut pairs = Vec::new(alloc);
     let mut last = None;
@@ -59,7 +60,8 @@ fn ties_of(alloc: Global, steps: &[Step]) -> Result<Vec<(u32, u32)>, AllocError>
 
 /// The pairs of all items, of which the steps are given item by item.
 fn ties_among(alloc: Global, rows: &[Vec<Step>]) -> Result<Vec<(u32, u32)>, AllocError>
-    ensures { IfOk result (λ v. (steps : List Step) (n : ℕ) → map (λ r. r.items) rows.now ≡ map (λ x. on_item x steps) (range_with_len 0 n) → All (λ s. s.item < n) steps
+    ensures { IfOk result (λ v. (steps : List Step) (n : ℕ)
+        → map (λ r. r.items) rows.now ≡ map (λ x. on_item x steps) (range_with_len 0 n) → All (λ s. s.item < n) steps
         → IsTied steps v.items × ((x : ℕ) → AreNextPaired v.items (filter (λ s. s.writes) (on_item x steps)))) }
 {
     let mut pairs = Vec::new(alloc);
@@ -86,7 +88,8 @@ fn sorted(pairs: Vec<(u32, u32)>) -> Vec<(u32, u32)>
 /// The pairs of all items in order, each once.
 pub fn pairs_of(alloc: Global, rows: &[Vec<Step>]) -> Result<Vec<(u32, u32)>, AllocError>
     ensures ascending { IfOk result (λ v. AllPairs IsBelow v.items) }
-    ensures tied { IfOk result (λ v. (steps : List Step) (n : ℕ) → map (λ r. r.items) rows.now ≡ map (λ x. on_item x steps) (range_with_len 0 n) → All (λ s. s.item < n) steps
+    ensures tied { IfOk result (λ v. (steps : List Step) (n : ℕ)
+        → map (λ r. r.items) rows.now ≡ map (λ x. on_item x steps) (range_with_len 0 n) → All (λ s. s.item < n) steps
         → IsTied steps v.items × ((x : ℕ) → AreNextPaired v.items (filter (λ s. s.writes) (on_item x steps)))) }
 {
     Ok(sorted(ties_among(alloc, rows)?))

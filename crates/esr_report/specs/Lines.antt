@@ -6,15 +6,12 @@ use Rattle.esr_history.specs.declared.event.Reply.{Reply}
 use Rattle.esr_history.specs.declared.event.Reply.TheVariants.{Begun, Value, Wrote, Committed, Aborted, Refused}
 use Rattle.esr_history.specs.declared.event.Refusal.{Refusal}
 use Rattle.esr_history.specs.declared.event.Refusal.TheVariants.{NoSuchTransaction, AlreadyEnded, NoSuchItem, QueryMayNotWrite, ValueOutOfRange, LimitOutOfRange, TooManyTransactions, TooManyReads, BlockedByLock, BlockedByImport, BlockedByExport}
+use Rattle.esr_history.specs.Refusals.{refusal_number}
 use Rattle.esr_report.specs.declared.lines.LineError.{LineError}
 use Rattle.esr_report.specs.declared.lines.LineError.TheVariants as error
 use Rattle.esr_report.specs.Names.{name_of_transaction}
 
--- the front stands first in the whole
-abbrev pub BeginsWith : List ℕ → List ℕ → Type 0
-BeginsWith whole front = (rest : List ℕ) × (whole ≡ front ++ rest)
-
--- words parted by blanks, and a line feed
+-- words separated by single spaces, and a line feed
 abbrev pub line : List (List ℕ) → List ℕ
 line words = join_with_byte 32 words ++ 10 ∷ []
 
@@ -47,19 +44,26 @@ committed_line txn = line (codes "committed" ∷ txn ∷ [])
 abbrev pub aborted_line : List ℕ → List ℕ
 aborted_line txn = line (codes "aborted" ∷ txn ∷ [])
 
+-- an event that was refused, and one that was blocked, with the number of the refusal, what it is, and whom it names
+abbrev pub refused : Refusal → List ℕ → List ℕ
+refused why text = line (codes "refused" ∷ decimal (refusal_number why) ∷ text ∷ [])
+
+abbrev pub blocked : Refusal → List ℕ → List ℕ → List ℕ
+blocked why text name = line (codes "blocked" ∷ decimal (refusal_number why) ∷ text ∷ name ∷ [])
+
 -- why an event was refused; the names are those of the transactions, in the order of their numbers
 abbrev pub refusal_line : List (List ℕ) → Refusal → List ℕ
-refusal_line names NoSuchTransaction = line (codes "refused 1 no such transaction" ∷ [])
-refusal_line names AlreadyEnded = line (codes "refused 2 already ended" ∷ [])
-refusal_line names NoSuchItem = line (codes "refused 3 no such item" ∷ [])
-refusal_line names QueryMayNotWrite = line (codes "refused 4 a query may not write" ∷ [])
-refusal_line names ValueOutOfRange = line (codes "refused 5 value out of range" ∷ [])
-refusal_line names LimitOutOfRange = line (codes "refused 6 limit out of range" ∷ [])
-refusal_line names TooManyTransactions = line (codes "refused 7 too many transactions" ∷ [])
-refusal_line names TooManyReads = line (codes "refused 8 too many reads" ∷ [])
-refusal_line names (BlockedByLock holder) = line (codes "blocked 9 lock" ∷ name_of_transaction names holder.0 ∷ [])
-refusal_line names (BlockedByImport query) = line (codes "blocked 10 import" ∷ name_of_transaction names query.0 ∷ [])
-refusal_line names (BlockedByExport update) = line (codes "blocked 11 export" ∷ name_of_transaction names update.0 ∷ [])
+refusal_line names NoSuchTransaction = refused NoSuchTransaction (codes "no such transaction")
+refusal_line names AlreadyEnded = refused AlreadyEnded (codes "already ended")
+refusal_line names NoSuchItem = refused NoSuchItem (codes "no such item")
+refusal_line names QueryMayNotWrite = refused QueryMayNotWrite (codes "a query may not write")
+refusal_line names ValueOutOfRange = refused ValueOutOfRange (codes "value out of range")
+refusal_line names LimitOutOfRange = refused LimitOutOfRange (codes "limit out of range")
+refusal_line names TooManyTransactions = refused TooManyTransactions (codes "too many transactions")
+refusal_line names TooManyReads = refused TooManyReads (codes "too many reads")
+refusal_line names (BlockedByLock holder) = blocked (BlockedByLock holder) (codes "lock") (name_of_transaction names holder.0)
+refusal_line names (BlockedByImport query) = blocked (BlockedByImport query) (codes "import") (name_of_transaction names query.0)
+refusal_line names (BlockedByExport update) = blocked (BlockedByExport update) (codes "export") (name_of_transaction names update.0)
 
 -- what an event names: a transaction, an item and a value to write, as far as it has them
 pub record Named : Type 0 where
@@ -94,9 +98,13 @@ audit_words names name distance import before =
 abbrev pub audit_line : (names : List (List ℕ)) (name : List ℕ) (distance import : ℕ) (before : List ℕ) → List ℕ
 audit_line names name distance import before = line (audit_words names name distance import before)
 
+-- a word and the names of transactions
+abbrev pub names_line : (first : List ℕ) (names : List (List ℕ)) (txns : List ℕ) → List ℕ
+names_line first names txns = line (first ∷ listed names txns ∷ [])
+
 -- the committed updates in a serial order
 abbrev pub order_line : (names : List (List ℕ)) (txns : List ℕ) → List ℕ
-order_line names txns = line (codes "order" ∷ listed names txns ∷ [])
+order_line names txns = names_line (codes "order") names txns
 
 -- what is wrong with a line that makes no event
 abbrev pub error_line : LineError → List ℕ

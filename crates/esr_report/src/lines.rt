@@ -1,6 +1,7 @@
-ghost use Rattle.std.specs.Prelude.{◌≡◌, ◌≤◌, ℕ, List, [], ◌++◌, ◌∷◌, OnOk, OnErr, IsOk, map, take, length, codes};
+ghost use Rattle.std.specs.Prelude.{◌≡◌, ◌≤◌, [], ◌++◌, ◌∷◌, OnOk, OnErr, IsOk, map, take, length};
 ghost use Rattle.std.specs.List.{join_with_byte};
-ghost use Rattle.esr_report.specs.Lines.{BeginsWith, line, item_line, weighted_item_line, session_line, begun_line, value_line, wrote_line, refusal_line, reply_line, totals_line, listed, audit_words, audit_line, order_line, error_line};
+ghost use Rattle.esr_history.specs.Watch.{BeginsWith};
+ghost use Rattle.esr_report.specs.Lines.{refused, blocked, line, item_line, weighted_item_line, session_line, begun_line, value_line, wrote_line, refusal_line, reply_line, totals_line, listed, audit_words, audit_line, names_line, order_line, error_line};
 ghost use Rattle.esr_report.specs.Subjects.{named_by};
 ghost use Rattle.esr_report.specs.Names.{name_of_transaction};
 
@@ -29,9 +30,10 @@ pub struct Subject<'a> {
     pub value: i64,
 }
 
-/// Appends words parted by blanks.
+/// Appends words separated by single spaces.
 fn push_words(out: &mut Vec<u8>, first: &str, rest: &[&str]) -> Result<(), AllocError>
-    ensures ok { OnOk result (out.new.items ≡ out.old.items ++ join_with_byte 32 (first.now ∷ map (λ word. word.now) rest.now)) }
+    ensures ok { OnOk result (out.new.items ≡ out.old.items
+        ++ join_with_byte 32 (first.now ∷ map (λ word. word.now) rest.now)) }
     ensures kept { BeginsWith out.new.items out.old.items }
 {
     out.extend_from_slice(first.as_bytes())?;
@@ -60,8 +62,8 @@ fn end_line(
     Err(AllocError)
 }
 
-/// Appends a line of words parted by blanks.
-fn push_line(out: &mut Vec<u8>, first: &str, rest: &[&str]) -> Result<(), AllocError>
+/// Appends a line of words separated by single spaces.
+pub fn push_line(out: &mut Vec<u8>, first: &str, rest: &[&str]) -> Result<(), AllocError>
     ensures ok { OnOk result (out.new.items ≡ out.old.items ++ line (first.now ∷ map (λ word. word.now) rest.now)) }
     ensures err { OnErr result (out.new.items ≡ out.old.items) }
 {
@@ -143,6 +145,24 @@ pub fn name_of_transaction<N: TransactionNames>(names: &N, txn: TxnId) -> &str
     }
 }
 
+/// Appends the line of an event that was refused.
+fn push_refused(out: &mut Vec<u8>, why: Refusal, text: &str) -> Result<(), AllocError>
+    ensures ok { OnOk result (out.new.items ≡ out.old.items ++ refused why text.now) }
+    ensures err { OnErr result (out.new.items ≡ out.old.items) }
+{
+    let mut digits = itoa::Buffer::new();
+    push_line(out, "refused", &[digits.format(why.number()), text])
+}
+
+/// Appends the line of an event that was blocked by what the transaction holds.
+fn push_blocked(out: &mut Vec<u8>, why: Refusal, text: &str, name: &str) -> Result<(), AllocError>
+    ensures ok { OnOk result (out.new.items ≡ out.old.items ++ blocked why text.now name.now) }
+    ensures err { OnErr result (out.new.items ≡ out.old.items) }
+{
+    let mut digits = itoa::Buffer::new();
+    push_line(out, "blocked", &[digits.format(why.number()), text, name])
+}
+
 /// Appends the line of a refusal. The names are those of the transactions, in the
 /// order of their numbers.
 pub fn refusal_line<N: TransactionNames>(
@@ -154,30 +174,22 @@ pub fn refusal_line<N: TransactionNames>(
     ensures err { OnErr result (out.new.items ≡ out.old.items) }
 {
     match why {
-        Refusal::NoSuchTransaction => push_line(out, "refused 1 no such transaction", &[]),
-        Refusal::AlreadyEnded => push_line(out, "refused 2 already ended", &[]),
-        Refusal::NoSuchItem => push_line(out, "refused 3 no such item", &[]),
-        Refusal::QueryMayNotWrite => push_line(out, "refused 4 a query may not write", &[]),
-        Refusal::ValueOutOfRange => push_line(out, "refused 5 value out of range", &[]),
-        Refusal::LimitOutOfRange => push_line(out, "refused 6 limit out of range", &[]),
-        Refusal::TooManyTransactions => push_line(out, "refused 7 too many transactions", &[]),
-        Refusal::TooManyReads => push_line(out, "refused 8 too many reads", &[]),
+        Refusal::NoSuchTransaction => push_refused(out, why, "no such transaction"),
+        Refusal::AlreadyEnded => push_refused(out, why, "already ended"),
+        Refusal::NoSuchItem => push_refused(out, why, "no such item"),
+        Refusal::QueryMayNotWrite => push_refused(out, why, "a query may not write"),
+        Refusal::ValueOutOfRange => push_refused(out, why, "value out of range"),
+        Refusal::LimitOutOfRange => push_refused(out, why, "limit out of range"),
+        Refusal::TooManyTransactions => push_refused(out, why, "too many transactions"),
+        Refusal::TooManyReads => push_refused(out, why, "too many reads"),
         Refusal::BlockedByLock(holder) => {
-            push_line(out, "blocked 9 lock", &[name_of_transaction(names, holder)])
+            push_blocked(out, why, "lock", name_of_transaction(names, holder))
         }
         Refusal::BlockedByImport(query) => {
-            push_line(
-                out,
-                "blocked 10 import",
-                &[name_of_transaction(names, query)],
-            )
+            push_blocked(out, why, "import", name_of_transaction(names, query))
         }
         Refusal::BlockedByExport(update) => {
-            push_line(
-                out,
-                "blocked 11 export",
-                &[name_of_transaction(names, update)],
-            )
+            push_blocked(out, why, "export", name_of_transaction(names, update))
         }
     }
 }
@@ -190,7 +202,8 @@ pub fn reply_line<N: TransactionNames>(
     subject: Subject<'_>,
     reply: Reply,
 ) -> Result<(), AllocError>
-    ensures ok { OnOk result (out.new.items ≡ out.old.items ++ reply_line (N.names names.now) (named_by subject.entry) reply) }
+    ensures ok { OnOk result (out.new.items ≡ out.old.items
+        ++ reply_line (N.names names.now) (named_by subject.entry) reply) }
     ensures err { OnErr result (out.new.items ≡ out.old.items) }
 {
     match reply {
@@ -227,7 +240,7 @@ pub fn totals_line(
     push_line(out, "totals import", &words)
 }
 
-/// Appends the names of transactions parted by commas, or a minus where there is none.
+/// Appends the names of transactions separated by commas, or a minus where there is none.
 fn push_names<N: TransactionNames>(
     out: &mut Vec<u8>,
     names: &N,
@@ -257,7 +270,8 @@ fn push_audit<N: TransactionNames>(
     import: u64,
     before: &[TxnId],
 ) -> Result<(), AllocError>
-    ensures ok { OnOk result (out.new.items ≡ out.old.items ++ join_with_byte 32 (audit_words (N.names names.now) txn.now distance import (map (λ t. t.0) before.now))) }
+    ensures ok { OnOk result (out.new.items ≡ out.old.items
+        ++ join_with_byte 32 (audit_words (N.names names.now) txn.now distance import (map (λ t. t.0) before.now))) }
     ensures kept { BeginsWith out.new.items out.old.items }
 {
     let mut distance_digits = itoa::Buffer::new();
@@ -286,7 +300,8 @@ pub fn audit_line<N: TransactionNames>(
     import: u64,
     before: &[TxnId],
 ) -> Result<(), AllocError>
-    ensures ok { OnOk result (out.new.items ≡ out.old.items ++ audit_line (N.names names.now) txn.now distance import (map (λ t. t.0) before.now)) }
+    ensures ok { OnOk result (out.new.items ≡ out.old.items
+        ++ audit_line (N.names names.now) txn.now distance import (map (λ t. t.0) before.now)) }
     ensures err { OnErr result (out.new.items ≡ out.old.items) }
 {
     let mark = out.len();
@@ -294,18 +309,37 @@ pub fn audit_line<N: TransactionNames>(
     end_line(out, mark, words)
 }
 
-/// Appends what is in the line of a serial order.
-fn push_order<N: TransactionNames>(
+/// Appends a word and the names of transactions.
+fn push_listed<N: TransactionNames>(
     out: &mut Vec<u8>,
+    first: &str,
     names: &N,
     txns: &[TxnId],
 ) -> Result<(), AllocError>
-    ensures ok { OnOk result (out.new.items ≡ out.old.items ++ join_with_byte 32 (codes "order" ∷ listed (N.names names.now) (map (λ t. t.0) txns.now) ∷ [])) }
+    ensures ok { OnOk result (out.new.items ≡ out.old.items
+        ++ join_with_byte 32 (first.now ∷ listed (N.names names.now) (map (λ t. t.0) txns.now) ∷ [])) }
     ensures kept { BeginsWith out.new.items out.old.items }
 {
-    push_words(out, "order", &[])?;
+    push_words(out, first, &[])?;
     out.push(b' ')?;
     push_names(out, names, txns)
+}
+
+/// Appends a line of a word and the names of transactions, separated by commas, or a minus where there is none. The names
+/// are those of the transactions, in the order of their numbers.
+pub fn names_line<N: TransactionNames>(
+    out: &mut Vec<u8>,
+    first: &str,
+    names: &N,
+    txns: &[TxnId],
+) -> Result<(), AllocError>
+    ensures ok { OnOk result (out.new.items ≡ out.old.items
+        ++ names_line first.now (N.names names.now) (map (λ t. t.0) txns.now)) }
+    ensures err { OnErr result (out.new.items ≡ out.old.items) }
+{
+    let mark = out.len();
+    let words = push_listed(out, first, names, txns);
+    end_line(out, mark, words)
 }
 
 /// Appends the line of the committed updates in a serial order. The names are those of the
@@ -315,12 +349,11 @@ pub fn order_line<N: TransactionNames>(
     names: &N,
     txns: &[TxnId],
 ) -> Result<(), AllocError>
-    ensures ok { OnOk result (out.new.items ≡ out.old.items ++ order_line (N.names names.now) (map (λ t. t.0) txns.now)) }
+    ensures ok { OnOk result (out.new.items ≡ out.old.items
+        ++ order_line (N.names names.now) (map (λ t. t.0) txns.now)) }
     ensures err { OnErr result (out.new.items ≡ out.old.items) }
 {
-    let mark = out.len();
-    let words = push_order(out, names, txns);
-    end_line(out, mark, words)
+    names_line(out, "order", names, txns)
 }
 
 /// Appends the line of what is wrong with a line that makes no event.

@@ -1,54 +1,18 @@
 -- Each end of the audit of a script.
-use Rattle.std.proofs.Common.{◌≡◌, ℕ, ◌+◌, ◌<◌, true, false, List, [], ◌∷◌, ◌++◌, Bool, length, take, map, get_or, refl, sym, ◌∙◌, ap, subst, Option, Result, Ok, Err, OnOk, IfErr, Vec, append_assoc, append-nil}
+use Rattle.std.proofs.Common.{◌≡◌, ℕ, ◌+◌, ◌<◌, true, false, List, [], ◌∷◌, ◌++◌, Bool, length, take, map, get_or, refl, sym, ◌∙◌, ap, Result, Ok, Err, OnOk, append_assoc, append-nil}
 use Rattle.std.specs.Prelude.{◌↔◌, IsOk}
 use Rattle.std.specs.List.{flat_map}
-use Rattle.std.specs.declared.alloc.Global.{Global}
-use Rattle.std.specs.Io.KnownBytes.{Appends}
 use Rattle.std.proofs.lemmas.List.{take_more}
 use Rattle.std.proofs.lemmas.Grind.{flat_map-append}
 use Rattle.esr_history.specs.Machine.{Schedule}
 use Rattle.esr_history.specs.Serial.{committed_updates}
 use Rattle.esr_history.specs.Totals.{all_imports, all_exports}
 use Rattle.esr_audit.specs.Findings.{told_of, committed_queries}
-use Rattle.esr_report.specs.Lines.{BeginsWith, order_line, totals_line}
+use Rattle.esr_report.specs.Lines.{order_line, totals_line}
 use Rattle.esr_script.specs.declared.fault.RunFault.{RunFault}
-use Rattle.esr_script.specs.declared.fault.RunFault.TheVariants as fault
 use Rattle.esr_items.specs.Weights.{weighted}
 use Rattle.esr_script.specs.Text.{State}
-use Rattle.esr_script.specs.Audit.{told_line, audit_output, IsAuditedBy}
-use Rattle.esr_script.specs.Replays.{IsReplay, IsAuditReady}
-
-module _ (input : List ℕ) (left : Option (List ℕ)) (s : State) where
-  pub ready_fault : (f : RunFault) → IsReplay input left (Err f) s → IsAuditReady input left (Err f)
-  ready_fault fault.Read h = tt
-  ready_fault fault.Write h = absurd h
-  ready_fault fault.NoMemory h = tt
-  ready_fault fault.LineTooLong h = h
-  ready_fault fault.HistoryFull h = h
-  ready_fault fault.TooManyLines h = h
-  ready_fault fault.NotACommittedQuery h = absurd h
-
-  pub ready : (v : Vec ℕ Global) → IsReplay input left (Ok tt) s → v.items ≡ audit_output s → IsAuditReady input left (Ok v)
-  ready v h is = (h.0, h.1, is ∙ ap audit_output (sym h.2))
-
-pub audited_fault : (input : List ℕ) (left : Option (List ℕ)) (f : RunFault) → IsAuditReady input left (Err f) → IsAuditedBy input left (Err f) []
-audited_fault input left fault.Read h = refl
-audited_fault input left fault.Write h = absurd h
-audited_fault input left fault.NoMemory h = refl
-audited_fault input left fault.LineTooLong h = (h, refl)
-audited_fault input left fault.HistoryFull h = (h, refl)
-audited_fault input left fault.TooManyLines h = (h, refl)
-audited_fault input left fault.NotACommittedQuery h = absurd h
-
--- the whole was sent, or a prefix of it
-pub audited_sent : (input : List ℕ) (left : Option (List ℕ)) (v : Vec ℕ Global) → IsAuditReady input left (Ok v)
-    → (r : Result (Unit {0}) RunFault) (old new : Option (List ℕ)) (out : List ℕ) → OnOk r ((out ≡ []) × Appends old new v.items)
-    → IfErr r (λ e. (e ≡ fault.Write) × ((sent : List ℕ) × BeginsWith v.items sent × Appends old new sent))
-    → (written : List ℕ) × Appends old new written × IsAuditedBy input left r written
-audited_sent input left v h (Ok u) old new out ok err = (v.items, ok.1, (h.0, h.1, h.2))
-audited_sent input left v h (Err e) old new out ok err =
-    let part = err.1 in
-    (part.0, part.2, subst (λ (f : RunFault). IsAuditedBy input left (Err f) part.0) (sym err.0) (h.1, (part.1.0, sym h.2 ∙ part.1.1)))
+use Rattle.esr_script.specs.Audit.{told_line, audit_output}
 
 -- ---- the lines
 

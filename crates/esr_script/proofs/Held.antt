@@ -1,7 +1,7 @@
 -- Each end of a run, with the output that is not yet sent.
-use Rattle.std.proofs.Common.{◌≡◌, ◌≢◌, ℕ, ◌+◌, ◌<◌, ◌≤◌, List, [], ◌∷◌, ◌++◌, ◌⊎◌, inl, inr, Bool, true, false, length, take, drop, refl, sym, ◌∙◌, ap, arith, Option, Some, None, Result, Ok, Err, OnOk, OnErr, IfErr, IfSome, append_assoc, append-nil, ◌==◌, eq-eqb, IsErrOf, ◌||◌}
+use Rattle.std.proofs.Common.{◌≡◌, ◌≢◌, ℕ, ◌<◌, ◌≤◌, List, [], ◌∷◌, ◌++◌, ◌⊎◌, inl, inr, Bool, true, false, length, take, refl, sym, ◌∙◌, ap, arith, Option, Some, None, Result, Ok, Err, OnOk, OnErr, IfErr, IfSome, append_assoc, append-nil, ◌==◌, eq-eqb, IsErrOf, ◌||◌}
 use Rattle.std.specs.Io.KnownBytes.{IsAtEnd, Consumes, Keeps}
-use Rattle.esr_report.specs.Lines.{BeginsWith}
+use Rattle.esr_history.specs.Watch.{BeginsWith}
 use Rattle.esr_script.specs.declared.fault.RunFault.{RunFault}
 use Rattle.esr_script.specs.declared.fault.RunFault.TheVariants as fault
 use Rattle.esr_script.specs.declared.pending.Next.{Next}
@@ -10,7 +10,7 @@ use Rattle.esr_script.specs.Text.{State, answer, outcome, max_lines, max_line_by
 use Rattle.esr_script.specs.Run.{IsRunBy}
 use Rattle.esr_script.specs.Parts.{line_len, IsNext, Standing, IsHeldRun, is_read_fault, is_write_fault}
 use Rattle.esr_script.proofs.Prefix.{line_len-le}
-use Rattle.esr_script.proofs.Steps.{advance, all_read, step_line, text_begins, at_memory, at_long, at_many, at_fault_line, at_last, at_fault_last, at_read}
+use Rattle.esr_script.proofs.Steps.{advance, all_read, text_begins, at_memory, at_long, at_many, at_fault_line, at_last, at_fault_last, at_read}
 
 -- bytes stand ahead where it need not be read on
 pub has_bytes : (found : Next) (bytes : List ℕ) → IsNext found bytes → (found ≡ next.More → ⊥) → 0 < length bytes
@@ -26,6 +26,13 @@ is_long next.More bytes h more line = absurd (more refl)
 -- where all output was sent
 pub all_sent : {input : List ℕ} {left : Option (List ℕ)} {bytes : List ℕ} {n : ℕ} {s : State} (w : List ℕ) → Standing input left bytes n s w → Standing input left bytes n s (w ++ [])
 all_sent w here = rw append-nil here
+
+-- where the output has grown
+pub all_grown : {input : List ℕ} {left : Option (List ℕ)} {bytes : List ℕ} {n : ℕ} {s : State} (sent out t grown : List ℕ) → grown ≡ out ++ t
+    → Standing input left bytes n s ((sent ++ out) ++ t) → Standing input left bytes n s (sent ++ grown)
+all_grown sent out t grown grew here =
+    let same : (sent ++ out) ++ t ≡ sent ++ grown = append_assoc sent out t ∙ ap (λ l. sent ++ l) (sym grew) in
+    rw same at here
 
 nothing_read : (before after : Option (List ℕ)) → Keeps before after → Consumes before after []
 nothing_read None after h = tt
@@ -66,14 +73,6 @@ module _ (input : List ℕ) (left : Option (List ℕ)) (bytes : List ℕ) (n : �
     at_fault_line input left bytes n s (sent ++ out) here fault.HistoryFull few (omega (arith, is.0, is.1)) (omega (arith, is.0, is.2))
         (ap (λ j. answer s (take j bytes)) (sym is.0) ∙ full),
   )
-
-  pub after_line : (k : ℕ) (s' : State) (t grown : List ℕ) → n ≢ max_lines → IsNext (next.Line k) bytes → answer s (take k bytes) ≡ Ok (s', t) → grown ≡ out ++ t
-      → Standing input left (drop (k + 1) bytes) (n + 1) s' (sent ++ grown)
-  after_line k s' t grown few is ok grew =
-      let found : Standing input left (drop (line_len bytes + 1) bytes) (n + 1) s' ((sent ++ out) ++ t) =
-      step_line input left bytes n s (sent ++ out) here s' t few (omega (arith, is.0, is.1)) (omega (arith, is.0, is.2)) (ap (λ j. answer s (take j bytes)) (sym is.0) ∙ ok) in
-      let same : (sent ++ out) ++ t ≡ sent ++ grown = append_assoc sent out t ∙ ap (λ l. sent ++ l) (sym grew) in
-      rw (is.0, ← same) found
 
   -- a part of the output was sent
   pub held_write : (part : List ℕ) → BeginsWith out part → (other : Option (List ℕ)) (lost : List ℕ) → IsHeldRun input other lost (Err fault.Write) (sent ++ part)
@@ -138,3 +137,8 @@ if_known (Some x) P h = h x refl
 pub not_written : (a b : Bool) → (a || b) ≡ false → b ≡ false
 not_written true b e = cc
 not_written false b e = e
+
+pub is_not_read : (r : Result (Unit {0}) RunFault) → is_read_fault r ≡ false → r ≡ Err fault.Read → ⊥
+is_not_read r other is =
+    let read : is_read_fault r ≡ true = ap is_read_fault is in
+    cc

@@ -5,9 +5,11 @@ pub mod Laws
 pub mod Steps
 pub mod Held
 pub mod Replays
+pub mod Ends
 pub mod Spelling
 pub mod Asks
 pub mod Audits
+pub mod Answering
 pub mod Audited
 pub mod Buffers
 pub mod Opens

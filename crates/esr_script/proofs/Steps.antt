@@ -6,7 +6,7 @@ use Rattle.esr_script.specs.declared.fault.RunFault.{RunFault}
 use Rattle.esr_script.specs.declared.fault.RunFault.TheVariants.{LineTooLong, TooManyLines}
 use Rattle.esr_script.specs.Lines.{lines, whole_lines}
 use Rattle.esr_script.specs.Text.{State, start, answer, next_state, state_after, final, Outcome, outcome, outcome_from, outcome_of_lines, behind, stopped, max_lines, max_line_bytes}
-use Rattle.esr_report.specs.Lines.{BeginsWith}
+use Rattle.esr_history.specs.Watch.{BeginsWith}
 use Rattle.esr_script.specs.Run.{IsWholeText}
 use Rattle.esr_script.specs.Parts.{line_len, Progress, Standing}
 use Rattle.esr_script.proofs.Cutting.{lines-line, whole-line, front, behind_front, plain-front, split-front, lines-last, whole-none, Begins, begins}

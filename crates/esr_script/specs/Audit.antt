@@ -1,17 +1,15 @@
 -- What the audit of a whole script writes.
-use Rattle.std.specs.Prelude.{◌≡◌, ℕ, List, [], ◌++◌, Option, Some, Result, Ok, Err, map, length}
+use Rattle.std.specs.Prelude.{◌≡◌, ℕ, List, ◌++◌, Option, Result, map, length}
 use Rattle.std.specs.List.{flat_map}
-use Rattle.std.specs.Io.KnownBytes.{Consumes}
 use Rattle.esr_history.specs.Serial.{committed_updates}
 use Rattle.esr_history.specs.Totals.{all_imports, all_exports}
 use Rattle.esr_audit.specs.Findings.{told_of, committed_queries}
 use Rattle.esr_report.specs.Names.{name_of_transaction}
-use Rattle.esr_report.specs.Lines.{BeginsWith, audit_line, order_line, totals_line}
+use Rattle.esr_report.specs.Lines.{audit_line, order_line, totals_line}
 use Rattle.esr_script.specs.declared.fault.RunFault.{RunFault}
-use Rattle.esr_script.specs.declared.fault.RunFault.TheVariants as fault
 use Rattle.esr_items.specs.Weights.{weighted}
 use Rattle.esr_script.specs.Text.{State, final}
-use Rattle.esr_script.specs.Certify.{IsWhole, EndsBy}
+use Rattle.esr_script.specs.Ends.{IsWrittenBy}
 
 -- the line of what is told of a query, by the names of the transactions: the query, its distance, its import, and the updates before its position
 abbrev pub told_line : List (List ℕ) → ℕ × ℕ × ℕ × List ℕ → List ℕ
@@ -26,16 +24,6 @@ audit_output s =
     ++ flat_map (told_line s.transactions) (map (told_of weighted h) (committed_queries h))
     ++ totals_line (all_imports weighted h) (all_exports weighted h) (length h.entries)
 
--- The audit of a script, given the input, left these bytes of it, ended so and wrote this.
+-- The audit of a script, given the input, left these bytes of it, ended so and wrote this. It asks for no one query.
 abbrev pub IsAuditedBy : List ℕ → Option (List ℕ) → Result (Unit {0}) RunFault → List ℕ → Type 0
--- the input was read to its end, and the whole output was written
-IsAuditedBy input left (Ok done) written = Consumes (Some input) left input × IsWhole input × (written ≡ audit_output (final input))
--- a prefix of the output
-IsAuditedBy input left (Err fault.Write) written = IsWhole input × BeginsWith (audit_output (final input)) written
-IsAuditedBy input left (Err fault.Read) written = written ≡ []
-IsAuditedBy input left (Err fault.NoMemory) written = written ≡ []
-IsAuditedBy input left (Err fault.LineTooLong) written = EndsBy input fault.LineTooLong × (written ≡ [])
-IsAuditedBy input left (Err fault.HistoryFull) written = EndsBy input fault.HistoryFull × (written ≡ [])
-IsAuditedBy input left (Err fault.TooManyLines) written = EndsBy input fault.TooManyLines × (written ≡ [])
--- an audit of all queries asks for no one query
-IsAuditedBy input left (Err fault.NotACommittedQuery) written = ⊥
+IsAuditedBy input left r written = IsWrittenBy (λ text. text ≡ audit_output (final input)) ⊥ input left r written

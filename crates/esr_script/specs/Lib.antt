@@ -4,7 +4,9 @@ pub mod Reading
 pub mod View
 pub mod Text
 pub mod Run
+pub mod Ends
 pub mod Certify
+pub mod Ask
 pub mod Audit
 pub mod Replays
 pub mod Stages

@@ -1,7 +1,7 @@
 -- What the private parts of a run speak of.
-use Rattle.std.specs.Prelude.{◌≡◌, ℕ, List, ◌++◌, ◌<◌, ◌≤◌, Bool, true, false, length, nat_eq, Option, Some, Result, Ok, Err}
+use Rattle.std.specs.Prelude.{◌≡◌, ℕ, List, ◌++◌, ◌<◌, ◌≤◌, Bool, true, false, length, nat_eq, Option, Some, Result, Err}
 use Rattle.std.specs.List.{position_or_len}
-use Rattle.esr_report.specs.Lines.{BeginsWith}
+use Rattle.esr_history.specs.Watch.{BeginsWith}
 use Rattle.esr_script.specs.declared.fault.RunFault.{RunFault}
 use Rattle.esr_script.specs.declared.fault.RunFault.TheVariants as fault
 use Rattle.esr_script.specs.declared.pending.Next.{Next}
@@ -22,24 +22,12 @@ IsNext next.More bytes = (line_len bytes ≡ length bytes) × (length bytes ≤ 
 
 -- whether a read failed, and whether a write did
 abbrev pub is_read_fault : {T : Type 0} → Result T RunFault → Bool
-is_read_fault (Ok done) = false
 is_read_fault (Err fault.Read) = true
-is_read_fault (Err fault.Write) = false
-is_read_fault (Err fault.LineTooLong) = false
-is_read_fault (Err fault.NoMemory) = false
-is_read_fault (Err fault.HistoryFull) = false
-is_read_fault (Err fault.TooManyLines) = false
-is_read_fault (Err fault.NotACommittedQuery) = false
+is_read_fault _ = false
 
 abbrev pub is_write_fault : {T : Type 0} → Result T RunFault → Bool
-is_write_fault (Ok done) = false
-is_write_fault (Err fault.Read) = false
 is_write_fault (Err fault.Write) = true
-is_write_fault (Err fault.LineTooLong) = false
-is_write_fault (Err fault.NoMemory) = false
-is_write_fault (Err fault.HistoryFull) = false
-is_write_fault (Err fault.TooManyLines) = false
-is_write_fault (Err fault.NotACommittedQuery) = false
+is_write_fault _ = false
 
 -- A run over the input that has answered or skipped count lines, wrote this, and has these bytes before it.
 pub record Progress (input : List ℕ) (unread : List ℕ) (count : ℕ) (state : State) (written : List ℕ) : Type 0 where

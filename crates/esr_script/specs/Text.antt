@@ -3,7 +3,9 @@ use Rattle.std.specs.Prelude.{ℕ, ◌+◌, ◌==◌, ℤ, pos, List, [], ◌∷
 use Rattle.std.specs.Option.{option_map_or}
 use Rattle.esr_items.specs.Values.{is_value}
 use Rattle.esr_items.specs.Weights.{is_weight, weighted}
+use Rattle.esr_items.specs.declared.TheConstants.{MOST_ITEMS}
 use Rattle.esr_items.specs.declared.metric.ItemId.{ItemId}
+use Rattle.esr_history.specs.declared.limits.TheConstants.{MOST_ENTRIES}
 use Rattle.esr_history.specs.declared.event.TxnId.{TxnId}
 use Rattle.esr_history.specs.declared.event.Event.{Event}
 use Rattle.esr_history.specs.declared.event.Event.TheVariants as event
@@ -17,6 +19,7 @@ use Rattle.esr_report.specs.declared.lines.LineError.{LineError}
 use Rattle.esr_report.specs.declared.lines.LineError.TheVariants.{NotACommand, ItemsAreClosed, NameInUse, ValueOutOfRange, TooManyItems, NotACommittedQuery, WeightOutOfRange}
 use Rattle.esr_report.specs.Names.{position_of, is_bound}
 use Rattle.esr_report.specs.Lines.{Named, item_line, weighted_item_line, reply_line, totals_line, audit_line, error_line}
+use Rattle.esr_script.specs.declared.pending.TheConstants.{MAX_LINES, MAX_LINE_BYTES}
 use Rattle.esr_script.specs.declared.fault.RunFault.{RunFault}
 use Rattle.esr_script.specs.declared.fault.RunFault.TheVariants as fault
 use Rattle.esr_script.specs.Lines.{lines}
@@ -24,16 +27,16 @@ use Rattle.esr_script.specs.Command.{Command, item, weighted_item, begin_update,
 use Rattle.esr_script.specs.Reading.{reading}
 
 abbrev pub max_lines : ℕ
-max_lines = 2000000
+max_lines = MAX_LINES
 
 abbrev pub max_line_bytes : ℕ
-max_line_bytes = 200
+max_line_bytes = MAX_LINE_BYTES
 
 abbrev pub max_entries : ℕ
-max_entries = 1000000
+max_entries = MOST_ENTRIES
 
 abbrev pub max_items : ℕ
-max_items = 4096
+max_items = MOST_ITEMS
 
 -- what a run keeps of the lines so far
 pub record State : Type 0 where

@@ -1,52 +1,21 @@
 //! Audits a whole script: it is run without its output, and the serial order, what is found of each committed query,
 //! and the totals are written.
 
-ghost use Rattle.std.specs.Prelude.{◌≡◌, ◌≤◌, ℕ, List, [], Some, false};
+ghost use Rattle.std.specs.Prelude.{◌≡◌, ◌≤◌, ℕ, List, Some, false};
 ghost use Rattle.std.specs.Io.KnownBytes.{Appends};
 ghost use Rattle.esr_history.specs.Watch.{inner, failed};
-ghost use Rattle.esr_script.specs.Audit.{IsAuditedBy};
+ghost use Rattle.esr_script.specs.Audit.{IsAuditedBy, audit_output};
 ghost use Rattle.esr_script.specs.Parts.{is_read_fault, is_write_fault};
-ghost use Rattle.esr_script.specs.Replays.{IsAuditReady};
-ghost use Rattle.esr_script.specs.Text.{start};
+ghost use Rattle.esr_script.specs.Ends.{IsReachedBy};
+ghost use Rattle.esr_script.specs.Text.{final};
 
-use crate::certifying::replay;
 use crate::fault::RunFault;
-use crate::pending::Pending;
-use crate::script::Script;
+use crate::replaying::replay;
 use crate::sending::send_all;
 use esr_history::Watched;
 use std::alloc::Global;
 use std::io::{Read, Write};
 use std::thread::Threads;
-
-/// The output, with these buffers.
-fn prepare_with<T: Threads + Sync, R: Read>(
-    rt: &T,
-    alloc: Global,
-    reader: &mut Watched<R>,
-    pending: &mut Pending,
-    script: &mut Script,
-    workers: u64,
-) -> Result<Vec<u8>, RunFault>
-    requires pending { pending.old ≡ [] }
-    requires script { script.old ≡ start }
-    requires reader { failed reader.old ≡ false }
-    requires workers { (1 ≤ workers) × (workers ≤ 64) }
-    ensures ready { (input : List ℕ) → R.remaining (inner reader.old) ≡ Some input
-        → IsAuditReady input (R.remaining (inner reader.new)) result }
-    ensures reader { failed reader.new ≡ is_read_fault result }
-    ensures write { is_write_fault result ≡ false }
-{
-    let mut dropped = Vec::new(alloc);
-    if let Err(fault) = replay(reader, pending, script, &mut dropped) {
-        return Err(fault);
-    }
-    let mut out = Vec::new(alloc);
-    match script.audit_all(rt, workers, &mut out) {
-        Ok(()) => Ok(out),
-        Err(fault) => Err(fault),
-    }
-}
 
 /// The output.
 fn prepare<T: Threads + Sync, R: Read>(
@@ -58,15 +27,19 @@ fn prepare<T: Threads + Sync, R: Read>(
     requires reader { failed reader.old ≡ false }
     requires workers { (1 ≤ workers) × (workers ≤ 64) }
     ensures ready { (input : List ℕ) → R.remaining (inner reader.old) ≡ Some input
-        → IsAuditReady input (R.remaining (inner reader.new)) result }
+        → IsReachedBy (λ out. out.items ≡ audit_output (final input)) ⊥ input (R.remaining (inner reader.new)) result }
     ensures reader { failed reader.new ≡ is_read_fault result }
     ensures write { is_write_fault result ≡ false }
 {
-    let Ok(mut pending) = Pending::new(alloc) else {
-        return Err(RunFault::NoMemory);
+    let mut script = match replay(alloc, reader) {
+        Ok(script) => script,
+        Err(fault) => return Err(fault),
     };
-    let mut script = Script::new(alloc);
-    prepare_with(rt, alloc, reader, &mut pending, &mut script, workers)
+    let mut out = Vec::new(alloc);
+    match script.audit_all(rt, workers, &mut out) {
+        Ok(()) => Ok(out),
+        Err(fault) => Err(fault),
+    }
 }
 
 /// Runs a script without writing its output, audits its whole history by so many workers, 1 to 64, and writes the

@@ -1,6 +1,6 @@
 //! Bytes that were read and are not yet used.
 
-ghost use Rattle.std.specs.Prelude.{◌≡◌, ℕ, ◌<◌, ◌≤◌, List, [], ◌++◌, IfOk, IfErr, OnErr, IsErrOf, drop, take, ◌-◌, length, nat_eq, ◌||◌};
+ghost use Rattle.std.specs.Prelude.{◌≡◌, ℕ, ◌<◌, ◌≤◌, List, [], ◌++◌, IfOk, IfErr, drop, take, ◌-◌, length, nat_eq, ◌||◌};
 ghost use Rattle.std.specs.List.{position};
 ghost use Rattle.std.specs.Io.KnownBytes.{Consumes, Keeps, IsAtEnd};
 ghost use Rattle.esr_history.specs.Watch.{inner, failed};
@@ -15,7 +15,11 @@ use std::marker::Model;
 /// The most bytes ahead: many lines, so that reads are few.
 const ROOM: usize = 65536;
 
-const MAX_LINE_BYTES: usize = 200;
+/// The most lines of an input.
+pub const MAX_LINES: u64 = 2_000_000;
+
+/// The most bytes of a line, its line feed aside.
+pub const MAX_LINE_BYTES: usize = 200;
 
 /// Bytes that were read and are not yet used, seen as the list of them. They stand
 /// in one buffer from `start` to `end`.

@@ -1,13 +1,13 @@
 //! A run over a script, from its reader to its writer.
 
-ghost use Rattle.std.specs.Prelude.{◌≡◌, ℕ, List, [], ◌++◌, Some, Ok, Err, IfSome, IsErrOf, OnOk, OnErr, IfErr, IfOk, IsTrue, ◌↔◌, true, false, ◌≤◌, ◌⊎◌, take, length, ◌||◌, Option};
+ghost use Rattle.std.specs.Prelude.{◌≡◌, ℕ, List, [], ◌++◌, Some, Ok, Err, IfSome, IsErrOf, IfErr, IfOk, IsTrue, ◌↔◌, false, ◌≤◌, ◌⊎◌, length, ◌||◌};
 ghost use Rattle.std.specs.Io.KnownBytes.{Appends, Consumes, IsAtEnd, Keeps};
-ghost use Rattle.esr_history.specs.Watch.{inner, failed};
-ghost use Rattle.esr_report.specs.Lines.{BeginsWith};
-ghost use Rattle.esr_script.specs.Text.{answer, start};
+ghost use Rattle.esr_history.specs.Watch.{inner, failed, BeginsWith};
+ghost use Rattle.esr_script.specs.Text.{start};
 ghost use Rattle.esr_script.specs.Run.{IsRunBy};
-ghost use Rattle.esr_script.specs.Parts.{line_len, IsHeldRun, Standing, is_read_fault, is_write_fault};
+ghost use Rattle.esr_script.specs.Parts.{IsHeldRun, is_read_fault, is_write_fault};
 
+use crate::ahead::{answer_last, answer_next};
 use crate::fault::RunFault;
 use crate::pending::{Next, Pending, next_line};
 use crate::script::Script;
@@ -15,8 +15,6 @@ use crate::sending::send_all;
 use esr_history::Watched;
 use std::alloc::Global;
 use std::io::{Read, Write};
-
-const MAX_LINES: u64 = 2_000_000;
 
 const OUTPUT_FULL: usize = 32768;
 
@@ -34,13 +32,11 @@ pub fn run<R: Read, W: Write>(
 ) -> Result<(), RunFault>
     requires reader { failed reader.old ≡ false }
     requires writer { failed writer.old ≡ false }
-    ensures text { IfSome (R.remaining (inner reader.old)) (λ input. (written : List ℕ)
+    ensures text { (input : List ℕ) → R.remaining (inner reader.old) ≡ Some input → (written : List ℕ)
         × Appends (W.contents (inner writer.old)) (W.contents (inner writer.new)) written
-        × IsRunBy input (R.remaining (inner reader.new)) result written) }
-
-    // Where a read or a write has failed, the run ends so.
-    ensures reader { IsTrue (failed reader.new) ↔ IsErrOf result RunFault.Read }
-    ensures writer { IsTrue (failed writer.new) ↔ IsErrOf result RunFault.Write }
+        × IsRunBy input (R.remaining (inner reader.new)) result written }
+    ensures reader { failed reader.new ≡ is_read_fault result }
+    ensures writer { failed writer.new ≡ is_write_fault result }
 {
     let Ok(mut pending) = Pending::new(alloc) else {
         return Err(RunFault::NoMemory);
@@ -49,33 +45,11 @@ pub fn run<R: Read, W: Write>(
         return Err(RunFault::NoMemory);
     };
     let mut script = Script::new(alloc);
-    run_with(reader, writer, &mut pending, &mut script, &mut out)
-}
-
-/// Runs the script with these buffers.
-fn run_with<R: Read, W: Write>(
-    reader: &mut Watched<R>,
-    writer: &mut Watched<W>,
-    pending: &mut Pending,
-    script: &mut Script,
-    out: &mut Vec<u8>,
-) -> Result<(), RunFault>
-    requires pending { pending.old ≡ [] }
-    requires script { script.old ≡ start }
-    requires out { out.old.items ≡ [] }
-    requires reader { failed reader.old ≡ false }
-    requires writer { failed writer.old ≡ false }
-    ensures text { (input : List ℕ) → R.remaining (inner reader.old) ≡ Some input → (written : List ℕ)
-        × Appends (W.contents (inner writer.old)) (W.contents (inner writer.new)) written
-        × IsRunBy input (R.remaining (inner reader.new)) result written }
-    ensures reader { failed reader.new ≡ is_read_fault result }
-    ensures writer { failed writer.new ≡ is_write_fault result }
-{
-    let ended = answer_lines(reader, writer, pending, script, out);
+    let ended = answer_lines(reader, writer, &mut pending, &mut script, &mut out);
     if is_lost(ended) {
         return ended;
     }
-    if let Err(fault) = send_all(out, writer) {
+    if let Err(fault) = send_all(&mut out, writer) {
         return Err(fault);
     }
     ended
@@ -118,16 +92,9 @@ fn answer_lines<R: Read, W: Write>(
                 Ok(_) => continue 'lines,
             }
         }
-        if count == MAX_LINES {
-            return Err(RunFault::TooManyLines);
-        }
-        let Next::Line(length) = next else {
-            return Err(RunFault::LineTooLong);
-        };
-        if let Err(fault) = script.answer(&pending.bytes()[..length], out) {
+        if let Err(fault) = answer_next(next, pending, count, script, out) {
             return Err(fault);
         }
-        pending.skip(length + 1);
         if out.len() >= OUTPUT_FULL {
             if let Err(fault) = send_all(out, writer) {
                 return Err(fault);
@@ -165,27 +132,4 @@ fn read_on<R: Read, W: Write>(
         return Err(fault);
     }
     pending.fill(reader)
-}
-
-/// Answers the line that has no line feed, where there is one.
-fn answer_last(
-    pending: &Pending,
-    count: u64,
-    script: &mut Script,
-    out: &mut Vec<u8>,
-) -> Result<(), RunFault>
-    requires short { length pending.now ≤ 200 }
-    ensures held { (input sent : List ℕ) (left : Option (List ℕ)) → Standing input left pending.now count script.old (sent ++ out.old.items)
-        → IsAtEnd left → line_len pending.now ≡ length pending.now → IsHeldRun input left out.new.items result sent }
-    ensures read { is_read_fault result ≡ false }
-    ensures write { is_write_fault result ≡ false }
-{
-    let line = pending.bytes();
-    if line.is_empty() {
-        return Ok(());
-    }
-    if count == MAX_LINES {
-        return Err(RunFault::TooManyLines);
-    }
-    script.answer(line, out)
 }

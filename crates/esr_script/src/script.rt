@@ -1,22 +1,22 @@
 //! What a run keeps of the lines so far, and its answer to a line.
 
-ghost use Rattle.std.specs.Prelude.{◌≡◌, ℕ, ◌+◌, ◌<◌, ◌≤◌, ◌⊎◌, List, [], ◌++◌, Ok, Err, None, OnErr, OnOk, IfOk, IfErr, IsErrOf, IsOk, false, ◌↔◌, length, pos};
+ghost use Rattle.std.specs.Prelude.{◌≡◌, ℕ, List, ◌+◌, ◌<◌, ◌≤◌, ◌⊎◌, [], ◌++◌, Ok, Err, None, OnErr, OnOk, IfOk, IfErr, IsErrOf, IsOk, false, ◌↔◌, length, pos};
 ghost use Rattle.esr_report.specs.Names.{position_of};
 ghost use Rattle.esr_report.specs.Subjects.{named_by};
 ghost use Rattle.esr_script.specs.Text.{start, transaction_called, item_called, item_error, with_item, begin, ask, obey, answer};
 ghost use Rattle.esr_script.specs.Command as command;
 ghost use Rattle.esr_script.specs.Stages.{IsBegin};
-ghost use Rattle.esr_script.specs.Certify.{IsFound};
+ghost use Rattle.esr_script.specs.Ask.{IsAnswered};
 ghost use Rattle.esr_script.specs.Audit.{audit_output};
-ghost use Rattle.esr_cert.specs.Views.{certificate_of};
 ghost use Rattle.esr_history.specs.Queries.{is_committed_query};
 ghost use Rattle.esr_script.specs.View.{view};
 
+use crate::asked::Asked;
 use crate::book::push_audit;
 use crate::fault::RunFault;
 use crate::parse::{Line, Parsed, parse_line};
 use crate::stage::Stage;
-use esr_audit::{AuditError, Finding};
+use esr_audit::AuditError;
 use esr_history::{Event, Reply, TxnId};
 use esr_items::{ItemId, LARGEST_VALUE, LARGEST_WEIGHT, MOST_ITEMS};
 use esr_report::{
@@ -37,6 +37,8 @@ pub struct Script {
 }
 
 impl Model for Script {
+    ghost use Rattle.esr_history.specs.declared.limits.TheConstants.{MOST_ENTRIES};
+    ghost use Rattle.esr_items.specs.declared.TheConstants.{MOST_ITEMS};
     ghost use Rattle.std.specs.Prelude.{◌≤◌, length};
     ghost use Rattle.esr_script.specs.Text.{State};
     ghost use Rattle.esr_script.specs.Command as command;
@@ -44,9 +46,16 @@ impl Model for Script {
 
     ghost Value = { State };
 
-    ghost view = { λ s. record { items = s.items; transactions = s.transactions; closed = is_running s.stage; history = history_of s.stage } };
+    ghost view = { λ s. record {
+      items = s.items;
+      transactions = s.transactions;
+      closed = is_running s.stage;
+      history = history_of s.stage;
+    } };
 
-    ghost invariant = { λ s. (length s.items ≤ 4096) × (length s.transactions ≤ length (history_of s.stage).entries) × (length (history_of s.stage).entries ≤ 1000000) };
+    ghost invariant = { λ s. (length s.items ≤ MOST_ITEMS)
+        × (length s.transactions ≤ length (history_of s.stage).entries)
+        × (length (history_of s.stage).entries ≤ MOST_ENTRIES) };
 }
 
 impl Script {
@@ -80,7 +89,7 @@ impl Script {
     {
         match self.items.number_of(name) {
             Some(position) => ItemId(position),
-            None => ItemId(4096),
+            None => ItemId(MOST_ITEMS as u32),
         }
     }
 
@@ -126,7 +135,8 @@ impl Script {
 
     /// Declares an item of weight 1.
     fn declare(&mut self, name: &str, value: i64, out: &mut Vec<u8>) -> Result<(), RunFault>
-        ensures ok { OnOk result ((text : List ℕ) × (obey self.old (command.item name.now value) ≡ Ok (self.new, text)) × (out.new.items ≡ out.old.items ++ text)) }
+        ensures ok { OnOk result ((text : List ℕ) × (obey self.old (command.item name.now value) ≡ Ok (self.new, text))
+            × (out.new.items ≡ out.old.items ++ text)) }
         ensures err { OnErr result (out.new.items ≡ out.old.items) }
         ensures faults { IfErr result (λ e. e ≡ RunFault.NoMemory) }
     {
@@ -145,7 +155,8 @@ impl Script {
         weight: u64,
         out: &mut Vec<u8>,
     ) -> Result<(), RunFault>
-        ensures ok { OnOk result ((text : List ℕ) × (obey self.old (command.weighted_item name.now value weight) ≡ Ok (self.new, text)) × (out.new.items ≡ out.old.items ++ text)) }
+        ensures ok { OnOk result ((text : List ℕ) × (obey self.old (command.weighted_item name.now value weight)
+            ≡ Ok (self.new, text)) × (out.new.items ≡ out.old.items ++ text)) }
         ensures err { OnErr result (out.new.items ≡ out.old.items) }
         ensures faults { IfErr result (λ e. e ≡ RunFault.NoMemory) }
     {
@@ -159,7 +170,8 @@ impl Script {
     /// Gives the machine an event, and answers with its reply.
     fn ask(&mut self, subject: Subject<'_>, event: Event, out: &mut Vec<u8>) -> Result<(), RunFault>
         requires { IsBegin event → position_of self.old.transactions subject.txn.now ≡ None }
-        ensures ok { OnOk result ((text : List ℕ) × (ask self.old (named_by subject.entry) event ≡ Ok (self.new, text)) × (out.new.items ≡ out.old.items ++ text)) }
+        ensures ok { OnOk result ((text : List ℕ) × (ask self.old (named_by subject.entry) event ≡ Ok (self.new, text))
+            × (out.new.items ≡ out.old.items ++ text)) }
         ensures err { OnErr result (out.new.items ≡ out.old.items) }
         ensures faults { IfErr result (λ e. (e ≡ RunFault.NoMemory)
             ⊎ ((e ≡ RunFault.HistoryFull) × (ask self.old (named_by subject.entry) event ≡ Err RunFault.HistoryFull))) }
@@ -176,7 +188,8 @@ impl Script {
 
     /// Begins a transaction, whose name may not be bound already.
     fn begin(&mut self, name: &str, event: Event, out: &mut Vec<u8>) -> Result<(), RunFault>
-        ensures ok { OnOk result ((text : List ℕ) × (begin self.old name.now event ≡ Ok (self.new, text)) × (out.new.items ≡ out.old.items ++ text)) }
+        ensures ok { OnOk result ((text : List ℕ) × (begin self.old name.now event ≡ Ok (self.new, text))
+            × (out.new.items ≡ out.old.items ++ text)) }
         ensures err { OnErr result (out.new.items ≡ out.old.items) }
         ensures faults { IfErr result (λ e. (e ≡ RunFault.NoMemory)
             ⊎ ((e ≡ RunFault.HistoryFull) × (begin self.old name.now event ≡ Err RunFault.HistoryFull))) }
@@ -189,10 +202,12 @@ impl Script {
 
     /// Reads an item.
     fn read(&mut self, txn: &str, item: &str, out: &mut Vec<u8>) -> Result<(), RunFault>
-        ensures ok { OnOk result ((text : List ℕ) × (obey self.old (command.read txn.now item.now) ≡ Ok (self.new, text)) × (out.new.items ≡ out.old.items ++ text)) }
+        ensures ok { OnOk result ((text : List ℕ) × (obey self.old (command.read txn.now item.now)
+            ≡ Ok (self.new, text)) × (out.new.items ≡ out.old.items ++ text)) }
         ensures err { OnErr result (out.new.items ≡ out.old.items) }
         ensures faults { IfErr result (λ e. (e ≡ RunFault.NoMemory)
-            ⊎ ((e ≡ RunFault.HistoryFull) × (obey self.old (command.read txn.now item.now) ≡ Err RunFault.HistoryFull))) }
+            ⊎ ((e ≡ RunFault.HistoryFull) × (obey self.old (command.read txn.now item.now)
+            ≡ Err RunFault.HistoryFull))) }
     {
         let event = Event::Read {
             txn: self.transaction(txn),
@@ -214,10 +229,12 @@ impl Script {
         value: i64,
         out: &mut Vec<u8>,
     ) -> Result<(), RunFault>
-        ensures ok { OnOk result ((text : List ℕ) × (obey self.old (command.write txn.now item.now value) ≡ Ok (self.new, text)) × (out.new.items ≡ out.old.items ++ text)) }
+        ensures ok { OnOk result ((text : List ℕ) × (obey self.old (command.write txn.now item.now value)
+            ≡ Ok (self.new, text)) × (out.new.items ≡ out.old.items ++ text)) }
         ensures err { OnErr result (out.new.items ≡ out.old.items) }
         ensures faults { IfErr result (λ e. (e ≡ RunFault.NoMemory)
-            ⊎ ((e ≡ RunFault.HistoryFull) × (obey self.old (command.write txn.now item.now value) ≡ Err RunFault.HistoryFull))) }
+            ⊎ ((e ≡ RunFault.HistoryFull) × (obey self.old (command.write txn.now item.now value)
+            ≡ Err RunFault.HistoryFull))) }
     {
         let event = Event::Write {
             txn: self.transaction(txn),
@@ -230,7 +247,8 @@ impl Script {
 
     /// Commits a transaction.
     fn commit(&mut self, txn: &str, out: &mut Vec<u8>) -> Result<(), RunFault>
-        ensures ok { OnOk result ((text : List ℕ) × (obey self.old (command.commit txn.now) ≡ Ok (self.new, text)) × (out.new.items ≡ out.old.items ++ text)) }
+        ensures ok { OnOk result ((text : List ℕ) × (obey self.old (command.commit txn.now) ≡ Ok (self.new, text))
+            × (out.new.items ≡ out.old.items ++ text)) }
         ensures err { OnErr result (out.new.items ≡ out.old.items) }
         ensures faults { IfErr result (λ e. (e ≡ RunFault.NoMemory)
             ⊎ ((e ≡ RunFault.HistoryFull) × (obey self.old (command.commit txn.now) ≡ Err RunFault.HistoryFull))) }
@@ -243,7 +261,8 @@ impl Script {
 
     /// Aborts a transaction.
     fn abort(&mut self, txn: &str, out: &mut Vec<u8>) -> Result<(), RunFault>
-        ensures ok { OnOk result ((text : List ℕ) × (obey self.old (command.abort txn.now) ≡ Ok (self.new, text)) × (out.new.items ≡ out.old.items ++ text)) }
+        ensures ok { OnOk result ((text : List ℕ) × (obey self.old (command.abort txn.now) ≡ Ok (self.new, text))
+            × (out.new.items ≡ out.old.items ++ text)) }
         ensures err { OnErr result (out.new.items ≡ out.old.items) }
         ensures faults { IfErr result (λ e. (e ≡ RunFault.NoMemory)
             ⊎ ((e ≡ RunFault.HistoryFull) × (obey self.old (command.abort txn.now) ≡ Err RunFault.HistoryFull))) }
@@ -256,7 +275,8 @@ impl Script {
 
     /// Sums the charges so far.
     fn totals(&mut self, out: &mut Vec<u8>) -> Result<(), RunFault>
-        ensures ok { OnOk result ((text : List ℕ) × (obey self.old command.totals ≡ Ok (self.new, text)) × (out.new.items ≡ out.old.items ++ text)) }
+        ensures ok { OnOk result ((text : List ℕ) × (obey self.old command.totals ≡ Ok (self.new, text))
+            × (out.new.items ≡ out.old.items ++ text)) }
         ensures err { OnErr result (out.new.items ≡ out.old.items) }
         ensures faults { IfErr result (λ e. e ≡ RunFault.NoMemory) }
     {
@@ -267,7 +287,8 @@ impl Script {
 
     /// Audits a query.
     fn audit(&mut self, txn: &str, out: &mut Vec<u8>) -> Result<(), RunFault>
-        ensures ok { OnOk result ((text : List ℕ) × (obey self.old (command.audit txn.now) ≡ Ok (self.new, text)) × (out.new.items ≡ out.old.items ++ text)) }
+        ensures ok { OnOk result ((text : List ℕ) × (obey self.old (command.audit txn.now) ≡ Ok (self.new, text))
+            × (out.new.items ≡ out.old.items ++ text)) }
         ensures err { OnErr result (out.new.items ≡ out.old.items) }
         ensures faults { IfErr result (λ e. e ≡ RunFault.NoMemory) }
     {
@@ -291,20 +312,33 @@ impl Script {
         ))
     }
 
-    /// What the audit of the query of that name finds.
-    pub fn find(&mut self, name: &str) -> Result<Finding, RunFault>
-        ensures found { IfOk result (λ f. IsFound self.old.history (transaction_called self.old name.now).0 f.problem (certificate_of f.certificate)) }
-        ensures refused { IsErrOf result RunFault.NotACommittedQuery → is_committed_query self.old.history (transaction_called self.old name.now).0 ≡ false }
+    /// Ends the run, and tells of the query of that name.
+    pub fn asked(self, name: &str) -> Result<Asked, RunFault>
+        ensures answered { IfOk result (IsAnswered self name.now) }
+        ensures refused { IsErrOf result RunFault.NotACommittedQuery
+            → is_committed_query self.history (transaction_called self name.now).0 ≡ false }
         ensures faults { IfErr result (λ e. (e ≡ RunFault.NoMemory) ⊎ (e ≡ RunFault.NotACommittedQuery)) }
     {
         let q = self.transaction(name);
-        self.stage.close(self.alloc)?;
-        match self.stage.audit(self.alloc, q) {
-            Ok(found) => Ok(found),
-            Err(AuditError::NotACommittedQuery) => Err(RunFault::NotACommittedQuery),
-            Err(AuditError::NoMemory) => Err(RunFault::NoMemory),
+        let Script {
+            alloc,
+            items,
+            transactions,
+            mut stage,
+        } = self;
+        stage.close(alloc)?;
+        let finding = match stage.audit(alloc, q) {
+            Ok(found) => found,
+            Err(AuditError::NotACommittedQuery) => return Err(RunFault::NotACommittedQuery),
+            Err(AuditError::NoMemory) => return Err(RunFault::NoMemory),
             Err(AuditError::WorkersOutOfRange) => unreachable!(),
-        }
+        };
+        Ok(Asked {
+            items,
+            transactions,
+            history: stage.into_history(),
+            finding,
+        })
     }
 
     /// Appends the audit of the whole history, by so many workers. After an error the output is spoiled.
@@ -326,7 +360,8 @@ impl Script {
 
     /// Obeys a command.
     fn obey(&mut self, line: Line<'_>, out: &mut Vec<u8>) -> Result<(), RunFault>
-        ensures ok { OnOk result ((text : List ℕ) × (obey self.old (view line.entry) ≡ Ok (self.new, text)) × (out.new.items ≡ out.old.items ++ text)) }
+        ensures ok { OnOk result ((text : List ℕ) × (obey self.old (view line.entry) ≡ Ok (self.new, text))
+            × (out.new.items ≡ out.old.items ++ text)) }
         ensures err { OnErr result (out.new.items ≡ out.old.items) }
         ensures faults { IfErr result (λ e. (e ≡ RunFault.NoMemory)
             ⊎ ((e ≡ RunFault.HistoryFull) × (obey self.old (view line.entry) ≡ Err RunFault.HistoryFull))) }
@@ -368,7 +403,8 @@ impl Script {
 
     /// Answers a line at the end of the output. An error leaves the output as it was.
     pub fn answer(&mut self, line: &[u8], out: &mut Vec<u8>) -> Result<(), RunFault>
-        ensures ok { OnOk result ((text : List ℕ) × (answer self.old line.now ≡ Ok (self.new, text)) × (out.new.items ≡ out.old.items ++ text)) }
+        ensures ok { OnOk result ((text : List ℕ) × (answer self.old line.now ≡ Ok (self.new, text))
+            × (out.new.items ≡ out.old.items ++ text)) }
         ensures err { OnErr result (out.new.items ≡ out.old.items) }
         ensures faults { IfErr result (λ e. (e ≡ RunFault.NoMemory)
             ⊎ ((e ≡ RunFault.HistoryFull) × (answer self.old line.now ≡ Err RunFault.HistoryFull))) }

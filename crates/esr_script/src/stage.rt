@@ -1,5 +1,6 @@
 //! Either items still being declared, or the running machine.
 
+ghost use Rattle.esr_history.specs.declared.limits.TheConstants.{MOST_ENTRIES};
 ghost use Rattle.std.specs.Prelude.{◌≡◌, ◌≢◌, ◌≤◌, ◌⊎◌, true, false, length, map, IfOk, OnOk, OnErr, IfErr, IsErrOf};
 ghost use Rattle.esr_history.specs.Machine.{reply_to, extended, charges_in, import_in};
 ghost use Rattle.esr_history.specs.Serial.{committed_updates};
@@ -14,7 +15,7 @@ use crate::fault::RunFault;
 use esr_audit::{AuditError, Book, Finding, audit_query};
 use esr_board::{NoGate, audit_parallel};
 use esr_core::{Machine, StepError, Totals};
-use esr_history::{Event, Reply, TxnId};
+use esr_history::{Event, History, Reply, TxnId};
 use esr_items::{Store, Weighted};
 use std::alloc::Global;
 use std::mem;
@@ -57,13 +58,13 @@ impl Stage {
     /// Gives the machine an event.
     pub fn step(&mut self, event: Event) -> Result<Reply, RunFault>
         requires { is_running self.old ≡ true }
-        ensures room { OnOk result (length (history_of self.old).entries ≢ 1000000) }
+        ensures room { OnOk result (length (history_of self.old).entries ≢ MOST_ENTRIES) }
         ensures reply { IfOk result (λ reply. reply ≡ reply_to weighted (history_of self.old) event) }
         ensures added { IfOk result (λ reply. history_of self.new ≡ extended (history_of self.old) event reply) }
         ensures running { is_running self.new ≡ true }
         ensures err { OnErr result (history_of self.new ≡ history_of self.old) }
         ensures faults { IfErr result (λ e. (e ≡ RunFault.NoMemory)
-            ⊎ ((e ≡ RunFault.HistoryFull) × (length (history_of self.old).entries ≡ 1000000))) }
+            ⊎ ((e ≡ RunFault.HistoryFull) × (length (history_of self.old).entries ≡ MOST_ENTRIES))) }
     {
         match self {
             Stage::Running(machine) => match machine.step(event) {
@@ -92,16 +93,31 @@ impl Stage {
         }
     }
 
+    /// The history of the machine.
+    pub fn into_history(self) -> History<Weighted>
+        requires { is_running self ≡ true }
+        ensures { result.schedule ≡ history_of self }
+    {
+        match self {
+            Stage::Running(machine) => machine.close(),
+            Stage::Open { .. } => unreachable!(),
+        }
+    }
+
     /// What the audit of a transaction finds.
     #[tactic(auto, using(crate::proofs::Audits::distance_is, crate::proofs::Audits::import_is, crate::proofs::Audits::before_is, crate::proofs::Audits::committed))]
     pub fn audit(&self, alloc: Global, q: TxnId) -> Result<Finding, AuditError>
         requires { is_running self.now ≡ true }
+        ensures query { IfOk result (λ f. f.query ≡ q) }
         ensures distance { IfOk result (λ f. f.distance ≡ least_cost weighted (history_of self.now) q.0) }
         ensures import { IfOk result (λ f. f.import ≡ import_in (charges_in weighted (history_of self.now)) q.0) }
-        ensures before { IfOk result (λ f. map (λ t. t.0) f.before.items ≡ least_set weighted (history_of self.now) q.0) }
+        ensures before { IfOk result (λ f. map (λ t. t.0) f.before.items
+            ≡ least_set weighted (history_of self.now) q.0) }
         ensures committed { IfOk result (λ f. is_committed_query (history_of self.now) q.0 ≡ true) }
-        ensures shown { IfOk result (λ f. IsShown weighted (history_of self.now) q.0 f.distance (map (λ t. t.0) f.before.items) f.problem (certificate_of f.certificate)) }
-        ensures refused { IsErrOf result AuditError.NotACommittedQuery → is_committed_query (history_of self.now) q.0 ≡ false }
+        ensures shown { IfOk result (λ f. IsShown weighted (history_of self.now) q.0 f.distance
+            (map (λ t. t.0) f.before.items) f.problem (certificate_of f.certificate)) }
+        ensures refused { IsErrOf result AuditError.NotACommittedQuery
+            → is_committed_query (history_of self.now) q.0 ≡ false }
         ensures workers { ¬ IsErrOf result AuditError.WorkersOutOfRange }
     {
         match self {

@@ -1,6 +1,6 @@
 //! The words of a line, and what each may be.
 
-ghost use Rattle.std.specs.Prelude.{◌≡◌, ◌∷◌, ◌<◌, ◌≤◌, ◌^◌, Option, option_map, nat_eq, length, IfSome, IfNone, true, false};
+ghost use Rattle.std.specs.Prelude.{◌≡◌, ◌∷◌, ◌<◌, ◌≤◌, ◌^◌, Option, option_map, length, IfSome, IfNone, true, false};
 ghost use Rattle.std.specs.Str.{all_ascii_digits};
 ghost use Rattle.std.specs.List.{position, list_all};
 ghost use Rattle.esr_script.specs.Command.{is_letter, is_name_byte, is_name};
@@ -107,7 +107,8 @@ pub fn name(word: &[u8]) -> Option<&str>
 /// The value of up to 19 digits.
 fn digits_value(digits: &[u8]) -> Option<u64>
     requires { length digits.now ≤ 19 }
-    ensures found { IfSome result (λ n. (n ≡ value_from 0 digits.now) × (n < 10 ^ 19) × (all_ascii_digits digits.now ≡ true)) }
+    ensures found { IfSome result (λ n. (n ≡ value_from 0 digits.now) × (n < 10 ^ 19)
+        × (all_ascii_digits digits.now ≡ true)) }
     ensures none { IfNone result (all_ascii_digits digits.now ≡ false) }
 {
     let mut value: u64 = 0;

@@ -1,6 +1,6 @@
 //! An engine: one machine behind a lock, opened for at most 64 sessions and closed with them.
-ghost use Rattle.std.specs.Prelude.{◌≡◌, ℕ, ◌+◌, ◌<◌, ◌≤◌, ◌*◌, [], ◌∷◌, true, length, Some, None, All, IfOk, OnOk, IfErr, OnErr, vec_len, map};
-ghost use Rattle.std.specs.List.{sum_by};
+ghost use Rattle.esr_history.specs.declared.limits.TheConstants.{MOST_ENTRIES};
+ghost use Rattle.std.specs.Prelude.{◌≡◌, ◌+◌, ◌<◌, ◌≤◌, ◌*◌, [], true, length, Some, None, All, IfOk, OnOk, IfErr, OnErr, vec_len, map};
 ghost use Rattle.std.specs.Vec.{vec_capacity};
 ghost use Rattle.esr_history.specs.Machine.{IsLegal};
 ghost use Rattle.esr_session.specs.Receipts.{Matches, count_in};
@@ -102,7 +102,8 @@ impl<M: Metric + Drop, N: Naming> Engine<M, N> {
     pub fn open_sessions(&mut self, n: usize) -> Result<Vec<Session<M, N>>, NoMemory>
         requires number { (1 ≤ n) × (n ≤ 64) }
         requires first { self.old.opened ≡ 0 }
-        ensures sessions { IfOk result (λ sessions. (vec_len sessions ≡ n) × All (λ session. session ≡ []) sessions.items) }
+        ensures sessions { IfOk result (λ sessions. (vec_len sessions ≡ n)
+            × All (λ session. session ≡ []) sessions.items) }
         ensures opened { OnOk result (self.new.opened ≡ n) }
         ensures err { OnErr result (self.new ≡ self.old) }
     {
@@ -123,11 +124,12 @@ impl<M: Metric + Drop, N: Naming> Engine<M, N> {
     ) -> Result<Closed<M>, CloseRefused<M, N>>
         ensures history { IfOk result (λ closed. (closed.history.schedule.opening ≡ N.opening)
             × (closed.history.schedule.weights ≡ N.weights) × IsLegal M.distance_by closed.history.schedule
-            × (length closed.history.schedule.entries ≤ 1000000)) }
+            × (length closed.history.schedule.entries ≤ MOST_ENTRIES)) }
         ensures receipts { IfOk result (λ closed. map (λ list. list.items) closed.receipts.items ≡ sessions.items) }
         ensures matching { IfOk result (λ closed. Matches closed.history.schedule.entries sessions.items) }
         ensures every_call { IfOk result (λ closed. length closed.history.schedule.entries ≡ count_in sessions.items) }
-        ensures refused { IfErr result (λ refused. (refused.engine ≡ self) × (refused.sessions.items ≡ sessions.items)) }
+        ensures refused { IfErr result (λ refused. (refused.engine ≡ self)
+            × (refused.sessions.items ≡ sessions.items)) }
         ensures missing { IfErr result (λ refused. is_missing refused.error ≡ true → vec_len sessions < self.opened) }
     {
         let mut engine = self;
@@ -212,7 +214,7 @@ fn close_shared<M: Metric + Drop, N: Naming, R: Wait>(
     sessions: &mut [Session<M, N>],
 ) -> Result<History<M>, CloseError>
     requires { (0 < rest.old.parts) × (rest.old.amount ≡ 1000001) }
-    ensures most { IfOk result (λ history. length history.schedule.entries ≤ 1000000) }
+    ensures most { IfOk result (λ history. length history.schedule.entries ≤ MOST_ENTRIES) }
     ensures history { IfOk result (λ history. (history.schedule.opening ≡ N.opening)
         × (history.schedule.weights ≡ N.weights)) }
     ensures matching { IfOk result (λ history. Matches history.schedule.entries sessions.old) }
@@ -233,7 +235,7 @@ fn close_on<M: Metric + Drop, N: Naming>(
     sessions: &mut [Session<M, N>],
 ) -> Result<History<M>, CloseError>
     requires { (0 < rest.old.parts) × (rest.old.amount ≡ 1000001) }
-    ensures most { IfOk result (λ history. length history.schedule.entries ≤ 1000000) }
+    ensures most { IfOk result (λ history. length history.schedule.entries ≤ MOST_ENTRIES) }
     ensures history { IfOk result (λ history. (locked.old ≡ Some history.schedule)
         × (history.schedule.opening ≡ N.opening) × (history.schedule.weights ≡ N.weights)) }
     ensures closed { OnOk result (locked.new ≡ None) }
@@ -272,7 +274,8 @@ fn audit_from<M: Metric + Drop, N: Naming>(
     ensures sessions { sessions.new ≡ sessions.old }
     ensures bound { seen.old.amount + count_in sessions.old ≤ total.old.total }
     ensures room { seen.old.parts + length sessions.old ≤ N.parts }
-    ensures whole { seen.old.parts + length sessions.old ≡ N.parts → seen.old.amount + count_in sessions.old ≡ total.old.total }
+    ensures whole { seen.old.parts + length sessions.old ≡ N.parts
+        → seen.old.amount + count_in sessions.old ≡ total.old.total }
 {
     match sessions.split_first_mut() {
         None => {
@@ -298,7 +301,8 @@ fn match_sessions<M: Metric + Drop, N: Naming>(
 ) -> Result<(), CloseError>
     ensures matching { OnOk result (Matches history.now.schedule.entries sessions.now) }
     ensures enough { OnOk result (length history.now.schedule.entries ≤ count_in sessions.now) }
-    ensures missing { IfErr result (λ error. is_missing error ≡ true → count_in sessions.now < length history.now.schedule.entries) }
+    ensures missing { IfErr result (λ error. is_missing error ≡ true
+        → count_in sessions.now < length history.now.schedule.entries) }
 {
     match_all(alloc, history, sessions)
 }

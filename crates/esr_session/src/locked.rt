@@ -1,18 +1,15 @@
 //! What an engine's lock holds, and one call under it.
-ghost use Rattle.std.specs.Prelude.{◌≡◌, ◌≢◌, ℕ, ◌+◌, ◌<◌, ◌≤◌, ◌↔◌, [], ◌∷◌, ◌++◌, length, Some, None, IfOk, OnOk, OnErr, IsErrOf, IsSomeAnd, vec_len};
+ghost use Rattle.std.specs.Prelude.{◌≡◌, ◌+◌, ◌<◌, ◌≤◌, ◌↔◌, [], ◌∷◌, ◌++◌, length, Some, None, IfOk, OnOk, OnErr, IsErrOf, IsSomeAnd};
 ghost use Rattle.esr_history.specs.Machine.{IsLegal, reply_to, extended};
 ghost use Rattle.esr_session.specs.Receipts.{IsReceipt, receipt};
 
 use crate::naming::Naming;
 use crate::receipt::Receipt;
 use esr_core::{Machine, StepError};
-use esr_history::Event;
+use esr_history::{Event, MOST_ENTRIES};
 use esr_items::Metric;
 use std::marker::Model;
 use std::sync::ledger::{Book, Share};
-
-/// The most entries of a history.
-const MOST_ENTRIES: usize = 1_000_000;
 
 /// What an engine's lock holds: the machine until the engine is closed, and the total of the answered calls.
 /// Contracts see the machine's history.
@@ -26,6 +23,7 @@ pub struct Locked<M: Metric, N: Naming> {
 }
 
 impl<M: Metric, N: Naming> Model for Locked<M, N> {
+    ghost use Rattle.esr_history.specs.declared.limits.TheConstants.{MOST_ENTRIES};
     ghost use Rattle.std.specs.Prelude.{◌≡◌, ◌+◌, ◌≤◌, Option, MatchOption, length};
     ghost use Rattle.esr_history.specs.Machine.{Schedule};
 
@@ -33,7 +31,8 @@ impl<M: Metric, N: Naming> Model for Locked<M, N> {
 
     ghost view = { λ l. l.machine };
 
-    ghost invariant = { λ l. MatchOption l.machine (l.total.total ≤ 1000000) (λ h. (h.opening ≡ N.opening) × (h.weights ≡ N.weights) × (l.total.total ≡ length h.entries + 1000001)) };
+    ghost invariant = { λ l. MatchOption l.machine (l.total.total ≤ MOST_ENTRIES)
+        (λ h. (h.opening ≡ N.opening) × (h.weights ≡ N.weights) × (l.total.total ≡ length h.entries + 1000001)) };
 }
 
 /// The receipts of one session, each of which counts one in the share.
@@ -65,12 +64,14 @@ pub fn step_on<M: Metric, N: Naming>(
     event: Event,
 ) -> Result<Receipt, StepError>
     ensures step { IfOk result (λ r. IsSomeAnd locked.old (λ h.
-        (r ≡ receipt (length h.entries) event (reply_to M.distance_by h event)) × (locked.new ≡ Some (extended h event r.reply)))) }
+        (r ≡ receipt (length h.entries) event (reply_to M.distance_by h event))
+        × (locked.new ≡ Some (extended h event r.reply)))) }
     ensures receipt { IfOk result (IsReceipt M.distance_by N.opening N.weights) }
     ensures pocket { IfOk result (λ r. pocket.new ≡ pocket.old ++ r ∷ []) }
     ensures err { OnErr result ((locked.new ≡ locked.old) × (pocket.new ≡ pocket.old)) }
     ensures closed { (IsErrOf result StepError.EngineClosed) ↔ (locked.old ≡ None) }
-    ensures full { (IsErrOf result StepError.HistoryFull) ↔ IsSomeAnd locked.old (λ h. length h.entries ≡ 1000000) }
+    ensures full { (IsErrOf result StepError.HistoryFull)
+        ↔ IsSomeAnd locked.old (λ h. length h.entries ≡ MOST_ENTRIES) }
 {
     match &mut locked.machine {
         Some(machine) => step_in(machine, &mut locked.total, pocket, event),
@@ -85,7 +86,8 @@ fn step_in<M: Metric, N: Naming>(
     pocket: &mut Pocket<N>,
     event: Event,
 ) -> Result<Receipt, StepError>
-    ensures step { IfOk result (λ r. (r ≡ receipt (length machine.old.entries) event (reply_to M.distance_by machine.old event))
+    ensures step { IfOk result (λ r. (r ≡ receipt (length machine.old.entries) event
+        (reply_to M.distance_by machine.old event))
         × (machine.new ≡ extended machine.old event r.reply)) }
     ensures total { OnOk result (total.new.total ≡ total.old.total + 1) }
     ensures legal { OnOk result (IsLegal M.distance_by machine.new) }
@@ -93,7 +95,7 @@ fn step_in<M: Metric, N: Naming>(
     ensures err { OnErr result ((machine.new ≡ machine.old) × (pocket.new ≡ pocket.old)
         × (total.new.total ≡ total.old.total)) }
     ensures never_closed { ¬ IsErrOf result StepError.EngineClosed }
-    ensures full { (IsErrOf result StepError.HistoryFull) ↔ (length machine.old.entries ≡ 1000000) }
+    ensures full { (IsErrOf result StepError.HistoryFull) ↔ (length machine.old.entries ≡ MOST_ENTRIES) }
 {
     let place = machine.log().len();
     if place == MOST_ENTRIES {

@@ -1,5 +1,5 @@
 //! Receipts against a history.
-ghost use Rattle.std.specs.Prelude.{◌≡◌, ℕ, List, ◌+◌, ◌<◌, ◌≤◌, ◌↔◌, ◌++◌, [], true, false, IsTrue, length, map, slice_index_or, vec_len, MatchOption, OnOk, IfOk, IfErr, IfSome, IfNone};
+ghost use Rattle.std.specs.Prelude.{◌≡◌, List, ◌+◌, ◌<◌, ◌≤◌, ◌↔◌, ◌++◌, [], true, false, IsTrue, length, map, slice_index_or, vec_len, MatchOption, OnOk, IfOk, IfErr, IfSome, IfNone};
 ghost use Rattle.esr_session.specs.Receipts.{IsVerdict, count_in, receipts_in, GoodFrom, IsForeignIn, Matches, Names};
 ghost use Rattle.esr_session.specs.declared.receipt.Receipt.{Receipt};
 ghost use Rattle.esr_session.specs.Marks.{AreMarked};
@@ -23,7 +23,8 @@ pub fn match_receipts<M: Metric>(
     ensures verdict { IsVerdict history.now.schedule.entries (map (λ list. list.items) lists.now) result }
     ensures exact { IfErr result (λ error.
         Matches history.now.schedule.entries (map (λ list. list.items) lists.now) → error ≡ CloseError.NoMemory) }
-    ensures every_entry { OnOk result (length history.now.schedule.entries ≡ count_in (map (λ list. list.items) lists.now)) }
+    ensures every_entry { OnOk result (length history.now.schedule.entries
+        ≡ count_in (map (λ list. list.items) lists.now)) }
 {
     match_all(alloc, history, lists)
 }
@@ -51,7 +52,8 @@ pub(crate) fn match_all<M: Metric, L: HasReceipts>(
     lists: &[L],
 ) -> Result<(), CloseError>
     ensures verdict { IsVerdict history.now.schedule.entries (map L.receipts lists.now) result }
-    ensures exact { IfErr result (λ error. Matches history.now.schedule.entries (map L.receipts lists.now) → error ≡ CloseError.NoMemory) }
+    ensures exact { IfErr result (λ error. Matches history.now.schedule.entries (map L.receipts lists.now)
+        → error ≡ CloseError.NoMemory) }
     ensures every_entry { OnOk result (length history.now.schedule.entries ≡ count_in (map L.receipts lists.now)) }
 {
     let total = history.log().len();
@@ -90,9 +92,11 @@ fn match_list<M: Metric, L: HasReceipts>(
     requires len { vec_len marks.old ≡ length history.now.schedule.entries }
     requires marked { AreMarked (receipts_in (map L.receipts done.now)) marks.old.items }
     ensures len { vec_len marks.new ≡ vec_len marks.old }
-    ensures good { IfNone result (GoodFrom history.now.schedule.entries (receipts_in (map L.receipts done.now)) 0 list.now) }
+    ensures good { IfNone result (GoodFrom history.now.schedule.entries
+        (receipts_in (map L.receipts done.now)) 0 list.now) }
     ensures marked { IfNone result (AreMarked (receipts_in (map L.receipts done.now) ++ list.now) marks.new.items) }
-    ensures foreign { IfSome result (IsForeignIn history.now.schedule.entries (receipts_in (map L.receipts done.now)) list.now) }
+    ensures foreign { IfSome result (IsForeignIn history.now.schedule.entries
+        (receipts_in (map L.receipts done.now)) list.now) }
 {
     let mut low = 0;
     for r in list {
@@ -109,7 +113,8 @@ fn match_list<M: Metric, L: HasReceipts>(
 /// Whether the receipt names an entry, at a place from `low` on that is not marked.
 fn is_good<M: Metric>(history: &History<M>, marks: &[bool], low: u64, r: &Receipt) -> bool
     requires { length marks.now ≡ length history.now.schedule.entries }
-    ensures { IsTrue result ↔ (Names history.now.schedule.entries r.now × (low ≤ r.now.at) × (slice_index_or marks.now r.now.at false ≡ false)) }
+    ensures { IsTrue result ↔ (Names history.now.schedule.entries r.now × (low ≤ r.now.at)
+        × (slice_index_or marks.now r.now.at false ≡ false)) }
 {
     if !names(history, r) || r.at < low {
         return false;
@@ -223,7 +228,8 @@ fn same_reply(a: Reply, b: Reply) -> bool
 
 /// How many receipts there are, if fewer than `total`.
 fn count_below<L: HasReceipts>(lists: &[L], total: usize) -> Option<usize>
-    ensures { MatchOption result (total ≤ count_in (map L.receipts lists.now)) (λ n. (n ≡ count_in (map L.receipts lists.now)) × (n < total)) }
+    ensures { MatchOption result (total ≤ count_in (map L.receipts lists.now))
+        (λ n. (n ≡ count_in (map L.receipts lists.now)) × (n < total)) }
 {
     let mut left = total;
     for list in lists {

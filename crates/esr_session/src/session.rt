@@ -1,5 +1,5 @@
 //! Sessions, each of which one thread at a time calls an engine through.
-ghost use Rattle.std.specs.Prelude.{◌≡◌, ℕ, ◌+◌, ◌<◌, ◌≤◌, List, [], ◌∷◌, ◌++◌, true, length, IfOk, OnErr, IfErr};
+ghost use Rattle.std.specs.Prelude.{◌≡◌, ◌+◌, ◌<◌, ◌≤◌, List, [], ◌∷◌, ◌++◌, true, length, IfOk, OnErr, IfErr};
 ghost use Rattle.esr_session.specs.Receipts.{IsReceipt, AreBlocked, is_blocked, is_block};
 ghost use Rattle.esr_session.specs.declared.receipt.Receipt.{Receipt};
 

@@ -1,5 +1,6 @@
 mod audited;
 mod certified;
+mod explained;
 mod failing;
 mod large;
 pub mod rows;

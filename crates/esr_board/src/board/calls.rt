@@ -31,7 +31,8 @@ fn admitted(
     requires table { (first.table_id ≡ table.now.shared.table_id) × (table.now.shared.table_id.words ≡ 3) }
     requires passes { (first.me ≡ (hand table.now.shared.key.jobs seats [], [])) × (0 < seats) }
     ensures len { IfOk result (λ made. vec_len made ≡ seats) }
-    ensures each { IfOk result (λ made. All (λ s. (s.seat.table_id ≡ table.now.shared.table_id) × (hand_of s ≡ hand table.now.shared.key.jobs 1 [])) made.items) }
+    ensures each { IfOk result (λ made. All (λ s. (s.seat.table_id ≡ table.now.shared.table_id)
+        × (hand_of s ≡ hand table.now.shared.key.jobs 1 [])) made.items) }
 {
     let mut made = Vec::with_capacity(alloc, seats as usize)?;
     for _ in 1..seats {
@@ -49,7 +50,8 @@ impl Board {
     /// where there are no seats or more than 64. `NoMemory` if allocation fails.
     pub fn new(alloc: Global, jobs: u64, seats: u64) -> Result<(Board, Vec<BoardSeat>), BoardError>
         ensures board { IfOk result (λ made. (jobs_of made.0 ≡ jobs) × (seats_of made.0 ≡ seats)) }
-        ensures seats { IfOk result (λ made. (vec_len made.1 ≡ seats) × All (λ s. IsSeatOf made.0 s × (drawn s ≡ [])) made.1.items) }
+        ensures seats { IfOk result (λ made. (vec_len made.1 ≡ seats)
+            × All (λ s. IsSeatOf made.0 s × (drawn s ≡ [])) made.1.items) }
         ensures too_many_jobs { (result ≡ Err BoardError.TooManyJobs) ↔ (65535 < jobs) }
         ensures seats_out_of_range { (result ≡ Err BoardError.SeatsOutOfRange)
             ↔ ((jobs ≤ 65535) × ((seats ≡ 0) ⊎ (64 < seats))) }
@@ -106,7 +108,8 @@ impl Board {
         requires { All (IsSeatOf self) seats.items }
         ensures once { OnOk result (EachOnceBelow (length (all_drawn seats.items)) (all_drawn seats.items)) }
         ensures word { (word : ℕ) × IsBoardAt (jobs_of self) (seats_of self) (map hand_of seats.items) word
-            × MatchResult result (λ _. length (all_drawn seats.items) ≡ word) (λ _. length (all_drawn seats.items) < word) }
+            × MatchResult result (λ _. length (all_drawn seats.items) ≡ word)
+            (λ _. length (all_drawn seats.items) < word) }
         ensures missing { OnErr result (vec_len seats < seats_of self) }
     {
         let (counted, word) = self.settled(seats);

@@ -1,5 +1,5 @@
 //! What one worker does.
-ghost use Rattle.std.specs.Prelude.{[], ◌≡◌, ◌≢◌, ℕ, ◌+◌, ◌<◌, length, map, IfOk, IfErr, List, Any, false};
+ghost use Rattle.std.specs.Prelude.{[], ◌≡◌, ◌≢◌, ℕ, ◌<◌, length, map, IfOk, IfErr, List, Any, false};
 ghost use Rattle.esr_history.specs.Queries.{is_committed_query};
 ghost use Rattle.esr_board.specs.Claims.{count_past, Drew};
 ghost use Rattle.esr_board.specs.Boards.{IsSeatOf, drawn, jobs_of};
@@ -31,12 +31,15 @@ pub fn work<M: Metric, G: Gate>(
     requires seat { IsSeatOf board.now seat.old }
     requires jobs { length jobs.now ≡ jobs_of board.now }
     ensures seat { IsSeatOf board.now seat.new }
-    ensures jobs { IfOk result (λ s. Drew (jobs_of board.now) (drawn seat.old) (drawn seat.new) (map (λ p. p.0) s.found.items)) }
-    ensures found { IfOk result (λ s. AreFound M.distance_by history.now.schedule jobs.now (jobs_of board.now) s.found.items) }
+    ensures jobs { IfOk result (λ s. Drew (jobs_of board.now) (drawn seat.old) (drawn seat.new)
+        (map (λ p. p.0) s.found.items)) }
+    ensures found { IfOk result (λ s. AreFound M.distance_by history.now.schedule jobs.now
+        (jobs_of board.now) s.found.items) }
     ensures ended { IfOk result (λ _. 0 < count_past (jobs_of board.now) (drawn seat.new)) }
     ensures err { IfErr result (λ e. (js : List ℕ) × Drew (jobs_of board.now) (drawn seat.old) (drawn seat.new) js
         × (e ≡ AuditError.NotACommittedQuery
-        → Any (λ n. (n < jobs_of board.now) × (is_committed_query history.now.schedule (query_of jobs.now n).0 ≡ false)) js)) }
+        → Any (λ n. (n < jobs_of board.now) × (is_committed_query history.now.schedule (query_of jobs.now n).0
+        ≡ false)) js)) }
     ensures other { IfErr result (λ e. e ≢ AuditError.WorkersOutOfRange) }
 {
     let mut found = Vec::new(alloc);

@@ -1,31 +1,36 @@
 //! The committed values of a machine, and going on from them with an empty history.
-ghost use Rattle.std.specs.Prelude.{◌≡◌, ◌<◌, ◌≤◌, ◌↔◌, true, length, map, List, All, IfOk, OnOk, OnErr, IsErrOf};
+ghost use Rattle.esr_items.specs.declared.TheConstants.{MOST_ITEMS};
+ghost use Rattle.std.specs.Prelude.{◌≡◌, ◌<◌, ◌≤◌, ◌↔◌, true, [], length, map, List, All, IfOk, OnOk, OnErr, IsErrOf};
 ghost use Rattle.std.specs.List.{list_any};
 ghost use Rattle.esr_items.specs.Values.{IsValue, opened};
 ghost use Rattle.esr_history.specs.declared.event.Entry.{Entry};
 ghost use Rattle.esr_history.specs.Events.{committed_value};
 ghost use Rattle.esr_history.specs.Legal.{along};
-ghost use Rattle.esr_history.specs.Machine.{IsLegal, done};
+ghost use Rattle.esr_history.specs.Machine.{Distance, Schedule, IsLegal, done};
+ghost use Rattle.esr_core.specs.States.{IsStateOf};
 ghost use Rattle.esr_core.specs.Renewed.{committed_values, has_active, renewed, AreSerializableAsOne};
 
 use super::{Machine, committed_values};
-use crate::state::Transaction;
+use crate::state::{State, Transaction};
 use esr_history::NoMemory;
 use esr_items::{ItemId, Metric, Store};
 use std::alloc::{AllocError, Global};
+use thiserror::Error;
 
 /// Why a machine is not renewed, with the number of each reason. Nothing has changed then.
-#[derive(Clone, Copy, PartialEq, Eq, Debug)]
+#[derive(Clone, Copy, PartialEq, Eq, Debug, Error)]
 pub enum RenewError {
     /// An allocation failed.
+    #[error("out of memory")]
     NoMemory = 13,
     /// A transaction is active.
+    #[error("a transaction is active")]
     TransactionActive = 16,
 }
 
 /// A store of these values.
 fn store_of(alloc: Global, values: Vec<i64>) -> Result<Store, NoMemory>
-    requires few { length values.items ≤ 4096 }
+    requires few { length values.items ≤ MOST_ITEMS }
     requires range { All IsValue values.items }
     ensures { IfOk result (λ s. s ≡ map opened values.items) }
 {
@@ -53,7 +58,7 @@ impl<M: Metric> Machine<M> {
     pub fn committed_values(&self, alloc: Global) -> Result<Vec<i64>, AllocError>
         ensures values { IfOk result (λ v. v.items ≡ committed_values self.now) }
         ensures range { IfOk result (λ v. All IsValue v.items) }
-        ensures few { IfOk result (λ v. length v.items ≤ 4096) }
+        ensures few { IfOk result (λ v. length v.items ≤ MOST_ITEMS) }
     {
         committed_values(alloc, &self.state.items)
     }
@@ -77,30 +82,39 @@ impl<M: Metric + Drop> Machine<M> {
     /// allocation failed. Then nothing has changed.
     pub fn renew(&mut self, alloc: Global, metric: M) -> Result<(), RenewError>
         ensures ok { OnOk result (self.new ≡ renewed self.old (M.weights metric)) }
-        ensures serializable { OnOk result ((later : List Entry) → IsLegal M.distance_by (along self.new later) → AreSerializableAsOne self.old (along self.new later)) }
+        ensures serializable { OnOk result ((later : List Entry) → IsLegal M.distance_by (along self.new later)
+            → AreSerializableAsOne self.old (along self.new later)) }
         ensures active { IsErrOf result RenewError.TransactionActive ↔ (has_active self.old ≡ true) }
         ensures err { OnErr result (self.new ≡ self.old) }
     {
         if self.has_active() {
             return Err(RenewError::TransactionActive);
         }
-        match self.fresh(alloc, metric) {
-            Ok(machine) => {
-                *self = machine;
+        match self.fresh(alloc) {
+            Ok((state, opening)) => {
+                self.state = state;
+                self.history.restart(opening, metric);
                 Ok(())
             }
             Err(_) => Err(RenewError::NoMemory),
         }
     }
 
-    /// A machine with an empty history over the committed values, by this metric.
-    fn fresh(&self, alloc: Global, metric: M) -> Result<Machine<M>, NoMemory>
-        ensures renewed { IfOk result (λ m. m ≡ renewed self.now (M.weights metric)) }
+    /// The state of a history with no entry over the committed values, and these values. It has
+    /// room for as many transactions as there are, so that its lists need not grow again.
+    fn fresh(&self, alloc: Global) -> Result<(State, Vec<i64>), NoMemory>
+        ensures state { IfOk result (λ p. (d : Distance) (h : Schedule) → h.entries ≡ [] → h.opening ≡ p.1.items
+            → IsStateOf d h p.0) }
+        ensures opening { IfOk result (λ p. p.1.items ≡ committed_values self.now) }
+        ensures range { IfOk result (λ p. All IsValue p.1.items) }
         ensures legal { IsLegal M.distance_by self.now }
     {
         let _legal = self.history.log(); // brings the invariant into the proof
-        let values = self.committed_values(alloc)?;
+        let opening = self.committed_values(alloc)?;
+        let values = opening.to_vec(alloc)?;
         let items = store_of(alloc, values)?;
-        Machine::new(alloc, items, metric)
+        let mut state = State::new(alloc, items)?;
+        state.prepare(self.state.transactions.len());
+        Ok((state, opening))
     }
 }

@@ -4,17 +4,16 @@ use Rattle.esr_order.specs.Near.{AreNear}
 use Rattle.esr_cert.specs.Problem.{is_sound}
 use Rattle.esr_audit.specs.Problems.{StandsFor}
 use Rattle.esr_audit.proofs.Standing.{stands}
-use Rattle.esr_audit.proofs.Readings.{readings_are}
 use Rattle.esr_audit.proofs.Posed as posed
 use Rattle.esr_audit.proofs.problem.problem_of.Goals as goal
 
 pub chains_of-requires-clause-few : goal.chains_of-requires-clause-few
 chains_of-requires-clause-few g c =
-    posed.readings_few g.M.Metric.distance_by c.args.history.now.schedule c.args.q.0 c.log-legal.ensures.legal c.log-legal.ensures.range c.deref.result.now (c.deref.ensures.value ∙ c.in_ok-readings.ensures ∙ readings_are c.args.history.now.schedule c.args.q.0) c.requires.query
+    posed.readings_few g.M.Metric.distance_by c.args.history.now.schedule c.args.q.0 c.log-legal.ensures.legal c.log-legal.ensures.range c.deref.result.now (c.deref.ensures.value ∙ c.in_ok-readings.ensures) c.requires.query
 
 pub chains_of-requires-clause-readings : goal.chains_of-requires-clause-readings
 chains_of-requires-clause-readings g c =
-    posed.readings_in_range g.M.Metric.distance_by c.args.history.now.schedule c.args.q.0 c.log-legal.ensures.legal c.log-legal.ensures.range c.deref.result.now (c.deref.ensures.value ∙ c.in_ok-readings.ensures ∙ readings_are c.args.history.now.schedule c.args.q.0)
+    posed.readings_in_range g.M.Metric.distance_by c.args.history.now.schedule c.args.q.0 c.log-legal.ensures.legal c.log-legal.ensures.range c.deref.result.now (c.deref.ensures.value ∙ c.in_ok-readings.ensures)
 
 pub chains_of-requires-clause-versions : goal.chains_of-requires-clause-versions
 chains_of-requires-clause-versions g c =
@@ -22,7 +21,7 @@ chains_of-requires-clause-versions g c =
 
 pub of_sound-requires : goal.of_sound-requires
 of_sound-requires g c = record {
-  sound = ap is_sound (posed.posed g.M.Metric.distance_by c.args.history.now.schedule c.args.q.0 c.log-legal.ensures.legal c.log-legal.ensures.range (map (λ (t : TxnId). t.0) c.args.order.commits) c.requires.near c.args.order c.requires.order c.deref.result.now (c.deref.ensures.value ∙ c.in_ok-readings.ensures ∙ readings_are c.args.history.now.schedule c.args.q.0)
+  sound = ap is_sound (posed.posed g.M.Metric.distance_by c.args.history.now.schedule c.args.q.0 c.log-legal.ensures.legal c.log-legal.ensures.range (map (λ (t : TxnId). t.0) c.args.order.commits) c.requires.near c.args.order c.requires.order c.deref.result.now (c.deref.ensures.value ∙ c.in_ok-readings.ensures)
       c.into_parts-updates.result.0.items c.into_parts-updates.result.1.items c.in_ok-chains.chains.items c.into_parts-updates.result.2.items
       c.into_parts-updates.ensures.commits
       c.into_parts-updates.ensures.before
@@ -35,7 +34,7 @@ pub returns-clause-stands : goal.returns-clause-stands
 returns-clause-stands g c =
     subst (StandsFor g.M.Metric.distance_by c.args.history.now.schedule c.args.q.0)
     (sym (c.in_ok-problem.ensures
-    ∙ posed.posed g.M.Metric.distance_by c.args.history.now.schedule c.args.q.0 c.log-legal.ensures.legal c.log-legal.ensures.range (map (λ (t : TxnId). t.0) c.args.order.commits) c.requires.near c.args.order c.requires.order c.deref.result.now (c.deref.ensures.value ∙ c.in_ok-readings.ensures ∙ readings_are c.args.history.now.schedule c.args.q.0)
+    ∙ posed.posed g.M.Metric.distance_by c.args.history.now.schedule c.args.q.0 c.log-legal.ensures.legal c.log-legal.ensures.range (map (λ (t : TxnId). t.0) c.args.order.commits) c.requires.near c.args.order c.requires.order c.deref.result.now (c.deref.ensures.value ∙ c.in_ok-readings.ensures)
     c.into_parts-updates.result.0.items c.into_parts-updates.result.1.items c.in_ok-chains.chains.items c.into_parts-updates.result.2.items
     c.into_parts-updates.ensures.commits
     c.into_parts-updates.ensures.before
@@ -47,7 +46,7 @@ pub returns-clause-near : goal.returns-clause-near
 returns-clause-near g c =
     subst (λ p. AreNear c.args.history.now.schedule c.args.q.0 p.updates)
     (sym (c.in_ok-problem.ensures
-    ∙ posed.posed g.M.Metric.distance_by c.args.history.now.schedule c.args.q.0 c.log-legal.ensures.legal c.log-legal.ensures.range (map (λ (t : TxnId). t.0) c.args.order.commits) c.requires.near c.args.order c.requires.order c.deref.result.now (c.deref.ensures.value ∙ c.in_ok-readings.ensures ∙ readings_are c.args.history.now.schedule c.args.q.0)
+    ∙ posed.posed g.M.Metric.distance_by c.args.history.now.schedule c.args.q.0 c.log-legal.ensures.legal c.log-legal.ensures.range (map (λ (t : TxnId). t.0) c.args.order.commits) c.requires.near c.args.order c.requires.order c.deref.result.now (c.deref.ensures.value ∙ c.in_ok-readings.ensures)
     c.into_parts-updates.result.0.items c.into_parts-updates.result.1.items c.in_ok-chains.chains.items c.into_parts-updates.result.2.items
     c.into_parts-updates.ensures.commits
     c.into_parts-updates.ensures.before

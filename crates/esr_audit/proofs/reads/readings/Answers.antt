@@ -1,17 +1,12 @@
-use Rattle.std.proofs.Common.{◌∙◌, ap, reverse}
-use Rattle.std.specs.List.{filter_map, slice_get}
-use Rattle.esr_history.specs.Links.{accepted_txn}
-use Rattle.esr_order.proofs.Sparse.{sparse_key}
-use Rattle.esr_audit.specs.Reads.{read_at}
-use Rattle.esr_audit.proofs.Readings.{read_none}
+use Rattle.std.proofs.Common.{◌∙◌, ap, filter, map, not}
+use Rattle.std.proofs.lemmas.Result.{IfOk-weaker}
+use Rattle.esr_order.specs.declared.accesses.Access.{Access}
+use Rattle.esr_audit.specs.Reads.{read_of}
+use Rattle.esr_audit.proofs.Readings.{readings_are}
 use Rattle.esr_audit.proofs.reads.readings.Goals as goal
 
 pub returns : goal.returns
 returns g c =
-    let es = c.args.history.now.schedule.entries in
-    let q = c.args.q.0 in
-    c.in_ok-readings.ensures
-    ∙ (ap (λ l. filter_map (read_at q) (filter_map (slice_get l) (reverse c.deref.result.now))) c.log.ensures.entries
-    ∙ (ap (λ l. filter_map (read_at q) (filter_map (slice_get es) (reverse l))) c.deref.ensures.value
-    ∙ (ap (λ l. filter_map (read_at q) (filter_map (slice_get es) l)) c.in_ok-at.ensures
-    ∙ sparse_key (read_at q) accepted_txn q (read_none q) es)))
+    IfOk-weaker c.readings_among.result _ _
+    (λ v is. is ∙ (ap (λ l. map read_of (filter (λ (a : Access). not a.writes) l)) (c.deref.ensures.value ∙ c.in_ok-accesses.ensures) ∙ readings_are c.args.history.now.schedule c.args.q.0))
+    c.readings_among.ensures

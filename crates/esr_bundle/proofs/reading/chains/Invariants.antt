@@ -2,7 +2,7 @@ use Rattle.std.proofs.Common.{◌≡◌, ◌++◌, drop, map, option_map}
 use Rattle.serde_json.specs.View.{items_view}
 use Rattle.esr_bundle.specs.Fields.{each}
 use Rattle.esr_bundle.specs.Bundle.{chain_of}
-use Rattle.esr_bundle.specs.Drafts.{drafted_chain}
+use Rattle.esr_cert.specs.Drafts.{drafted_chain}
 use Rattle.esr_bundle.proofs.reading.chains.Given as goal
 
 abbrev pub invariant-loop-item : goal.invariant-loop-item

@@ -5,7 +5,7 @@ use Rattle.esr_cert.specs.Views.{chain_of}
 use Rattle.esr_cert.specs.declared.problem.BundleFault.{BundleFault}
 use Rattle.esr_cert.specs.declared.problem.BundleFault.TheVariants.{Range, NoMemory}
 use Rattle.esr_bundle.specs.Bundle.{is_chain_of_positions}
-use Rattle.esr_bundle.specs.Drafts.{drafted_chain}
+use Rattle.esr_cert.specs.Drafts.{drafted_chain}
 use Rattle.esr_bundle.proofs.Exits.{passes, no_at, take_map_more}
 use Rattle.esr_bundle.proofs.sound.chains.Goals as goal
 

@@ -1,6 +1,6 @@
 use Rattle.std.proofs.Common.{◌≡◌, take, map}
 use Rattle.esr_cert.specs.Views.{chain_of}
-use Rattle.esr_bundle.specs.Drafts.{drafted_chain}
+use Rattle.esr_cert.specs.Drafts.{drafted_chain}
 use Rattle.esr_bundle.proofs.sound.chains.Given as goal
 
 abbrev pub invariant-loop-draft : goal.invariant-loop-draft

@@ -4,7 +4,8 @@ use Rattle.esr_cert.specs.Problem.{Problem}
 use Rattle.esr_cert.specs.Certificate.{Certificate}
 use Rattle.esr_cert.specs.Views.{rows_of}
 use Rattle.esr_bundle.specs.Bundle.{is_position}
-use Rattle.esr_bundle.specs.Drafts.{drafted_problem, drafted_certificate}
+use Rattle.esr_cert.specs.Drafts.{drafted_problem}
+use Rattle.esr_bundle.specs.Drafts.{drafted_certificate}
 use Rattle.esr_bundle.proofs.Judged.{judged_ok}
 use Rattle.esr_bundle.proofs.sound.finished.Goals as goal
 

@@ -2,13 +2,21 @@ use Rattle.std.proofs.Common.{◌≡◌, ◌≢◌, true, false, Some, map, sym,
 use Rattle.std.specs.List.{list_all}
 use Rattle.esr_cert.specs.Problem.{has_shape}
 use Rattle.esr_cert.specs.Faults.{problem_fault}
+use Rattle.esr_cert.specs.Views.{problem_of}
 use Rattle.esr_cert.specs.declared.problem.BundleFault.{BundleFault}
 use Rattle.esr_cert.specs.declared.problem.BundleFault.TheVariants.{NoMemory}
 use Rattle.esr_bundle.specs.Bundle.{is_position, is_pair_of_positions, is_chain_of_positions}
-use Rattle.esr_bundle.specs.Drafts.{drafted_chain, drafted_problem}
+use Rattle.esr_cert.specs.Drafts.{drafted_chain, drafted_problem}
 use Rattle.esr_bundle.proofs.Exits.{passes}
 use Rattle.esr_bundle.proofs.Wide.{wide_updates, wide_before, wide_chains, wide_must}
 use Rattle.esr_bundle.proofs.sound.problem.Goals as goal
+
+pub of_shape-requires : goal.of_shape-requires
+of_shape-requires c =
+    let shape : has_shape (drafted_problem c.args.draft.now) ≡ true = sym c.in_ok-has_shape.ensures ∙ c.if-not-branch.false in
+    let same : problem_of c.in_ok-updates.updates.items c.in_ok-before.before.items c.in_ok-chains.chains.items c.in_ok-must.must.items ≡ drafted_problem c.args.draft.now =
+    cc (c.in_ok-updates.ensures.ok, c.in_ok-before.ensures.ok, c.in_ok-chains.ensures.ok, c.in_ok-must.ensures.ok) in
+    record { shape = ap has_shape same ∙ shape }
 
 pub returns-in_err-updates-clause-err : goal.returns-in_err-updates-clause-err
 returns-in_err-updates-clause-err c =

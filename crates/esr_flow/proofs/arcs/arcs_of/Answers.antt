@@ -12,8 +12,8 @@ push_chains-requires-clause-chains c = chains_long c.args.problem.now (facts c.a
 
 pub returns : goal.returns
 returns c =
-    let count : length c.updates-source.result.now ≡ size c.args.problem.now = sym (length-map c.updates-source.result.now (λ t. t.0)) ∙ ap length c.updates-source.ensures.list in
-    arcs_whole c.args.problem.now (length c.updates-source.result.now) c.chains.result.now c.before-2.result.now c.must.result.now c.push_chains.new.arcs.items c.push_backs.new.arcs.items c.push_musts.new.arcs.items
+    let count : length c.updates.result.now ≡ size c.args.problem.now = sym (length-map c.updates.result.now (λ t. t.0)) ∙ ap length c.updates.ensures.list in
+    arcs_whole c.args.problem.now (length c.updates.result.now) c.chains.result.now c.before-2.result.now c.must.result.now c.push_chains.new.arcs.items c.push_backs.new.arcs.items c.push_musts.new.arcs.items
     count c.chains.ensures.list c.before-2.ensures.list c.must.ensures.list
-    (c.in_ok-push_chains.ensures ∙ ap (λ xs. xs ++ flat_map (λ chain. chain_links (length c.updates-source.result.now) (chain_of chain)) c.chains.result.now) c.in_ok-arcs.ensures.items)
+    (c.in_ok-push_chains.ensures ∙ ap (λ xs. xs ++ flat_map (λ chain. chain_links (length c.updates.result.now) (chain_of chain)) c.chains.result.now) c.in_ok-arcs.ensures.items)
     c.in_ok-push_backs.ensures c.in_ok-push_musts.ensures

@@ -1,10 +1,11 @@
-use Rattle.std.proofs.Common.{arith, ◌≡◌, true, false, set, replicate, [], ◌∷◌, subst, sym, ◌∙◌, ap, ◌++◌}
+use Rattle.std.proofs.Common.{arith, ◌≡◌, ℕ, true, false, set, replicate, [], ◌∷◌, subst, sym, ◌∙◌, ap, ◌++◌}
 use Rattle.esr_flow.specs.declared.step.Step.TheVariants.{Along}
 use Rattle.std.proofs.lemmas.List.{get_or_default}
 use Rattle.esr_cert.specs.Network.{Network}
-use Rattle.esr_flow.specs.Graph.{net_of, Lists, row_in, span_at}
+use Rattle.esr_flow.specs.declared.graph.Graph.{Graph}
+use Rattle.esr_flow.specs.Graph.{net_of, row_in, span_at}
 use Rattle.esr_flow.specs.Search.{visit_at, is_marked, Searched, AfterScan}
-use Rattle.esr_flow.proofs.EntriesLaws.{row_lists}
+use Rattle.esr_flow.proofs.EntriesLaws.{lists_read}
 use Rattle.esr_flow.proofs.PathLaws.{begin, sink_unmarked}
 use Rattle.esr_flow.proofs.SearchLaws.{all_reached}
 use Rattle.esr_flow.proofs.search.search.Goals as goal
@@ -24,14 +25,16 @@ loop-head-init c =
 
 pub scan-requires-clause-row : goal.scan-requires-clause-row
 scan-requires-clause-row c =
-    let h : Searched (net_of c.args.graph.now) c.args.flow.now c.loop-head.visits.items c.loop-head.marks.items c.loop-head.head = c.loop-head.invariant.0 in
-    let at : c.index.result.now ≡ visit_at c.loop-head.visits.items c.loop-head.head =
-    c.index.ensures ∙ get_or_default c.loop-head.visits.items c.loop-head.head c.index.result.now (record { node = 0; level = 0; step = Along 0; parent = 0 }) (omega arith) in
-    let node : c.index.result.now.node ≡ (visit_at c.loop-head.visits.items c.loop-head.head).node = ap (λ x. x.node) at in
-    let lists : Lists c.args.graph.now.arcs.items c.args.flow.now c.index.result.now.node (row_in c.args.entries.now (span_at c.args.graph.now.spans.items c.index.result.now.node)) =
-    row_lists c.args.graph.now c.requires.graph c.args.flow.now c.args.entries.now c.requires.entries c.index.result.now.node (omega (arith, node, h.nodes c.loop-head.head (omega arith))) in
-    subst (λ r. Lists c.args.graph.now.arcs.items c.args.flow.now (visit_at c.loop-head.visits.items c.loop-head.head).node r) (sym c.row-row.ensures)
-    (subst (λ n. Lists c.args.graph.now.arcs.items c.args.flow.now n (row_in c.args.entries.now (span_at c.args.graph.now.spans.items c.index.result.now.node))) node lists)
+    let g : Graph = c.args.graph.now in
+    let h : Searched (net_of g) c.args.flow.now c.loop-head.visits.items c.loop-head.marks.items c.loop-head.head = c.loop-head.invariant.0 in
+    let v : ℕ = (visit_at c.loop-head.visits.items c.loop-head.head).node in
+    let first : c.index.result.now.node ≡ v =
+    ap (λ x. x.node) (c.index.ensures ∙ get_or_default c.loop-head.visits.items c.loop-head.head c.index.result.now (record { node = 0; level = 0; step = Along 0; parent = 0 }) (omega arith)) in
+    let second : c.index-in-loop-head.result.now.node ≡ v =
+    ap (λ x. x.node) (c.index-in-loop-head.ensures ∙ get_or_default c.loop-head.visits.items c.loop-head.head c.index-in-loop-head.result.now (record { node = 0; level = 0; step = Along 0; parent = 0 }) (omega arith)) in
+    let steps : c.steps_at-steps.result.now ≡ row_in g.steps.items (span_at g.spans.items v) = c.steps_at-steps.ensures ∙ ap (λ n. row_in g.steps.items (span_at g.spans.items n)) first in
+    let row : c.row-row.result.now ≡ row_in c.args.entries.now (span_at g.spans.items v) = c.row-row.ensures ∙ ap (λ n. row_in c.args.entries.now (span_at g.spans.items n)) second in
+    lists_read g c.requires.graph c.args.flow.now c.args.entries.now c.requires.entries v (h.nodes c.loop-head.head (omega arith)) c.steps_at-steps.result.now c.row-row.result.now steps row
 
 pub loop-head-preserved : goal.loop-head-preserved
 loop-head-preserved c =

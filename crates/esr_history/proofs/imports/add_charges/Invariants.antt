@@ -5,5 +5,5 @@ use Rattle.esr_history.proofs.imports.add_charges.Given as goal
 
 -- the sums of the charges so far
 abbrev pub invariant-loop-charge : goal.invariant-loop-charge
-invariant-loop-charge l = (length l.imports.items ≡ length l.initial.imports.items)
-    × ((t : ℕ) → t < length l.initial.imports.items → slice_index_or l.imports.items t 0 ≡ slice_index_or l.initial.imports.items t 0 + imported (take l.charge-index l.charges) t)
+invariant-loop-charge l = (length l.imports ≡ length l.initial.imports)
+    × ((t : ℕ) → t < length l.initial.imports → slice_index_or l.imports t 0 ≡ slice_index_or l.initial.imports t 0 + imported (take l.charge-index l.charges) t)

@@ -1,6 +1,4 @@
-use Rattle.std.proofs.Common.{◌≡◌, ◌∙◌, sym, ap, arith, not}
-use Rattle.std.specs.List.{insert}
-use Rattle.std.proofs.lemmas.Grind.{common_steps}
+use Rattle.std.proofs.Common.{◌∙◌, sym, ap, not}
 use Rattle.esr_history.specs.Ascending.{IsPlaceOf, IsGapFor}
 use Rattle.esr_history.proofs.Ascending.{placed_same, placed_gap, any_place, any_gap}
 use Rattle.esr_locks.specs.Rows.{reader}
@@ -19,8 +17,7 @@ returns-in-Ok-clause-fresh c =
 pub returns-in-Err-clause-items : goal.returns-in-Err-clause-items
 returns-in-Err-clause-items c =
     let gap : IsGapFor (λ r. r.update.0) c.args.readers.now.items c.args.t.0 c.in-Err.at = rw (← c.deref.ensures) c.in-Err.ensures.absent in
-    let put : c.insert.new.self.items ≡ insert c.args.readers.now.items c.in-Err.at (reader c.args.t) = grind (arith, common_steps) in
-    put ∙ placed_gap (λ r. r.update.0) c.args.t.0 (reader c.args.t) (λ u. u) c.args.readers.now.items c.in-Err.at gap
+    c.put.ensures ∙ placed_gap (λ r. r.update.0) c.args.t.0 (reader c.args.t) (λ u. u) c.args.readers.now.items c.in-Err.at gap
 
 pub returns-in-Err-clause-fresh : goal.returns-in-Err-clause-fresh
 returns-in-Err-clause-fresh c =

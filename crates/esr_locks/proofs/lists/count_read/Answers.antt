@@ -1,6 +1,4 @@
-use Rattle.std.proofs.Common.{◌≡◌, ◌∙◌, sym, ap, arith, not, set, get_or, List}
-use Rattle.std.specs.List.{insert}
-use Rattle.std.proofs.lemmas.Grind.{common_steps}
+use Rattle.std.proofs.Common.{◌∙◌, sym, ap, not, set, get_or, List}
 use Rattle.std.proofs.Math.ListN.{length-set}
 use Rattle.smallvec.proofs.SmallVecLemmas.{items-with_items}
 use Rattle.esr_history.specs.Ascending.{IsPlaceOf, IsGapFor}
@@ -21,8 +19,7 @@ returns-in-Ok-clause-items c =
 pub returns-in-Err-clause-items : goal.returns-in-Err-clause-items
 returns-in-Err-clause-items c =
     let gap : IsGapFor (λ r. r.query.0) c.args.queries.now.items c.args.q.0 c.in-Err.at = rw (← c.deref.ensures) c.in-Err.ensures.absent in
-    let put : c.insert.new.self.items ≡ insert c.args.queries.now.items c.in-Err.at (first_reads c.args.q) = grind (arith, common_steps) in
-    put ∙ placed_gap (λ r. r.query.0) c.args.q.0 (first_reads c.args.q) more_reads c.args.queries.now.items c.in-Err.at gap
+    c.put.ensures ∙ placed_gap (λ r. r.query.0) c.args.q.0 (first_reads c.args.q) more_reads c.args.queries.now.items c.in-Err.at gap
 
 pub returns-in-Err-clause-fresh : goal.returns-in-Err-clause-fresh
 returns-in-Err-clause-fresh c =

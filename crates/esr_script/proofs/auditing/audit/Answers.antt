@@ -1,13 +1,18 @@
-use Rattle.std.proofs.Common.{[]}
-use Rattle.std.proofs.KnownBytes.{Appends-nil}
+use Rattle.std.proofs.Common.{◌≡◌, [], ℕ, Vec}
+use Rattle.std.specs.declared.alloc.Global.{Global}
 use Rattle.esr_history.specs.Watch.{inner}
-use Rattle.esr_script.proofs.Audited.{audited_fault, audited_sent}
+use Rattle.esr_script.specs.Audit.{audit_output}
+use Rattle.esr_script.specs.Text.{final}
+use Rattle.std.proofs.KnownBytes.{Appends-nil}
+use Rattle.esr_script.proofs.Ends.{written_fault, written_sent}
 use Rattle.esr_script.proofs.auditing.audit.Goals as goal
 
 pub returns-in-Err-clause-text : goal.returns-in-Err-clause-text
 returns-in-Err-clause-text g c input known =
-    ([], Appends-nil _, audited_fault input (g.R.Read.remaining (inner c.prepare.new.reader)) c.in-Err.fault (c.in-Err.ensures.ready input known))
+    let left = g.R.Read.remaining (inner c.prepare.new.reader) in
+    ([], Appends-nil _, written_fault input left (λ (out : Vec ℕ Global). out.items ≡ audit_output (final input)) _ _ c.in-Err.fault (c.in-Err.ensures.ready input known))
 
 pub returns-clause-text : goal.returns-clause-text
 returns-clause-text g c input known =
-    audited_sent input (g.R.Read.remaining (inner c.prepare.new.reader)) c.in-Ok.out (c.in-Ok.ensures.ready input known) c.send_all.result _ _ _ c.send_all.ensures.ok c.send_all.ensures.err
+    let ready = c.in-Ok.ensures.ready input known in
+    written_sent input (g.R.Read.remaining (inner c.prepare.new.reader)) _ _ c.in-Ok.out.items ready.0 ready.1 ready.2 c.send_all.result _ _ _ c.send_all.ensures.ok c.send_all.ensures.err

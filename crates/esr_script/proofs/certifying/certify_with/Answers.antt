@@ -1,13 +1,12 @@
-use Rattle.std.proofs.Common.{[]}
-use Rattle.std.proofs.KnownBytes.{Appends-nil}
+use Rattle.std.proofs.Common.{◌∙◌, rules, of_calls}
 use Rattle.esr_history.specs.Watch.{inner}
-use Rattle.esr_script.proofs.Replays.{certified_fault, certified_sent}
+use Rattle.esr_script.specs.Text.{final}
+use Rattle.esr_script.proofs.Ends.{told_of}
+use Rattle.esr_script.proofs.Replays.{bundle_told}
 use Rattle.esr_script.proofs.certifying.certify_with.Goals as goal
-
-pub returns-in-Err-clause-text : goal.returns-in-Err-clause-text
-returns-in-Err-clause-text g c input known =
-    ([], Appends-nil _, certified_fault c.args.steps input c.args.name.now (g.R.Read.remaining (inner c.prepare.new.reader)) c.in-Err.fault (c.in-Err.ensures.prepared input known))
 
 pub returns-clause-text : goal.returns-clause-text
 returns-clause-text g c input known =
-    certified_sent c.args.steps input c.args.name.now (g.R.Read.remaining (inner c.prepare.new.reader)) c.in-Ok.text (c.in-Ok.ensures.prepared input known) c.send_all.result _ _ _ c.send_all.ensures.ok c.send_all.ensures.err
+    let told = c.tell.ensures.text input known in
+    let name = c.args.name.now in
+    (told.0, told.1, told_of input name (g.R.Read.remaining (inner c.tell.new.reader)) _ _ (λ text made. bundle_told c.args.steps (final input) name made.0 made.1 text (made.4 ∙ (let learnt = made.3.1 in search (rules, of_calls, learnt)))) c.tell.result told.0 told.2)

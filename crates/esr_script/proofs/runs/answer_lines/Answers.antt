@@ -4,7 +4,7 @@ use Rattle.esr_history.specs.Watch.{inner}
 use Rattle.esr_script.specs.Parts.{line_len, IsHeldRun}
 use Rattle.esr_script.proofs.Prefix.{same_bytes}
 use Rattle.esr_script.proofs.Steps.{advance}
-use Rattle.esr_script.proofs.Held.{has_bytes, is_long, all_sent, unread, held_read, held_memory, held_long, held_many, held_full, after_line, held_write}
+use Rattle.esr_script.proofs.Held.{all_sent, all_grown, is_not_read, unread, held_read, held_write}
 use Rattle.esr_script.proofs.runs.answer_lines.Goals as goal
 use Rattle.esr_script.proofs.runs.answer_lines.Goals.{then-len-ge-OUTPUT_FULL+in_default-send_all, else-len-ge-OUTPUT_FULL}
 
@@ -56,45 +56,15 @@ lines-preserved-in-Ok g c =
           (inv.0 ++ c.lines.out.items, Appends-trans _ _ _ _ _ inv.1 sent.1, rw sent.0 here);
     }
 
-pub returns-then-count-eq-MAX_LINES : goal.returns-then-count-eq-MAX_LINES
-returns-then-count-eq-MAX_LINES g c =
+pub returns-in-Err-answer_next : goal.returns-in-Err-answer_next
+returns-in-Err-answer_next g c =
     record {
       text = λ input known.
           let inv = c.lines.invariant.text input known in
-          let found = rw c.bytes.ensures at c.next_line-next.ensures in
-          (inv.0, inv.1, held_many input _ _ _ _ inv.0 _ inv.2 c.if-count-eq-MAX_LINES.true (has_bytes _ _ found c.in_default.not-More));
-      read = λ h. cc;
-      reader = c.lines.invariant.reader;
-      writer = c.lines.invariant.writer;
-    }
-
-pub returns-in_default-next : goal.returns-in_default-next
-returns-in_default-next g c =
-    record {
-      text = λ input known.
-          let inv = c.lines.invariant.text input known in
-          let found = rw c.bytes.ensures at c.next_line-next.ensures in
-          (inv.0, inv.1, held_long input _ _ _ _ inv.0 _ inv.2 c.if-count-eq-MAX_LINES.false (is_long _ _ found c.in_default.not-More c.in_default-next.not-Line));
-      read = λ h. cc;
-      reader = c.lines.invariant.reader;
-      writer = c.lines.invariant.writer;
-    }
-
-pub returns-in-Err-answer : goal.returns-in-Err-answer
-returns-in-Err-answer g c =
-    record {
-      text = λ input known.
-          let inv = c.lines.invariant.text input known in
-          let found = rw c.bytes.ensures at c.in-Line.ensures in
-          let kept = c.in-Err-answer.ensures.err in
-          let faults = rw c.bytes-in-lines.ensures at c.in-Err-answer.ensures.faults in
-          elim faults [
-            | inl e ↦ (inv.0, inv.1, rw (e, kept) (held_memory input _ _ _ _ inv.0 _ inv.2 (g.R.Read.remaining (inner c.lines.reader))))
-            | inr e ↦ (inv.0, inv.1, rw (e.0, kept) (held_full input _ _ _ _ inv.0 _ inv.2 c.in-Line.length c.if-count-eq-MAX_LINES.false found e.1))
-          ];
-      read = λ h. elim c.in-Err-answer.ensures.faults [ inl e ↦ cc | inr e ↦ cc ];
-      reader = elim c.in-Err-answer.ensures.faults [ inl e ↦ rw e c.lines.invariant.reader | inr e ↦ rw e.0 c.lines.invariant.reader ];
-      writer = elim c.in-Err-answer.ensures.faults [ inl e ↦ rw e c.lines.invariant.writer | inr e ↦ rw e.0 c.lines.invariant.writer ];
+          (inv.0, inv.1, c.in-Err-answer_next.ensures.held input inv.0 _ inv.2);
+      read = λ h. absurd (is_not_read _ c.in-Err-answer_next.ensures.read h);
+      reader = c.lines.invariant.reader ∙ sym c.in-Err-answer_next.ensures.read;
+      writer = c.lines.invariant.writer ∙ sym c.in-Err-answer_next.ensures.write;
     }
 
 pub returns-in-Err-send_all : goal.returns-in-Err-send_all
@@ -102,9 +72,8 @@ returns-in-Err-send_all g c =
     record {
       text = λ input known.
           let inv = c.lines.invariant.text input known in
-          let found = rw c.bytes.ensures at c.in-Line.ensures in
-          let answered = rw c.bytes-in-lines.ensures at c.in_default-answer.ensures.ok in
-          let after = after_line input _ _ _ _ inv.0 _ inv.2 c.in-Line.length _ answered.0 _ c.if-count-eq-MAX_LINES.false found answered.1 answered.2 in
+          let answered = c.in_default-answer_next.ensures.text in
+          let after = all_grown inv.0 _ answered.0 _ answered.1 (answered.2 input _ _ inv.2) in
           let failed = c.in-Err-send_all.ensures.err in
           let part = failed.1 in
           (inv.0 ++ part.0, Appends-trans _ _ _ _ _ inv.1 part.2, rw failed.0 (held_write input _ _ _ _ inv.0 _ after part.0 part.1 (g.R.Read.remaining (inner c.lines.reader)) c.send_all.new.out.items));
@@ -116,7 +85,7 @@ returns-in-Err-send_all g c =
 pub lines-preserved : goal.lines-preserved
 lines-preserved g c =
     record {
-      bound = omega (arith, c.lines.invariant.bound, c.if-count-eq-MAX_LINES.false);
+      bound = omega (arith, c.lines.invariant.bound, c.in_default-answer_next.ensures.few);
       reader = c.lines.invariant.reader;
       writer = elim c.if-len-ge-OUTPUT_FULL.branch [
         | then-len-ge-OUTPUT_FULL+in_default-send_all w ↦ rw w.writer-is (w.in_default-send_all.ensures.failed ∙ rw c.lines.invariant.writer refl)
@@ -124,14 +93,12 @@ lines-preserved g c =
       ];
       text = λ input known.
           let inv = c.lines.invariant.text input known in
-          let found = rw c.bytes.ensures at c.in-Line.ensures in
-          let answered = rw c.bytes-in-lines.ensures at c.in_default-answer.ensures.ok in
-          let before = after_line input _ _ _ _ inv.0 _ inv.2 c.in-Line.length _ answered.0 _ c.if-count-eq-MAX_LINES.false found answered.1 answered.2 in
-          let after = rw (← c.skip.ensures) at before in
+          let answered = c.in_default-answer_next.ensures.text in
+          let after = all_grown inv.0 _ answered.0 _ answered.1 (answered.2 input _ _ inv.2) in
           elim c.if-len-ge-OUTPUT_FULL.branch [
             | then-len-ge-OUTPUT_FULL+in_default-send_all w ↦
                 let sent = w.in_default-send_all.ensures.ok in
-                rw (w.writer-is, w.out-is) (inv.0 ++ c.answer.new.out.items, Appends-trans _ _ _ _ _ inv.1 sent.1, rw sent.0 (all_sent _ after))
+                rw (w.writer-is, w.out-is) (inv.0 ++ c.answer_next.new.out.items, Appends-trans _ _ _ _ _ inv.1 sent.1, rw sent.0 (all_sent _ after))
             | else-len-ge-OUTPUT_FULL w ↦ rw (w.writer-is, w.out-is) (inv.0, inv.1, after)
           ];
     }

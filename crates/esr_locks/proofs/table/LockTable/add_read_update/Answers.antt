@@ -4,8 +4,8 @@ use Rattle.std.proofs.lemmas.Bool.{not-false}
 use Rattle.std.proofs.lemmas.List.{length-map}
 use Rattle.esr_history.specs.ItemLocks.{ItemLocks}
 use Rattle.esr_locks.specs.Rows.{RowOf, HeldOf}
-use Rattle.esr_locks.specs.Tables.{Table, room_for, locks_at, has_lock, with_reader, is_reader}
-use Rattle.esr_locks.proofs.Tables.{set_row, IsTable-push, IsTable-again, has_list, read_list, reader_more, reader_has}
+use Rattle.esr_locks.specs.Tables.{Table, room_for, locks_at, has_lock, with_reader, is_update}
+use Rattle.esr_locks.proofs.Tables.{set_row, IsTable-push, IsTable-again, has_list, read_list, reader_more, update_has}
 use Rattle.esr_locks.proofs.table.LockTable.add_read_update.Goals as goal
 use Rattle.esr_locks.proofs.table.LockTable.add_read_update.Goals.{After-add_reader}
 
@@ -36,7 +36,7 @@ pub invariant_of-self-else-add_reader : goal.invariant_of-self-else-add_reader
 invariant_of-self-else-add_reader c =
     let w : After-add_reader = (goal.at.invariant_of-self-else-add_reader c).After-add_reader in
     IsTable-again c.self.inside.rows.items c.self.inside.held.items c.self.invariant c.args.t.0 c.args.x.0 (inside w) c.index_mut.result.now c.add_reader.new.self c.index_mut.ensures.value (more w)
-    (reader_has c.args.t.0 c.index_mut.result.now.locks (not-false (is_reader c.index_mut.result.now.locks c.args.t.0) (sym c.add_reader.ensures.fresh ∙ c.if-add_reader.false)))
+    (update_has c.args.t.0 c.index_mut.result.now.locks (not-false (is_update c.index_mut.result.now.locks c.args.t.0) (sym c.add_reader.ensures.fresh ∙ c.if-add_reader.false)))
 
 pub returns-then-add_reader : goal.returns-then-add_reader
 returns-then-add_reader c = locks (goal.at.returns-then-add_reader c).After-add_reader

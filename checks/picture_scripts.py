@@ -1,0 +1,124 @@
+"""Scripts whose pictures are at the edge: names and values of every length, few and many updates."""
+import random
+
+LIMIT = 10 ** 18
+
+
+class Script:
+    """A script that grows line by line, and keeps that its updates come one after another."""
+
+    def __init__(self, items, weights=None):
+        weight = lambda name: f" weight {weights[name]}" if weights else ""
+        self.lines = [f"item {name} {value}{weight(name)}" for name, value in items]
+        self.names = [name for name, _ in items]
+
+    def query(self, name, strict=False):
+        self.lines.append(f"begin {name} query {LIMIT}" + (" strict" if strict else ""))
+
+    def read(self, txn, item):
+        self.lines.append(f"read {txn} {item}")
+
+    def update(self, name, writes, between=()):
+        """An update with its writes; after each write the reads of `between` that stand at its place."""
+        self.lines.append(f"begin {name} update {LIMIT}")
+        for place, (item, value) in enumerate(writes):
+            self.lines.append(f"write {name} {item} {value}")
+            for txn, read in between[place] if place < len(between) else ():
+                self.read(txn, read)
+        self.lines.append(f"commit {name}")
+
+    def text(self):
+        return "\n".join(self.lines) + "\n"
+
+
+def rounds(count, lanes, name_width, large, twice=False):
+    """A report that reads each of some items among so many updates, each of which moves something between two."""
+    pad = lambda stem, i: (stem + str(i)).rjust(name_width, "W") if name_width else stem + str(i)
+    value = lambda i: -10 ** 12 + i if large else 100 + i
+    names = [pad("a", i) for i in range(lanes)]
+    script = Script([(name, value(i)) for i, name in enumerate(names)])
+    query = pad("q", 0)
+    script.query(query)
+    for i in range(count):
+        first, second = names[i % lanes], names[(i + 1) % lanes]
+        reads = [[(query, first)] if i % 3 == 0 else [], [(query, second)] if i % 3 == 1 or twice else []]
+        script.update(pad("u", i), [(first, value(7 * i + 1)), (second, value(11 * i + 2))], reads)
+    if count == 0:
+        for name in names:
+            script.read(query, name)
+    script.lines.append(f"commit {query}")
+    return script.text(), query
+
+
+def random_script(seed):
+    """A report among random updates."""
+    pick = random.Random(seed)
+    width = pick.choice([0, 0, 0, 16, 9])
+    lanes = pick.randint(1, 12)
+    stem = lambda letter, i: (letter + str(i)).ljust(width, pick.choice("Wim_9")) if width else letter + str(i)
+    value = lambda: pick.choice([0, pick.randint(-999, 999), pick.randint(-10 ** 12, 10 ** 12), -10 ** 12])
+    names = [stem("x", i) for i in range(lanes)]
+    weights = {name: pick.choice([1, 2, 1000]) for name in names} if pick.random() < 0.3 else None
+    script = Script([(name, value()) for name in names], weights)
+    query = stem("q", 0)
+    script.query(query, pick.random() < 0.2)
+    for i in range(pick.choice([0, 1, 2, 3, 5, 8, 13, 30, 31, 40])):
+        writes = [(pick.choice(names), value()) for _ in range(pick.randint(1, 4))]
+        between = [[(query, pick.choice(names))] if pick.random() < 0.3 else [] for _ in writes]
+        script.update(stem("u", i), writes, between)
+    for name in names:
+        if pick.random() < 0.4:
+            script.read(query, name)
+    script.lines.append(f"commit {query}")
+    return script.text(), query
+
+
+def large_script():
+    """A report of 1,000 reads beside 20,000 updates."""
+    names = [f"i{i}" for i in range(1000)]
+    script = Script([(name, i) for i, name in enumerate(names)])
+    script.query("q")
+    for i in range(20000):
+        reads = [[("q", names[i // 20])] if i % 20 == 0 else []]
+        script.update(f"u{i}", [(names[(7 * i + j) % 1000], i + j) for j in range(4)], reads)
+    script.lines.append("commit q")
+    return script.text(), "q"
+
+
+def one_item(count, reads):
+    """One item that every update writes, read so many times."""
+    script = Script([("x", 0)])
+    script.query("q")
+    for i in range(count):
+        script.update(f"u{i}", [("x", 5 * i)], [[("q", "x")] if i < reads else []])
+    script.lines.append("commit q")
+    return script.text(), "q"
+
+
+def strict():
+    """A strict report behind an update, which reads what is never committed."""
+    script = Script([("x", 0)])
+    script.update("first", [("x", 5)])
+    script.query("q", True)
+    script.lines += [f"begin gone update {LIMIT}", "write gone x 9", "read q x", "abort gone"]
+    script.update("last", [("x", 6)])
+    script.lines.append("commit q")
+    return script.text(), "q"
+
+
+def edges():
+    """Each edge: a name of it, a script, and the query."""
+    yield ("no_update",) + rounds(0, 3, 0, False)
+    yield ("no_read",) + rounds(0, 0, 0, False)
+    for count in (1, 2, 4, 30, 31, 200):
+        yield (f"updates_{count}",) + rounds(count, 5, 0, False)
+        yield (f"longest_{count}",) + rounds(count, 5, 16, True)
+    yield ("twice",) + rounds(6, 3, 0, False, True)
+    yield ("twice_longest",) + rounds(6, 3, 16, True, True)
+    yield ("items_400",) + rounds(20, 40, 0, False)
+    yield ("items_many",) + rounds(900, 300, 0, False)
+    yield ("strict",) + strict()
+    yield ("one_item",) + one_item(12, 1)
+    yield ("one_item_often",) + one_item(12, 12)
+    yield ("one_item_long",) + one_item(3000, 3)
+    yield ("large",) + large_script()

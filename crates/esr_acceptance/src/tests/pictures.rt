@@ -1,0 +1,170 @@
+//! Queries drawn.
+
+use crate::tests::devices::{Cut, Narrow, Way};
+use esr_history::Watched;
+use esr_picture::picture;
+use esr_script::RunFault;
+use std::alloc::{AllocError, Global};
+use std::process::Abort;
+use std::str::from_utf8;
+use std::test::Fail;
+
+/// A report that reads one account before a transfer and the other after it.
+const BANK: &str =
+    "item checking 500\nitem savings 1500\nbegin report query 200\nread report checking\nbegin transfer update 200\nwrite transfer checking 400\nwrite transfer savings 1600\ncommit transfer\nread report savings\ncommit report\n";
+
+/// What is drawn of it, without the first line, the style and the legend.
+const BANK_DRAWN: [&str; 14] = [
+    "<title id='report-title'>Audit of report</title>\n",
+    "<desc id='report-desc'>Distance 100, import 100. In order: [report], transfer. checking: read 500, as at its place. savings: read 1600, off by 100 from its place.</desc>\n",
+    "<text class='h' x='20' y='28'>report: distance 100, import 100</text>\n",
+    "<path class='d' d='M384 102V228'/>\n",
+    "<rect class='a' x='342' y='74' width='84' height='28' rx='6'/><text class='m' x='384' y='93' text-anchor='middle'>transfer</text>\n",
+    "<text class='m n' x='20' y='146'>checking</text><text class='m g' x='20' y='164'>read 500</text>",
+    "<path class='u' d='M132 152H380'/><text class='m o' x='138' y='140'>500</text>\n",
+    "<path class='t' d='M384 143V161'/><path class='v' d='M388 152H508'/><text class='m o' x='394' y='140'>400</text>\n",
+    "<text class='m n' x='20' y='222'>savings</text><text class='m g' x='20' y='240'>read 1600</text>",
+    "<path class='v' d='M132 228H380'/><text class='m o' x='138' y='216'>1500</text>\n",
+    "<path class='t' d='M384 219V237'/><path class='u' d='M388 228H508'/><text class='m o' x='394' y='216'>1600</text>\n",
+    "<path class='l' d='M256 68V276'/>\n",
+    "<text class='m g o' x='266' y='176'>as read</text>\n",
+    "<circle class='c' cx='256' cy='228' r='5'/><text class='m r o' x='266' y='252'>off by 100</text>\n",
+];
+
+/// An update, and a report that reads nothing.
+const NOTHING_READ: &str =
+    "item a 7\nbegin q query 0\nbegin u update 0\nwrite u a 8\ncommit u\ncommit q\n";
+
+/// An item that is read twice, before and behind an update; a weight of 3.
+const TWICE: &str =
+    "item a 7 weight 3\nbegin q query 99\nread q a\nbegin u update 99\nwrite u a 9\ncommit u\nread q a\ncommit q\n";
+
+/// Draws the query of that name, and looks for texts in what is written.
+fn has(
+    rt: &impl Abort,
+    alloc: Global,
+    script: &str,
+    name: &str,
+    texts: &[&str],
+) -> Result<(), AllocError> {
+    let mut reader = Watched::new(script.as_bytes());
+    let mut writer = Watched::new(Vec::new(alloc));
+    let ended = picture(alloc, &mut reader, &mut writer, name);
+    assert!(rt; ended == Ok(()));
+    let written = from_utf8(writer.inner().as_slice()).unwrap_or("");
+    assert!(rt; written.starts_with("<svg ") && written.ends_with("</svg>\n"));
+    for text in texts {
+        assert!(rt; written.contains(*text), "{} has {}", name, text);
+    }
+    Ok(())
+}
+
+#[test]
+fn a_report_of_the_bank_is_drawn(rt: HostRuntime) -> Result<(), Fail> {
+    has(&rt, rt.alloc(), BANK, "report", &BANK_DRAWN)?;
+    Ok(())
+}
+
+#[test]
+fn little_is_drawn(rt: HostRuntime) -> Result<(), Fail> {
+    let texts = [
+        "It read nothing.</text>",
+        "1 more update is not drawn.</text>",
+    ];
+    has(&rt, rt.alloc(), NOTHING_READ, "q", &texts)?;
+    let texts = [
+        "q: distance 6, import 6</text>",
+        "read 7</text><text class='m g' x='20' y='180'>and 9</text>",
+        ">off by 6</text>",
+    ];
+    has(&rt, rt.alloc(), TWICE, "q", &texts)?;
+    Ok(())
+}
+
+/// A report beside so many updates of one item, which reads it after the first one, and then another that is not written.
+fn beside(alloc: Global, updates: u32) -> Result<String, AllocError> {
+    let mut script = String::from_str(alloc, "item a 0\nitem b 0\nitem c 5\nbegin q query 999\n")?;
+    for i in 0..updates {
+        write!(script, "begin u{i} update 999\nwrite u{i} a {i}\n")?;
+        if i == 1 {
+            script.push_str("read q a\n")?;
+        }
+        write!(script, "write u{i} b {i}\ncommit u{i}\n")?;
+    }
+    script.push_str("read q b\nread q c\ncommit q\n")?;
+    Ok(script)
+}
+
+/// How often a text stands in what is drawn.
+fn count(alloc: Global, script: &str, text: &str) -> Result<usize, AllocError> {
+    let mut reader = Watched::new(script.as_bytes());
+    let mut writer = Watched::new(Vec::new(alloc));
+    let _ = picture(alloc, &mut reader, &mut writer, "q");
+    let written = from_utf8(writer.inner().as_slice()).unwrap_or("");
+    Ok(written.matches(text).count())
+}
+
+#[test]
+fn thirty_updates_are_drawn_and_of_more_those_that_are_off(rt: HostRuntime) -> Result<(), Fail> {
+    let alloc = rt.alloc();
+    let thirty = beside(alloc, 30)?;
+    assert!(rt; count(alloc, &thirty, "height='28'")? == 30);
+    assert!(rt; count(alloc, &thirty, "class='m n'")? == 3);
+    assert!(rt; count(alloc, &thirty, "not drawn")? == 0);
+    let more = beside(alloc, 31)?;
+    assert!(rt; count(alloc, &more, "class='m n'")? == 1);
+    assert!(rt; count(alloc, &more, "as read")? == 0);
+    assert!(rt;
+        count(
+            alloc,
+            &more,
+            " more updates and 2 more items are not drawn, 0 of these items off."
+        )? == 1
+    );
+    Ok(())
+}
+
+#[test]
+fn what_is_no_committed_query_is_not_drawn(rt: HostRuntime) {
+    let alloc = rt.alloc();
+    for name in ["transfer", "checking", "nobody", "<"] {
+        let mut reader = Watched::new(BANK.as_bytes());
+        let mut writer = Watched::new(Vec::new(alloc));
+        let ended = picture(alloc, &mut reader, &mut writer, name);
+        assert!(rt; ended == Err(RunFault::NotACommittedQuery));
+        assert!(rt; writer.inner().is_empty());
+    }
+}
+
+#[test]
+fn each_read_fails_in_turn(rt: HostRuntime) {
+    let alloc = rt.alloc();
+    for left in 0..BANK.len() + 1 {
+        let mut reader = Watched::new(Cut {
+            rest: BANK.as_bytes(),
+            most: 1,
+            left,
+        });
+        let mut writer = Watched::new(Vec::new(alloc));
+        let ended = picture(alloc, &mut reader, &mut writer, "report");
+        assert!(rt; ended == Err(RunFault::Read) && reader.failed() && !writer.failed());
+        assert!(rt; writer.inner().is_empty());
+    }
+}
+
+#[test]
+fn writes_fail(rt: HostRuntime) {
+    let alloc = rt.alloc();
+    for left in 0..20 {
+        let mut reader = Watched::new(BANK.as_bytes());
+        let mut writer = Watched::new(Narrow {
+            taken: Vec::new(alloc),
+            most: 3,
+            left,
+            way: Way::Errs,
+        });
+        let ended = picture(alloc, &mut reader, &mut writer, "report");
+        assert!(rt; ended == Err(RunFault::Write) && writer.failed() && !reader.failed());
+        assert!(rt; writer.inner().taken.len() <= 60);
+    }
+}

@@ -1,8 +1,0 @@
-use Rattle.std.proofs.Common.{arith, ◌-◌}
-use Rattle.esr_cert.proofs.Steps.{ascending_end}
-use Rattle.esr_bundle.proofs.shape.is_ascending.Goals as goal
-
-pub returns : goal.returns
-returns c =
-    let e = ascending_end c.args.numbers.now (c.loop-i.i - 1) (omega arith) in
-    cc

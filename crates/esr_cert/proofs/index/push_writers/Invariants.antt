@@ -1,6 +1,0 @@
-use Rattle.std.proofs.Common.{◌≡◌, ◌++◌, drop}
-use Rattle.esr_cert.specs.Index.{link_touches}
-use Rattle.esr_cert.proofs.index.push_writers.Given as goal
-
-abbrev pub invariant-loop-i : goal.invariant-loop-i
-invariant-loop-i l = l.touches.items ++ link_touches l.chain l.i (drop l.i l.writers) ≡ l.initial.touches.items ++ link_touches l.chain 0 l.writers

@@ -1,0 +1,91 @@
+//! The shape of parts, which is judged as that of any numbers.
+ghost use Rattle.std.specs.Prelude.{◌≡◌, map, IfOk};
+ghost use Rattle.esr_cert.specs.Problem.{has_shape};
+ghost use Rattle.esr_cert.specs.Views.{chain_of, problem_of};
+ghost use Rattle.esr_cert.specs.Drafts.{drafted_chain, drafted_problem};
+
+use crate::draft::{ChainDraft, ProblemDraft};
+use crate::problem::Chain;
+use crate::shape::has_shape;
+use esr_history::TxnId;
+use std::alloc::{AllocError, Global};
+
+fn numbers_of(alloc: Global, updates: &[TxnId]) -> Result<Vec<u64>, AllocError>
+    ensures { IfOk result (λ v. v.items ≡ map (λ t. t.0) updates.now) }
+{
+    updates.iter().map(|t| u64::from(t.0)).collect(alloc)
+}
+
+fn wide(alloc: Global, positions: &[u32]) -> Result<Vec<u64>, AllocError>
+    ensures { IfOk result (λ v. v.items ≡ positions.now) }
+{
+    let mut numbers = Vec::with_capacity(alloc, positions.len())?;
+    for n in positions {
+        numbers.push(u64::from(*n))?;
+    }
+    Ok(numbers)
+}
+
+fn wide_pairs(alloc: Global, pairs: &[(u32, u32)]) -> Result<Vec<(u64, u64)>, AllocError>
+    ensures { IfOk result (λ v. v.items ≡ pairs.now) }
+{
+    let mut numbers = Vec::with_capacity(alloc, pairs.len())?;
+    for (u, v) in pairs {
+        numbers.push((u64::from(*u), u64::from(*v)))?;
+    }
+    Ok(numbers)
+}
+
+fn chain_draft(alloc: Global, chain: &Chain) -> Result<ChainDraft, AllocError>
+    ensures { IfOk result (λ d. drafted_chain d ≡ chain_of chain.now) }
+{
+    let writers = wide(alloc, &chain.writers)?;
+    let costs = chain.costs.to_vec(alloc)?;
+    Ok(ChainDraft {
+        item: u64::from(chain.item.0),
+        writers,
+        costs,
+    })
+}
+
+fn chain_drafts(alloc: Global, chains: &[Chain]) -> Result<Vec<ChainDraft>, AllocError>
+    ensures { IfOk result (λ v. map drafted_chain v.items ≡ map chain_of chains.now) }
+{
+    let mut drafts = Vec::new(alloc);
+    for chain in chains {
+        drafts.push(chain_draft(alloc, chain)?)?;
+    }
+    Ok(drafts)
+}
+
+/// The numbers of parts.
+fn draft_of(
+    alloc: Global,
+    updates: &[TxnId],
+    before: &[(u32, u32)],
+    chains: &[Chain],
+    must: &[u32],
+) -> Result<ProblemDraft, AllocError>
+    ensures { IfOk result (λ d. drafted_problem d ≡ problem_of updates.now before.now chains.now must.now) }
+{
+    Ok(ProblemDraft {
+        updates: numbers_of(alloc, updates)?,
+        before: wide_pairs(alloc, before)?,
+        chains: chain_drafts(alloc, chains)?,
+        must: wide(alloc, must)?,
+    })
+}
+
+/// Whether parts break no rule of shape.
+pub fn have_shape(
+    alloc: Global,
+    updates: &[TxnId],
+    before: &[(u32, u32)],
+    chains: &[Chain],
+    must: &[u32],
+) -> Result<bool, AllocError>
+    ensures { IfOk result (λ b. b ≡ has_shape (problem_of updates.now before.now chains.now must.now)) }
+{
+    let draft = draft_of(alloc, updates, before, chains, must)?;
+    has_shape(alloc, &draft)
+}

@@ -1,0 +1,24 @@
+-- What is known of a transaction, and what it has exported.
+use Rattle.std.proofs.Common.{◌≡◌, ℕ, List, false, not, refl, sym, Option, None, Some}
+use Rattle.std.specs.Prelude.{unwrap_or}
+use Rattle.std.specs.Option.{option_map}
+use Rattle.esr_history.specs.declared.event.Entry.{Entry}
+use Rattle.esr_history.specs.declared.links.Facts.{Facts}
+use Rattle.esr_history.specs.Events.{Beginning, accepted, beginning, is_update}
+use Rattle.esr_history.specs.Links.{facts_by, facts_of}
+use Rattle.esr_history.specs.Machine.{Distance, Schedule, done, charges_in, export_in}
+use Rattle.esr_history.proofs.Sides.{charges_kinds, no_export}
+
+kind_by : (b : Option Beginning) (end : Option ℕ) (f : Option Facts) → f ≡ facts_by b end
+    → unwrap_or (option_map (λ b. not b.query) b) false ≡ unwrap_or (option_map (λ (g : Facts). not g.query) f) false
+kind_by None end f is = rw is refl
+kind_by (Some b) end f is = rw is refl
+
+-- whether a transaction is an update, as the facts tell
+pub kind_of : (es : List Entry) (t : ℕ) (f : Option Facts) → f ≡ facts_of es t
+    → is_update (accepted es) t ≡ unwrap_or (option_map (λ (g : Facts). not g.query) f) false
+kind_of es t f is = kind_by (beginning (accepted es) t) _ f is
+
+-- who is no update has exported nothing
+pub exports_nothing : (d : Distance) (h : Schedule) (t : ℕ) → is_update (done h) t ≡ false → 0 ≡ export_in (charges_in d h) t
+exports_nothing d h t isnt = sym (no_export (done h) (charges_in d h) (charges_kinds (d h.weights) h.opening (done h)) t isnt)

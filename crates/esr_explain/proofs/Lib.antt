@@ -1,0 +1,4 @@
+pub mod Accessed
+pub mod Amongst
+pub mod Replaying
+pub mod Sent

@@ -1,0 +1,113 @@
+-- A history that a machine makes again, entry by entry.
+use Rattle.std.proofs.Common.{◌≡◌, ◌≢◌, ℕ, ℤ, zero, suc, ◌+◌, ◌==◌, Bool, true, false, if◌then◌else◌, map, List, [], ◌∷◌, ◌++◌, take, drop, flat_map, refl, sym, ◌∙◌, ap, subst, arith, Option, Some, None, append-nil}
+use Rattle.std.specs.Prelude.{◌-◌, IfOk, OnOk, Result, Ok, Err, is_err, unwrap_or, slice_get}
+use Rattle.std.specs.List.{range_with_len}
+use Rattle.std.specs.Option.{option_map}
+use Rattle.std.proofs.lemmas.Bool.{eq-eqb, ne_eqb}
+use Rattle.std.proofs.lemmas.Grind.{flat_map-append}
+use Rattle.std.proofs.lemmas.Option.{same_Some}
+use Rattle.esr_items.specs.Values.{opened}
+use Rattle.esr_items.specs.declared.store.Versions.{Versions}
+use Rattle.esr_history.specs.declared.event.Reply.{Reply}
+use Rattle.esr_history.specs.declared.event.Entry.{Entry}
+use Rattle.esr_history.specs.declared.links.Facts.{Facts}
+use Rattle.esr_history.specs.Events.{Beginning, accepted, beginning, limit_of}
+use Rattle.esr_history.specs.Links.{facts_by, facts_of}
+use Rattle.esr_items.specs.Weights.{weighted}
+use Rattle.esr_history.specs.Machine.{Distance, Schedule, IsLegal, IsLegalAfter, blank, done, extended, reply_to}
+use Rattle.esr_core.specs.declared.machine.StepError.{StepError}
+use Rattle.esr_history.proofs.Onward.{legal_parts}
+use Rattle.esr_explain.specs.declared.charges.Meeting.{Meeting}
+use Rattle.esr_explain.specs.Explain.{until, imported, exported, meeting, met_line, charge_at, charge_line, charge_of}
+
+-- a list in three parts: before the entry at a place, the entry, and behind it
+parts_at : (es : List Entry) (i : ℕ) (e : Entry) → slice_get es i ≡ Some e → es ≡ take i es ++ e ∷ drop (suc i) es
+parts_at [] i e is = absurd (cc)
+parts_at (x ∷ es) zero e is = ap (λ y. y ∷ es) (same_Some x e is)
+parts_at (x ∷ es) (suc i) e is = ap (λ l. x ∷ l) (parts_at es i e is)
+
+one_more : (es : List Entry) (i : ℕ) (e : Entry) → slice_get es i ≡ Some e → take (suc i) es ≡ take i es ++ e ∷ []
+one_more [] i e is = absurd (cc)
+one_more (x ∷ es) zero e is = ap (λ y. y ∷ []) (same_Some x e is)
+one_more (x ∷ es) (suc i) e is = ap (λ l. x ∷ l) (one_more es i e is)
+
+-- the reply of each entry is the machine's, after the entries before it
+reply_at : (d : Distance) (h : Schedule) (i : ℕ) (e : Entry) → IsLegal d h → slice_get h.entries i ≡ Some e → e.reply ≡ reply_to d (until i h) e.event
+reply_at d h i e legal is =
+    (legal_parts d (blank h) (take i h.entries) (e ∷ drop (suc i) h.entries) (subst (IsLegalAfter d (blank h)) (parts_at h.entries i e is) legal)).1.0
+
+-- the machine's reply to the event of the next entry makes the history one entry longer
+pub until_more : (d : Distance) (h : Schedule) (i : ℕ) (e : Entry) (r : Reply) → IsLegal d h → slice_get h.entries i ≡ Some e → r ≡ reply_to d (until i h) e.event
+    → extended (until i h) e.event r ≡ until (i + 1) h
+until_more d h i e r legal is reply =
+    let same : r ≡ e.reply = reply ∙ sym (reply_at d h i e legal is) in
+    let next : i + 1 ≡ suc i = omega arith in
+    ap (λ (p : Reply). extended (until i h) e.event p) same
+    ∙ (ap (λ (es : List Entry). record h { entries = es }) (sym (one_more h.entries i e is))
+    ∙ ap (λ n. until n h) (sym next))
+
+-- one number more
+range_more : (n : ℕ) → range_with_len 0 (n + 1) ≡ range_with_len 0 n ++ n ∷ []
+range_more n =
+    let e : n + 1 ≡ suc n = omega arith in let same : 0 + n ≡ n = omega arith in
+    ap (range_with_len 0) e ∙ (more 0 n ∙ ap (λ m. range_with_len 0 n ++ m ∷ []) same)
+  where
+    more : (a n : ℕ) → range_with_len a (suc n) ≡ range_with_len a n ++ (a + n) ∷ []
+    more a zero = let e : a ≡ a + 0 = omega arith in ap (λ m. m ∷ []) e
+    more a (suc n) = let e : (a + 1) + n ≡ a + suc n = omega arith in ap (λ xs. a ∷ xs) (more (a + 1) n ∙ ap (λ m. range_with_len (a + 1) n ++ m ∷ []) e)
+
+-- the text of one place more
+pub text_more : (f : ℕ → List ℕ) (n : ℕ) → flat_map f (range_with_len 0 (n + 1)) ≡ flat_map f (range_with_len 0 n) ++ f n
+text_more f n =
+    ap (flat_map f) (range_more n) ∙ (flat_map-append f (range_with_len 0 n) (n ∷ []) ∙ ap (λ l. flat_map f (range_with_len 0 n) ++ l) (append-nil (f n)))
+
+-- the limit of a transaction, as the facts tell it
+limit_by : (b : Option Beginning) (end : Option ℕ) (f : Option Facts) → f ≡ facts_by b end
+    → unwrap_or (option_map (λ (g : Facts). g.limit) f) 0 ≡ unwrap_or (option_map (λ (b : Beginning). b.limit) b) 0
+limit_by None end f is = rw is refl
+limit_by (Some b) end f is = rw is refl
+
+pub limit_told : (es : List Entry) (t : ℕ) (f : Option Facts) → f ≡ facts_of es t → unwrap_or (option_map (λ (g : Facts). g.limit) f) 0 ≡ limit_of (accepted es) t
+limit_told es t f is = limit_by (beginning (accepted es) t) _ f is
+
+-- opening values, as a store has them
+pub opened_values : (vs : List ℤ) → map (λ (w : Versions). w.committed) (map opened vs) ≡ vs
+opened_values [] = refl
+opened_values (v ∷ vs) = ap (λ ws. v ∷ ws) (opened_values vs)
+
+-- ---- the line of an entry
+
+module _ (d : Distance) (h : Schedule) (items transactions : List (List ℕ)) (q i : ℕ) (e : Entry) where
+  pub line_none : imported d h q (i + 1) ≡ imported d h q i → charge_at d h items transactions q i (Some e) ≡ []
+  line_none same = ap (λ b. if b then [] else met_line d h items transactions q i (meeting (until i h) e.event)) (eq-eqb (imported d h q (i + 1)) (imported d h q i) same)
+
+  pub line_unmet : None ≡ meeting (until i h) e.event → charge_at d h items transactions q i (Some e) ≡ []
+  line_unmet none = ap (λ m. if imported d h q (i + 1) == imported d h q i then [] else met_line d h items transactions q i m) (sym none) ∙ go (imported d h q (i + 1) == imported d h q i)
+    where
+      go : (b : Bool) → (if b then [] else met_line d h items transactions q i None) ≡ []
+      go true = refl
+      go false = refl
+
+  pub line_met : (m : Meeting) → Some m ≡ meeting (until i h) e.event → imported d h q (i + 1) ≢ imported d h q i
+      → charge_at d h items transactions q i (Some e) ≡ charge_line items transactions (charge_of d h q i m)
+  line_met m some other =
+      ap (λ b. if b then [] else met_line d h items transactions q i (meeting (until i h) e.event)) (ne_eqb (imported d h q (i + 1)) (imported d h q i) other)
+      ∙ ap (met_line d h items transactions q i) (sym some)
+
+-- ---- one step of the machine
+
+pub stepped : (h : Schedule) (i : ℕ) (e : Entry) (old new : Schedule) (r : Result Reply StepError) → IsLegal weighted h → slice_get h.entries i ≡ Some e → old ≡ until i h
+    → is_err r ≡ false → IfOk r (λ reply. reply ≡ reply_to weighted old e.event) → IfOk r (λ reply. new ≡ extended old e.event reply) → new ≡ until (i + 1) h
+stepped h i e old new (Ok reply) legal is start ok answered added =
+    added ∙ (ap (λ k. extended k e.event reply) start ∙ until_more weighted h i e reply legal is (answered ∙ ap (λ k. reply_to weighted k e.event) start))
+stepped h i e old new (Err x) legal is start ok answered added = cc
+
+pub always : {T E : Type 0} (r : Result T E) (P : Type 0) → P → OnOk r P
+always (Ok x) P p = p
+always (Err e) P p = tt
+
+pub charge_is : (h : Schedule) (q i : ℕ) (m : Meeting) (a il im el em : ℕ) → a ≡ imported weighted h q (i + 1) - imported weighted h q i
+    → il ≡ limit_of (done h) q - imported weighted h q (i + 1) → im ≡ limit_of (done h) q
+    → el ≡ limit_of (done h) m.update.0 - exported weighted h m.update.0 (i + 1) → em ≡ limit_of (done h) m.update.0
+    → charge_of weighted h q i m ≡ record { amount = a; step = i + 1; meeting = m; import_left = il; import_limit = im; export_left = el; export_limit = em }
+charge_is h q i m a il im el em x y z u v = rw (x, y, z, u, v) refl

@@ -1,0 +1,125 @@
+-- What is explained of a committed query of a history.
+use Rattle.std.specs.Prelude.{ℕ, ℤ, ◌+◌, ◌-◌, ◌==◌, List, [], ◌∷◌, ◌++◌, Bool, true, false, not, Option, Some, None, codes, decimal, length, take, filter, nat_lt, slice_get, slice_index_or, if◌then◌else◌}
+use Rattle.std.specs.List.{flat_map, range_with_len}
+use Rattle.std.specs.Option.{option_map}
+use Rattle.std.specs.Fmt.{signed_decimal}
+use Rattle.esr_history.specs.declared.event.Event.{Event}
+use Rattle.esr_history.specs.declared.event.Event.TheVariants.{Read, Write}
+use Rattle.esr_history.specs.declared.event.Entry.{Entry}
+use Rattle.esr_history.specs.Events.{limit_of}
+use Rattle.esr_history.specs.Machine.{Distance, Schedule, done, distance_in, writer, charges_in, import_in, export_in}
+use Rattle.esr_history.specs.Serial.{state}
+use Rattle.esr_history.specs.Queries.{updates_of, reads_by}
+use Rattle.esr_order.specs.Least.{least_set, least_cost}
+use Rattle.esr_order.specs.Placements.{is_among}
+use Rattle.esr_report.specs.Names.{name_of_transaction}
+use Rattle.esr_report.specs.Lines.{line, names_line}
+use Rattle.esr_explain.specs.declared.charges.Meeting.{Meeting}
+use Rattle.esr_explain.specs.declared.charges.Charge.{Charge}
+
+-- items are numbered from 0
+abbrev pub name_of_item : List (List ℕ) → ℕ → List ℕ
+name_of_item items x = slice_index_or items x []
+
+-- ---- reads
+
+-- with this word for the item
+abbrev pub named_read_line : (item : List ℕ) → (value nearest : ℤ) → (off : ℕ) → List ℕ
+named_read_line item value nearest off = line (
+    codes "read" ∷ item ∷ signed_decimal value ∷ codes "nearest" ∷ signed_decimal nearest ∷ codes "off" ∷ decimal off ∷ []
+    )
+
+-- the line of a value that was read of item x, beside another: the two, and how far they are apart
+abbrev pub read_line : (ℕ → ℤ → ℤ → ℕ) → (items : List (List ℕ)) → (x : ℕ) → (value nearest : ℤ) → List ℕ
+read_line d items x value nearest = named_read_line (name_of_item items x) value nearest (d x value nearest)
+
+-- the lines of what q read, in order, beside the values that the updates us leave
+abbrev pub read_lines : Distance → Schedule → (items : List (List ℕ)) → ℕ → (us : List ℕ) → List ℕ
+read_lines d h items q us = flat_map (λ o. read_line (distance_in d h) items o.item o.value (state h us o.item)) (reads_by h q)
+
+-- the updates of q but for these, in commit order
+abbrev pub others : Schedule → ℕ → List ℕ → List ℕ
+others h q us = filter (λ u. not (is_among us u)) (updates_of h q)
+
+-- ---- charges
+
+-- the history as it was before its entry at place i
+abbrev pub until : ℕ → Schedule → Schedule
+until i h = record h { entries = take i h.entries }
+
+-- what q had imported by then, and what u had exported
+abbrev pub imported : Distance → Schedule → ℕ → ℕ → ℕ
+imported d h q i = import_in (charges_in d (until i h)) q
+
+abbrev pub exported : Distance → Schedule → ℕ → ℕ → ℕ
+exported d h u i = export_in (charges_in d (until i h)) u
+
+-- a read meets the update that has written the item and has not ended, if there is one
+abbrev pub read_meets : Schedule → ℕ → Option ℕ
+read_meets h x = if nat_lt x (length h.opening) then writer (done h) x else None
+
+-- where an operation on an item meets an update: a read the one that has written it, a write the one that writes
+abbrev pub meeting : Schedule → Event → Option Meeting
+meeting h (Read t x) = option_map (λ u. record { by_read = true; update = record { 0 = u }; item = x }) (read_meets h x.0)
+meeting h (Write u x v) = Some (record { by_read = false; update = u; item = x })
+meeting h _ = None
+
+-- The charge to q of the entry at place i: what q imported by it, and what is left then of both limits.
+abbrev pub charge_of : Distance → Schedule → ℕ → ℕ → Meeting → Charge
+charge_of d h q i m = record {
+  amount = imported d h q (i + 1) - imported d h q i;
+  step = i + 1;
+  meeting = m;
+  import_left = limit_of (done h) q - imported d h q (i + 1);
+  import_limit = limit_of (done h) q;
+  export_left = limit_of (done h) m.update.0 - exported d h m.update.0 (i + 1);
+  export_limit = limit_of (done h) m.update.0;
+}
+
+-- the words that begin the line of a charge
+abbrev pub verb : Bool → List ℕ
+verb true = codes "charge read"
+verb false = codes "charge write"
+
+-- with these words for the operation, the update and the item
+abbrev pub named_charge_line : (verb update item : List ℕ) → Charge → List ℕ
+named_charge_line verb update item c = line (
+    verb ∷ update ∷ item ∷ codes "amount" ∷ decimal c.amount ∷ codes "step" ∷ decimal c.step
+    ∷ codes "import left" ∷ decimal c.import_left ∷ codes "of" ∷ decimal c.import_limit
+    ∷ codes "export left" ∷ decimal c.export_left ∷ codes "of" ∷ decimal c.export_limit ∷ []
+    )
+
+abbrev pub charge_line : (items transactions : List (List ℕ)) → Charge → List ℕ
+charge_line items transactions c =
+    named_charge_line (verb c.meeting.by_read) (name_of_transaction transactions c.meeting.update.0) (name_of_item items c.meeting.item.0) c
+
+-- the line of a meeting by which q is charged
+abbrev pub met_line : Distance → Schedule → (items transactions : List (List ℕ)) → ℕ → ℕ → Option Meeting → List ℕ
+met_line d h items transactions q i None = []
+met_line d h items transactions q i (Some m) = charge_line items transactions (charge_of d h q i m)
+
+-- the line of the charge of the entry at place i, if q imported something by it
+abbrev pub charge_at : Distance → Schedule → (items transactions : List (List ℕ)) → ℕ → ℕ → Option Entry → List ℕ
+charge_at d h items transactions q i None = []
+charge_at d h items transactions q i (Some e) =
+    if imported d h q (i + 1) == imported d h q i then [] else met_line d h items transactions q i (meeting (until i h) e.event)
+
+abbrev pub charge_lines : Distance → Schedule → (items transactions : List (List ℕ)) → ℕ → List ℕ
+charge_lines d h items transactions q =
+    flat_map (λ i. charge_at d h items transactions q i (slice_get h.entries i)) (range_with_len 0 (length h.entries))
+
+-- ---- the whole
+
+-- the distance and the import, as the audit tells them
+abbrev pub sums_line : ℕ → ℕ → List ℕ
+sums_line distance import = line (codes "distance" ∷ decimal distance ∷ codes "import" ∷ decimal import ∷ [])
+
+-- What q read, beside the values of the nearest placement; the charges to q, in order; the updates before that placement, and
+-- the others; and the sums.
+abbrev pub explanation : Distance → Schedule → (items transactions : List (List ℕ)) → ℕ → List ℕ
+explanation d h items transactions q =
+    read_lines d h items q (least_set d h q)
+    ++ charge_lines d h items transactions q
+    ++ names_line (codes "before") transactions (least_set d h q)
+    ++ names_line (codes "after") transactions (others h q (least_set d h q))
+    ++ sums_line (least_cost d h q) (import_in (charges_in d h) q)

@@ -1,0 +1,64 @@
+//! The updates of a query that are not before its nearest placement.
+ghost use Rattle.std.specs.Prelude.{◌≡◌, ℕ, not, IfOk, map, filter};
+ghost use Rattle.std.specs.List.Sorted.{IsNonDecreasing};
+ghost use Rattle.esr_order.specs.Placements.{is_among};
+ghost use Rattle.esr_explain.specs.Explain.{others};
+
+use esr_history::{History, TxnId};
+use esr_items::Weighted;
+use esr_order::{committed, updates_before};
+use std::alloc::{AllocError, Global};
+
+/// The numbers of some updates.
+fn numbers_of(alloc: Global, updates: &[TxnId]) -> Result<Vec<u32>, AllocError>
+    ensures { IfOk result (λ v. v.items ≡ map (λ t. t.0) updates.now) }
+{
+    updates.iter().map(|t| t.0).collect(alloc)
+}
+
+/// The numbers of some updates, ascending.
+fn ascending(alloc: Global, updates: &[TxnId]) -> Result<Vec<u32>, AllocError>
+    ensures sorted { IfOk result (λ v. IsNonDecreasing v.items) }
+    ensures same { IfOk result (λ v. (u : ℕ) → is_among v.items u ≡ is_among (map (λ t. t.0) updates.now) u) }
+{
+    let mut numbers = numbers_of(alloc, updates)?;
+    numbers.sort_unstable();
+    Ok(numbers)
+}
+
+/// Whether ascending numbers have that of the update.
+fn is_among(numbers: &[u32], t: TxnId) -> bool
+    requires { IsNonDecreasing numbers.now }
+    ensures { result ≡ is_among numbers.now t.0 }
+{
+    numbers.binary_search(&t.0).is_ok()
+}
+
+/// Those of the updates whose numbers are not among these.
+fn without(alloc: Global, updates: &[TxnId], numbers: &[u32]) -> Result<Vec<TxnId>, AllocError>
+    requires { IsNonDecreasing numbers.now }
+    ensures { IfOk result (λ v. v.items ≡ filter (λ t. not (is_among numbers.now t.0)) updates.now) }
+{
+    let mut kept = Vec::new(alloc);
+    for t in updates {
+        if !is_among(numbers, *t) {
+            kept.push(*t)?;
+        }
+    }
+    Ok(kept)
+}
+
+/// The updates that committed before the query did, but for these.
+pub fn others(
+    alloc: Global,
+    history: &History<Weighted>,
+    q: TxnId,
+    before: &[TxnId],
+) -> Result<Vec<TxnId>, AllocError>
+    ensures { IfOk result (λ v. map (λ t. t.0) v.items ≡ others history.now.schedule q.0 (map (λ t. t.0) before.now)) }
+{
+    let committed = committed(alloc, history)?;
+    let updates = updates_before(alloc, history, &committed, q)?;
+    let numbers = ascending(alloc, before)?;
+    without(alloc, &updates, &numbers)
+}

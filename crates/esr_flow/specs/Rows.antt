@@ -1,0 +1,48 @@
+-- For each node the steps that start at it, in rows that lie one after another.
+use Rattle.std.specs.Prelude.{◌≡◌, ℕ, zero, suc, ◌+◌, ◌*◌, ◌<◌, ◌≤◌, ◌==◌, List, [], ◌∷◌, ◌++◌, length, get_or, set, take, filter, sum}
+use Rattle.esr_cert.specs.declared.network.Arc.{Arc}
+use Rattle.esr_flow.specs.declared.step.Step.{Step}
+use Rattle.esr_flow.specs.declared.step.Step.TheVariants.{Along, Against}
+use Rattle.esr_flow.specs.declared.graph.Span.{Span}
+use Rattle.esr_flow.specs.Residual.{start}
+use Rattle.esr_flow.specs.Graph.{row_in, span_at}
+
+-- both steps of each of the first n arcs
+abbrev pub first_steps : ℕ → List Step
+first_steps zero = []
+first_steps (suc n) = first_steps n ++ Along n ∷ Against n ∷ []
+
+-- those of some steps that start at a node
+abbrev pub steps_from : List Arc → ℕ → List Step → List Step
+steps_from arcs v steps = filter (λ step. start arcs step == v) steps
+
+-- all steps that start at a node, by the numbers of their arcs
+abbrev pub row_of : List Arc → ℕ → List Step
+row_of arcs v = steps_from arcs v (first_steps (length arcs))
+
+-- how many steps start at each node, and how many there are
+pub record AreDegrees (arcs : List Arc) (nodes : ℕ) (degrees : List ℕ) : Type 0 where
+  pub count : length degrees ≡ nodes
+  pub degree : (v : ℕ) → v < nodes → get_or degrees v 0 ≡ length (row_of arcs v)
+  pub both : sum degrees ≡ 2 * length arcs
+
+-- where rows of some lengths begin, one after another, with nothing in them
+pub record AreBegun (lengths : List ℕ) (spans : List Span) : Type 0 where
+  pub count : length spans ≡ length lengths
+  pub begun : (v : ℕ) → v < length lengths
+      → span_at spans v ≡ record { begin = sum (take v lengths); end = sum (take v lengths) }
+
+-- the rows of n nodes
+pub record AreRows (arcs : List Arc) (n : ℕ) (spans : List Span) (steps : List Step) : Type 0 where
+  pub count : length spans ≡ n
+  pub ordered : (v : ℕ) → v < n → (span_at spans v).begin ≤ (span_at spans v).end
+  pub inside : (v : ℕ) → v < n → (span_at spans v).end ≤ length steps
+  pub row : (v : ℕ) → v < n → row_in steps (span_at spans v) ≡ row_of arcs v
+
+-- the span of a row with one more
+abbrev pub longer : Span → Span
+longer span = record { begin = span.begin; end = span.end + 1 }
+
+-- the spans where the row of a node has one more
+abbrev pub lengthen : List Span → ℕ → List Span
+lengthen spans v = set spans v (longer (span_at spans v))

@@ -1,0 +1,13 @@
+//! The limits of a history.
+
+/// The most entries of a machine's history.
+pub const MOST_ENTRIES: usize = 1_000_000;
+
+/// The most transactions that begin in a history, and so the largest number of one.
+pub const MOST_TRANSACTIONS: usize = 65_535;
+
+/// The largest limit of a transaction.
+pub const LARGEST_LIMIT: u64 = 1_000_000_000_000_000_000;
+
+/// The most reads of a query.
+pub const MOST_READS: u32 = 1_000;

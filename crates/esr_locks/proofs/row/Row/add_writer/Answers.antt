@@ -1,0 +1,16 @@
+use Rattle.std.proofs.Common.{◌≡◌, ◌∙◌, ◌||◌, ◌==◌, sym, ap, subst, refl, not}
+use Rattle.std.specs.List.{list_any}
+use Rattle.esr_history.proofs.Ascending.{any-map}
+use Rattle.esr_locks.specs.Rows.{RowOf}
+use Rattle.esr_locks.specs.Tables.{is_update}
+use Rattle.esr_locks.proofs.Tables.{wrote}
+use Rattle.esr_locks.proofs.row.Row.add_writer.Goals as goal
+
+pub returns-clause-fresh : goal.returns-clause-fresh
+returns-clause-fresh c =
+    let readers = c.self.inside.readers.items in
+    let read = any-map (λ r. r.update.0) (λ u. u) (λ r. r.update.0) (λ r. refl) c.args.t.0 readers in
+    let has_read = c.is_reader-has_read.ensures ∙ (ap (list_any (λ r. r.update.0 == c.args.t.0)) c.deref.ensures ∙ sym read) in
+    let has_written = c.is_it-has_written.ensures ∙ wrote c.self.inside.writer c.args.t.0 in
+    subst (λ (v : RowOf). not (c.is_it-has_written.result || c.is_reader-has_read.result) ≡ not (is_update v.locks c.args.t.0)) c.self.view_is
+    (rw has_written (rw has_read refl))

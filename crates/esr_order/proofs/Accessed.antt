@@ -1,0 +1,94 @@
+-- What the entries of a transaction give are its accesses.
+use Rattle.std.proofs.Common.{◌≡◌, ℕ, ◌+◌, Bool, true, false, not, ◌&&◌, List, [], ◌∷◌, ◌++◌, length, refl, sym, ◌∙◌, ap, Option, None, cond, filter, map, eqb, append_assoc, if◌then◌else◌}
+use Rattle.std.specs.List.{filter_map, slice_get, cons_option}
+use Rattle.std.specs.Option.{option_map}
+use Rattle.std.proofs.lemmas.List.{length-append}
+use Rattle.esr_history.specs.declared.event.Event.{Event}
+use Rattle.esr_history.specs.declared.event.Event.TheVariants.{BeginUpdate, BeginQuery, Read, Write, Commit, Abort}
+use Rattle.esr_history.specs.declared.event.Reply.{Reply}
+use Rattle.esr_history.specs.declared.event.Entry.{Entry}
+use Rattle.esr_history.specs.Events.{is_refusal}
+use Rattle.esr_history.specs.Links.{accepted_txn, txn_of, is_key, places_from}
+use Rattle.esr_history.specs.Machine.{Schedule}
+use Rattle.esr_history.specs.Operations.{Operation, operation_of, operation_by, answer}
+use Rattle.esr_history.specs.Queries.{reads_by}
+use Rattle.esr_history.proofs.Membership.{get_seam}
+use Rattle.esr_order.specs.declared.accesses.Access.{Access}
+use Rattle.esr_order.specs.Scans.{access_of, access_in, accesses_in}
+use Rattle.esr_order.proofs.Entries.{accepts}
+
+-- the entries at the places of a key are those that have it
+entries_from : (key : Entry → Option ℕ) (k : ℕ) (past es : List Entry) → filter_map (slice_get (past ++ es)) (places_from key k (length past) es) ≡ filter (λ e. is_key (key e) k) es
+entries_from key k past [] = refl
+entries_from key k past (e ∷ es) =
+    at (is_key (key e) k)
+    (ap (λ n. filter_map (slice_get (past ++ e ∷ es)) (places_from key k n es)) (sym (length-append past (e ∷ [])))
+    ∙ (ap (λ l. filter_map (slice_get l) (places_from key k (length (past ++ e ∷ [])) es)) (sym (append_assoc past (e ∷ []) es))
+    ∙ entries_from key k (past ++ e ∷ []) es))
+  where
+    at : (b : Bool) → filter_map (slice_get (past ++ e ∷ es)) (places_from key k (length past + 1) es) ≡ filter (λ e. is_key (key e) k) es
+        → filter_map (slice_get (past ++ e ∷ es)) (if b then length past ∷ places_from key k (length past + 1) es else places_from key k (length past + 1) es)
+        ≡ cond b (e ∷ filter (λ e. is_key (key e) k) es) (filter (λ e. is_key (key e) k) es)
+    at true rest = ap (λ o. cons_option o (filter_map (slice_get (past ++ e ∷ es)) (places_from key k (length past + 1) es))) (get_seam past e es) ∙ ap (λ l. e ∷ l) rest
+    at false rest = rest
+
+abbrev by : ℕ → Operation → Bool
+by t o = eqb o.txn t
+
+-- one entry more
+module _ (t : ℕ) (e : Entry) (L : List Access) (R : List Operation) (rest : L ≡ map access_of (filter (by t) R)) where
+  neither : (b : Bool) → cond b L L ≡ map access_of (filter (by t) R)
+  neither true = rest
+  neither false = rest
+
+  own : (b : Bool) (o : Operation) → cond b (access_of o ∷ L) L ≡ map access_of (cond b (o ∷ filter (by t) R) (filter (by t) R))
+  own true o = ap (λ l. access_of o ∷ l) rest
+  own false o = rest
+
+  given : (ev : Event) (r : Reply) → cond (is_key (txn_of ev r) t) (cons_option (option_map access_of (operation_by ev r)) L) L ≡ map access_of (filter (by t) (cons_option (operation_by ev r) R))
+  given (BeginUpdate l) r = neither (is_key (txn_of (BeginUpdate l) r) t)
+  given (BeginQuery l s) r = neither (is_key (txn_of (BeginQuery l s) r) t)
+  given (Read u x) r = own (eqb u.0 t) (record { txn = u.0; item = x.0; writes = false; value = answer r })
+  given (Write u x v) r = own (eqb u.0 t) (record { txn = u.0; item = x.0; writes = true; value = v })
+  given (Commit u) r = neither (eqb u.0 t)
+  given (Abort u) r = neither (eqb u.0 t)
+
+  -- whether or not it is refused
+  access_more : (b : Bool) → cond (is_key (if b then None else txn_of e.event e.reply) t) (cons_option (if b then None else option_map access_of (operation_of e)) L) L
+      ≡ map access_of (filter (by t) (cond (not b) (cons_option (operation_of e) R) R))
+  access_more true = rest
+  access_more false = given e.event e.reply
+
+spread : {X Y : Type 0} (f : X → Option Y) (b : Bool) (x : X) (xs : List X) → filter_map f (cond b (x ∷ xs) xs) ≡ cond b (cons_option (f x) (filter_map f xs)) (filter_map f xs)
+spread f true x xs = refl
+spread f false x xs = refl
+
+accesses_kept : (t : ℕ) (es : List Entry) → filter_map access_in (filter (λ e. is_key (accepted_txn e) t) es) ≡ map access_of (filter (by t) (filter_map operation_of (filter accepts es)))
+accesses_kept t [] = refl
+accesses_kept t (e ∷ es) =
+    spread access_in (is_key (accepted_txn e) t) e (filter (λ e. is_key (accepted_txn e) t) es)
+    ∙ (access_more t e (filter_map access_in (filter (λ e. is_key (accepted_txn e) t) es)) (filter_map operation_of (filter accepts es)) (accesses_kept t es) (is_refusal e.reply)
+    ∙ ap (λ l. map access_of (filter (by t) l)) (sym (spread operation_of (accepts e) e (filter accepts es))))
+
+pub accesses_along : (t : ℕ) (es : List Entry) → filter_map access_in (filter_map (slice_get es) (places_from accepted_txn t 0 es)) ≡ accesses_in es t
+accesses_along t es = ap (filter_map access_in) (entries_from accepted_txn t [] es) ∙ accesses_kept t es
+
+-- the reads among the accesses of q are the reads of q
+reads_among : (q : ℕ) (os : List Operation) → filter (λ (a : Access). not a.writes) (map access_of (filter (by q) os)) ≡ map access_of (filter (λ (o : Operation). not o.writes && (eqb o.txn q)) os)
+reads_among q [] = refl
+reads_among q (o ∷ os) = at (eqb o.txn q) o.writes refl (reads_among q os)
+  where
+    W : List Access
+    W = filter (λ (a : Access). not a.writes) (map access_of (filter (by q) os))
+
+    R : List Operation
+    R = filter (λ (o : Operation). not o.writes && (eqb o.txn q)) os
+
+    at : (own w : Bool) → o.writes ≡ w → W ≡ map access_of R → filter (λ (a : Access). not a.writes) (map access_of (cond own (o ∷ filter (by q) os) (filter (by q) os))) ≡ map access_of (cond (not w && own) (o ∷ R) R)
+    at true true is rest = ap (λ b. cond (not b) (access_of o ∷ W) W) is ∙ rest
+    at true false is rest = ap (λ b. cond (not b) (access_of o ∷ W) W) is ∙ ap (λ l. access_of o ∷ l) rest
+    at false true is rest = rest
+    at false false is rest = rest
+
+pub reads_are : (h : Schedule) (q : ℕ) → filter (λ (a : Access). not a.writes) (accesses_in h.entries q) ≡ map access_of (reads_by h q)
+reads_are h q = reads_among q (filter_map operation_of (filter accepts h.entries))

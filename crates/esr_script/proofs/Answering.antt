@@ -1,0 +1,44 @@
+-- What a run's last state answers of a query.
+use Rattle.std.proofs.Common.{◌≡◌, ℕ, List, Bool, true, false, map, sym, ◌∙◌, ap, subst}
+use Rattle.esr_items.specs.Weights.{weighted}
+use Rattle.esr_history.specs.declared.event.TxnId.{TxnId}
+use Rattle.esr_history.specs.Machine.{Schedule, charges_in, import_in}
+use Rattle.esr_history.specs.Queries.{is_committed_query}
+use Rattle.esr_cert.specs.Views.{certificate_of}
+use Rattle.esr_order.specs.Least.{least_set, least_cost}
+use Rattle.esr_audit.specs.Findings.{IsShown, told, told_of}
+use Rattle.esr_script.specs.declared.asked.Asked.{Asked}
+use Rattle.esr_script.specs.Ask.{IsAnswered}
+use Rattle.esr_script.specs.Certify.{IsFound}
+use Rattle.esr_script.specs.Text.{State, transaction_called}
+
+four : {a b c d e f : ℕ} {us vs : List ℕ} → a ≡ b → c ≡ d → e ≡ f → us ≡ vs → ◌≡◌ {A = ℕ × ℕ × ℕ × List ℕ} (a, c, e, us) (b, d, f, vs)
+four {a} {b} {c} {d} {e} {f} {us} {vs} x y z w =
+    ap (λ n. (n, c, e, us)) x ∙ (ap (λ n. (b, n, e, us)) y ∙ (ap (λ n. (b, d, n, us)) z ∙ ap (λ ws. (b, d, f, ws)) w))
+
+module _ (s : State) (items names : List (List ℕ)) (was : Bool) (first h : Schedule) (name : List ℕ) (q : TxnId)
+    (seen : record { items = items; transactions = names; closed = was; history = first } ≡ s) (same : h ≡ first) (called : q ≡ transaction_called s name) where
+  history_is : h ≡ s.history
+  history_is = same ∙ ap (λ (z : State). z.history) seen
+
+  -- what holds of the machine's history and of the number holds of the state's and of the name's
+  both : (P : Schedule → ℕ → Type 0) → P h q.0 → P s.history (transaction_called s name).0
+  both P p = subst (P s.history) (ap (λ (t : TxnId). t.0) called) (subst (λ k. P k q.0) history_is p)
+
+  pub refused : is_committed_query h q.0 ≡ false → is_committed_query s.history (transaction_called s name).0 ≡ false
+  refused none = both (λ k n. is_committed_query k n ≡ false) none
+
+  pub answered : (a : Asked) → a.items ≡ items → a.transactions ≡ names → a.history.schedule ≡ h → a.finding.query ≡ q
+      → is_committed_query h q.0 ≡ true → a.finding.distance ≡ least_cost weighted h q.0 → a.finding.import ≡ import_in (charges_in weighted h) q.0
+      → map (λ (t : TxnId). t.0) a.finding.before.items ≡ least_set weighted h q.0
+      → IsShown weighted h q.0 a.finding.distance (map (λ (t : TxnId). t.0) a.finding.before.items) a.finding.problem (certificate_of a.finding.certificate)
+      → IsAnswered s name a
+  answered a i t is query committed distance import before shown = record {
+    items = i ∙ ap (λ (z : State). z.items) seen;
+    transactions = t ∙ ap (λ (z : State). z.transactions) seen;
+    history = is ∙ history_is;
+    committed = both (λ k n. is_committed_query k n ≡ true) committed;
+    told = both (λ k n. told a.finding ≡ told_of weighted k n) (four (ap (λ (t : TxnId). t.0) query) distance import before);
+    found = both (λ k n. IsFound k n a.finding.problem (certificate_of a.finding.certificate))
+        (record { stands = shown.stands; certified = shown.certified; set_is = sym shown.set_is ∙ before; counted = shown.counted });
+  }

@@ -1,0 +1,71 @@
+-- Each end of going over a whole script.
+use Rattle.std.proofs.Common.{◌≡◌, ℕ, List, [], ◌⊎◌, inl, inr, refl, sym, ap, subst, Option, Some, false, Result, Ok, Err, OnOk, IfOk, IfErr}
+use Rattle.std.specs.Prelude.{IsErrOf}
+use Rattle.std.specs.Io.KnownBytes.{Appends, Consumes}
+use Rattle.esr_history.specs.Queries.{is_committed_query}
+use Rattle.esr_history.specs.Watch.{BeginsWith}
+use Rattle.esr_script.specs.declared.asked.Asked.{Asked}
+use Rattle.esr_script.specs.declared.fault.RunFault.{RunFault}
+use Rattle.esr_script.specs.declared.fault.RunFault.TheVariants as fault
+use Rattle.esr_script.specs.Text.{State, transaction_called, final}
+use Rattle.esr_script.specs.Ask.{IsAnswered, IsAsked}
+use Rattle.esr_script.specs.Ends.{IsWhole, IsReachedBy, IsWrittenBy, IsToldBy}
+
+module _ (input : List ℕ) (left : Option (List ℕ)) where
+  -- a fault says the same of whatever was to be reached, and less where a refusal says less
+  pub reached_fault : {T U : Type 0} (P : T → Type 0) (Q : U → Type 0) (M N : Type 0) → (M → N) → (f : RunFault)
+      → IsReachedBy P M input left (Err f) → IsReachedBy Q N input left (Err f)
+  reached_fault P Q M N less fault.Read h = tt
+  reached_fault P Q M N less fault.Write h = absurd h
+  reached_fault P Q M N less fault.NoMemory h = tt
+  reached_fault P Q M N less fault.LineTooLong h = h
+  reached_fault P Q M N less fault.HistoryFull h = h
+  reached_fault P Q M N less fault.TooManyLines h = h
+  reached_fault P Q M N less fault.NotACommittedQuery h = less h
+
+  -- nothing was written
+  pub written_fault : {T : Type 0} (P : T → Type 0) (Q : List ℕ → Type 0) (N : Type 0) (f : RunFault)
+      → IsReachedBy P N input left (Err f) → IsWrittenBy Q N input left (Err f) []
+  written_fault P Q N fault.Read h = (tt, refl)
+  written_fault P Q N fault.Write h = absurd h
+  written_fault P Q N fault.NoMemory h = (tt, refl)
+  written_fault P Q N fault.LineTooLong h = (h, refl)
+  written_fault P Q N fault.HistoryFull h = (h, refl)
+  written_fault P Q N fault.TooManyLines h = (h, refl)
+  written_fault P Q N fault.NotACommittedQuery h = (h, refl)
+
+  -- the whole was sent, or a prefix of it
+  pub written_sent : (Q : List ℕ → Type 0) (N : Type 0) (text : List ℕ) → Consumes (Some input) left input → IsWhole input → Q text
+      → (r : Result (Unit {0}) RunFault) (old new : Option (List ℕ)) (out : List ℕ) → OnOk r ((out ≡ []) × Appends old new text)
+      → IfErr r (λ e. (e ≡ fault.Write) × ((sent : List ℕ) × BeginsWith text sent × Appends old new sent))
+      → (written : List ℕ) × Appends old new written × IsWrittenBy Q N input left r written
+  written_sent Q N text read whole is (Ok u) old new out ok err = (text, ok.1, (read, whole, is))
+  written_sent Q N text read whole is (Err e) old new out ok err =
+      let part = err.1 in
+      (part.0, part.2, subst (λ (f : RunFault). IsWrittenBy Q N input left (Err f) part.0) (sym err.0) (whole, text, is, part.1))
+
+  -- a text of which more is known
+  pub written_of : (P Q : List ℕ → Type 0) (N : Type 0) → ((text : List ℕ) → P text → Q text) → (r : Result (Unit {0}) RunFault) (written : List ℕ)
+      → IsWrittenBy P N input left r written → IsWrittenBy Q N input left r written
+  written_of P Q N more (Ok u) written h = (h.0, h.1, more written h.2)
+  written_of P Q N more (Err fault.Read) written h = h
+  written_of P Q N more (Err fault.Write) written h = (h.0, h.1, more h.1 h.2, h.3)
+  written_of P Q N more (Err fault.NoMemory) written h = h
+  written_of P Q N more (Err fault.LineTooLong) written h = h
+  written_of P Q N more (Err fault.HistoryFull) written h = h
+  written_of P Q N more (Err fault.TooManyLines) written h = h
+  written_of P Q N more (Err fault.NotACommittedQuery) written h = h
+
+pub told_of : (input name : List ℕ) (left : Option (List ℕ)) (P Q : List ℕ → Type 0) → ((text : List ℕ) → P text → Q text) → (r : Result (Unit {0}) RunFault) (written : List ℕ)
+    → IsToldBy P input name left r written → IsToldBy Q input name left r written
+told_of input name left P Q more r written h = written_of input left _ _ _ (λ text k. (k.0, more text k.1)) r written h
+
+-- what is asked after a replay
+pub asked_after : (input name : List ℕ) (left : Option (List ℕ)) (s : State) (r : Result Asked RunFault) → Consumes (Some input) left input → IsWhole input → final input ≡ s
+    → IfOk r (IsAnswered s name) → (IsErrOf r fault.NotACommittedQuery → is_committed_query s.history (transaction_called s name).0 ≡ false)
+    → IfErr r (λ f. (f ≡ fault.NoMemory) ⊎ (f ≡ fault.NotACommittedQuery)) → IsAsked input name left r
+asked_after input name left s (Ok a) read whole is answered none which = (read, whole, subst (λ (z : State). IsAnswered z name a) (sym is) answered)
+asked_after input name left s (Err f) read whole is answered none which = elim which [
+  | inl m ↦ rw m tt
+  | inr q ↦ rw q (whole, subst (λ (z : State). is_committed_query z.history (transaction_called z name).0 ≡ false) (sym is) (none (ap (λ e. Err e) q)))
+]

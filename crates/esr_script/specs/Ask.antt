@@ -1,0 +1,31 @@
+-- What a script tells of one of its queries.
+use Rattle.std.specs.Prelude.{◌≡◌, ℕ, List, true, Option, Result, Ok, Vec}
+use Rattle.std.specs.declared.alloc.Global.{Global}
+use Rattle.esr_items.specs.Weights.{weighted}
+use Rattle.esr_history.specs.Queries.{is_committed_query}
+use Rattle.esr_cert.specs.Views.{certificate_of}
+use Rattle.esr_audit.specs.Findings.{told, told_of}
+use Rattle.esr_script.specs.declared.asked.Asked.{Asked}
+use Rattle.esr_script.specs.declared.fault.RunFault.{RunFault}
+use Rattle.esr_script.specs.Text.{State, transaction_called, final}
+use Rattle.esr_script.specs.Ends.{IsReachedBy, IsNoQuery}
+use Rattle.esr_script.specs.Certify.{IsFound}
+
+-- The names that are bound, the history, and what is found of the query of that name, which has committed: what the audit
+-- tells of it, and the problem with its certificate.
+pub record IsAnswered (s : State) (name : List ℕ) (a : Asked) : Type 0 where
+  pub items : a.items ≡ s.items
+  pub transactions : a.transactions ≡ s.transactions
+  pub history : a.history.schedule ≡ s.history
+  pub committed : is_committed_query s.history (transaction_called s name).0 ≡ true
+  pub told : told a.finding ≡ told_of weighted s.history (transaction_called s name).0
+  pub found : IsFound s.history (transaction_called s name).0 a.finding.problem (certificate_of a.finding.certificate)
+
+-- Asking for the query of that name, given the input, left these bytes of it and ended so.
+abbrev pub IsAsked : List ℕ → List ℕ → Option (List ℕ) → Result Asked RunFault → Type 0
+IsAsked input name left r = IsReachedBy (IsAnswered (final input) name) (IsNoQuery input name) input left r
+
+-- such a text is made of the answer to that name
+abbrev pub IsMadeBy : {E : Type 0} → (Asked → Result (Vec ℕ Global) E → Type 0) → State → List ℕ → List ℕ → Type 0
+IsMadeBy Makes s name text =
+    (a : Asked) × IsAnswered s name a × (bytes : Vec ℕ Global) × Makes a (Ok bytes) × (text ≡ bytes.items)

@@ -1,0 +1,72 @@
+//! Answers the lines that stand in the bytes ahead, whether their text is to be written or dropped.
+
+ghost use Rattle.std.specs.Prelude.{◌≡◌, ◌≢◌, ℕ, List, ◌+◌, ◌++◌, ◌≤◌, Option, Err, OnOk, IfErr, false, length};
+ghost use Rattle.std.specs.Io.KnownBytes.{IsAtEnd};
+ghost use Rattle.esr_script.specs.Replays.{IsReplay};
+ghost use Rattle.esr_script.specs.Parts.{line_len, IsNext, Standing, IsHeldRun, is_read_fault, is_write_fault};
+
+use crate::fault::RunFault;
+use crate::pending::{MAX_LINES, Next, Pending};
+use crate::script::Script;
+
+/// Answers the line that stands next, and goes on behind its line feed.
+pub fn answer_next(
+    next: Next,
+    pending: &mut Pending,
+    count: u64,
+    script: &mut Script,
+    out: &mut Vec<u8>,
+) -> Result<(), RunFault>
+    requires next { IsNext next pending.old }
+    requires there { next ≢ Next.More }
+    ensures few { OnOk result (count ≢ 2000000) }
+    ensures text { OnOk result ((text : List ℕ) × (out.new.items ≡ out.old.items ++ text)
+        × ((input written : List ℕ) (left : Option (List ℕ)) → Standing input left pending.old count script.old written
+        → Standing input left pending.new (count + 1) script.new (written ++ text))) }
+    ensures held { IfErr result (λ e. (input sent : List ℕ) (left : Option (List ℕ))
+        → Standing input left pending.old count script.old (sent ++ out.old.items)
+        → IsHeldRun input left out.new.items (Err e) sent) }
+    ensures replay { IfErr result (λ e. (input written : List ℕ) (left : Option (List ℕ))
+        → Standing input left pending.old count script.old written → IsReplay input left (Err e) script.new) }
+    ensures read { is_read_fault result ≡ false }
+    ensures write { is_write_fault result ≡ false }
+{
+    if count == MAX_LINES {
+        return Err(RunFault::TooManyLines);
+    }
+    let Next::Line(length) = next else {
+        return Err(RunFault::LineTooLong);
+    };
+    if let Err(fault) = script.answer(&pending.bytes()[..length], out) {
+        return Err(fault);
+    }
+    pending.skip(length + 1);
+    Ok(())
+}
+
+/// Answers the line that has no line feed, where there is one.
+pub fn answer_last(
+    pending: &Pending,
+    count: u64,
+    script: &mut Script,
+    out: &mut Vec<u8>,
+) -> Result<(), RunFault>
+    requires short { length pending.now ≤ 200 }
+    ensures held { (input sent : List ℕ) (left : Option (List ℕ))
+        → Standing input left pending.now count script.old (sent ++ out.old.items)
+        → IsAtEnd left → line_len pending.now ≡ length pending.now → IsHeldRun input left out.new.items result sent }
+    ensures replay { (input written : List ℕ) (left : Option (List ℕ))
+        → Standing input left pending.now count script.old written
+        → IsAtEnd left → line_len pending.now ≡ length pending.now → IsReplay input left result script.new }
+    ensures read { is_read_fault result ≡ false }
+    ensures write { is_write_fault result ≡ false }
+{
+    let line = pending.bytes();
+    if line.is_empty() {
+        return Ok(());
+    }
+    if count == MAX_LINES {
+        return Err(RunFault::TooManyLines);
+    }
+    script.answer(line, out)
+}

@@ -1,0 +1,46 @@
+//! Asks a script for one of its queries: the whole script is run without its output, and the query is audited.
+
+ghost use Rattle.std.specs.Prelude.{◌≡◌, ℕ, List, Some, false};
+ghost use Rattle.esr_history.specs.Watch.{inner, failed};
+ghost use Rattle.esr_script.specs.Ask.{IsAsked};
+ghost use Rattle.esr_script.specs.Parts.{is_read_fault, is_write_fault};
+
+use crate::fault::RunFault;
+use crate::replaying::replay;
+use esr_audit::Finding;
+use esr_history::{History, Watched};
+use esr_items::Weighted;
+use esr_report::Names;
+use std::alloc::Global;
+use std::io::Read;
+
+/// What a script tells of one of its queries.
+#[derive(Drop)]
+pub struct Asked {
+    /// The names of the items, in the order of their numbers, from 0.
+    pub items: Names,
+    /// The names of the transactions, in the order of their numbers, from 1.
+    pub transactions: Names,
+    /// The history after the whole script.
+    pub history: History<Weighted>,
+    /// What the audit finds of the query.
+    pub finding: Finding,
+}
+
+/// Runs a script without writing its output, and tells of its query of that name.
+///
+/// # Errors
+/// `NotACommittedQuery` exactly where the run has no fault and the name is that of no committed query. `LineTooLong`,
+/// `HistoryFull` and `TooManyLines` where `run` would end so. `Write` never comes.
+pub fn ask<R: Read>(alloc: Global, reader: &mut Watched<R>, name: &str) -> Result<Asked, RunFault>
+    requires reader { failed reader.old ≡ false }
+    ensures asked { (input : List ℕ) → R.remaining (inner reader.old) ≡ Some input
+        → IsAsked input name.now (R.remaining (inner reader.new)) result }
+    ensures reader { failed reader.new ≡ is_read_fault result }
+    ensures write { is_write_fault result ≡ false }
+{
+    match replay(alloc, reader) {
+        Ok(script) => script.asked(name),
+        Err(fault) => Err(fault),
+    }
+}
