@@ -1,7 +1,7 @@
 ghost use Rattle.std.specs.Prelude.{◌≡◌, ◌≤◌, [], ◌++◌, ◌∷◌, OnOk, OnErr, IsOk, map, take, length};
 ghost use Rattle.std.specs.List.{join_with_byte};
 ghost use Rattle.esr_history.specs.Watch.{BeginsWith};
-ghost use Rattle.esr_report.specs.Lines.{refused, blocked, line, item_line, weighted_item_line, session_line, begun_line, value_line, wrote_line, refusal_line, reply_line, totals_line, listed, audit_words, audit_line, names_line, order_line, error_line};
+ghost use Rattle.esr_report.specs.Lines.{refused, blocked, line, item_line, weighted_item_line, session_line, begun_line, value_line, wrote_line, refusal_line, reply_line, totals_line, listed, audit_line, names_line, order_line, error_line};
 ghost use Rattle.esr_report.specs.Subjects.{named_by};
 ghost use Rattle.esr_report.specs.Names.{name_of_transaction};
 
@@ -261,32 +261,39 @@ fn push_names<N: TransactionNames>(
     Ok(())
 }
 
-/// Appends what stands in the line of an audit.
-fn push_audit<N: TransactionNames>(
+/// Appends words and the names of transactions.
+#[tactic(auto, using(crate::proofs::Joins::one_behind))]
+fn push_listed<N: TransactionNames>(
     out: &mut Vec<u8>,
+    first: &str,
+    rest: &[&str],
     names: &N,
-    txn: &str,
-    distance: u64,
-    import: u64,
-    before: &[TxnId],
+    txns: &[TxnId],
 ) -> Result<(), AllocError>
-    ensures ok { OnOk result (out.new.items ≡ out.old.items
-        ++ join_with_byte 32 (audit_words (N.names names.now) txn.now distance import (map (λ t. t.0) before.now))) }
+    ensures ok { OnOk result (out.new.items ≡ out.old.items ++ join_with_byte 32 (first.now
+        ∷ map (λ word. word.now) rest.now ++ listed (N.names names.now) (map (λ t. t.0) txns.now) ∷ [])) }
     ensures kept { BeginsWith out.new.items out.old.items }
 {
-    let mut distance_digits = itoa::Buffer::new();
-    let mut import_digits = itoa::Buffer::new();
-    let words = [
-        txn,
-        "distance",
-        distance_digits.format(distance),
-        "import",
-        import_digits.format(import),
-        "before",
-    ];
-    push_words(out, "audit", &words)?;
+    push_words(out, first, rest)?;
     out.push(b' ')?;
-    push_names(out, names, before)
+    push_names(out, names, txns)
+}
+
+/// Appends a line of words and the names of transactions.
+fn push_listed_line<N: TransactionNames>(
+    out: &mut Vec<u8>,
+    first: &str,
+    rest: &[&str],
+    names: &N,
+    txns: &[TxnId],
+) -> Result<(), AllocError>
+    ensures ok { OnOk result (out.new.items ≡ out.old.items ++ line (first.now
+        ∷ map (λ word. word.now) rest.now ++ listed (N.names names.now) (map (λ t. t.0) txns.now) ∷ [])) }
+    ensures err { OnErr result (out.new.items ≡ out.old.items) }
+{
+    let mark = out.len();
+    let words = push_listed(out, first, rest, names, txns);
+    end_line(out, mark, words)
 }
 
 /// Appends the line of what the audit of a query found: its distance, what it
@@ -304,25 +311,17 @@ pub fn audit_line<N: TransactionNames>(
         ++ audit_line (N.names names.now) txn.now distance import (map (λ t. t.0) before.now)) }
     ensures err { OnErr result (out.new.items ≡ out.old.items) }
 {
-    let mark = out.len();
-    let words = push_audit(out, names, txn, distance, import, before);
-    end_line(out, mark, words)
-}
-
-/// Appends a word and the names of transactions.
-fn push_listed<N: TransactionNames>(
-    out: &mut Vec<u8>,
-    first: &str,
-    names: &N,
-    txns: &[TxnId],
-) -> Result<(), AllocError>
-    ensures ok { OnOk result (out.new.items ≡ out.old.items
-        ++ join_with_byte 32 (first.now ∷ listed (N.names names.now) (map (λ t. t.0) txns.now) ∷ [])) }
-    ensures kept { BeginsWith out.new.items out.old.items }
-{
-    push_words(out, first, &[])?;
-    out.push(b' ')?;
-    push_names(out, names, txns)
+    let mut distance_digits = itoa::Buffer::new();
+    let mut import_digits = itoa::Buffer::new();
+    let words = [
+        txn,
+        "distance",
+        distance_digits.format(distance),
+        "import",
+        import_digits.format(import),
+        "before",
+    ];
+    push_listed_line(out, "audit", &words, names, before)
 }
 
 /// Appends a line of a word and the names of transactions, separated by commas, or a minus where there is none. The names
@@ -337,9 +336,7 @@ pub fn names_line<N: TransactionNames>(
         ++ names_line first.now (N.names names.now) (map (λ t. t.0) txns.now)) }
     ensures err { OnErr result (out.new.items ≡ out.old.items) }
 {
-    let mark = out.len();
-    let words = push_listed(out, first, names, txns);
-    end_line(out, mark, words)
+    push_listed_line(out, first, &[], names, txns)
 }
 
 /// Appends the line of the committed updates in a serial order. The names are those of the
