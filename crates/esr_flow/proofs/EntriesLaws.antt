@@ -6,7 +6,7 @@ use Rattle.esr_cert.specs.declared.network.Arc.{Arc}
 use Rattle.esr_cert.specs.Network.{arc_at}
 use Rattle.esr_flow.specs.declared.step.Step.{Step}
 use Rattle.esr_flow.specs.declared.step.Step.TheVariants.{Along, Against}
-use Rattle.esr_flow.specs.declared.graph.Entry.{Entry}
+use Rattle.esr_flow.specs.declared.entry.Entry.{Entry}
 use Rattle.esr_flow.specs.declared.graph.Span.{Span}
 use Rattle.esr_flow.specs.declared.graph.Places.{Places}
 use Rattle.esr_flow.specs.declared.graph.Graph.{Graph}

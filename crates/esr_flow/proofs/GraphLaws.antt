@@ -26,7 +26,7 @@ net_is p g a b c d =
     let by_sink : ℕ → Network = λ n. record { nodes = size p + 2; arcs = (network p).arcs; source = size p; sink = n } in
     ap by_nodes a ∙ ap by_arcs b ∙ ap by_source c ∙ ap by_sink d
 
-pub graph_is : (p : Problem) → IsProblem p → (g : Graph) → net_of g ≡ network p → AreRows g.arcs.items g.nodes g.spans.items g.steps.items → ArePlaces g.arcs.items g.steps.items g.places.items → g.nodes < 2 ^ 32 → IsGraph g
+pub graph_is : (p : Problem) → IsProblem p → (g : Graph) → net_of g ≡ network p → AreRows g.arcs.items g.nodes g.spans.items g.steps.items → ArePlaces g.arcs.items g.steps.items g.places.items → g.nodes < 2 ^ 30 → IsGraph g
 graph_is p ok g e rows places few = record {
   is_network = subst IsNetwork (sym e) (is_network p ok);
   count = rows.count;

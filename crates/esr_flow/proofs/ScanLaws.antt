@@ -5,7 +5,7 @@ use Rattle.std.proofs.lemmas.List.{get_or_append_left, get_or_push, length_push,
 use Rattle.esr_cert.specs.declared.network.Arc.{Arc}
 use Rattle.esr_flow.specs.declared.step.Step.{Step}
 use Rattle.esr_flow.specs.declared.step.Step.TheVariants.{Along, Against}
-use Rattle.esr_flow.specs.declared.graph.Entry.{Entry}
+use Rattle.esr_flow.specs.declared.entry.Entry.{Entry}
 use Rattle.esr_flow.specs.declared.search.Visit.{Visit}
 use Rattle.esr_flow.specs.Residual.{arc_of, start, finish, IsResidual}
 use Rattle.esr_cert.specs.Network.{Network, IsNetwork}

@@ -4,7 +4,7 @@ use Rattle.esr_cert.specs.declared.network.Arc.{Arc}
 use Rattle.esr_cert.specs.Network.{Network, IsNetwork}
 use Rattle.esr_flow.specs.declared.step.Step.{Step}
 use Rattle.esr_flow.specs.declared.step.Step.TheVariants.{Along, Against}
-use Rattle.esr_flow.specs.declared.graph.Entry.{Entry}
+use Rattle.esr_flow.specs.declared.entry.Entry.{Entry}
 use Rattle.esr_flow.specs.declared.graph.Span.{Span}
 use Rattle.esr_flow.specs.declared.graph.Places.{Places}
 use Rattle.esr_flow.specs.declared.graph.Graph.{Graph}
@@ -63,7 +63,7 @@ pub record IsGraph (g : Graph) : Type 0 where
   pub lists : (v : ℕ) → v < g.nodes → HasSteps g.arcs.items v (row_in g.steps.items (span_at g.spans.items v))
   pub places : ArePlaces g.arcs.items g.steps.items g.places.items
   pub sink_is_node : g.sink < g.nodes
-  pub few : g.nodes < 2 ^ 32
+  pub few : g.nodes < 2 ^ 30
 
 -- the entry of a step: where it leads, and whether the step and its opposite have room for one more
 abbrev pub entry_of : List Arc → List ℕ → Step → Entry

@@ -3,6 +3,7 @@ pub mod Augmentation
 pub mod Graph
 pub mod Rows
 pub mod Short
+pub mod ShortEntry
 pub mod Search
 pub mod Maximum
 pub mod Certificate

@@ -6,18 +6,10 @@ ghost use Rattle.esr_cert.specs.Flow.{within};
 ghost use Rattle.esr_flow.specs.Residual.{room, arc_of, finish};
 ghost use Rattle.esr_flow.specs.Graph.{entry_of};
 
+use crate::entry::{Entry, ShortEntry};
 use crate::step::{ShortStep, Step};
 use esr_cert::Arc;
 use std::alloc::{AllocError, Global};
-
-/// The node that a step leads to, and whether the step and its opposite have room for one more.
-/// A search comes by each entry, so entries are kept small, and their steps beside them.
-#[derive(Clone, Copy)]
-pub struct Entry {
-    pub to: u32,
-    pub ahead: bool,
-    pub back: bool,
-}
 
 /// Whether a residual amount has room for one more.
 fn has_one(room: Option<u64>) -> bool
@@ -69,7 +61,7 @@ impl Graph {
     }
 
     /// The entries of a node.
-    pub fn row<'a>(&self, entries: &'a [Entry], v: usize) -> &'a [Entry]
+    pub fn row<'a>(&self, entries: &'a [ShortEntry], v: usize) -> &'a [ShortEntry]
         requires graph { IsGraph self.now }
         requires entries { length entries.now ≡ length self.now.steps.items }
         requires node { v < self.now.nodes }
@@ -80,7 +72,7 @@ impl Graph {
     }
 
     /// The entries of all steps, with the residual amounts of a flow.
-    pub fn entries(&self, alloc: Global, flow: &[u64]) -> Result<Vec<Entry>, AllocError>
+    pub fn entries(&self, alloc: Global, flow: &[u64]) -> Result<Vec<ShortEntry>, AllocError>
         requires graph { IsGraph self.now }
         requires flow { length flow.now ≡ length self.now.arcs.items }
         ensures { IfOk result (λ entries. AreEntries self.now flow.now entries.items) }
@@ -93,7 +85,7 @@ impl Graph {
     }
 
     /// Sets the amount on an arc, and with it the residual amounts of the arc's two steps.
-    pub fn set_amount(&self, flow: &mut [u64], entries: &mut [Entry], arc: u32, amount: u64)
+    pub fn set_amount(&self, flow: &mut [u64], entries: &mut [ShortEntry], arc: u32, amount: u64)
         requires graph { IsGraph self.now }
         requires arc { arc < length self.now.arcs.items }
         requires flow { length flow.old ≡ length self.now.arcs.items }
@@ -124,16 +116,17 @@ pub fn room_of(arcs: &[Arc], flow: &[u64], step: Step) -> Option<u64>
 }
 
 /// The entry of a step.
-pub fn entry_of(arcs: &[Arc], flow: &[u64], step: Step) -> Entry
+pub fn entry_of(arcs: &[Arc], flow: &[u64], step: Step) -> ShortEntry
     requires arc { arc_of step < length arcs.now }
     requires flow { length flow.now ≡ length arcs.now }
+    requires node { finish arcs.now step < 1073741824 }
     ensures { result ≡ entry_of arcs.now flow.now step }
 {
-    Entry {
+    ShortEntry::of(Entry {
         to: finish_of(arcs, step),
         ahead: has_one(room_of(arcs, flow, step)),
         back: has_one(room_of(arcs, flow, step.opposite())),
-    }
+    })
 }
 
 /// The node that a step leads to.

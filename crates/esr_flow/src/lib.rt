@@ -2,6 +2,7 @@
 #![tactic(auto)]
 
 mod arcs;
+mod entry;
 mod graph;
 mod maximum;
 mod network;

@@ -8,7 +8,8 @@ ghost use Rattle.esr_flow.specs.Graph.{net_of, IsGraph, AreEntries};
 ghost use Rattle.esr_flow.specs.Search.{IsShortestPath, Guides, IsGuided, is_marked};
 ghost use Rattle.esr_flow.specs.Maximum.{InArcs, HasLimit, LIMIT};
 
-use crate::graph::{Entry, Graph, room_of};
+use crate::entry::ShortEntry;
+use crate::graph::{Graph, room_of};
 use crate::search::{Found, search};
 use crate::step::Step;
 use crate::walk::{rewind, walk};
@@ -53,7 +54,13 @@ fn amount_after(flow: &[u64], amount: u64, step: Step) -> u64
 }
 
 /// Raises the amounts along a path.
-fn raise_along(graph: &Graph, flow: &mut [u64], entries: &mut [Entry], amount: u64, path: &[Step])
+fn raise_along(
+    graph: &Graph,
+    flow: &mut [u64],
+    entries: &mut [ShortEntry],
+    amount: u64,
+    path: &[Step],
+)
     requires graph { IsGraph graph.now }
     requires in_arcs { InArcs graph.now.arcs.items path.now }
     requires flow { length flow.old ≡ length graph.now.arcs.items }
@@ -69,7 +76,7 @@ fn raise_along(graph: &Graph, flow: &mut [u64], entries: &mut [Entry], amount: u
 }
 
 /// One augmentation, along a path that a search found, by the amount that it returns.
-fn augment(graph: &Graph, flow: &mut [u64], entries: &mut [Entry], path: &[Step]) -> u64
+fn augment(graph: &Graph, flow: &mut [u64], entries: &mut [ShortEntry], path: &[Step]) -> u64
     requires graph { IsGraph graph.now }
     requires flow { IsFlow (net_of graph.now) flow.old }
     requires entries { AreEntries graph.now flow.old entries.old }
@@ -105,7 +112,7 @@ fn run_phase(
     labels: &[usize],
     first: Vec<Step>,
     flow: &mut [u64],
-    entries: &mut [Entry],
+    entries: &mut [ShortEntry],
     before: Progress,
 ) -> Result<Progress, AllocError>
     requires graph { IsGraph graph.now }

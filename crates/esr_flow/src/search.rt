@@ -4,7 +4,8 @@ ghost use Rattle.esr_flow.specs.declared.step.Step.{Step};
 ghost use Rattle.esr_flow.specs.Graph.{net_of, IsGraph, AreEntries, Lists};
 ghost use Rattle.esr_flow.specs.Search.{Searched, visit_at, is_marked, IsShortestPath, AfterScan, FoundSink, IsFound, Guides, label_at};
 
-use crate::graph::{Entry, Graph};
+use crate::entry::ShortEntry;
+use crate::graph::Graph;
 use crate::step::{ShortStep, Step};
 use std::alloc::{AllocError, Global};
 
@@ -22,7 +23,7 @@ fn scan(
     graph: &Graph,
     _flow: &[u64],
     steps: &[ShortStep],
-    row: &[Entry],
+    row: &[ShortEntry],
     visits: &mut Vec<Visit>,
     marks: &mut Vec<bool>,
     head: usize,
@@ -36,7 +37,8 @@ fn scan(
         (λ found. AfterScan (net_of graph.now) _flow.now visits.new.items marks.new.items head found) }
 {
     let level = visits[head].level + 1;
-    for (i, entry) in row.iter().enumerate() {
+    for (i, short) in row.iter().enumerate() {
+        let entry = short.entry();
         let node = entry.to as usize;
         if !marks[node] {
             if entry.ahead {
@@ -111,7 +113,7 @@ pub fn search(
     alloc: Global,
     graph: &Graph,
     flow: &[u64],
-    entries: &[Entry],
+    entries: &[ShortEntry],
 ) -> Result<Found, AllocError>
     requires graph { IsGraph graph.now }
     requires entries { AreEntries graph.now flow.now entries.now }

@@ -7,7 +7,8 @@ ghost use Rattle.esr_flow.specs.Graph.{net_of, IsGraph, AreEntries, Lists, step_
 ghost use Rattle.esr_flow.specs.Search.{Guides, IsGuided, label_at};
 ghost use Rattle.esr_flow.specs.Maximum.{InArcs};
 
-use crate::graph::{Entry, Graph, finish_of};
+use crate::entry::ShortEntry;
+use crate::graph::{Graph, finish_of};
 use crate::step::{ShortStep, Step};
 use std::alloc::{AllocError, Global};
 
@@ -19,7 +20,7 @@ fn next_back(
     labels: &[usize],
     at: usize,
     _steps: &[ShortStep],
-    row: &[Entry],
+    row: &[ShortEntry],
     from: usize,
 ) -> usize
     requires graph { IsGraph graph.now }
@@ -34,7 +35,7 @@ fn next_back(
 {
     let label = labels[at];
     for i in from..row.len() {
-        let entry = row[i];
+        let entry = row[i].entry();
         if entry.back {
             if label < labels[entry.to as usize] {
                 return i;
@@ -49,7 +50,7 @@ pub fn walk(
     alloc: Global,
     graph: &Graph,
     flow: &[u64],
-    entries: &[Entry],
+    entries: &[ShortEntry],
     labels: &[usize],
     next: &mut [usize],
 ) -> Result<Option<Vec<Step>>, AllocError>
@@ -69,7 +70,7 @@ pub fn walk(
         if i < row.len() {
             next[at] = i + 1;
             path.push(steps[i].step().opposite())?;
-            at = row[i].to as usize;
+            at = row[i].entry().to as usize;
         } else {
             next[at] = i;
             match path.pop() {

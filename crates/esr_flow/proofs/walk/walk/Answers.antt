@@ -1,11 +1,11 @@
-use Rattle.std.proofs.Common.{arith, ◌≡◌, ℕ, ◌+◌, ◌-◌, ◌<◌, ◌≤◌, [], ◌∷◌, ◌++◌, List, length, set, drop, sym, ◌∙◌, ap, subst, suc, true, length-set, length-take}
+use Rattle.std.proofs.Common.{arith, ◌≡◌, ℕ, ◌+◌, ◌-◌, ◌<◌, ◌≤◌, [], ◌∷◌, ◌++◌, List, length, set, drop, sym, ◌∙◌, ap, subst, suc, true, false, length-set, length-take}
 use Rattle.std.proofs.lemmas.List.{length_push, get_or_read}
 use Rattle.esr_cert.specs.declared.network.Arc.{Arc}
 use Rattle.esr_cert.specs.Flow.{within}
 use Rattle.esr_cert.specs.Network.{Network}
 use Rattle.esr_flow.specs.declared.step.Step.{Step}
 use Rattle.esr_flow.specs.declared.step.Step.TheVariants.{Along}
-use Rattle.esr_flow.specs.declared.graph.Entry.{Entry}
+use Rattle.esr_flow.specs.declared.entry.Entry.{Entry}
 use Rattle.esr_flow.specs.Residual.{room, arc_of, start, finish, opposite}
 use Rattle.esr_flow.specs.Graph.{net_of, Lists, IsEntry, step_at, entry_at, span_at}
 use Rattle.esr_flow.specs.Search.{label_at, IsGuided}
@@ -32,6 +32,7 @@ loop-at-preserved-then-i-row c =
     let flow : List ℕ = c.args.flow.now in
     let labels : List ℕ = c.args.labels.now in
     let e : Entry = entry_at c.row-row.result.now c.next_back-i.result in
+    let read : c.entry-at.result ≡ e = c.entry-at.ensures ∙ get_or_read c.row-row.result.now c.next_back-i.result c.index-row-i.result c.if-i-row.true c.index-row-i.is (record { to = 0; ahead = false; back = false }) in
     let t : Step = step_at c.steps_at-steps.result.now c.next_back-i.result in
     let s : Step = opposite t in
     let row : Lists arcs flow c.loop-at.at c.steps_at-steps.result.now c.row-row.result.now = lists_read c.args.graph.now c.requires.graph c.args.flow.now c.args.entries.now c.requires.entries c.loop-at.at c.loop-at.invariant.0.node c.steps_at-steps.result.now c.row-row.result.now c.steps_at-steps.ensures c.row-row.ensures in
@@ -42,7 +43,7 @@ loop-at-preserved-then-i-row c =
     let begins : start arcs s ≡ e.to = opposite_start arcs t ∙ sym at.leads in
     let down : label_at labels (finish arcs s) < label_at labels (start arcs s) = omega (arith, c.next_back-i.ensures.up c.if-i-row.true, ap (label_at labels) ends, ap (label_at labels) begins) in
     let pushed : c.push.new.self.items ≡ c.loop-at.path.items ++ s ∷ [] = c.in_ok-push.ensures.items ∙ ap (λ t. c.loop-at.path.items ++ t ∷ []) c.opposite.ensures ∙ ap (λ t. c.loop-at.path.items ++ opposite t ∷ []) (c.step.ensures ∙ get_or_read c.steps_at-steps.result.now c.next_back-i.result c.index-steps-i.result (omega (arith, row.count, c.if-i-row.true)) c.index-steps-i.is (Along 0)) in (
-      subst (Walk net flow labels c.push.new.self.items) begins
+      subst (Walk net flow labels c.push.new.self.items) (begins ∙ ap (λ (x : Entry). x.to) (sym read))
           (subst (λ p. Walk net flow labels p (start arcs s)) (sym pushed)
           (walk_push net c.requires.graph.is_network flow labels c.loop-at.path.items c.loop-at.at s c.loop-at.invariant.0 ends (in_arcs, has_room) down)),
       length-set c.loop-at.next c.loop-at.at (c.next_back-i.result + 1) ∙ c.loop-at.invariant.1,

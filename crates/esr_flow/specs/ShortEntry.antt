@@ -1,0 +1,24 @@
+-- Entries as numbers: four times the node, with 2 more where the opposite has room and 1 more where the step has.
+use Rattle.std.specs.Prelude.{◌≡◌, ℕ, ◌+◌, ◌*◌, ◌/◌, ◌%◌, ◌==◌, nat_lt, if◌then◌else◌}
+use Rattle.std.proofs.Common.{ap, ◌∙◌, inl, inr, arith, cond, eq-eqb, ne_eqb}
+use Rattle.std.proofs.lemmas.Bool.{cases_eq, cases_lt, lt-ltb, le-ltb}
+use Rattle.esr_flow.specs.declared.entry.Entry.{Entry}
+
+abbrev pub entry_in : ℕ → Entry
+entry_in n = record { to = n / 4; ahead = n % 2 == 1; back = nat_lt 1 (n % 4) }
+
+abbrev pub number_of : Entry → ℕ
+number_of e = e.to * 4 + (if e.back then 2 else 0) + (if e.ahead then 1 else 0)
+
+pub number_of-entry_in : (n : ℕ) → number_of (entry_in n) ≡ n
+number_of-entry_in n =
+    elim (cases_eq (n % 2) 1) [
+      | inl odd ↦ ap (λ a. n / 4 * 4 + cond (nat_lt 1 (n % 4)) 2 0 + cond a 1 0) (eq-eqb (n % 2) 1 odd) ∙ elim (cases_lt 1 (n % 4)) [
+        | inl l ↦ let all : n / 4 * 4 + 2 + 1 ≡ n = omega arith in ap (λ b. n / 4 * 4 + cond b 2 0 + 1) (lt-ltb 1 (n % 4) l) ∙ all
+        | inr m ↦ let all : n / 4 * 4 + 0 + 1 ≡ n = omega arith in ap (λ b. n / 4 * 4 + cond b 2 0 + 1) (le-ltb 1 (n % 4) m) ∙ all
+      ]
+      | inr even ↦ ap (λ a. n / 4 * 4 + cond (nat_lt 1 (n % 4)) 2 0 + cond a 1 0) (ne_eqb (n % 2) 1 even) ∙ elim (cases_lt 1 (n % 4)) [
+        | inl l ↦ let all : n / 4 * 4 + 2 + 0 ≡ n = omega arith in ap (λ b. n / 4 * 4 + cond b 2 0 + 0) (lt-ltb 1 (n % 4) l) ∙ all
+        | inr m ↦ let all : n / 4 * 4 + 0 + 0 ≡ n = omega arith in ap (λ b. n / 4 * 4 + cond b 2 0 + 0) (le-ltb 1 (n % 4) m) ∙ all
+      ]
+    ]

@@ -1,0 +1,60 @@
+//! What a search has to know of a step.
+
+use std::marker::Model;
+
+/// The node that a step leads to, and whether the step and its opposite have room for one more.
+#[derive(Clone, Copy)]
+pub struct Entry {
+    pub to: u32,
+    pub ahead: bool,
+    pub back: bool,
+}
+
+/// An entry in four bytes, since a search comes by each: four times the node, with 2 more where the opposite has room
+/// and 1 more where the step has.
+#[derive(Clone, Copy)]
+pub struct ShortEntry {
+    number: u32,
+}
+
+impl Model for ShortEntry {
+    ghost use Rattle.esr_flow.specs.declared.entry.Entry.{Entry};
+
+    ghost Value = { Entry };
+
+    ghost use Rattle.std.proofs.Common.{ap};
+    ghost use Rattle.esr_flow.specs.ShortEntry.{entry_in, number_of, number_of-entry_in};
+
+    ghost view = { λ e. entry_in e.number };
+
+    ghost inverse = { λ e. record { number = number_of e } };
+
+    ghost inverse_ok = { λ a h. ap (λ n. record { number = n }) (number_of-entry_in a.number) };
+}
+
+impl ShortEntry {
+    ghost use Rattle.std.specs.Prelude.{◌≡◌, ◌<◌};
+
+    /// The same entry in four bytes.
+    pub fn of(entry: Entry) -> ShortEntry
+        requires { entry.to < 1073741824 }
+        ensures { result ≡ entry }
+    {
+        let back = if entry.back { 2 } else { 0 };
+        let ahead = if entry.ahead { 1 } else { 0 };
+        ShortEntry {
+            number: entry.to * 4 + back + ahead,
+        }
+    }
+
+    /// The entry itself.
+    pub fn entry(self) -> Entry
+        ensures { result ≡ self }
+    {
+        Entry {
+            to: self.number / 4,
+            ahead: self.number % 2 == 1,
+            back: 1 < self.number % 4,
+        }
+    }
+}
