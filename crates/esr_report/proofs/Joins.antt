@@ -25,7 +25,7 @@ module _ {X : Type 0} (spell : X → List ℕ) (c : ℕ) (out first : List ℕ) 
   one_more i d word before parted after within stood is part grew =
       let grown : map spell (take (i + 1) xs) ≡ map spell (take i xs) ++ word ∷ [] =
       ap (map spell) (take_more xs i d within) ∙ map-append spell (take i xs) (get_or xs i d ∷ [])
-          ∙ ap (λ w. map spell (take i xs) ++ w ∷ []) (sym is) in
+      ∙ ap (λ w. map spell (take i xs) ++ w ∷ []) (sym is) in
       one_behind c out first (map spell (take i xs)) word before parted after stood part grew
       ∙ ap (λ l. out ++ join_with_byte c (first ∷ l)) (sym grown)
 
