@@ -170,6 +170,7 @@ impl LockTable {
 
     /// Makes room for one more lock of a transaction on an item. It fails only where there is none
     /// yet, and then the locks are as before.
+    #[inline(always)]
     pub fn reserve(&mut self, t: TxnId, x: ItemId) -> Result<(), NoMemory>
         requires { x.0 < length self.old.locks }
         ensures locks { self.new.locks ≡ self.old.locks }
