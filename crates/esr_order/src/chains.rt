@@ -51,8 +51,8 @@ fn links_of(alloc: Global, steps: &[Step]) -> Result<Links, AllocError>
         → seen_links l ≡ chain_from (last_in (filter (λ s. s.writes) steps.now)) n) }
 {
     let mut links = Links {
-        writers: Vec::new(alloc),
-        values: Vec::new(alloc),
+        writers: Vec::with_capacity(alloc, steps.len())?,
+        values: Vec::with_capacity(alloc, steps.len())?,
     };
     let mut last = None;
     for s in steps {
@@ -73,7 +73,7 @@ pub fn chains_of(alloc: Global, rows: &[Vec<Step>]) -> Result<Vec<Links>, AllocE
         → AllPairs (λ a b. a.place ≤ b.place) (filter (λ s. s.writes) (on_item x steps)))
         → map seen_links v.items ≡ map (λ x. chain_from (last_step steps x) n) (range_with_len 0 items)) }
 {
-    let mut chains = Vec::new(alloc);
+    let mut chains = Vec::with_capacity(alloc, rows.len())?;
     for row in rows {
         chains.push(links_of(alloc, row)?)?;
     }

@@ -42,7 +42,7 @@ fn ties_of(alloc: Global, steps: &[Step]) -> Result<Vec<(u32, u32)>, AllocError>
     ensures { IfOk result (λ v. (x : ℕ) → All (λ s. s.item ≡ x) steps.now → IsTied steps.now v.items
         × AreNextPaired v.items (filter (λ s. s.writes) steps.now)) }
 {
-    let mut pairs = Vec::new(alloc);
+    let mut pairs = Vec::with_capacity(alloc, steps.len())?;
     let mut last = None;
     let mut since = Vec::new(alloc);
     for s in steps {

@@ -6,7 +6,7 @@ use Rattle.esr_order.proofs.chains.links_of.Goals as goal
 use Rattle.esr_order.proofs.chains.links_of.Goals.{then-s+in_ok-put_before, else-s}
 
 pub loop-s-init : goal.loop-s-init
-loop-s-init c = λ rise. (refl, (λ k. record { writers = c.new.ensures.items k; values = c.new-2.ensures.items k }))
+loop-s-init c = λ rise. (refl, (λ k. record { writers = c.in_ok-with_capacity.ensures.items k; values = c.in_ok-with_capacity-2.ensures.items k }))
 
 pub loop-s-preserved : goal.loop-s-preserved
 loop-s-preserved c =

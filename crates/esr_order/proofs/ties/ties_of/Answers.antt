@@ -6,7 +6,7 @@ use Rattle.esr_order.proofs.ties.ties_of.Goals as goal
 use Rattle.esr_order.proofs.ties.ties_of.Goals.{then-s+in_ok-tie_all, else-s+in_ok-push}
 
 pub loop-s-init : goal.loop-s-init
-loop-s-init c = λ x on. subst (λ ps. Kept x [] None c.new-since.result.items ps) (sym c.new-pairs.ensures.items) (subst (λ rs. Kept x [] None rs []) (sym c.new-since.ensures.items) (kept_none x))
+loop-s-init c = λ x on. subst (λ ps. Kept x [] None c.new-since.result.items ps) (sym c.in_ok-pairs.ensures.items) (subst (λ rs. Kept x [] None rs []) (sym c.new-since.ensures.items) (kept_none x))
 
 pub loop-s-preserved : goal.loop-s-preserved
 loop-s-preserved c =
