@@ -25,7 +25,8 @@ IsLimited (Some c) = Unit {0}
 
 -- no unlimited arc leaves the set
 abbrev pub AreLimited : (ℕ → Bool) → List Arc → Type 0
-AreLimited has arcs = (i : ℕ) → i < length arcs → crosses has (arc_at arcs i) ≡ true → IsLimited (arc_at arcs i).capacity
+AreLimited has arcs =
+    (i : ℕ) → i < length arcs → crosses has (arc_at arcs i) ≡ true → IsLimited (arc_at arcs i).capacity
 
 -- the nodes of a set of updates, with the source, in a network of n updates
 abbrev pub with_source : ℕ → (ℕ → Bool) → ℕ → Bool

@@ -24,7 +24,8 @@ chain_touches k (chain ∷ chains) = link_touches k 0 chain.writers ++ chain_tou
 
 abbrev pub pair_touches : ℕ → List (ℕ × ℕ) → List Touch
 pair_touches i [] = []
-pair_touches i (e ∷ pairs) = record { node = e.0; place = First i } ∷ record { node = e.1; place = Second i } ∷ pair_touches (i + 1) pairs
+pair_touches i (e ∷ pairs) =
+    record { node = e.0; place = First i } ∷ record { node = e.1; place = Second i } ∷ pair_touches (i + 1) pairs
 
 abbrev pub must_touches : ℕ → List ℕ → List Touch
 must_touches i [] = []
@@ -40,12 +41,15 @@ at_node f v touch = if touch.node == v then f touch.place else 0
 -- each row has gained the places of its update's touches: what any sum over its places has gained
 abbrev pub Adds : List Touch → List (Vec Place Global) → List (Vec Place Global) → Type 0
 Adds touches old new =
-    (length new ≡ length old) × ((v : ℕ) (d : Vec Place Global) (f : Place → ℕ) → v < length old → sum_by f (get_or new v d).items ≡ sum_by f (get_or old v d).items + sum_by (at_node f v) touches)
+    (length new ≡ length old) × ((v : ℕ) (d : Vec Place Global) (f : Place → ℕ) → v < length old
+        → sum_by f (get_or new v d).items ≡ sum_by f (get_or old v d).items + sum_by (at_node f v) touches)
 
 -- a row for each of n updates, of the places of its touches in some order, that is, with the same sums
-pub record IsIndex (n : ℕ) (before : List (ℕ × ℕ)) (chains : List Chain) (must : List ℕ) (rows : List (Vec Place Global)) : Type 0 where
+pub record IsIndex (n : ℕ) (before : List (ℕ × ℕ)) (chains : List Chain) (must : List ℕ)
+    (rows : List (Vec Place Global)) : Type 0 where
   pub count : length rows ≡ n
-  pub same : (v : ℕ) (d : Vec Place Global) (f : Place → ℕ) → v < n → sum_by f (get_or rows v d).items ≡ sum_by (at_node f v) (all_touches before chains must)
+  pub same : (v : ℕ) (d : Vec Place Global) (f : Place → ℕ) → v < n
+      → sum_by f (get_or rows v d).items ≡ sum_by (at_node f v) (all_touches before chains must)
 
 -- the amount that comes to an update at a place
 abbrev pub amount_in : Certificate → Place → ℕ

@@ -16,7 +16,8 @@ arc_at arcs i = get_or arcs i (record { from = 0; to = 0; capacity = Some 0 })
 
 -- arcs join nodes, and none goes into the source
 pub record IsNetwork (net : Network) : Type 0 where
-  pub ends : (i : ℕ) → i < length net.arcs → ((arc_at net.arcs i).from < net.nodes) × ((arc_at net.arcs i).to < net.nodes)
+  pub ends : (i : ℕ) → i < length net.arcs
+      → ((arc_at net.arcs i).from < net.nodes) × ((arc_at net.arcs i).to < net.nodes)
   pub no_way_back : (i : ℕ) → i < length net.arcs → (arc_at net.arcs i).to ≢ net.source
   pub two_ends : net.source ≢ net.sink
   pub source_is_node : net.source < net.nodes
@@ -25,7 +26,8 @@ pub record IsNetwork (net : Network) : Type 0 where
 abbrev pub links : ℕ → ℕ → List ℕ → List ℕ → List Arc
 links from sink writers [] = []
 links from sink [] (c ∷ costs) = record { from = from; to = sink; capacity = Some c } ∷ []
-links from sink (w ∷ writers) (c ∷ costs) = record { from = from; to = w; capacity = Some c } ∷ links w sink writers costs
+links from sink (w ∷ writers) (c ∷ costs) =
+    record { from = from; to = w; capacity = Some c } ∷ links w sink writers costs
 
 -- the arcs of a chain, in a network of so many updates
 abbrev pub chain_links : ℕ → Chain → List Arc

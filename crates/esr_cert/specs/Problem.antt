@@ -9,7 +9,8 @@ pub record Chain : Type 0 where
   pub writers : List ℕ
   pub costs : List ℕ
 
--- the numbers of the updates, the pairs of which the first comes before the second, the items, and what each set has to hold
+-- the numbers of the updates, the pairs of which the first comes before the second, the items, and what each set has to
+-- hold
 pub record Problem : Type 0 where
   pub updates : List ℕ
   pub before : List (ℕ × ℕ)
@@ -44,7 +45,8 @@ cost p has = sum_by (chain_cost has) p.chains
 pub record IsSmallestLeast (p : Problem) (has : ℕ → Bool) : Type 0 where
   pub closed : is_closed p has ≡ true
   pub least : (other : ℕ → Bool) → is_closed p other ≡ true → cost p has ≤ cost p other
-  pub smallest : (other : ℕ → Bool) → is_closed p other ≡ true → cost p other ≤ cost p has → (u : ℕ) → u < size p → has u ≡ true → other u ≡ true
+  pub smallest : (other : ℕ → Bool) → is_closed p other ≡ true → cost p other ≤ cost p has → (u : ℕ) → u < size p
+      → has u ≡ true → other u ≡ true
 
 -- ---- the rules of shape
 
@@ -77,10 +79,14 @@ is_distinct [] = true
 is_distinct (x ∷ xs) = not (in_set xs x) && is_distinct xs
 
 abbrev pub chain_has_shape : List (ℕ × ℕ) → Chain → Bool
-chain_has_shape before chain = (length chain.costs == suc (length chain.writers)) && is_ascending chain.writers && are_linked before chain.writers
+chain_has_shape before chain =
+    (length chain.costs == suc (length chain.writers)) && is_ascending chain.writers && are_linked before chain.writers
 
 abbrev pub has_shape : Problem → Bool
-has_shape p = is_distinct p.updates && are_pairs_ascending p.before && list_all (λ e. nat_lt e.0 e.1) p.before && is_ascending (map (λ chain. chain.item) p.chains) && list_all (chain_has_shape p.before) p.chains && is_ascending p.must
+has_shape p =
+    is_distinct p.updates && are_pairs_ascending p.before && list_all (λ e. nat_lt e.0 e.1) p.before
+        && is_ascending (map (λ chain. chain.item) p.chains) && list_all (chain_has_shape p.before) p.chains
+        && is_ascending p.must
 
 -- ---- the rules of range
 
@@ -101,7 +107,10 @@ abbrev pub chain_is_in_range : ℕ → Chain → Bool
 chain_is_in_range n chain = nat_le chain.item max_item && list_all (λ w. nat_lt w n) chain.writers
 
 abbrev pub is_in_range : Problem → Bool
-is_in_range p = list_all (λ t. nat_lt 0 t && nat_le t max_txn) p.updates && list_all (chain_is_in_range (size p)) p.chains && list_all (λ e. nat_lt e.0 (size p) && nat_lt e.1 (size p)) p.before && list_all (λ u. nat_lt u (size p)) p.must && nat_le (sum_by (λ chain. greatest chain.costs) p.chains) max_cost
+is_in_range p =
+    list_all (λ t. nat_lt 0 t && nat_le t max_txn) p.updates && list_all (chain_is_in_range (size p)) p.chains
+        && list_all (λ e. nat_lt e.0 (size p) && nat_lt e.1 (size p)) p.before
+        && list_all (λ u. nat_lt u (size p)) p.must && nat_le (sum_by (λ chain. greatest chain.costs) p.chains) max_cost
 
 -- no rule of shape or range is broken
 abbrev pub is_sound : Problem → Bool

@@ -14,7 +14,10 @@ abbrev pub rows_of : List (Vec ℕ Global) → List (List ℕ)
 rows_of rows = map (λ row. row.items) rows
 
 abbrev pub problem_of : List TxnId → List (ℕ × ℕ) → List Chain → List ℕ → spec.Problem
-problem_of updates before chains must = record { updates = map (λ t. t.0) updates; before = before; chains = map chain_of chains; must = must }
+problem_of updates before chains must =
+    record { updates = map (λ t. t.0) updates; before = before; chains = map chain_of chains; must = must }
 
 abbrev pub certificate_of : Certificate → certificates.Certificate
-certificate_of c = record { set = c.set.items; chain_flow = rows_of c.chain_flow.items; back_flow = c.back_flow.items; must_flow = c.must_flow.items; worth = c.worth; augmentations = c.augmentations }
+certificate_of c =
+    record { set = c.set.items; chain_flow = rows_of c.chain_flow.items; back_flow = c.back_flow.items;
+        must_flow = c.must_flow.items; worth = c.worth; augmentations = c.augmentations }

@@ -22,18 +22,21 @@ has_active h = list_any (is_active (done h)) (numbers (done h))
 abbrev pub renewed : Schedule → List ℕ → Schedule
 renewed h weights = record { opening = committed_values h; weights = weights; entries = [] }
 
--- the value of item x after the updates us of a history and then the updates vs of one that follows it, run one after another
+-- the value of item x after the updates us of a history and then the updates vs of one that follows it, run one after
+-- another
 abbrev pub state_over : Schedule → List ℕ → Schedule → List ℕ → ℕ → ℤ
 state_over h us k vs x = last_value (state h us x) (flat_map (values_by k x) vs)
 
 -- Two histories, one after the other, are serializable as one: the committed updates of the first in the order of their
--- commits, then those of the second in theirs, run one after another from the opening values of the first, read and leave the same
--- values.
+-- commits, then those of the second in theirs, run one after another from the opening values of the first, read and
+-- leave the same values.
 pub record AreSerializableAsOne (h k : Schedule) : Type 0 where
   pub first : IsSerializable h
   pub serial : IsSerialOrder k (committed_updates k) (committed_updates k)
   pub reads : (before after : List Entry) (t : TxnId) (x : ItemId) (v : ℤ) → x.0 < length h.opening
-      → k.entries ≡ before ++ record { event = Read t x; reply = Value v } ∷ after → IsTrue (is_update (done k) t.0 && is_committed (done k) t.0)
+      → k.entries ≡ before ++ record { event = Read t x; reply = Value v } ∷ after
+      → IsTrue (is_update (done k) t.0 && is_committed (done k) t.0)
       → v ≡ last_value (state_over h (committed_updates h) k (before_first (λ u. u == t.0) (committed_updates k)) x.0)
       (filter_map (written (λ u. u == t.0) x.0) (accepted before))
-  pub leaves : (x : ℕ) → x < length h.opening → state_over h (committed_updates h) k (committed_updates k) x ≡ committed_value k.opening (done k) x
+  pub leaves : (x : ℕ) → x < length h.opening
+      → state_over h (committed_updates h) k (committed_updates k) x ≡ committed_value k.opening (done k) x

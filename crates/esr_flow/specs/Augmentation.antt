@@ -21,5 +21,6 @@ Takes net (suc n) flow = (before : List ℕ) × Takes net n before × Augments n
 -- the nodes that the source reaches in the residual network: the source, what a residual step leads to, and no others
 pub record IsReach (net : Network) (flow : List ℕ) (has : ℕ → Bool) : Type 0 where
   pub source : has net.source ≡ true
-  pub kept : (step : Step) → IsResidual net.arcs flow step → has (start net.arcs step) ≡ true → has (finish net.arcs step) ≡ true
+  pub kept : (step : Step) → IsResidual net.arcs flow step → has (start net.arcs step) ≡ true
+      → has (finish net.arcs step) ≡ true
   pub reached : (v : ℕ) → has v ≡ true → (path : List Step) × IsPath net.arcs flow net.source path v

@@ -14,4 +14,5 @@ InArcs arcs path = (k : ℕ) (d : Step) → k < length path → arc_of (get_or p
 -- a path to the sink has a limited arc
 abbrev pub HasLimit : Network → Type 0
 HasLimit net =
-    (flow : List ℕ) (path : List Step) → IsPath net.arcs flow net.source path net.sink → least_room net.arcs flow path ≡ None → ⊥
+    (flow : List ℕ) (path : List Step) → IsPath net.arcs flow net.source path net.sink
+        → least_room net.arcs flow path ≡ None → ⊥

@@ -23,7 +23,8 @@ unmarked (b ∷ marks) = (if b then 0 else 1) + unmarked marks
 -- a visit of where a step leads, one level further at most
 abbrev pub Leads : List Arc → List Visit → ℕ → Step → Type 0
 Leads arcs visits level step =
-    (j : ℕ) × (j < length visits) × ((visit_at visits j).node ≡ finish arcs step) × ((visit_at visits j).level ≤ suc level)
+    (j : ℕ) × (j < length visits) × ((visit_at visits j).node ≡ finish arcs step)
+        × ((visit_at visits j).level ≤ suc level)
 
 -- a visit comes from an earlier one
 pub record Comes (arcs : List Arc) (flow : List ℕ) (visits : List Visit) (j : ℕ) : Type 0 where
@@ -45,8 +46,10 @@ pub record Searched (net : Network) (flow : List ℕ) (visits : List Visit) (mar
   pub nodes : (j : ℕ) → j < length visits → (visit_at visits j).node < net.nodes
   pub marked : (j : ℕ) → j < length visits → is_marked marks (visit_at visits j).node ≡ true
   pub visited : (v : ℕ) → is_marked marks v ≡ true → (j : ℕ) × (j < length visits) × ((visit_at visits j).node ≡ v)
-  pub done : (i : ℕ) → i < head → (step : Step) → IsResidual net.arcs flow step → start net.arcs step ≡ (visit_at visits i).node → Leads net.arcs visits (visit_at visits i).level step
-  pub near : (j : ℕ) → j < length visits → head < length visits → (visit_at visits j).level ≤ suc (visit_at visits head).level
+  pub done : (i : ℕ) → i < head → (step : Step) → IsResidual net.arcs flow step
+      → start net.arcs step ≡ (visit_at visits i).node → Leads net.arcs visits (visit_at visits i).level step
+  pub near : (j : ℕ) → j < length visits → head < length visits
+      → (visit_at visits j).level ≤ suc (visit_at visits head).level
   pub room : length visits + unmarked marks ≡ net.nodes
 
 -- a path with fewest arcs from the source to the sink
@@ -61,13 +64,16 @@ pub record FoundSink (net : Network) (flow : List ℕ) (visits : List Visit) : T
   pub searched : Searched net flow visits marks head
   pub at_sink : (visit_at visits (length visits - 1)).node ≡ net.sink
   pub in_visits : head < length visits
-  pub only : (j : ℕ) → j < length visits → (visit_at visits j).node ≡ net.sink → (visit_at visits j).level ≡ (visit_at visits (length visits - 1)).level
-  pub nearest : (other : List Step) → IsPath net.arcs flow net.source other net.sink → (visit_at visits (length visits - 1)).level ≤ length other
+  pub only : (j : ℕ) → j < length visits → (visit_at visits j).node ≡ net.sink
+      → (visit_at visits j).level ≡ (visit_at visits (length visits - 1)).level
+  pub nearest : (other : List Step) → IsPath net.arcs flow net.source other net.sink
+      → (visit_at visits (length visits - 1)).level ≤ length other
 
 -- what a scan of the steps from one visit leaves
 abbrev pub AfterScan : Network → List ℕ → List Visit → List Bool → ℕ → Bool → Type 0
 AfterScan net flow visits marks head true = FoundSink net flow visits
-AfterScan net flow visits marks head false = Searched net flow visits marks (head + 1) × (is_marked marks net.sink ≡ false) × (head < length visits)
+AfterScan net flow visits marks head false =
+    Searched net flow visits marks (head + 1) × (is_marked marks net.sink ≡ false) × (head < length visits)
 
 abbrev pub label_at : List ℕ → ℕ → ℕ
 label_at labels v = get_or labels v 0
@@ -88,4 +94,5 @@ pub record IsGuided (net : Network) (flow labels : List ℕ) (path : List Step) 
 abbrev pub IsFound : Network → List ℕ → Found → Type 0
 IsFound net flow (Path path labels) = IsGuided net flow labels.items path.items × Guides net flow labels.items
 IsFound net flow (Reach marks) =
-    IsReach net flow (is_marked marks.items) × (is_marked marks.items net.sink ≡ false) × (length marks.items ≡ net.nodes)
+    IsReach net flow (is_marked marks.items) × (is_marked marks.items net.sink ≡ false)
+        × (length marks.items ≡ net.nodes)

@@ -15,11 +15,13 @@ imported charges t = sum_by (λ c. if c.0.0 == t then c.1 else 0) charges
 
 -- where the event is accepted, the charges import what is due for it
 abbrev pub AreDue : Distance → Schedule → Event → Reply → List (TxnId × ℕ) → Type 0
-AreDue d h event reply charges = is_refusal reply ≡ false → (t : ℕ) → imported charges t ≡ import_in (due_in d h event) t
+AreDue d h event reply charges =
+    is_refusal reply ≡ false → (t : ℕ) → imported charges t ≡ import_in (due_in d h event) t
 
 -- the imports of the transactions, by their numbers from 0, which is nobody's
 abbrev pub AreImports : Distance → Schedule → List ℕ → Type 0
-AreImports d h imports = imports ≡ map (λ t. import_in (charges_in d h) t) (range_with_len 0 (begun_count h.entries + 1))
+AreImports d h imports =
+    imports ≡ map (λ t. import_in (charges_in d h) t) (range_with_len 0 (begun_count h.entries + 1))
 
 -- a table with a place for the transaction that begins
 abbrev pub with_number : List ℕ → Event → List ℕ

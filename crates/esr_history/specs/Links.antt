@@ -60,7 +60,8 @@ is_key (Some m) k = m == k
 -- the places, counted from n, of the entries that have the key
 abbrev pub places_from : (Entry → Option ℕ) → ℕ → ℕ → List Entry → List ℕ
 places_from key k n [] = []
-places_from key k n (e ∷ es) = if is_key (key e) k then n ∷ places_from key k (n + 1) es else places_from key k (n + 1) es
+places_from key k n (e ∷ es) =
+    if is_key (key e) k then n ∷ places_from key k (n + 1) es else places_from key k (n + 1) es
 
 -- the last of the places of the entries that have the key
 abbrev pub last_place : (Entry → Option ℕ) → ℕ → List Entry → Option ℕ

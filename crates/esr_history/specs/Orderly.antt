@@ -1,4 +1,5 @@
--- What every legal history keeps of its accepted events: who acts has begun, only updates write, only the last writer of an item can be active, and nobody ends twice.
+-- What every legal history keeps of its accepted events: who acts has begun, only updates write, only the last writer
+-- of an item can be active, and nobody ends twice.
 use Rattle.std.specs.Prelude.{◌≡◌, ℕ, List, Bool, true, false, ◌==◌, Option, None, Some, if◌then◌else◌}
 use Rattle.std.specs.List.{filter_map, list_any, last_or}
 use Rattle.esr_history.specs.declared.event.Event.{Event}

@@ -1,4 +1,5 @@
--- What the audit of a committed query rests on: its updates, its reads, and their distances from the values that sets of updates leave.
+-- What the audit of a committed query rests on: its updates, its reads, and their distances from the values that sets
+-- of updates leave.
 use Rattle.std.specs.Prelude.{◌≡◌, ℕ, ℤ, Bool, true, false, not, ◌&&◌, ◌==◌, ◌≤◌, IsTrue, List, [], filter, Contains, sum_by, unwrap_or, if◌then◌else◌}
 use Rattle.std.specs.List.{before_first}
 use Rattle.std.specs.Option.{option_map}
@@ -51,13 +52,16 @@ cost d h q S = distance_from d h q (state h (members h q S))
 
 -- With all its updates before it, a committed query is no farther from what it read than the import charged to it.
 abbrev pub ImportBoundsDistance : Distance → Schedule → Type 0
-ImportBoundsDistance d h = (q : ℕ) → IsTrue (is_committed_query h q) → cost d h q (λ _. true) ≤ import_in (charges_in d h) q
+ImportBoundsDistance d h =
+    (q : ℕ) → IsTrue (is_committed_query h q) → cost d h q (λ _. true) ≤ import_in (charges_in d h) q
 
--- What the audit of q rests on is the same in two histories: its updates, what it must see, their order, the cost of each set, and the import.
+-- What the audit of q rests on is the same in two histories: its updates, what it must see, their order, the cost of
+-- each set, and the import.
 pub record IsAlike (d : Distance) (h longer : Schedule) (q : ℕ) : Type 0 where
   pub committed : is_committed_query longer q ≡ is_committed_query h q
   pub updates : updates_of longer q ≡ updates_of h q
   pub musts : must longer q ≡ must h q
-  pub order : (u v : ℕ) → Contains (updates_of h q) u → Contains (updates_of h q) v → is_before longer u v ≡ is_before h u v
+  pub order : (u v : ℕ) → Contains (updates_of h q) u → Contains (updates_of h q) v
+      → is_before longer u v ≡ is_before h u v
   pub costs : (S : ℕ → Bool) → cost d longer q S ≡ cost d h q S
   pub import : import_in (charges_in d longer) q ≡ import_in (charges_in d h) q

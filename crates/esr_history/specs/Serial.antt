@@ -42,11 +42,15 @@ values_by h x u = filter_map (written (λ t. t == u) x) (done h)
 abbrev pub state : Schedule → List ℕ → ℕ → ℤ
 state h us x = last_value (value_at h.opening x) (flat_map (values_by h x) us)
 
--- The commit order of the committed updates is a serial order, and run one after another in it they read and leave the same values.
+-- The commit order of the committed updates is a serial order, and run one after another in it they read and leave the
+-- same values.
 pub record IsSerializable (h : Schedule) : Type 0 where
   pub serial : IsSerialOrder h (committed_updates h) (committed_updates h)
-  -- a read of x by a committed update answers its own last write of x before it, else the state after the updates ahead of it
+  -- a read of x by a committed update answers its own last write of x before it, else the state after the updates ahead
+  -- of it
   pub reads : (before after : List Entry) (t : TxnId) (x : ItemId) (v : ℤ)
-      → h.entries ≡ before ++ record { event = Read t x; reply = Value v } ∷ after → IsTrue (is_update (done h) t.0 && is_committed (done h) t.0)
-      → v ≡ last_value (state h (before_first (λ u. u == t.0) (committed_updates h)) x.0) (filter_map (written (λ u. u == t.0) x.0) (accepted before))
+      → h.entries ≡ before ++ record { event = Read t x; reply = Value v } ∷ after
+      → IsTrue (is_update (done h) t.0 && is_committed (done h) t.0)
+      → v ≡ last_value (state h (before_first (λ u. u == t.0) (committed_updates h)) x.0)
+          (filter_map (written (λ u. u == t.0) x.0) (accepted before))
   pub leaves : (x : ℕ) → state h (committed_updates h) x ≡ committed_value h.opening (done h) x

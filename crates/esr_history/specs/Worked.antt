@@ -34,9 +34,13 @@ item x = record { 0 = x }
 
 -- a query reads what an active update has written, within its limit
 abbrev report_beside_a_writer : Schedule
-report_beside_a_writer = played (opened (pos 100 ∷ [])) (BeginUpdate 50 ∷ BeginQuery 10 false ∷ Write (txn 1) (item 0) (pos 107) ∷ Read (txn 2) (item 0) ∷ Commit (txn 1) ∷ Commit (txn 2) ∷ [])
+report_beside_a_writer =
+    played (opened (pos 100 ∷ []))
+        (BeginUpdate 50 ∷ BeginQuery 10 false ∷ Write (txn 1) (item 0) (pos 107) ∷ Read (txn 2) (item 0)
+        ∷ Commit (txn 1) ∷ Commit (txn 2) ∷ [])
 
-report_beside_a_writer_replies : replies report_beside_a_writer ≡ Begun (txn 1) ∷ Begun (txn 2) ∷ Wrote ∷ Value (pos 107) ∷ Committed ∷ Committed ∷ []
+report_beside_a_writer_replies : replies report_beside_a_writer
+    ≡ Begun (txn 1) ∷ Begun (txn 2) ∷ Wrote ∷ Value (pos 107) ∷ Committed ∷ Committed ∷ []
 report_beside_a_writer_replies = refl
 
 report_beside_a_writer_import : import_in (charges_in plain report_beside_a_writer) 2 ≡ 7
@@ -47,12 +51,17 @@ report_beside_a_writer_export = refl
 
 -- a read that would pass the query's limit leaves no charge, and is refused each time
 abbrev import_limit_reached : ℕ → Schedule
-import_limit_reached limit = played (opened (pos 100 ∷ [])) (BeginUpdate 50 ∷ BeginQuery limit false ∷ Write (txn 1) (item 0) (pos 107) ∷ Read (txn 2) (item 0) ∷ Read (txn 2) (item 0) ∷ [])
+import_limit_reached limit =
+    played (opened (pos 100 ∷ []))
+        (BeginUpdate 50 ∷ BeginQuery limit false ∷ Write (txn 1) (item 0) (pos 107) ∷ Read (txn 2) (item 0)
+        ∷ Read (txn 2) (item 0) ∷ [])
 
-import_limit_reached_low : replies (import_limit_reached 6) ≡ Begun (txn 1) ∷ Begun (txn 2) ∷ Wrote ∷ Refused (BlockedByImport (txn 2)) ∷ Refused (BlockedByImport (txn 2)) ∷ []
+import_limit_reached_low : replies (import_limit_reached 6)
+    ≡ Begun (txn 1) ∷ Begun (txn 2) ∷ Wrote ∷ Refused (BlockedByImport (txn 2)) ∷ Refused (BlockedByImport (txn 2)) ∷ []
 import_limit_reached_low = refl
 
-import_limit_reached_high : replies (import_limit_reached 7) ≡ Begun (txn 1) ∷ Begun (txn 2) ∷ Wrote ∷ Value (pos 107) ∷ Refused (BlockedByImport (txn 2)) ∷ []
+import_limit_reached_high : replies (import_limit_reached 7)
+    ≡ Begun (txn 1) ∷ Begun (txn 2) ∷ Wrote ∷ Value (pos 107) ∷ Refused (BlockedByImport (txn 2)) ∷ []
 import_limit_reached_high = refl
 
 import_limit_reached_total : total (charges_in plain (import_limit_reached 7)) ≡ 7
@@ -60,9 +69,15 @@ import_limit_reached_total = refl
 
 -- a write is charged for each read of each query, and the update's limit bounds their sum
 abbrev export_limit_over_queries : Schedule
-export_limit_over_queries = played (opened (pos 0 ∷ [])) (BeginQuery 10 false ∷ BeginQuery 5 false ∷ BeginUpdate 14 ∷ BeginUpdate 15 ∷ Read (txn 1) (item 0) ∷ Read (txn 1) (item 0) ∷ Read (txn 2) (item 0) ∷ Write (txn 3) (item 0) (pos 5) ∷ Write (txn 4) (item 0) (pos 5) ∷ [])
+export_limit_over_queries =
+    played (opened (pos 0 ∷ []))
+        (BeginQuery 10 false ∷ BeginQuery 5 false ∷ BeginUpdate 14 ∷ BeginUpdate 15 ∷ Read (txn 1) (item 0)
+        ∷ Read (txn 1) (item 0) ∷ Read (txn 2) (item 0) ∷ Write (txn 3) (item 0) (pos 5)
+        ∷ Write (txn 4) (item 0) (pos 5) ∷ [])
 
-export_limit_over_queries_replies : replies export_limit_over_queries ≡ Begun (txn 1) ∷ Begun (txn 2) ∷ Begun (txn 3) ∷ Begun (txn 4) ∷ Value (pos 0) ∷ Value (pos 0) ∷ Value (pos 0) ∷ Refused (BlockedByExport (txn 3)) ∷ Wrote ∷ []
+export_limit_over_queries_replies : replies export_limit_over_queries
+    ≡ Begun (txn 1) ∷ Begun (txn 2) ∷ Begun (txn 3) ∷ Begun (txn 4) ∷ Value (pos 0) ∷ Value (pos 0) ∷ Value (pos 0)
+    ∷ Refused (BlockedByExport (txn 3)) ∷ Wrote ∷ []
 export_limit_over_queries_replies = refl
 
 export_limit_over_queries_total : total (charges_in plain export_limit_over_queries) ≡ 15
@@ -70,9 +85,13 @@ export_limit_over_queries_total = refl
 
 -- a write is charged against a read before it
 abbrev smaller_of_two_sets : Schedule
-smaller_of_two_sets = played (opened (pos 0 ∷ [])) (BeginQuery 9 false ∷ BeginUpdate 4 ∷ Read (txn 1) (item 0) ∷ Write (txn 2) (item 0) (pos 4) ∷ Commit (txn 2) ∷ Read (txn 1) (item 0) ∷ Commit (txn 1) ∷ [])
+smaller_of_two_sets =
+    played (opened (pos 0 ∷ []))
+        (BeginQuery 9 false ∷ BeginUpdate 4 ∷ Read (txn 1) (item 0) ∷ Write (txn 2) (item 0) (pos 4) ∷ Commit (txn 2)
+        ∷ Read (txn 1) (item 0) ∷ Commit (txn 1) ∷ [])
 
-smaller_of_two_sets_replies : replies smaller_of_two_sets ≡ Begun (txn 1) ∷ Begun (txn 2) ∷ Value (pos 0) ∷ Wrote ∷ Committed ∷ Value (pos 4) ∷ Committed ∷ []
+smaller_of_two_sets_replies : replies smaller_of_two_sets
+    ≡ Begun (txn 1) ∷ Begun (txn 2) ∷ Value (pos 0) ∷ Wrote ∷ Committed ∷ Value (pos 4) ∷ Committed ∷ []
 smaller_of_two_sets_replies = refl
 
 smaller_of_two_sets_import : import_in (charges_in plain smaller_of_two_sets) 1 ≡ 4
@@ -80,34 +99,50 @@ smaller_of_two_sets_import = refl
 
 -- a lock is held to the end of its transaction
 abbrev upgrade_waits_for_a_reader : Schedule
-upgrade_waits_for_a_reader = played (opened (pos 0 ∷ [])) (BeginUpdate 0 ∷ BeginUpdate 0 ∷ Read (txn 1) (item 0) ∷ Read (txn 2) (item 0) ∷ Write (txn 1) (item 0) (pos 1) ∷ Commit (txn 2) ∷ Write (txn 1) (item 0) (pos 1) ∷ Commit (txn 1) ∷ [])
+upgrade_waits_for_a_reader =
+    played (opened (pos 0 ∷ []))
+        (BeginUpdate 0 ∷ BeginUpdate 0 ∷ Read (txn 1) (item 0) ∷ Read (txn 2) (item 0) ∷ Write (txn 1) (item 0) (pos 1)
+        ∷ Commit (txn 2) ∷ Write (txn 1) (item 0) (pos 1) ∷ Commit (txn 1) ∷ [])
 
-upgrade_waits_for_a_reader_replies : replies upgrade_waits_for_a_reader ≡ Begun (txn 1) ∷ Begun (txn 2) ∷ Value (pos 0) ∷ Value (pos 0) ∷ Refused (BlockedByLock (txn 2)) ∷ Committed ∷ Wrote ∷ Committed ∷ []
+upgrade_waits_for_a_reader_replies : replies upgrade_waits_for_a_reader
+    ≡ Begun (txn 1) ∷ Begun (txn 2) ∷ Value (pos 0) ∷ Value (pos 0) ∷ Refused (BlockedByLock (txn 2)) ∷ Committed
+    ∷ Wrote ∷ Committed ∷ []
 upgrade_waits_for_a_reader_replies = refl
 
 -- each refusal by its name
 abbrev every_refusal_in_order : Schedule
 every_refusal_in_order =
     played (opened (pos 0 ∷ [])) (
-    BeginQuery 0 false ∷ BeginUpdate 0 ∷ BeginUpdate 1000000000000000001 ∷ Read (txn 0) (item 0) ∷ Write (txn 0) (item 1) (pos 1) ∷ Read (txn 1) (item 1) ∷ Write (txn 1) (item 1) (pos 1)
-    ∷ Write (txn 1) (item 0) (pos 1000000000001) ∷ Write (txn 2) (item 0) (pos 1000000000001) ∷ Commit (txn 2) ∷ Read (txn 2) (item 1) ∷ Commit (txn 3) ∷ [])
+    BeginQuery 0 false ∷ BeginUpdate 0 ∷ BeginUpdate 1000000000000000001 ∷ Read (txn 0) (item 0)
+    ∷ Write (txn 0) (item 1) (pos 1) ∷ Read (txn 1) (item 1) ∷ Write (txn 1) (item 1) (pos 1)
+    ∷ Write (txn 1) (item 0) (pos 1000000000001) ∷ Write (txn 2) (item 0) (pos 1000000000001) ∷ Commit (txn 2)
+    ∷ Read (txn 2) (item 1) ∷ Commit (txn 3) ∷ [])
 
-every_refusal_in_order_replies : replies every_refusal_in_order ≡ Begun (txn 1) ∷ Begun (txn 2) ∷ Refused LimitOutOfRange ∷ Refused NoSuchTransaction ∷ Refused NoSuchTransaction ∷ Refused NoSuchItem ∷ Refused NoSuchItem ∷ Refused QueryMayNotWrite ∷ Refused ValueOutOfRange ∷ Committed ∷ Refused AlreadyEnded ∷ Refused NoSuchTransaction ∷ []
+every_refusal_in_order_replies : replies every_refusal_in_order
+    ≡ Begun (txn 1) ∷ Begun (txn 2) ∷ Refused LimitOutOfRange ∷ Refused NoSuchTransaction ∷ Refused NoSuchTransaction
+    ∷ Refused NoSuchItem ∷ Refused NoSuchItem ∷ Refused QueryMayNotWrite ∷ Refused ValueOutOfRange ∷ Committed
+    ∷ Refused AlreadyEnded ∷ Refused NoSuchTransaction ∷ []
 every_refusal_in_order_replies = refl
 
 -- an abort puts the value back
 abbrev abort_puts_back : Schedule
-abort_puts_back = played (opened (pos 1 ∷ [])) (BeginUpdate 0 ∷ Write (txn 1) (item 0) (pos 5) ∷ Abort (txn 1) ∷ BeginUpdate 0 ∷ Read (txn 2) (item 0) ∷ [])
+abort_puts_back =
+    played (opened (pos 1 ∷ []))
+        (BeginUpdate 0 ∷ Write (txn 1) (item 0) (pos 5) ∷ Abort (txn 1) ∷ BeginUpdate 0 ∷ Read (txn 2) (item 0) ∷ [])
 
 abort_puts_back_replies : replies abort_puts_back ≡ Begun (txn 1) ∷ Wrote ∷ Aborted ∷ Begun (txn 2) ∷ Value (pos 1) ∷ []
 abort_puts_back_replies = refl
 
-export_limit_over_queries_locks : item_locks (done export_limit_over_queries) 0 ≡ record { writer = Some 4; readers = []; queries = (1, 2) ∷ (2, 1) ∷ [] }
+export_limit_over_queries_locks : item_locks (done export_limit_over_queries) 0
+    ≡ record { writer = Some 4; readers = []; queries = (1, 2) ∷ (2, 1) ∷ [] }
 export_limit_over_queries_locks = refl
 
-export_limit_over_queries_accounts : accounts plain export_limit_over_queries ≡ record { query = true; limit = 10; amount = 10 } ∷ record { query = true; limit = 5; amount = 5 } ∷ record { query = false; limit = 14; amount = 0 } ∷ record { query = false; limit = 15; amount = 15 } ∷ []
+export_limit_over_queries_accounts : accounts plain export_limit_over_queries
+    ≡ record { query = true; limit = 10; amount = 10 } ∷ record { query = true; limit = 5; amount = 5 }
+    ∷ record { query = false; limit = 14; amount = 0 } ∷ record { query = false; limit = 15; amount = 15 } ∷ []
 export_limit_over_queries_accounts = refl
 
 -- whether a query is strict changes no reply to its begin
-strict_ignored : (h : Schedule) (limit : ℕ) → reply_to plain h (BeginQuery limit true) ≡ reply_to plain h (BeginQuery limit false)
+strict_ignored : (h : Schedule) (limit : ℕ)
+    → reply_to plain h (BeginQuery limit true) ≡ reply_to plain h (BeginQuery limit false)
 strict_ignored h limit = refl

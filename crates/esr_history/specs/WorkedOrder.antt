@@ -11,11 +11,15 @@ use Rattle.esr_history.specs.Queries.{updates_of, must, cost}
 abbrev pub order_through_a_third_item : Schedule
 order_through_a_third_item =
     played (opened (pos 0 ∷ pos 0 ∷ pos 0 ∷ [])) (
-    BeginQuery 9 false ∷ BeginUpdate 9 ∷ BeginUpdate 9 ∷ Read (txn 1) (item 0) ∷ Write (txn 2) (item 0) (pos 6) ∷ Write (txn 2) (item 2) (pos 1) ∷ Commit (txn 2)
-    ∷ Read (txn 3) (item 2) ∷ Write (txn 3) (item 1) (pos 2) ∷ Commit (txn 3) ∷ Read (txn 1) (item 1) ∷ Commit (txn 1) ∷ [])
+    BeginQuery 9 false ∷ BeginUpdate 9 ∷ BeginUpdate 9 ∷ Read (txn 1) (item 0) ∷ Write (txn 2) (item 0) (pos 6)
+    ∷ Write (txn 2) (item 2) (pos 1) ∷ Commit (txn 2)
+    ∷ Read (txn 3) (item 2) ∷ Write (txn 3) (item 1) (pos 2) ∷ Commit (txn 3) ∷ Read (txn 1) (item 1)
+    ∷ Commit (txn 1) ∷ [])
 
 third_item_replies :
-    replies order_through_a_third_item ≡ Begun (txn 1) ∷ Begun (txn 2) ∷ Begun (txn 3) ∷ Value (pos 0) ∷ Wrote ∷ Wrote ∷ Committed ∷ Value (pos 1) ∷ Wrote ∷ Committed ∷ Value (pos 2) ∷ Committed ∷ []
+    replies order_through_a_third_item
+        ≡ Begun (txn 1) ∷ Begun (txn 2) ∷ Begun (txn 3) ∷ Value (pos 0) ∷ Wrote ∷ Wrote ∷ Committed ∷ Value (pos 1)
+        ∷ Wrote ∷ Committed ∷ Value (pos 2) ∷ Committed ∷ []
 third_item_replies = refl
 
 third_item_updates : updates_of order_through_a_third_item 1 ≡ 2 ∷ 3 ∷ []
@@ -34,7 +38,8 @@ third_item_leaves : map (state order_through_a_third_item (2 ∷ 3 ∷ [])) (0 �
 third_item_leaves = refl
 
 -- with no update, with the first, and with both before the query
-third_item_costs : map (cost plain order_through_a_third_item 1) ((λ _. false) ∷ (λ u. u == 2) ∷ (λ _. true) ∷ []) ≡ 2 ∷ 8 ∷ 6 ∷ []
+third_item_costs : map (cost plain order_through_a_third_item 1) ((λ _. false) ∷ (λ u. u == 2) ∷ (λ _. true) ∷ [])
+    ≡ 2 ∷ 8 ∷ 6 ∷ []
 third_item_costs = refl
 
 third_item_import : import_in (charges_in plain order_through_a_third_item) 1 ≡ 6
@@ -44,10 +49,13 @@ third_item_import = refl
 abbrev pub two_updates_over_a_report : Schedule
 two_updates_over_a_report =
     played (opened (pos 0 ∷ pos 0 ∷ [])) (
-    BeginQuery 100 false ∷ BeginUpdate 100 ∷ BeginUpdate 100 ∷ Read (txn 1) (item 0) ∷ Write (txn 2) (item 0) (pos 10) ∷ Commit (txn 2)
-    ∷ Write (txn 3) (item 0) (pos 1) ∷ Write (txn 3) (item 1) (pos 8) ∷ Commit (txn 3) ∷ Read (txn 1) (item 1) ∷ Commit (txn 1) ∷ [])
+    BeginQuery 100 false ∷ BeginUpdate 100 ∷ BeginUpdate 100 ∷ Read (txn 1) (item 0) ∷ Write (txn 2) (item 0) (pos 10)
+    ∷ Commit (txn 2)
+    ∷ Write (txn 3) (item 0) (pos 1) ∷ Write (txn 3) (item 1) (pos 8) ∷ Commit (txn 3) ∷ Read (txn 1) (item 1)
+    ∷ Commit (txn 1) ∷ [])
 
-two_updates_costs : map (cost plain two_updates_over_a_report 1) ((λ _. false) ∷ (λ u. u == 2) ∷ (λ _. true) ∷ []) ≡ 8 ∷ 18 ∷ 1 ∷ []
+two_updates_costs : map (cost plain two_updates_over_a_report 1) ((λ _. false) ∷ (λ u. u == 2) ∷ (λ _. true) ∷ [])
+    ≡ 8 ∷ 18 ∷ 1 ∷ []
 two_updates_costs = refl
 
 two_updates_import : import_in (charges_in plain two_updates_over_a_report) 1 ≡ 19

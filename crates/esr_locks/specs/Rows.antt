@@ -47,4 +47,5 @@ held_at held t = slice_index_or held t nothing_held
 -- the items listed for a transaction are those on which it holds a lock, and perhaps more
 pub record IsTable (rows : List RowOf) (held : List HeldOf) : Type 0 where
   pub within : (t : ℕ) → All (λ i. i.0 < length rows) (held_at held t).items
-  pub listed : (t x : ℕ) → x < length rows → has_lock (row_at rows x).locks t ≡ true → lists_item (held_at held t).items x ≡ true
+  pub listed : (t x : ℕ) → x < length rows → has_lock (row_at rows x).locks t ≡ true
+      → lists_item (held_at held t).items x ≡ true

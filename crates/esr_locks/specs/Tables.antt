@@ -6,7 +6,8 @@ use Rattle.esr_items.specs.declared.metric.ItemId.{ItemId}
 use Rattle.esr_history.specs.ItemLocks.{ItemLocks}
 use Rattle.esr_history.specs.Ascending.{placed}
 
--- what a lock table is to contracts: the locks on each item, for how many more locks there is room on each item, and for how many more items in the list of each transaction
+-- what a lock table is to contracts: the locks on each item, for how many more locks there is room on each item, and
+-- for how many more items in the list of each transaction
 pub record Table : Type 0 where
   pub locks : List ItemLocks
   pub item_rooms : List ℕ
@@ -23,7 +24,8 @@ no_locks = record { writer = None; readers = []; queries = [] }
 abbrev pub locks_at : List ItemLocks → ℕ → ItemLocks
 locks_at locks x = slice_index_or locks x no_locks
 
--- whether transaction t has written the item, has read it as an update, has done one of these, or has read it as a query
+-- whether transaction t has written the item, has read it as an update, has done one of these, or has read it as a
+-- query
 abbrev pub is_writer : ItemLocks → ℕ → Bool
 is_writer l t = unwrap_or (option_map (λ u. u == t) l.writer) false
 

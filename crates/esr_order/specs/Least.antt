@@ -23,7 +23,8 @@ closed_parts h q = filter (is_closed_part h q) (parts (updates_of h q))
 
 -- whether no closed set costs less
 abbrev pub is_least_part : Distance → Schedule → ℕ → List ℕ → Bool
-is_least_part d h q part = list_all (λ other. nat_le (cost d h q (is_among part)) (cost d h q (is_among other))) (closed_parts h q)
+is_least_part d h q part =
+    list_all (λ other. nat_le (cost d h q (is_among part)) (cost d h q (is_among other))) (closed_parts h q)
 
 -- the closed sets of least cost
 abbrev pub least_parts : Distance → Schedule → ℕ → List (List ℕ)

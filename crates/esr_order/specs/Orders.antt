@@ -33,21 +33,24 @@ pub record IsClosedIn (h : Schedule) (q : ℕ) (o : Ordered) (S : ℕ → Bool) 
 abbrev pub operations_of : Schedule → ℕ → List Operation
 operations_of h q = filter (λ o. is_among (updates_of h q) o.txn) (operations h)
 
--- The updates that committed before q did, and what is needed of their conflict order and their versions. Updates are given by their positions in commit order.
+-- The updates that committed before q did, and what is needed of their conflict order and their versions. Updates are
+-- given by their positions in commit order.
 pub record IsOrderOf (h : Schedule) (q : ℕ) (o : Ordered) : Type 0 where
   pub commits : map (λ t. t.0) o.commits ≡ updates_of h q
   pub serial : IsSerialOrder h (updates_of h q) (updates_of h q)
   pub few : length o.commits ≤ 65535
   -- pairs of the conflict order, from a lower to a higher position, by which the same sets are closed
   pub ascending : AllPairs IsBelow o.before
-  pub pairs : All (λ p. (p.0 < p.1) × (p.1 < length o.commits) × IsTrue (is_before h (update_at h q p.0) (update_at h q p.1))) o.before
+  pub pairs : All (λ p. (p.0 < p.1) × (p.1 < length o.commits)
+      × IsTrue (is_before h (update_at h q p.0) (update_at h q p.1))) o.before
   pub closed : (S : ℕ → Bool) → IsClosedIn h q o S ↔ IsClosed h q S
   pub rising : AllPairs (λ i j. i < j) o.must
   pub within : All (λ i. i < length o.commits) o.must
   pub musts : map (update_at h q) o.must ≡ must h q
   -- all that wrote an item, in commit order, each a pair with the next
   pub chains : (x : ℕ) → chain_at o x ≡ chain_of h q x
-  pub neighbours : (x i : ℕ) (c : Chain) → chain_at o x ≡ Some c → i + 1 < length c.writers → Contains o.before (slice_index_or c.writers i 0, slice_index_or c.writers (i + 1) 0)
+  pub neighbours : (x i : ℕ) (c : Chain) → chain_at o x ≡ Some c → i + 1 < length c.writers
+      → Contains o.before (slice_index_or c.writers i 0, slice_index_or c.writers (i + 1) 0)
 
 -- The same of some updates, us, of which all that q must see are among them.
 
@@ -64,10 +67,12 @@ pub record IsOrderAmong (h : Schedule) (q : ℕ) (us : List ℕ) (o : Ordered) :
   pub serial : IsSerialOrder h us us
   pub few : length o.commits ≤ 65535
   pub ascending : AllPairs IsBelow o.before
-  pub pairs : All (λ p. (p.0 < p.1) × (p.1 < length o.commits) × IsTrue (is_before h (nth us p.0) (nth us p.1))) o.before
+  pub pairs : All (λ p. (p.0 < p.1) × (p.1 < length o.commits)
+      × IsTrue (is_before h (nth us p.0) (nth us p.1))) o.before
   pub closed : (S : ℕ → Bool) → IsClosedAt us o S ↔ IsClosedOn h q us S
   pub rising : AllPairs (λ i j. i < j) o.must
   pub within : All (λ i. i < length o.commits) o.must
   pub musts : map (nth us) o.must ≡ must h q
   pub chains : (x : ℕ) → chain_at o x ≡ chain_among h us x
-  pub neighbours : (x i : ℕ) (c : Chain) → chain_at o x ≡ Some c → i + 1 < length c.writers → Contains o.before (slice_index_or c.writers i 0, slice_index_or c.writers (i + 1) 0)
+  pub neighbours : (x i : ℕ) (c : Chain) → chain_at o x ≡ Some c → i + 1 < length c.writers
+      → Contains o.before (slice_index_or c.writers i 0, slice_index_or c.writers (i + 1) 0)

@@ -1,4 +1,5 @@
--- Where a committed query could have read: the placements in serial orders of its updates, and the closed sets of its updates.
+-- Where a committed query could have read: the placements in serial orders of its updates, and the closed sets of its
+-- updates.
 use Rattle.std.specs.Prelude.{◌≡◌, ◌≤◌, ℕ, Bool, IsTrue, List, ◌==◌, take, length, Contains, All}
 use Rattle.std.specs.List.{list_any}
 use Rattle.esr_history.specs.Machine.{Distance, Schedule}
@@ -29,7 +30,8 @@ pub record IsLeastDistance (d : Distance) (h : Schedule) (q : ℕ) (n : ℕ) : T
 
 -- with an update of q, S has all updates of q that are before it; and it has what q must see
 pub record IsClosed (h : Schedule) (q : ℕ) (S : ℕ → Bool) : Type 0 where
-  pub downward : (u v : ℕ) → Contains (updates_of h q) u → Contains (updates_of h q) v → IsTrue (is_before h u v) → IsTrue (S v) → IsTrue (S u)
+  pub downward : (u v : ℕ) → Contains (updates_of h q) u → Contains (updates_of h q) v → IsTrue (is_before h u v)
+      → IsTrue (S v) → IsTrue (S u)
   pub holds_must : (u : ℕ) → Contains (must h q) u → IsTrue (S u)
 
 -- a closed set of least cost

@@ -69,7 +69,8 @@ abbrev pub place_of : List (Option ℕ) → ℕ → Option ℕ
 place_of places t = unwrap_or (slice_get places t) None
 
 abbrev pub step_of : List (Option ℕ) → Operation → Option Step
-step_of places o = option_map (λ i. record { place = i; item = o.item; writes = o.writes; value = o.value }) (place_of places o.txn)
+step_of places o =
+    option_map (λ i. record { place = i; item = o.item; writes = o.writes; value = o.value }) (place_of places o.txn)
 
 abbrev pub step_by : List (Option ℕ) → Option Operation → Option Step
 step_by places None = None

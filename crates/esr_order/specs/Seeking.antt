@@ -25,7 +25,9 @@ IsUse below all a = (a.place < below) × IsTrue (all || a.writes)
 
 -- who did such an operation, below a position, on an item that has been followed is marked
 abbrev pub IsFollowedBelow : List Step → ℕ → Sought → Type 0
-IsFollowedBelow steps below s = (all : Bool) (a : Step) → Contains steps a → IsTrue (is_followed s all a.item) → IsUse below all a → marked s.marks a.place ≡ true
+IsFollowedBelow steps below s =
+    (all : Bool) (a : Step) → Contains steps a → IsTrue (is_followed s all a.item) → IsUse below all a
+        → marked s.marks a.place ≡ true
 
 -- such an operation on item x
 abbrev pub IsUseOf : ℕ → Bool → ℕ → Step → Type 0
@@ -48,4 +50,5 @@ pub record AreMarked (P : Step → Type 0) (steps : List Step) (old new : List B
   pub len : length new ≡ length old
   pub keeps : (j : ℕ) → marked old j ≡ true → marked new j ≡ true
   pub found : (a : Step) → Contains steps a → P a → marked new a.place ≡ true
-  pub only : (j : ℕ) → marked new j ≡ true → (marked old j ≡ true) ⊎ ((a : Step) × Contains steps a × P a × (a.place ≡ j))
+  pub only : (j : ℕ) → marked new j ≡ true
+      → (marked old j ≡ true) ⊎ ((a : Step) × Contains steps a × P a × (a.place ≡ j))

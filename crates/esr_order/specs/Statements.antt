@@ -9,12 +9,14 @@ use Rattle.esr_history.specs.Queries.{members, cost, IsAlike}
 use Rattle.esr_order.specs.Placements.{is_among, IsPlacement, IsLeastDistance, IsClosed, IsLeastSet, IsSmallestLeastSet}
 use Rattle.esr_order.specs.Least.{least_set, least_cost}
 
--- The closed sets of q are the parts before the positions of its placements, the serial state is the version that the set leaves,
--- and so the least distance of a placement is the least cost of a closed set.
+-- The closed sets of q are the parts before the positions of its placements, the serial state is the version that the
+-- set leaves, and so the least distance of a placement is the least cost of a closed set.
 pub record ClosedSetsAreParts (d : Distance) (h : Schedule) (q : ℕ) : Type 0 where
   pub part_is_closed : (order : List ℕ) (k : ℕ) → IsPlacement h q order k → IsClosed h q (is_among (take k order))
-  pub part_leaves : (order : List ℕ) (k : ℕ) → IsPlacement h q order k → (x : ℕ) → state h (take k order) x ≡ state h (members h q (is_among (take k order))) x
-  pub closed_is_part : (S : ℕ → Bool) → IsClosed h q S → (order : List ℕ) × (k : ℕ) × IsPlacement h q order k × (take k order ≡ members h q S)
+  pub part_leaves : (order : List ℕ) (k : ℕ) → IsPlacement h q order k → (x : ℕ)
+      → state h (take k order) x ≡ state h (members h q (is_among (take k order))) x
+  pub closed_is_part : (S : ℕ → Bool) → IsClosed h q S
+      → (order : List ℕ) × (k : ℕ) × IsPlacement h q order k × (take k order ≡ members h q S)
   pub least : (n : ℕ) → IsLeastDistance d h q n ↔ ((S : ℕ → Bool) × IsLeastSet d h q S × (cost d h q S ≡ n))
 
 abbrev pub LawOfPlacements : Type 0
@@ -22,12 +24,18 @@ LawOfPlacements = (d : Distance) (h : Schedule) (q : ℕ) → IsLegal d h → Cl
 
 -- What the audit of a committed query rests on is the same in every longer legal history.
 abbrev pub LawOfLongerHistories : Type 0
-LawOfLongerHistories = (d : Distance) (h : Schedule) (rest : List Entry) (q : ℕ) → IsLegal d (along h rest) → IsTrue (is_committed (done h) q) → IsAlike d h (along h rest) q
+LawOfLongerHistories =
+    (d : Distance) (h : Schedule) (rest : List Entry) (q : ℕ) → IsLegal d (along h rest)
+        → IsTrue (is_committed (done h) q) → IsAlike d h (along h rest) q
 
 -- The meet of two closed sets of least cost is one, so that the smallest is the meet of them all.
 abbrev pub LawOfLeastSets : Type 0
-LawOfLeastSets = (d : Distance) (h : Schedule) (q : ℕ) (S T : ℕ → Bool) → IsLeastSet d h q S → IsLeastSet d h q T → IsLeastSet d h q (λ u. S u && T u)
+LawOfLeastSets =
+    (d : Distance) (h : Schedule) (q : ℕ) (S T : ℕ → Bool) → IsLeastSet d h q S → IsLeastSet d h q T
+        → IsLeastSet d h q (λ u. S u && T u)
 
 -- The smallest closed set of least cost is the one that is found by listing all closed sets.
 abbrev pub LawOfListedSets : Type 0
-LawOfListedSets = (d : Distance) (h : Schedule) (q : ℕ) (S : ℕ → Bool) → IsSmallestLeastSet d h q S → (members h q S ≡ least_set d h q) × (cost d h q S ≡ least_cost d h q)
+LawOfListedSets =
+    (d : Distance) (h : Schedule) (q : ℕ) (S : ℕ → Bool) → IsSmallestLeastSet d h q S
+        → (members h q S ≡ least_set d h q) × (cost d h q S ≡ least_cost d h q)

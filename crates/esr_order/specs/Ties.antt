@@ -1,4 +1,5 @@
--- Few pairs of positions by which steps are tied like by all their clashes: on each item a step with the last write before it, and a write with the reads since the write before.
+-- Few pairs of positions by which steps are tied like by all their clashes: on each item a step with the last write
+-- before it, and a write with the reads since the write before.
 use Rattle.std.specs.Prelude.{◌≡◌, ◌≢◌, ◌≤◌, ◌*◌, ◌==◌, ℕ, Bool, true, IsTrue, List, [], ◌∷◌, ◌++◌, Option, None, Some, All, Contains, filter, length, if◌then◌else◌, ⊤}
 use Rattle.esr_order.specs.declared.scan.Step.{Step}
 use Rattle.esr_order.specs.Listing.{is_pair}
@@ -27,7 +28,8 @@ IsDownward S pairs = All (λ p. IsTrue (S p.1) → IsTrue (S p.0)) pairs
 abbrev pub AreNextPaired : List (ℕ × ℕ) → List Step → Type 0
 AreNextPaired pairs [] = ⊤
 AreNextPaired pairs (a ∷ []) = ⊤
-AreNextPaired pairs (a ∷ b ∷ steps) = (a.place ≢ b.place → Contains pairs (a.place, b.place)) × AreNextPaired pairs (b ∷ steps)
+AreNextPaired pairs (a ∷ b ∷ steps) =
+    (a.place ≢ b.place → Contains pairs (a.place, b.place)) × AreNextPaired pairs (b ∷ steps)
 
 -- The pairs are clashes of the steps, at most two for each, and a set that is closed by them is closed by all clashes.
 pub record IsTied (steps : List Step) (pairs : List (ℕ × ℕ)) : Type 0 where

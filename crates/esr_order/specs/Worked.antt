@@ -7,10 +7,12 @@ use Rattle.esr_order.specs.Chains.{chain_of}
 use Rattle.esr_order.specs.Least.{least_set, least_cost}
 
 -- before both updates, between them, and after both
-third_item_placed : map (placement_distance plain order_through_a_third_item 1 (2 ∷ 3 ∷ [])) (0 ∷ 1 ∷ 2 ∷ []) ≡ 2 ∷ 8 ∷ 6 ∷ []
+third_item_placed : map (placement_distance plain order_through_a_third_item 1 (2 ∷ 3 ∷ [])) (0 ∷ 1 ∷ 2 ∷ [])
+    ≡ 2 ∷ 8 ∷ 6 ∷ []
 third_item_placed = refl
 
-two_updates_placed : map (placement_distance plain two_updates_over_a_report 1 (2 ∷ 3 ∷ [])) (0 ∷ 1 ∷ 2 ∷ []) ≡ 8 ∷ 18 ∷ 1 ∷ []
+two_updates_placed : map (placement_distance plain two_updates_over_a_report 1 (2 ∷ 3 ∷ [])) (0 ∷ 1 ∷ 2 ∷ [])
+    ≡ 8 ∷ 18 ∷ 1 ∷ []
 two_updates_placed = refl
 
 -- a strict query stands after the update that it must have seen
@@ -19,10 +21,12 @@ strict_placed = refl
 
 third_item_chains :
     map (chain_of order_through_a_third_item 1) (0 ∷ 1 ∷ 2 ∷ 3 ∷ [])
-    ≡ Some (record { writers = 0 ∷ []; values = pos 6 ∷ [] }) ∷ Some (record { writers = 1 ∷ []; values = pos 2 ∷ [] }) ∷ Some (record { writers = 0 ∷ []; values = pos 1 ∷ [] }) ∷ None ∷ []
+    ≡ Some (record { writers = 0 ∷ []; values = pos 6 ∷ [] }) ∷ Some (record { writers = 1 ∷ []; values = pos 2 ∷ [] })
+    ∷ Some (record { writers = 0 ∷ []; values = pos 1 ∷ [] }) ∷ None ∷ []
 third_item_chains = refl
 
-two_updates_chain : chain_of two_updates_over_a_report 1 0 ≡ Some (record { writers = 0 ∷ 1 ∷ []; values = pos 10 ∷ pos 1 ∷ [] })
+two_updates_chain : chain_of two_updates_over_a_report 1 0
+    ≡ Some (record { writers = 0 ∷ 1 ∷ []; values = pos 10 ∷ pos 1 ∷ [] })
 two_updates_chain = refl
 
 -- the smallest closed set of least cost, and its cost
