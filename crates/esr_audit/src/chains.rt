@@ -65,7 +65,7 @@ fn costs_of<M: Metric>(
     ensures { IfOk result (λ v. v.items ≡ map (distance_sum (M.distance_by (M.weights metric.now)) x.0 values.now)
         (opening ∷ versions.now)) }
 {
-    let mut costs = Vec::new(alloc);
+    let mut costs = Vec::with_capacity(alloc, versions.len().saturating_add(1))?;
     costs.push(distance_to(metric, x, values, opening))?;
     for version in versions {
         costs.push(distance_to(metric, x, values, *version))?;
