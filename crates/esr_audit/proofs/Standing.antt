@@ -120,9 +120,6 @@ module _ (d : Distance) (h : Schedule) (q : ℕ) (legal : IsLegal d h) (us : Lis
 
   -- ---- closed sets
 
-  abbrev among_and : (ℕ → Bool) → ℕ → Bool
-  among_and S u = is_among us u && S u
-
   pair_inside : (u v : ℕ) → Contains o.before (u, v) → (u < length us) × (v < length us)
   pair_inside u v c =
       let p = All-contains (λ (p : ℕ × ℕ). (p.0 < p.1) × (p.1 < length o.commits) × IsTrue (is_before h (nth us p.0) (nth us p.1))) o.before (u, v) good.pairs c in

@@ -25,8 +25,8 @@ abbrev pub refusal_of : OrderError → AuditError
 refusal_of NotACommittedQuery = refusals.NotACommittedQuery
 refusal_of NoMemory = refusals.NoMemory
 
--- The distance is the least over all placements of q; `before` is, in commit order, the smallest set of updates that stands
--- before the position in a placement of that distance; and the distance is at most the import charged to q.
+-- The distance is the least over all placements of q; `before` is, in commit order, the smallest set of updates that
+-- stands before the position in a placement of that distance; and the distance is at most the import charged to q.
 pub record IsAnswer (d : Distance) (h : Schedule) (q distance import : ℕ) (before : List ℕ) : Type 0 where
   pub least : IsLeastDistance d h q distance
   pub in_order : before ≡ members h q (is_among before)
@@ -40,7 +40,8 @@ abbrev pub IsCounted : Problem → Certificate → Type 0
 IsCounted p c = (n : ℕ) × (c.augmentations ≡ Some n) × Takes (network p) n (amounts c)
 
 -- The distance is shown by a closed set and a flow of equal worth, of a problem that stands for q.
-pub record IsShown (d : Distance) (h : Schedule) (q distance : ℕ) (before : List ℕ) (problem : Problem) (certificate : Certificate) : Type 0 where
+pub record IsShown (d : Distance) (h : Schedule) (q distance : ℕ) (before : List ℕ) (problem : Problem)
+    (certificate : Certificate) : Type 0 where
   pub stands : StandsFor d h q problem
   pub certified : Certifies problem certificate
   pub set_is : before ≡ filter_map (slice_get problem.updates) certificate.set

@@ -4,9 +4,6 @@ use Rattle.std.proofs.lemmas.List.{map-append}
 use Rattle.std.proofs.lemmas.List.Elements.{filter-append}
 use Rattle.esr_board.specs.Claims.{Drew}
 
-pub drew_nothing : (jobs : ℕ) (a : List ℕ) → Drew jobs a a []
-drew_nothing jobs a = ([], sym (append-nil a), refl)
-
 pub drew_then : (jobs : ℕ) (a b c js ks : List ℕ) → Drew jobs a b js → Drew jobs b c ks → Drew jobs a c (js ++ ks)
 drew_then jobs a b c js ks x y = (
   x.0 ++ y.0,

@@ -168,9 +168,6 @@ ended-claim m m' n e has one =
           sym (ne_eqb _ 0 (λ z. omega arith))),
     )
 
-pub past-claim : (m m' : M) (n : ℕ) → m' ≡ (with_claim m.0 n, m.1) → m.0.jobs ≤ n → 0 < count_past m.0.jobs m'.0.drawn
-past-claim m m' n e g = subst (λ (z : M). 0 < count_past m.0.jobs z.0.drawn) (sym e) (let p = count_past_push m.0.jobs m.0.drawn n in let z = past_yes m.0.jobs n g in omega arith)
-
 -- a seat that has its pass drew nothing past the jobs
 pub not_ended : (jobs : ℕ) (v : Hand) → v.jobs ≡ jobs → false ≡ eqb v.passes 0 → passes_of v.jobs v ≡ 1 → 0 < count_past jobs v.drawn → ⊥
 not_ended jobs v its has one past = let p = has_pass v.passes has in let same : count_past v.jobs v.drawn ≡ count_past jobs v.drawn = ap (λ (j : ℕ). count_past j v.drawn) its in omega arith

@@ -26,7 +26,8 @@ abbrev pub below : ℕ → List ℕ
 below zero = []
 below (suc n) = below n ++ n ∷ []
 
--- The numbers below the word were drawn, each once, and no other: however numbers are weighed, those in the lists weigh what these weigh.
+-- The numbers below the word were drawn, each once, and no other: however numbers are weighed,
+-- those in the lists weigh what these weigh.
 abbrev pub HoldsEachOnce : ℕ → List Hand → Type 0
 HoldsEachOnce word hands = (weight : ℕ → ℕ) → sum_by (λ h. sum_by weight h.drawn) hands ≡ sum_by weight (below word)
 
@@ -40,11 +41,14 @@ IdleIsEmpty jobs hands = (id : ℕ) (h : Hand) → get_elem? hands id ≡ some h
 
 -- what holds of all hands of a board between two steps
 abbrev pub IsFair : ℕ → ℕ → ℕ → List Hand → Type 0
-IsFair jobs seats word hands = HoldsEachOnce word hands × (sum_by (passes_of jobs) hands ≡ seats) × IdleIsEmpty jobs hands
+IsFair jobs seats word hands =
+    HoldsEachOnce word hands × (sum_by (passes_of jobs) hands ≡ seats) × IdleIsEmpty jobs hands
 
 -- Word 0 is the next number. Words 1 and 2 are the plan, and never change.
 abbrev pub IsKept : Plan → State (Unit {0}) Hand → Type 0
-IsKept plan s = (length s.words ≡ 3) × (slice_index s.words 1 ≡ plan.jobs) × (slice_index s.words 2 ≡ plan.seats) × IsFair plan.jobs plan.seats (slice_index s.words 0) s.views
+IsKept plan s =
+    (length s.words ≡ 3) × (slice_index s.words 1 ≡ plan.jobs) × (slice_index s.words 2 ≡ plan.seats)
+    × IsFair plan.jobs plan.seats (slice_index s.words 0) s.views
 
 -- as the board is made, one seat has a pass for each seat
 abbrev pub first_hand : Plan → Hand
@@ -54,9 +58,12 @@ first_hand plan = hand plan.jobs plan.seats []
 abbrev pub with_claim : Hand → ℕ → Hand
 with_claim h n = hand h.jobs (if nat_lt n h.jobs then h.passes else h.passes - 1) (h.drawn ++ n ∷ [])
 
--- what a claim tells: the number found is above all in the seat's list, at least as large as their count, and the word has room
+-- what a claim tells: the number found is above all in the seat's list, at least as large as their count,
+-- and the word has room
 abbrev pub Claimed : Step (Unit {0}) → Me (Unit {0}) Hand → ℕ → Me (Unit {0}) Hand → Type 0
-Claimed st m n m' = (m' ≡ (with_claim m.0 n, m.1)) × All (λ x. x < n) m.0.drawn × (length m.0.drawn ≤ n) × (n + 1 < 18446744073709551616)
+Claimed st m n m' =
+    (m' ≡ (with_claim m.0 n, m.1)) × All (λ x. x < n) m.0.drawn × (length m.0.drawn ≤ n)
+    × (n + 1 < 18446744073709551616)
 
 -- a split: one pass goes to a new seat
 abbrev pub with_one_less : Hand → Hand

@@ -31,12 +31,14 @@ AreFound d h queries jobs found = All (λ p. (p.0 < jobs) × IsFindingOf d h que
 -- the jobs of a share are those that the seat drew, each with its finding, and the seat drew to the end
 abbrev pub IsShareOf : Distance → Schedule → List TxnId → ℕ → List ℕ → Share → Type 0
 IsShareOf d h queries jobs numbers s =
-    Drew jobs [] numbers (map (λ p. p.0) s.found.items) × AreFound d h queries jobs s.found.items × (0 < count_past jobs numbers)
+    Drew jobs [] numbers (map (λ p. p.0) s.found.items) × AreFound d h queries jobs s.found.items
+    × (0 < count_past jobs numbers)
 
 -- a worker gave its seat back, with its share, or out of memory
 abbrev pub IsWorked : Distance → Schedule → List TxnId → Board → Worked → Type 0
 IsWorked d h queries board w =
-    IsSeatOf board w.seat × MatchResult w.share (IsShareOf d h queries (jobs_of board) (drawn w.seat)) (λ e. e ≡ NoMemory)
+    IsSeatOf board w.seat × MatchResult w.share (IsShareOf d h queries (jobs_of board) (drawn w.seat))
+    (λ e. e ≡ NoMemory)
 
 -- there is a finding for a job
 abbrev pub IsFilled : List (Option Finding) → ℕ → Type 0
@@ -44,4 +46,5 @@ IsFilled slots k = IsSome (slice_index_or slots k None)
 
 -- each finding that is there is that of its job
 abbrev pub AreRight : Distance → Schedule → List TxnId → List (Option Finding) → Type 0
-AreRight d h queries slots = (k : ℕ) → k < length slots → IfSome (slice_index_or slots k None) (IsFindingOf d h queries k)
+AreRight d h queries slots =
+    (k : ℕ) → k < length slots → IfSome (slice_index_or slots k None) (IsFindingOf d h queries k)

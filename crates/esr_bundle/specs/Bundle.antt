@@ -100,14 +100,22 @@ problem_of d = if has_keys (3 + one_if (get (codes "must") d)) d then (do
   Some (record { updates = updates; before = before; chains = chains; must = must })) else None
 
 abbrev pub certificate_of : Data → Option Certificate
-certificate_of d = if has_keys (4 + one_if (get (codes "augmentations") d) + one_if (get (codes "must_flow") d)) d then (do
-  augmentations ← number_if (get (codes "augmentations") d)
-  back_flow ← field numbers_of (codes "back_flow") d
-  chain_flow ← field rows_of (codes "chain_flow") d
-  must_flow ← numbers_if (get (codes "must_flow") d)
-  set ← field numbers_of (codes "set") d
-  worth ← field number_of (codes "worth") d
-  Some (record { set = set; chain_flow = chain_flow; back_flow = back_flow; must_flow = must_flow; worth = worth; augmentations = augmentations })) else None
+certificate_of d =
+    if has_keys (4 + one_if (get (codes "augmentations") d) + one_if (get (codes "must_flow") d)) d then (do
+      augmentations ← number_if (get (codes "augmentations") d)
+      back_flow ← field numbers_of (codes "back_flow") d
+      chain_flow ← field rows_of (codes "chain_flow") d
+      must_flow ← numbers_if (get (codes "must_flow") d)
+      set ← field numbers_of (codes "set") d
+      worth ← field number_of (codes "worth") d
+      Some (record {
+        set = set;
+        chain_flow = chain_flow;
+        back_flow = back_flow;
+        must_flow = must_flow;
+        worth = worth;
+        augmentations = augmentations;
+      })) else None
 
 -- the numbers of a bundle that has all its keys, no others, and values of the right kinds
 abbrev pub parts_of : Data → Option (Problem × Certificate)

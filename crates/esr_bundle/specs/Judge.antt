@@ -41,10 +41,12 @@ max_bytes = 64000000
 -- A judgement that was given the input, left these bytes of it and ended so wrote this.
 abbrev pub IsJudgedBy : List ℕ → Option (List ℕ) → Result Verdict JudgeFault → List ℕ → Type 0
 -- the input was read to its end, and the line of its verdict was written
-IsJudgedBy input left (Ok v) written = Consumes (Some input) left input × (length input ≤ max_bytes) × IsVerdictOf input v × (written ≡ verdict_line v)
+IsJudgedBy input left (Ok v) written =
+    Consumes (Some input) left input × (length input ≤ max_bytes) × IsVerdictOf input v × (written ≡ verdict_line v)
 IsJudgedBy input left (Err ends.Read) written = written ≡ []
 -- a prefix of the line of its verdict
-IsJudgedBy input left (Err ends.Write) written = (length input ≤ max_bytes) × (v : Verdict) × IsVerdictOf input v × BeginsWith (verdict_line v) written
+IsJudgedBy input left (Err ends.Write) written =
+    (length input ≤ max_bytes) × (v : Verdict) × IsVerdictOf input v × BeginsWith (verdict_line v) written
 IsJudgedBy input left (Err ends.TooLong) written = (max_bytes < length input) × (written ≡ [])
 IsJudgedBy input left (Err ends.NoMemory) written = written ≡ []
 

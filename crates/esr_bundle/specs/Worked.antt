@@ -7,16 +7,45 @@ use Rattle.esr_cert.specs.declared.problem.BundleFault.TheVariants.{Shape, Range
 use Rattle.esr_bundle.specs.Bundle.{bundle_data, stands_for}
 
 abbrev two_updates : Problem
-two_updates = record { updates = 2 ∷ 3 ∷ []; before = (0, 1) ∷ []; chains = record { item = 0; writers = 0 ∷ 1 ∷ []; costs = 0 ∷ 10 ∷ 1 ∷ [] } ∷ record { item = 1; writers = 1 ∷ []; costs = 8 ∷ 0 ∷ [] } ∷ []; must = [] }
+two_updates =
+    record {
+      updates = 2 ∷ 3 ∷ [];
+      before = (0, 1) ∷ [];
+      chains = record { item = 0; writers = 0 ∷ 1 ∷ []; costs = 0 ∷ 10 ∷ 1 ∷ [] }
+          ∷ record { item = 1; writers = 1 ∷ []; costs = 8 ∷ 0 ∷ [] } ∷ [];
+      must = [];
+    }
 
 abbrev after_both : Certificate
-after_both = record { set = 0 ∷ 1 ∷ []; chain_flow = (0 ∷ 0 ∷ 1 ∷ []) ∷ (1 ∷ 0 ∷ []) ∷ []; back_flow = 0 ∷ []; must_flow = []; worth = 1; augmentations = None }
+after_both =
+    record {
+      set = 0 ∷ 1 ∷ [];
+      chain_flow = (0 ∷ 0 ∷ 1 ∷ []) ∷ (1 ∷ 0 ∷ []) ∷ [];
+      back_flow = 0 ∷ [];
+      must_flow = [];
+      worth = 1;
+      augmentations = None;
+    }
 
 abbrev strict : Problem
-strict = record { updates = 1 ∷ []; before = []; chains = record { item = 0; writers = 0 ∷ []; costs = 0 ∷ 5 ∷ [] } ∷ []; must = 0 ∷ [] }
+strict =
+    record {
+      updates = 1 ∷ [];
+      before = [];
+      chains = record { item = 0; writers = 0 ∷ []; costs = 0 ∷ 5 ∷ [] } ∷ [];
+      must = 0 ∷ [];
+    }
 
 abbrev held : Certificate
-held = record { set = 0 ∷ []; chain_flow = (0 ∷ 5 ∷ []) ∷ []; back_flow = []; must_flow = 5 ∷ []; worth = 5; augmentations = Some 12 }
+held =
+    record {
+      set = 0 ∷ [];
+      chain_flow = (0 ∷ 5 ∷ []) ∷ [];
+      back_flow = [];
+      must_flow = 5 ∷ [];
+      worth = 5;
+      augmentations = Some 12;
+    }
 
 a_bundle : stands_for (bundle_data two_updates after_both) ≡ Ok (two_updates, after_both)
 a_bundle = refl

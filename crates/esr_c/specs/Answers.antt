@@ -99,7 +99,8 @@ AreValuesIn h count room = (take count room ≡ committed_values h) × (count �
 
 -- whatever the history of a renewed engine comes to be, it and the one before it are serializable as one
 pub record GoesOn (h : Schedule) : Type 0 where
-  pub as_one : (later : List Entry) → IsLegal plain (along (fresh (committed_values h)) later) → AreSerializableAsOne h (along (fresh (committed_values h)) later)
+  pub as_one : (later : List Entry) → IsLegal plain (along (fresh (committed_values h)) later)
+      → AreSerializableAsOne h (along (fresh (committed_values h)) later)
 
 -- what holds of the history of an engine, at any time
 pub record IsSound (h : Schedule) : Type 0 where
@@ -125,7 +126,8 @@ status_number Active = 16
 abbrev pub IsEventStatus : ℕ → Type 0
 IsEventStatus n = (n ≡ 0) ⊎ ((n ≡ 12) ⊎ ((n ≡ 13) ⊎ (n ≡ 14)))
 
--- A call that gave the engine an event ended with this status: 0 exactly where the machine's reply is told and stands in the history. Else nothing has changed.
+-- A call that gave the engine an event ended with this status: 0 exactly where the machine's reply is told and stands
+-- in the history. Else nothing has changed.
 pub record IsEventCall (event : Event) (old new : Option Schedule) (before after : EsrReply) (status : ℕ) : Type 0 where
   pub known : IsEventStatus status
   pub closed : status ≡ 14 ↔ (old ≡ None)

@@ -35,7 +35,7 @@ are_rows_matched (chain ∷ chains) (row ∷ rows) = (length row == length chain
 abbrev pub is_within : Problem → Certificate → Bool
 is_within p c =
     are_rows_matched p.chains c.chain_flow && (length c.back_flow == length p.before)
-        && (length c.must_flow == length p.must) && are_within (network p).arcs (amounts c)
+    && (length c.must_flow == length p.must) && are_within (network p).arcs (amounts c)
 
 -- the worth is the flow's and the set's cost
 abbrev pub is_tight : Problem → Certificate → Bool

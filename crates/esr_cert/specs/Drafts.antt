@@ -9,5 +9,9 @@ drafted_chain chain = record { item = chain.item; writers = chain.writers.items;
 
 abbrev pub drafted_problem : ProblemDraft → spec.Problem
 drafted_problem p =
-    record { updates = p.updates.items; before = p.before.items; chains = map drafted_chain p.chains.items;
-        must = p.must.items }
+    record {
+      updates = p.updates.items;
+      before = p.before.items;
+      chains = map drafted_chain p.chains.items;
+      must = p.must.items;
+    }

@@ -42,7 +42,7 @@ at_node f v touch = if touch.node == v then f touch.place else 0
 abbrev pub Adds : List Touch → List (Vec Place Global) → List (Vec Place Global) → Type 0
 Adds touches old new =
     (length new ≡ length old) × ((v : ℕ) (d : Vec Place Global) (f : Place → ℕ) → v < length old
-        → sum_by f (get_or new v d).items ≡ sum_by f (get_or old v d).items + sum_by (at_node f v) touches)
+    → sum_by f (get_or new v d).items ≡ sum_by f (get_or old v d).items + sum_by (at_node f v) touches)
 
 -- a row for each of n updates, of the places of its touches in some order, that is, with the same sums
 pub record IsIndex (n : ℕ) (before : List (ℕ × ℕ)) (chains : List Chain) (must : List ℕ)

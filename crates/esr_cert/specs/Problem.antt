@@ -85,8 +85,8 @@ chain_has_shape before chain =
 abbrev pub has_shape : Problem → Bool
 has_shape p =
     is_distinct p.updates && are_pairs_ascending p.before && list_all (λ e. nat_lt e.0 e.1) p.before
-        && is_ascending (map (λ chain. chain.item) p.chains) && list_all (chain_has_shape p.before) p.chains
-        && is_ascending p.must
+    && is_ascending (map (λ chain. chain.item) p.chains) && list_all (chain_has_shape p.before) p.chains
+    && is_ascending p.must
 
 -- ---- the rules of range
 
@@ -109,8 +109,8 @@ chain_is_in_range n chain = nat_le chain.item max_item && list_all (λ w. nat_lt
 abbrev pub is_in_range : Problem → Bool
 is_in_range p =
     list_all (λ t. nat_lt 0 t && nat_le t max_txn) p.updates && list_all (chain_is_in_range (size p)) p.chains
-        && list_all (λ e. nat_lt e.0 (size p) && nat_lt e.1 (size p)) p.before
-        && list_all (λ u. nat_lt u (size p)) p.must && nat_le (sum_by (λ chain. greatest chain.costs) p.chains) max_cost
+    && list_all (λ e. nat_lt e.0 (size p) && nat_lt e.1 (size p)) p.before
+    && list_all (λ u. nat_lt u (size p)) p.must && nat_le (sum_by (λ chain. greatest chain.costs) p.chains) max_cost
 
 -- no rule of shape or range is broken
 abbrev pub is_sound : Problem → Bool

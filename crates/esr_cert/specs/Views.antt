@@ -19,5 +19,11 @@ problem_of updates before chains must =
 
 abbrev pub certificate_of : Certificate → certificates.Certificate
 certificate_of c =
-    record { set = c.set.items; chain_flow = rows_of c.chain_flow.items; back_flow = c.back_flow.items;
-        must_flow = c.must_flow.items; worth = c.worth; augmentations = c.augmentations }
+    record {
+      set = c.set.items;
+      chain_flow = rows_of c.chain_flow.items;
+      back_flow = c.back_flow.items;
+      must_flow = c.must_flow.items;
+      worth = c.worth;
+      augmentations = c.augmentations;
+    }

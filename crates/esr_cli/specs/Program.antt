@@ -6,7 +6,9 @@ use Rattle.clap.specs.declared.builder.value_parser.ValueParser.TheVariants.{Uns
 
 -- the command `esr`, with a version, which needs one of its subcommands
 abbrev pub esr : App
-esr = let plain = new_app (codes "esr") in record plain { top = record plain.top { has_version = true; subcommand_required = true } }
+esr =
+    let plain = new_app (codes "esr") in
+    record plain { top = record plain.top { has_version = true; subcommand_required = true } }
 
 abbrev pub steps_rule : Rule
 steps_rule = record (new_rule (codes "steps")) { long = Some (codes "steps"); action = Some SetTrue }
@@ -34,7 +36,9 @@ abbrev pub parallel : Text → App
 parallel name = with_rule (new_app name) workers_rule
 
 abbrev pub scripts : App
-scripts = with_subcommand (with_subcommand (with_subcommand esr (new_app (codes "run")).top) certify.top) (new_app (codes "check")).top
+scripts =
+    with_subcommand (with_subcommand (with_subcommand esr (new_app (codes "run")).top) certify.top)
+    (new_app (codes "check")).top
 
 abbrev pub queries : App
 queries = with_subcommand (with_subcommand scripts (named (codes "explain")).top) (named (codes "picture")).top

@@ -125,10 +125,6 @@ last_fine [] count none few short = refl
 last_fine (b ∷ bs) count none few short =
     cut_more count (lines (b ∷ bs)) [] (b ∷ bs) (no_feed (b ∷ bs) none (omega arith)) few short
 
-pub none_fine : (tail : List ℕ) (count : ℕ) → length tail ≡ 0 → cut_fault count (lines tail) ≡ None
-none_fine [] count none = refl
-none_fine (b ∷ bs) count none = absurd (omega (arith, none))
-
 -- the whole file
 pub whole_fine : (bytes : List ℕ) (start count : ℕ) → At bytes start count → cut_fault count (lines (drop start bytes)) ≡ None → cut_fault 0 (lines bytes) ≡ None
 whole_fine bytes start count at fine =
@@ -202,9 +198,6 @@ begun_fault bytes start count e at is some bad =
 pub begun_fine : (bytes : List ℕ) (start count : ℕ) → None ≡ feed (sliced bytes start) → (count ≡ 2000000 → ⊥) → length bytes - start ≤ 200
     → cut_fault count (lines (drop start bytes)) ≡ None
 begun_fine bytes start count is few short = last_fine (drop start bytes) count (found_in bytes start None is) few (omega (arith, short, length-drop start bytes))
-
-pub nothing_begun : (bytes : List ℕ) (start count : ℕ) → length bytes - start ≡ 0 → cut_fault count (lines (drop start bytes)) ≡ None
-nothing_begun bytes start count none = none_fine (drop start bytes) count (length-drop start bytes ∙ none)
 
 -- ---- the faults of reading
 

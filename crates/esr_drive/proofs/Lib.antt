@@ -5,7 +5,6 @@ pub mod Adding
 pub mod Jobs
 pub mod Texts
 pub mod Noting
-pub mod Telling
 pub mod Told
 pub mod Rows
 pub mod Worked

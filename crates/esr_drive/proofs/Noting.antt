@@ -87,30 +87,10 @@ table_is (a ∷ answers) n = ap (with_begun a) (table_is answers n) ∙ noted_mo
 
 -- ---- the lines of a block, the last first
 
-answers_drop : (calls : List Call) (replies : List Reply) (i : ℕ) (c : Call) (r : Reply) → length replies ≡ length calls → i < length calls
-    → c ≡ get_or calls i c → r ≡ get_or replies i r
-    → answers_of (drop i calls) (drop i replies) ≡ answered c r ∷ answers_of (drop (i + 1) calls) (drop (i + 1) replies)
-answers_drop calls replies i c r e lt is_call is_reply =
-    ap (λ l. answers_of l (drop i replies)) (drop_more calls i c lt ∙ ap (λ x. x ∷ drop (i + 1) calls) (sym is_call))
-    ∙ ap (λ l. answers_of (c ∷ drop (i + 1) calls) l) (drop_more replies i r (omega (arith, e, lt)) ∙ ap (λ x. x ∷ drop (i + 1) replies) (sym is_reply))
-
-pub block_noted : (calls : List Call) (replies : List Reply) (i : ℕ) (c : Call) (r : Reply) (old before after : List (List ℕ)) → length replies ≡ length calls → i < length calls
-    → c ≡ get_or calls i c → r ≡ get_or replies i r → before ≡ noted (answers_of (drop (i + 1) calls) (drop (i + 1) replies)) old
-    → after ≡ with_begun (answered c r) before → after ≡ noted (answers_of (drop i calls) (drop i replies)) old
-block_noted calls replies i c r old before after e lt is_call is_reply so_far is =
-    is ∙ (ap (with_begun (answered c r)) so_far ∙ ap (λ l. noted l old) (sym (answers_drop calls replies i c r e lt is_call is_reply)))
-
 -- ---- the blocks, the last first
 
 abbrev flat : List (List Answered) → List Answered
 flat blocks = flat_map (λ b. b) blocks
-
-pub answered_at : (blocks : List (List Call)) (replies : List (List Reply)) (i : ℕ) (b : List Call) (r : List Reply) → AreAnswered blocks replies → i < length blocks
-    → length (get_or replies i r) ≡ length (get_or blocks i b)
-answered_at [] replies i b r are lt = absurd (omega (arith, lt))
-answered_at (x ∷ blocks) [] i b r are lt = absurd are
-answered_at (x ∷ blocks) (y ∷ replies) zero b r are lt = are.0
-answered_at (x ∷ blocks) (y ∷ replies) (suc i) b r are lt = answered_at blocks replies i b r are.1 (omega (arith, lt))
 
 pub answered_all : (blocks : List (List Call)) (replies : List (List Reply)) → AreAnswered blocks replies → length replies ≡ length blocks
 answered_all [] [] are = refl

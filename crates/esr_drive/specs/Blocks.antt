@@ -36,7 +36,8 @@ begins name c = elim (new_name c) [ Some begun ↦ bytes_eq name begun | None �
 -- the number that a name's begin got earlier in the block
 abbrev pub number_got : List Answered → List ℕ → Option ℕ
 number_got earlier name =
-    option_and_then (λ place. option_and_then (λ a. number_in a.reply) (slice_get earlier place)) (position (λ a. begins name a.command) earlier)
+    option_and_then (λ place. option_and_then (λ a. number_in a.reply) (slice_get earlier place))
+    (position (λ a. begins name a.command) earlier)
 
 -- a transaction's name stands for that number, and for 0 where there is none
 abbrev pub transaction_called : List Answered → List ℕ → TxnId
@@ -52,7 +53,8 @@ event_of names earlier (begin_update name limit) = Some (event.BeginUpdate limit
 event_of names earlier (begin_query name limit) = Some (event.BeginQuery limit false)
 event_of names earlier (begin_strict_query name limit) = Some (event.BeginQuery limit true)
 event_of names earlier (read txn x) = Some (event.Read (transaction_called earlier txn) (item_called names x))
-event_of names earlier (write txn x value) = Some (event.Write (transaction_called earlier txn) (item_called names x) value)
+event_of names earlier (write txn x value) =
+    Some (event.Write (transaction_called earlier txn) (item_called names x) value)
 event_of names earlier (commit txn) = Some (event.Commit (transaction_called earlier txn))
 event_of names earlier (abort txn) = Some (event.Abort (transaction_called earlier txn))
 event_of names earlier (item name value) = None
@@ -74,7 +76,8 @@ pub record IsRun (e : Event) (reply : Reply) (run : List Receipt) : Type 0 where
 -- The receipts of a block are runs, one for each of its commands.
 pub data AreRuns (names : List (List ℕ)) : List Answered → List Receipt → Type 0 where
   start : AreRuns names [] []
-  more : (earlier : List Answered) (receipts : List Receipt) (c : Command) (e : Event) (reply : Reply) (run : List Receipt)
+  more : (earlier : List Answered) (receipts : List Receipt) (c : Command) (e : Event) (reply : Reply)
+      (run : List Receipt)
       → AreRuns names earlier receipts → event_of names earlier c ≡ Some e → IsRun e reply run
       → AreRuns names (earlier ++ record { command = c; reply = reply } ∷ []) (receipts ++ run)
 

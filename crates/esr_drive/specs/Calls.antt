@@ -30,7 +30,8 @@ answers_of (c ∷ calls) (reply ∷ replies) = record { command = command_of c; 
 
 -- the number that the begin at that place got, and 0 where there is none
 abbrev pub number_by : List Reply → Option ℕ → TxnId
-number_by replies begin = record { 0 = unwrap_or (option_and_then (λ place. option_and_then number_in (slice_get replies place)) begin) 0 }
+number_by replies begin =
+    record { 0 = unwrap_or (option_and_then (λ place. option_and_then number_in (slice_get replies place)) begin) 0 }
 
 -- the event of a call, by the last replies to the calls before it
 abbrev pub event_by : List Reply → Call → Event
@@ -66,4 +67,5 @@ IsResolved names earlier (call.Abort txn) = IsCaller earlier txn
 
 -- each call of a block, after those before it
 abbrev pub AreResolved : List (List ℕ) → List Call → Type 0
-AreResolved names calls = (i : ℕ) (c : Call) → i < length calls → IsResolved names (take i calls) (slice_index_or calls i c)
+AreResolved names calls =
+    (i : ℕ) (c : Call) → i < length calls → IsResolved names (take i calls) (slice_index_or calls i c)

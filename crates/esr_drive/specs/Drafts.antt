@@ -45,7 +45,8 @@ place_since earlier places (Some number) = if nat_lt number earlier then None el
 
 -- the places are those of the begins in the block that is open
 abbrev pub ArePlaces : List Call → ℕ → List ℕ → List (List ℕ) → Type 0
-ArePlaces calls earlier places begun = (name : List ℕ) → place_of calls name ≡ place_since earlier places (position_of begun name)
+ArePlaces calls earlier places begun =
+    (name : List ℕ) → place_of calls name ≡ place_since earlier places (position_of begun name)
 
 -- what is kept beside the plan agrees with it
 pub record IsSound (d : Draft) : Type 0 where

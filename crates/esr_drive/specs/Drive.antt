@@ -55,7 +55,8 @@ abbrev pub items_text : List (List ℕ) → List ℤ → List (Option ℕ) → L
 items_text [] values weights = []
 items_text (name ∷ names) [] weights = []
 items_text (name ∷ names) (value ∷ values) [] = []
-items_text (name ∷ names) (value ∷ values) (weight ∷ weights) = item_text name value weight ++ items_text names values weights
+items_text (name ∷ names) (value ∷ values) (weight ∷ weights) =
+    item_text name value weight ++ items_text names values weights
 
 -- the last replies to the commands of a block
 abbrev pub replies_text : List (List ℕ) → List Answered → List ℕ
@@ -69,7 +70,8 @@ blocks_text names k (b ∷ blocks) = session_line k ++ replies_text names b ++ b
 -- what the audit finds of a query: its least distance, its import, and the smallest least set
 abbrev pub finding_text : Schedule → List (List ℕ) → ℕ → List ℕ
 finding_text h names q =
-    audit_line names (name_of_transaction names q) (least_cost weighted h q) (import_in (charges_in weighted h) q) (least_set weighted h q)
+    audit_line names (name_of_transaction names q) (least_cost weighted h q) (import_in (charges_in weighted h) q)
+    (least_set weighted h q)
 
 abbrev pub findings_text : Schedule → List (List ℕ) → List ℕ
 findings_text h names = flat_map (finding_text h names) (committed_queries h)
@@ -82,8 +84,8 @@ text_of p h blocks =
     ++ findings_text h names
     ++ totals_line (all_imports weighted h) (all_exports weighted h) (length h.entries)
 
--- Each command of the plan has a run of receipts, which match one legal history over the plan's items, and the text is that of
--- the last replies, the findings and the totals of this history.
+-- Each command of the plan has a run of receipts, which match one legal history over the plan's items, and the text is
+-- that of the last replies, the findings and the totals of this history.
 pub record IsTextOf (p : Plan) (text : List ℕ) : Type 0 where
   pub history : Schedule
   pub blocks : List (List Answered)
@@ -111,5 +113,6 @@ IsDriveBy input left (Err fault.LineTooLong) written = (written ≡ []) × (plan
 IsDriveBy input left (Err fault.NoMemory) written = written ≡ []
 IsDriveBy input left (Err fault.HistoryFull) written = (written ≡ []) × ((p : Plan) × (plan_of input ≡ Ok p))
 IsDriveBy input left (Err fault.TooManyLines) written = (written ≡ []) × (plan_of input ≡ Err fault.TooManyLines)
-IsDriveBy input left (Err (fault.BadScript line error)) written = (written ≡ []) × (plan_of input ≡ Err (fault.BadScript line error))
+IsDriveBy input left (Err (fault.BadScript line error)) written =
+    (written ≡ []) × (plan_of input ≡ Err (fault.BadScript line error))
 IsDriveBy input left (Err fault.Close) written = (written ≡ []) × ((p : Plan) × (plan_of input ≡ Ok p))

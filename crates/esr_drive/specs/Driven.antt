@@ -21,9 +21,10 @@ AreAnswered [] [] = Unit {0}
 AreAnswered (b ∷ blocks) (r ∷ replies) = (length r ≡ length b) × AreAnswered blocks replies
 AreAnswered _ _ = ⊥
 
--- A legal history over these opening values and weights, whose entries the receipts of the blocks name, with the last replies of each block. The
--- names of items are those that the calls were resolved by.
-pub record IsDriven (opening : List ℤ) (weights : List ℕ) (blocks : List (List Call)) (history : Schedule) (replies : List (List Reply)) : Type 0 where
+-- A legal history over these opening values and weights, whose entries the receipts of the blocks name, with the last
+-- replies of each block. The names of items are those that the calls were resolved by.
+pub record IsDriven (opening : List ℤ) (weights : List ℕ) (blocks : List (List Call)) (history : Schedule)
+    (replies : List (List Reply)) : Type 0 where
   pub legal : IsLegal weighted history
   pub opening_is : history.opening ≡ opening
   pub weights_are : history.weights ≡ weights
@@ -31,5 +32,6 @@ pub record IsDriven (opening : List ℤ) (weights : List ℕ) (blocks : List (Li
   pub answered : AreAnswered blocks replies
   pub commands : map (λ b. map (λ a. a.command) b) (all_answers blocks replies) ≡ map (λ b. map command_of b) blocks
   pub receipts : List (List Receipt)
-  pub runs : (names : List (List ℕ)) → All (AreResolved names) blocks → AreBlocks names (all_answers blocks replies) receipts
+  pub runs : (names : List (List ℕ)) → All (AreResolved names) blocks
+      → AreBlocks names (all_answers blocks replies) receipts
   pub matching : Matches history.entries receipts

@@ -62,7 +62,8 @@ first_of memory full closed =
 -- the fault that is told of blocks that ended so: out of memory before a full history, and that before a closed engine
 abbrev pub told_fault : {V : Type 0} → List (Result V StepError) → Option DriveFault
 told_fault outcomes =
-    first_of (list_any (is_outcome is_memory) outcomes) (list_any (is_outcome is_full) outcomes) (list_any (is_outcome is_closed) outcomes)
+    first_of (list_any (is_outcome is_memory) outcomes) (list_any (is_outcome is_full) outcomes)
+    (list_any (is_outcome is_closed) outcomes)
 
 -- the fault that is told after one more error
 abbrev pub worse : Option DriveFault → StepError → DriveFault

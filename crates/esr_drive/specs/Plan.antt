@@ -12,7 +12,8 @@ use Rattle.esr_script.specs.Text.{max_lines, max_line_bytes, max_items}
 use Rattle.esr_drive.specs.declared.fault.DriveFault.{DriveFault}
 use Rattle.esr_drive.specs.declared.fault.DriveFault.TheVariants.{LineTooLong, TooManyLines, BadScript}
 
--- the names of the items, the values with which they open and the weights that were given, and the commands of each block
+-- the names of the items, the values with which they open and the weights that were given,
+-- and the commands of each block
 pub record Plan : Type 0 where
   pub names : List (List ℕ)
   pub values : List ℤ
@@ -70,7 +71,11 @@ with_item p name value weight =
     else if not (is_value value) then Err 4
     else if length p.names == max_items then Err 5
     else if not (is_weight (weight_in weight)) then Err 8
-    else Ok (record p { names = p.names ++ name ∷ []; values = p.values ++ value ∷ []; weights = p.weights ++ weight ∷ [] })
+    else Ok (record p {
+      names = p.names ++ name ∷ [];
+      values = p.values ++ value ∷ [];
+      weights = p.weights ++ weight ∷ [];
+    })
 
 abbrev pub with_operation : Plan → Command → Result Plan ℕ
 with_operation p c =

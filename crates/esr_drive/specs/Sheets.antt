@@ -9,9 +9,16 @@ use Rattle.esr_drive.specs.Drafts.{commands_in}
 use Rattle.esr_drive.specs.Plan.{Plan, weights_of}
 
 abbrev pub plan_in : Sheet → Plan
-plan_in s = record { names = s.names; values = s.values.items; weights = s.weights.items; blocks = map (λ b. commands_in b.items) s.blocks.items }
+plan_in s =
+    record {
+      names = s.names;
+      values = s.values.items;
+      weights = s.weights.items;
+      blocks = map (λ b. commands_in b.items) s.blocks.items;
+    }
 
--- as many values and weights as names, all in range, no more of either than items may be, at most 64 blocks, and what each call names
+-- as many values and weights as names, all in range, no more of either than items may be, at most 64 blocks,
+-- and what each call names
 pub record IsSound (s : Sheet) : Type 0 where
   pub values : length s.values.items ≡ length s.names
   pub weights : length s.weights.items ≡ length s.names

@@ -1,8 +1,7 @@
 -- A history that a machine makes again, entry by entry.
-use Rattle.std.proofs.Common.{◌≡◌, ◌≢◌, ℕ, ℤ, zero, suc, ◌+◌, ◌==◌, Bool, true, false, if◌then◌else◌, map, List, [], ◌∷◌, ◌++◌, take, drop, flat_map, refl, sym, ◌∙◌, ap, subst, arith, Option, Some, None, append-nil}
-use Rattle.std.specs.Prelude.{◌-◌, IfOk, OnOk, Result, Ok, Err, is_err, unwrap_or, slice_get}
+use Rattle.std.proofs.Common.{◌≡◌, ◌≢◌, ℕ, ℤ, zero, suc, ◌+◌, false, if◌then◌else◌, map, List, [], ◌∷◌, ◌++◌, take, drop, flat_map, refl, sym, ◌∙◌, ap, subst, arith, Some, append-nil}
+use Rattle.std.specs.Prelude.{◌-◌, IfOk, OnOk, Result, Ok, Err, is_err, slice_get}
 use Rattle.std.specs.List.{range_with_len}
-use Rattle.std.specs.Option.{option_map}
 use Rattle.std.proofs.lemmas.Bool.{eq-eqb, ne_eqb}
 use Rattle.std.proofs.lemmas.Grind.{flat_map-append}
 use Rattle.std.proofs.lemmas.Option.{same_Some}
@@ -10,9 +9,7 @@ use Rattle.esr_items.specs.Values.{opened}
 use Rattle.esr_items.specs.declared.store.Versions.{Versions}
 use Rattle.esr_history.specs.declared.event.Reply.{Reply}
 use Rattle.esr_history.specs.declared.event.Entry.{Entry}
-use Rattle.esr_history.specs.declared.links.Facts.{Facts}
-use Rattle.esr_history.specs.Events.{Beginning, accepted, beginning, limit_of}
-use Rattle.esr_history.specs.Links.{facts_by, facts_of}
+use Rattle.esr_history.specs.Events.{limit_of}
 use Rattle.esr_items.specs.Weights.{weighted}
 use Rattle.esr_history.specs.Machine.{Distance, Schedule, IsLegal, IsLegalAfter, blank, done, extended, reply_to}
 use Rattle.esr_core.specs.declared.machine.StepError.{StepError}
@@ -61,15 +58,6 @@ pub text_more : (f : ℕ → List ℕ) (n : ℕ) → flat_map f (range_with_len 
 text_more f n =
     ap (flat_map f) (range_more n) ∙ (flat_map-append f (range_with_len 0 n) (n ∷ []) ∙ ap (λ l. flat_map f (range_with_len 0 n) ++ l) (append-nil (f n)))
 
--- the limit of a transaction, as the facts tell it
-limit_by : (b : Option Beginning) (end : Option ℕ) (f : Option Facts) → f ≡ facts_by b end
-    → unwrap_or (option_map (λ (g : Facts). g.limit) f) 0 ≡ unwrap_or (option_map (λ (b : Beginning). b.limit) b) 0
-limit_by None end f is = rw is refl
-limit_by (Some b) end f is = rw is refl
-
-pub limit_told : (es : List Entry) (t : ℕ) (f : Option Facts) → f ≡ facts_of es t → unwrap_or (option_map (λ (g : Facts). g.limit) f) 0 ≡ limit_of (accepted es) t
-limit_told es t f is = limit_by (beginning (accepted es) t) _ f is
-
 -- opening values, as a store has them
 pub opened_values : (vs : List ℤ) → map (λ (w : Versions). w.committed) (map opened vs) ≡ vs
 opened_values [] = refl
@@ -80,13 +68,6 @@ opened_values (v ∷ vs) = ap (λ ws. v ∷ ws) (opened_values vs)
 module _ (d : Distance) (h : Schedule) (items transactions : List (List ℕ)) (q i : ℕ) (e : Entry) where
   pub line_none : imported d h q (i + 1) ≡ imported d h q i → charge_at d h items transactions q i (Some e) ≡ []
   line_none same = ap (λ b. if b then [] else met_line d h items transactions q i (meeting (until i h) e.event)) (eq-eqb (imported d h q (i + 1)) (imported d h q i) same)
-
-  pub line_unmet : None ≡ meeting (until i h) e.event → charge_at d h items transactions q i (Some e) ≡ []
-  line_unmet none = ap (λ m. if imported d h q (i + 1) == imported d h q i then [] else met_line d h items transactions q i m) (sym none) ∙ go (imported d h q (i + 1) == imported d h q i)
-    where
-      go : (b : Bool) → (if b then [] else met_line d h items transactions q i None) ≡ []
-      go true = refl
-      go false = refl
 
   pub line_met : (m : Meeting) → Some m ≡ meeting (until i h) e.event → imported d h q (i + 1) ≢ imported d h q i
       → charge_at d h items transactions q i (Some e) ≡ charge_line items transactions (charge_of d h q i m)

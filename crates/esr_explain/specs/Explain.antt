@@ -26,7 +26,8 @@ name_of_item items x = slice_index_or items x []
 -- with this word for the item
 abbrev pub named_read_line : (item : List ℕ) → (value nearest : ℤ) → (off : ℕ) → List ℕ
 named_read_line item value nearest off = line (
-    codes "read" ∷ item ∷ signed_decimal value ∷ codes "nearest" ∷ signed_decimal nearest ∷ codes "off" ∷ decimal off ∷ []
+    codes "read" ∷ item ∷ signed_decimal value ∷ codes "nearest" ∷ signed_decimal nearest ∷ codes "off"
+    ∷ decimal off ∷ []
     )
 
 -- the line of a value that was read of item x, beside another: the two, and how far they are apart
@@ -35,7 +36,8 @@ read_line d items x value nearest = named_read_line (name_of_item items x) value
 
 -- the lines of what q read, in order, beside the values that the updates us leave
 abbrev pub read_lines : Distance → Schedule → (items : List (List ℕ)) → ℕ → (us : List ℕ) → List ℕ
-read_lines d h items q us = flat_map (λ o. read_line (distance_in d h) items o.item o.value (state h us o.item)) (reads_by h q)
+read_lines d h items q us =
+    flat_map (λ o. read_line (distance_in d h) items o.item o.value (state h us o.item)) (reads_by h q)
 
 -- the updates of q but for these, in commit order
 abbrev pub others : Schedule → ℕ → List ℕ → List ℕ
@@ -60,7 +62,8 @@ read_meets h x = if nat_lt x (length h.opening) then writer (done h) x else None
 
 -- where an operation on an item meets an update: a read the one that has written it, a write the one that writes
 abbrev pub meeting : Schedule → Event → Option Meeting
-meeting h (Read t x) = option_map (λ u. record { by_read = true; update = record { 0 = u }; item = x }) (read_meets h x.0)
+meeting h (Read t x) =
+    option_map (λ u. record { by_read = true; update = record { 0 = u }; item = x }) (read_meets h x.0)
 meeting h (Write u x v) = Some (record { by_read = false; update = u; item = x })
 meeting h _ = None
 
@@ -91,7 +94,8 @@ named_charge_line verb update item c = line (
 
 abbrev pub charge_line : (items transactions : List (List ℕ)) → Charge → List ℕ
 charge_line items transactions c =
-    named_charge_line (verb c.meeting.by_read) (name_of_transaction transactions c.meeting.update.0) (name_of_item items c.meeting.item.0) c
+    named_charge_line (verb c.meeting.by_read) (name_of_transaction transactions c.meeting.update.0)
+    (name_of_item items c.meeting.item.0) c
 
 -- the line of a meeting by which q is charged
 abbrev pub met_line : Distance → Schedule → (items transactions : List (List ℕ)) → ℕ → ℕ → Option Meeting → List ℕ
@@ -102,7 +106,8 @@ met_line d h items transactions q i (Some m) = charge_line items transactions (c
 abbrev pub charge_at : Distance → Schedule → (items transactions : List (List ℕ)) → ℕ → ℕ → Option Entry → List ℕ
 charge_at d h items transactions q i None = []
 charge_at d h items transactions q i (Some e) =
-    if imported d h q (i + 1) == imported d h q i then [] else met_line d h items transactions q i (meeting (until i h) e.event)
+    if imported d h q (i + 1) == imported d h q i then []
+    else met_line d h items transactions q i (meeting (until i h) e.event)
 
 abbrev pub charge_lines : Distance → Schedule → (items transactions : List (List ℕ)) → ℕ → List ℕ
 charge_lines d h items transactions q =
@@ -114,8 +119,8 @@ charge_lines d h items transactions q =
 abbrev pub sums_line : ℕ → ℕ → List ℕ
 sums_line distance import = line (codes "distance" ∷ decimal distance ∷ codes "import" ∷ decimal import ∷ [])
 
--- What q read, beside the values of the nearest placement; the charges to q, in order; the updates before that placement, and
--- the others; and the sums.
+-- What q read, beside the values of the nearest placement; the charges to q, in order; the updates before that
+-- placement, and the others; and the sums.
 abbrev pub explanation : Distance → Schedule → (items transactions : List (List ℕ)) → ℕ → List ℕ
 explanation d h items transactions q =
     read_lines d h items q (least_set d h q)

@@ -8,7 +8,8 @@ use Rattle.esr_explain.specs.Explain.{explanation}
 
 -- the explanation of the query of that name in the history of the script
 abbrev pub explained : List ℕ → List ℕ → List ℕ
-explained input name = let s = final input in explanation weighted s.history s.items s.transactions (query_of input name)
+explained input name =
+    let s = final input in explanation weighted s.history s.items s.transactions (query_of input name)
 
 -- Explaining the query of that name, given the input, left these bytes of it, ended so and wrote this.
 abbrev pub IsExplainedBy : List ℕ → List ℕ → Option (List ℕ) → Result (Unit {0}) RunFault → List ℕ → Type 0

@@ -1,4 +1,5 @@
--- A network with the steps that start at each node, which lie together, and entries of the steps that tell which of them have room.
+-- A network with the steps that start at each node, which lie together, and entries of the steps that tell which of
+-- them have room.
 use Rattle.std.specs.Prelude.{◌≡◌, ℕ, ◌-◌, ◌<◌, ◌≤◌, ◌||◌, ◌==◌, Bool, true, false, List, [], ◌∷◌, length, get_or, take, drop, map, Contains, ◌^◌}
 use Rattle.esr_cert.specs.declared.network.Arc.{Arc}
 use Rattle.esr_cert.specs.Network.{Network, IsNetwork}
@@ -33,7 +34,8 @@ AreOnce steps = (j k : ℕ) → j < length steps → k < length steps → step_a
 
 -- a list of steps has those that start at a node, each once, and no others
 pub record HasSteps (arcs : List Arc) (v : ℕ) (steps : List Step) : Type 0 where
-  pub starts : (k : ℕ) → k < length steps → (arc_of (step_at steps k) < length arcs) × (start arcs (step_at steps k) ≡ v)
+  pub starts : (k : ℕ) → k < length steps
+      → (arc_of (step_at steps k) < length arcs) × (start arcs (step_at steps k) ≡ v)
   pub once : AreOnce steps
   pub all : (step : Step) → arc_of step < length arcs → start arcs step ≡ v → has_step steps step ≡ true
 
@@ -67,7 +69,11 @@ pub record IsGraph (g : Graph) : Type 0 where
 
 -- the entry of a step: where it leads, and whether the step and its opposite have room for one more
 abbrev pub entry_of : List Arc → List ℕ → Step → Entry
-entry_of arcs flow step = record { to = finish arcs step; ahead = within 1 (room arcs flow step); back = within 1 (room arcs flow (opposite step)) }
+entry_of arcs flow step = record {
+  to = finish arcs step;
+  ahead = within 1 (room arcs flow step);
+  back = within 1 (room arcs flow (opposite step));
+}
 
 abbrev pub entry_at : List Entry → ℕ → Entry
 entry_at entries k = get_or entries k (record { to = 0; ahead = false; back = false })

@@ -15,4 +15,4 @@ InArcs arcs path = (k : ℕ) (d : Step) → k < length path → arc_of (get_or p
 abbrev pub HasLimit : Network → Type 0
 HasLimit net =
     (flow : List ℕ) (path : List Step) → IsPath net.arcs flow net.source path net.sink
-        → least_room net.arcs flow path ≡ None → ⊥
+    → least_room net.arcs flow path ≡ None → ⊥

@@ -24,7 +24,7 @@ unmarked (b ∷ marks) = (if b then 0 else 1) + unmarked marks
 abbrev pub Leads : List Arc → List Visit → ℕ → Step → Type 0
 Leads arcs visits level step =
     (j : ℕ) × (j < length visits) × ((visit_at visits j).node ≡ finish arcs step)
-        × ((visit_at visits j).level ≤ suc level)
+    × ((visit_at visits j).level ≤ suc level)
 
 -- a visit comes from an earlier one
 pub record Comes (arcs : List Arc) (flow : List ℕ) (visits : List Visit) (j : ℕ) : Type 0 where
@@ -95,4 +95,4 @@ abbrev pub IsFound : Network → List ℕ → Found → Type 0
 IsFound net flow (Path path labels) = IsGuided net flow labels.items path.items × Guides net flow labels.items
 IsFound net flow (Reach marks) =
     IsReach net flow (is_marked marks.items) × (is_marked marks.items net.sink ≡ false)
-        × (length marks.items ≡ net.nodes)
+    × (length marks.items ≡ net.nodes)

@@ -52,5 +52,5 @@ pub record IsSerializable (h : Schedule) : Type 0 where
       → h.entries ≡ before ++ record { event = Read t x; reply = Value v } ∷ after
       → IsTrue (is_update (done h) t.0 && is_committed (done h) t.0)
       → v ≡ last_value (state h (before_first (λ u. u == t.0) (committed_updates h)) x.0)
-          (filter_map (written (λ u. u == t.0) x.0) (accepted before))
+      (filter_map (written (λ u. u == t.0) x.0) (accepted before))
   pub leaves : (x : ℕ) → state h (committed_updates h) x ≡ committed_value h.opening (done h) x

@@ -36,8 +36,8 @@ item x = record { 0 = x }
 abbrev report_beside_a_writer : Schedule
 report_beside_a_writer =
     played (opened (pos 100 ∷ []))
-        (BeginUpdate 50 ∷ BeginQuery 10 false ∷ Write (txn 1) (item 0) (pos 107) ∷ Read (txn 2) (item 0)
-        ∷ Commit (txn 1) ∷ Commit (txn 2) ∷ [])
+    (BeginUpdate 50 ∷ BeginQuery 10 false ∷ Write (txn 1) (item 0) (pos 107) ∷ Read (txn 2) (item 0)
+    ∷ Commit (txn 1) ∷ Commit (txn 2) ∷ [])
 
 report_beside_a_writer_replies : replies report_beside_a_writer
     ≡ Begun (txn 1) ∷ Begun (txn 2) ∷ Wrote ∷ Value (pos 107) ∷ Committed ∷ Committed ∷ []
@@ -53,8 +53,8 @@ report_beside_a_writer_export = refl
 abbrev import_limit_reached : ℕ → Schedule
 import_limit_reached limit =
     played (opened (pos 100 ∷ []))
-        (BeginUpdate 50 ∷ BeginQuery limit false ∷ Write (txn 1) (item 0) (pos 107) ∷ Read (txn 2) (item 0)
-        ∷ Read (txn 2) (item 0) ∷ [])
+    (BeginUpdate 50 ∷ BeginQuery limit false ∷ Write (txn 1) (item 0) (pos 107) ∷ Read (txn 2) (item 0)
+    ∷ Read (txn 2) (item 0) ∷ [])
 
 import_limit_reached_low : replies (import_limit_reached 6)
     ≡ Begun (txn 1) ∷ Begun (txn 2) ∷ Wrote ∷ Refused (BlockedByImport (txn 2)) ∷ Refused (BlockedByImport (txn 2)) ∷ []
@@ -71,9 +71,9 @@ import_limit_reached_total = refl
 abbrev export_limit_over_queries : Schedule
 export_limit_over_queries =
     played (opened (pos 0 ∷ []))
-        (BeginQuery 10 false ∷ BeginQuery 5 false ∷ BeginUpdate 14 ∷ BeginUpdate 15 ∷ Read (txn 1) (item 0)
-        ∷ Read (txn 1) (item 0) ∷ Read (txn 2) (item 0) ∷ Write (txn 3) (item 0) (pos 5)
-        ∷ Write (txn 4) (item 0) (pos 5) ∷ [])
+    (BeginQuery 10 false ∷ BeginQuery 5 false ∷ BeginUpdate 14 ∷ BeginUpdate 15 ∷ Read (txn 1) (item 0)
+    ∷ Read (txn 1) (item 0) ∷ Read (txn 2) (item 0) ∷ Write (txn 3) (item 0) (pos 5)
+    ∷ Write (txn 4) (item 0) (pos 5) ∷ [])
 
 export_limit_over_queries_replies : replies export_limit_over_queries
     ≡ Begun (txn 1) ∷ Begun (txn 2) ∷ Begun (txn 3) ∷ Begun (txn 4) ∷ Value (pos 0) ∷ Value (pos 0) ∷ Value (pos 0)
@@ -87,8 +87,8 @@ export_limit_over_queries_total = refl
 abbrev smaller_of_two_sets : Schedule
 smaller_of_two_sets =
     played (opened (pos 0 ∷ []))
-        (BeginQuery 9 false ∷ BeginUpdate 4 ∷ Read (txn 1) (item 0) ∷ Write (txn 2) (item 0) (pos 4) ∷ Commit (txn 2)
-        ∷ Read (txn 1) (item 0) ∷ Commit (txn 1) ∷ [])
+    (BeginQuery 9 false ∷ BeginUpdate 4 ∷ Read (txn 1) (item 0) ∷ Write (txn 2) (item 0) (pos 4) ∷ Commit (txn 2)
+    ∷ Read (txn 1) (item 0) ∷ Commit (txn 1) ∷ [])
 
 smaller_of_two_sets_replies : replies smaller_of_two_sets
     ≡ Begun (txn 1) ∷ Begun (txn 2) ∷ Value (pos 0) ∷ Wrote ∷ Committed ∷ Value (pos 4) ∷ Committed ∷ []
@@ -101,8 +101,8 @@ smaller_of_two_sets_import = refl
 abbrev upgrade_waits_for_a_reader : Schedule
 upgrade_waits_for_a_reader =
     played (opened (pos 0 ∷ []))
-        (BeginUpdate 0 ∷ BeginUpdate 0 ∷ Read (txn 1) (item 0) ∷ Read (txn 2) (item 0) ∷ Write (txn 1) (item 0) (pos 1)
-        ∷ Commit (txn 2) ∷ Write (txn 1) (item 0) (pos 1) ∷ Commit (txn 1) ∷ [])
+    (BeginUpdate 0 ∷ BeginUpdate 0 ∷ Read (txn 1) (item 0) ∷ Read (txn 2) (item 0) ∷ Write (txn 1) (item 0) (pos 1)
+    ∷ Commit (txn 2) ∷ Write (txn 1) (item 0) (pos 1) ∷ Commit (txn 1) ∷ [])
 
 upgrade_waits_for_a_reader_replies : replies upgrade_waits_for_a_reader
     ≡ Begun (txn 1) ∷ Begun (txn 2) ∷ Value (pos 0) ∷ Value (pos 0) ∷ Refused (BlockedByLock (txn 2)) ∷ Committed
@@ -128,7 +128,7 @@ every_refusal_in_order_replies = refl
 abbrev abort_puts_back : Schedule
 abort_puts_back =
     played (opened (pos 1 ∷ []))
-        (BeginUpdate 0 ∷ Write (txn 1) (item 0) (pos 5) ∷ Abort (txn 1) ∷ BeginUpdate 0 ∷ Read (txn 2) (item 0) ∷ [])
+    (BeginUpdate 0 ∷ Write (txn 1) (item 0) (pos 5) ∷ Abort (txn 1) ∷ BeginUpdate 0 ∷ Read (txn 2) (item 0) ∷ [])
 
 abort_puts_back_replies : replies abort_puts_back ≡ Begun (txn 1) ∷ Wrote ∷ Aborted ∷ Begun (txn 2) ∷ Value (pos 1) ∷ []
 abort_puts_back_replies = refl

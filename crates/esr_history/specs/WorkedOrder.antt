@@ -18,8 +18,8 @@ order_through_a_third_item =
 
 third_item_replies :
     replies order_through_a_third_item
-        ≡ Begun (txn 1) ∷ Begun (txn 2) ∷ Begun (txn 3) ∷ Value (pos 0) ∷ Wrote ∷ Wrote ∷ Committed ∷ Value (pos 1)
-        ∷ Wrote ∷ Committed ∷ Value (pos 2) ∷ Committed ∷ []
+    ≡ Begun (txn 1) ∷ Begun (txn 2) ∷ Begun (txn 3) ∷ Value (pos 0) ∷ Wrote ∷ Wrote ∷ Committed ∷ Value (pos 1)
+    ∷ Wrote ∷ Committed ∷ Value (pos 2) ∷ Committed ∷ []
 third_item_replies = refl
 
 third_item_updates : updates_of order_through_a_third_item 1 ≡ 2 ∷ 3 ∷ []

@@ -38,7 +38,8 @@ weight-most w = grind (arith, nat_tests)
 pub weighted-zero : (weights : List ℕ) (x : ℕ) (a b : ℤ) → weighted weights x a b ≡ 0 → a ≡ b
 weighted-zero weights x a b h =
     let w = weight_of weights x in
-    gap-zero a b (eq_of_mul-eq-mul_left w (weight-least (slice_index_or weights x 1)) (gap a b) 0 (h ∙ sym (mul-zero w)))
+    gap-zero a b (eq_of_mul-eq-mul_left w (weight-least (slice_index_or weights x 1)) (gap a b) 0 (h
+    ∙ sym (mul-zero w)))
 
 pub weighted-same : (weights : List ℕ) (x : ℕ) (a : ℤ) → weighted weights x a a ≡ 0
 weighted-same weights x a = ap (λ n. weight_of weights x * n) (gap-same a) ∙ mul-zero (weight_of weights x)
@@ -46,14 +47,16 @@ weighted-same weights x a = ap (λ n. weight_of weights x * n) (gap-same a) ∙ 
 pub weighted_comm : (weights : List ℕ) (x : ℕ) (a b : ℤ) → weighted weights x a b ≡ weighted weights x b a
 weighted_comm weights x a b = ap (λ n. weight_of weights x * n) (gap_comm a b)
 
-pub weighted-triangle : (weights : List ℕ) (x : ℕ) (a b c : ℤ) → weighted weights x a c ≤ weighted weights x a b + weighted weights x b c
+pub weighted-triangle : (weights : List ℕ) (x : ℕ) (a b c : ℤ)
+    → weighted weights x a c ≤ weighted weights x a b + weighted weights x b c
 weighted-triangle weights x a b c =
     let w = weight_of weights x in
     let apart : w * (gap a b + gap b c) ≡ w * gap a b + w * gap b c = mul-add w (gap a b) (gap b c) in
     let most : w * gap a c ≤ w * (gap a b + gap b c) = mul-le-mul_left w (gap-triangle a b c) in
     omega (arith, apart, most)
 
-pub weighted-bounded : (weights : List ℕ) (x : ℕ) (a b : ℤ) → IsValue a → IsValue b → weighted weights x a b ≤ 2 * 10 ^ 15
+pub weighted-bounded : (weights : List ℕ) (x : ℕ) (a b : ℤ) → IsValue a → IsValue b
+    → weighted weights x a b ≤ 2 * 10 ^ 15
 weighted-bounded weights x a b ha hb =
     let most : weight_of weights x * gap a b ≤ 1000 * (2 * 10 ^ 12) = mul-le-mul (weight-most (slice_index_or weights x 1)) (gap-most a b ha hb) in
     omega (arith, most)

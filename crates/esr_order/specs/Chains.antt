@@ -15,8 +15,10 @@ pub record Chain : Type 0 where
 -- the chain of those of the first n positions that have a last value
 abbrev pub chain_from : (ℕ → Option ℤ) → ℕ → Chain
 chain_from last n =
-    record { writers = filter (λ i. is_some (last i)) (range_with_len 0 n);
-        values = filter_map last (range_with_len 0 n) }
+    record {
+      writers = filter (λ i. is_some (last i)) (range_with_len 0 n);
+      values = filter_map last (range_with_len 0 n);
+    }
 
 -- the updates that wrote an item, by their positions
 abbrev pub writers_in : Option Chain → List ℕ

@@ -27,7 +27,7 @@ IsUse below all a = (a.place < below) × IsTrue (all || a.writes)
 abbrev pub IsFollowedBelow : List Step → ℕ → Sought → Type 0
 IsFollowedBelow steps below s =
     (all : Bool) (a : Step) → Contains steps a → IsTrue (is_followed s all a.item) → IsUse below all a
-        → marked s.marks a.place ≡ true
+    → marked s.marks a.place ≡ true
 
 -- such an operation on item x
 abbrev pub IsUseOf : ℕ → Bool → ℕ → Step → Type 0

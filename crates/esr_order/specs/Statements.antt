@@ -26,16 +26,16 @@ LawOfPlacements = (d : Distance) (h : Schedule) (q : ℕ) → IsLegal d h → Cl
 abbrev pub LawOfLongerHistories : Type 0
 LawOfLongerHistories =
     (d : Distance) (h : Schedule) (rest : List Entry) (q : ℕ) → IsLegal d (along h rest)
-        → IsTrue (is_committed (done h) q) → IsAlike d h (along h rest) q
+    → IsTrue (is_committed (done h) q) → IsAlike d h (along h rest) q
 
 -- The meet of two closed sets of least cost is one, so that the smallest is the meet of them all.
 abbrev pub LawOfLeastSets : Type 0
 LawOfLeastSets =
     (d : Distance) (h : Schedule) (q : ℕ) (S T : ℕ → Bool) → IsLeastSet d h q S → IsLeastSet d h q T
-        → IsLeastSet d h q (λ u. S u && T u)
+    → IsLeastSet d h q (λ u. S u && T u)
 
 -- The smallest closed set of least cost is the one that is found by listing all closed sets.
 abbrev pub LawOfListedSets : Type 0
 LawOfListedSets =
     (d : Distance) (h : Schedule) (q : ℕ) (S : ℕ → Bool) → IsSmallestLeastSet d h q S
-        → (members h q S ≡ least_set d h q) × (cost d h q S ≡ least_cost d h q)
+    → (members h q S ≡ least_set d h q) × (cost d h q S ≡ least_cost d h q)

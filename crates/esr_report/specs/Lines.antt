@@ -21,7 +21,8 @@ item_line name value = line (codes "item" ∷ name ∷ signed_decimal value ∷ 
 
 -- a declared item with its weight
 abbrev pub weighted_item_line : List ℕ → ℤ → ℕ → List ℕ
-weighted_item_line name value weight = line (codes "item" ∷ name ∷ signed_decimal value ∷ codes "weight" ∷ decimal weight ∷ [])
+weighted_item_line name value weight =
+    line (codes "item" ∷ name ∷ signed_decimal value ∷ codes "weight" ∷ decimal weight ∷ [])
 
 -- what begins the lines of a session, with its number
 abbrev pub session_line : ℕ → List ℕ
@@ -61,9 +62,12 @@ refusal_line names ValueOutOfRange = refused ValueOutOfRange (codes "value out o
 refusal_line names LimitOutOfRange = refused LimitOutOfRange (codes "limit out of range")
 refusal_line names TooManyTransactions = refused TooManyTransactions (codes "too many transactions")
 refusal_line names TooManyReads = refused TooManyReads (codes "too many reads")
-refusal_line names (BlockedByLock holder) = blocked (BlockedByLock holder) (codes "lock") (name_of_transaction names holder.0)
-refusal_line names (BlockedByImport query) = blocked (BlockedByImport query) (codes "import") (name_of_transaction names query.0)
-refusal_line names (BlockedByExport update) = blocked (BlockedByExport update) (codes "export") (name_of_transaction names update.0)
+refusal_line names (BlockedByLock holder) =
+    blocked (BlockedByLock holder) (codes "lock") (name_of_transaction names holder.0)
+refusal_line names (BlockedByImport query) =
+    blocked (BlockedByImport query) (codes "import") (name_of_transaction names query.0)
+refusal_line names (BlockedByExport update) =
+    blocked (BlockedByExport update) (codes "export") (name_of_transaction names update.0)
 
 -- what an event names: a transaction, an item and a value to write, as far as it has them
 pub record Named : Type 0 where
@@ -83,7 +87,8 @@ reply_line names named (Refused why) = refusal_line names why
 -- the totals of imports and of exports, and the length of the history
 abbrev pub totals_line : ℕ → ℕ → ℕ → List ℕ
 totals_line imports exports entries =
-    line (codes "totals import" ∷ decimal imports ∷ codes "export" ∷ decimal exports ∷ codes "entries" ∷ decimal entries ∷ [])
+    line (codes "totals import" ∷ decimal imports ∷ codes "export" ∷ decimal exports ∷ codes "entries" ∷ decimal entries
+    ∷ [])
 
 -- the names of transactions, parted by commas; a minus where there is none
 abbrev pub listed : (names : List (List ℕ)) (txns : List ℕ) → List ℕ
@@ -93,7 +98,8 @@ listed names (txn ∷ txns) = join_with_byte 44 (map (name_of_transaction names)
 -- what the audit of a query found: its distance, what it imported, and the updates before its position
 abbrev pub audit_words : (names : List (List ℕ)) (name : List ℕ) (distance import : ℕ) (before : List ℕ) → List (List ℕ)
 audit_words names name distance import before =
-    codes "audit" ∷ name ∷ codes "distance" ∷ decimal distance ∷ codes "import" ∷ decimal import ∷ codes "before" ∷ listed names before ∷ []
+    codes "audit" ∷ name ∷ codes "distance" ∷ decimal distance ∷ codes "import" ∷ decimal import ∷ codes "before"
+    ∷ listed names before ∷ []
 
 abbrev pub audit_line : (names : List (List ℕ)) (name : List ℕ) (distance import : ℕ) (before : List ℕ) → List ℕ
 audit_line names name distance import before = line (audit_words names name distance import before)

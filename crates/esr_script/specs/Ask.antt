@@ -11,7 +11,8 @@ use Rattle.esr_script.specs.Text.{State, transaction_called, final}
 use Rattle.esr_script.specs.Ends.{IsReachedBy, IsNoQuery}
 use Rattle.esr_script.specs.Certify.{IsFound}
 
--- The names that are bound, the history, and what is found of the query of that name, which has committed: what the audit
+-- The names that are bound, the history, and what is found of the query of that name, which has committed: what the
+-- audit
 -- tells of it, and the problem with its certificate.
 pub record IsAnswered (s : State) (name : List ℕ) (a : Asked) : Type 0 where
   pub items : a.items ≡ s.items

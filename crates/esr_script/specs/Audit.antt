@@ -11,11 +11,13 @@ use Rattle.esr_items.specs.Weights.{weighted}
 use Rattle.esr_script.specs.Text.{State, final}
 use Rattle.esr_script.specs.Ends.{IsWrittenBy}
 
--- the line of what is told of a query, by the names of the transactions: the query, its distance, its import, and the updates before its position
+-- the line of what is told of a query, by the names of the transactions: the query, its distance, its import, and the
+-- updates before its position
 abbrev pub told_line : List (List ℕ) → ℕ × ℕ × ℕ × List ℕ → List ℕ
 told_line names t = audit_line names (name_of_transaction names t.0) t.1 t.2 t.3
 
--- The committed updates in the order of their commits, which is a serial order of them; a line for each committed query, in the
+-- The committed updates in the order of their commits, which is a serial order of them; a line for each committed
+-- query, in the
 -- order of their commits, with its least distance, its import and the smallest least set; and the totals.
 abbrev pub audit_output : State → List ℕ
 audit_output s =

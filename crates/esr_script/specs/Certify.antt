@@ -13,7 +13,8 @@ use Rattle.esr_script.specs.declared.fault.RunFault.{RunFault}
 use Rattle.esr_script.specs.Text.{final}
 use Rattle.esr_script.specs.Ends.{query_of, IsToldBy}
 
--- The problem stands for the query of the history; the certificate certifies it, with the smallest least set, and tells how many augmentations lead to its flow.
+-- The problem stands for the query of the history; the certificate certifies it, with the smallest least set, and tells
+-- how many augmentations lead to its flow.
 pub record IsFound (h : Schedule) (q : ℕ) (problem : Problem) (certificate : Certificate) : Type 0 where
   pub stands : StandsFor weighted h q problem
   pub certified : Certifies problem certificate
@@ -25,7 +26,8 @@ abbrev pub IsTold : Bool → Problem → Certificate → Type 0
 IsTold true p c = IsCounted p c
 IsTold false p c = c.augmentations ≡ None
 
--- The text is the bundle of a problem that stands for the query, and of a certificate of it with the smallest least set.
+-- The text is the bundle of a problem that stands for the query, and of a certificate of it with the smallest least
+-- set.
 pub record IsBundleOf (steps : Bool) (h : Schedule) (q : ℕ) (text : List ℕ) : Type 0 where
   pub problem : Problem
   pub certificate : Certificate

@@ -38,15 +38,18 @@ pub record Progress (input : List ℕ) (unread : List ℕ) (count : ℕ) (state 
   pub cut : (bytes : List ℕ) → lines (used ++ bytes) ≡ answered ++ lines bytes
   pub cut_whole : (bytes : List ℕ) → whole_lines (used ++ bytes) ≡ answered ++ whole_lines bytes
   pub reached : state_after start answered ≡ state
-  pub ran : (more : List (List ℕ)) → outcome_of_lines (answered ++ more) ≡ behind written (outcome_from count state more)
+  pub ran : (more : List (List ℕ)) → outcome_of_lines (answered ++ more)
+      ≡ behind written (outcome_from count state more)
 
 -- the same, where the bytes before it are these ahead and those that the reader has left
-pub record Standing (input : List ℕ) (left : Option (List ℕ)) (bytes : List ℕ) (count : ℕ) (state : State) (written : List ℕ) : Type 0 where
+pub record Standing (input : List ℕ) (left : Option (List ℕ)) (bytes : List ℕ) (count : ℕ) (state : State)
+    (written : List ℕ) : Type 0 where
   pub rest : List ℕ
   pub known : left ≡ Some rest
   pub progress : Progress input (bytes ++ rest) count state written
 
--- A run that has sent this and holds this output, to be sent yet. After a failed write the output is lost, and after a failed read there is none.
+-- A run that has sent this and holds this output, to be sent yet. After a failed write the output is lost, and after a
+-- failed read there is none.
 abbrev pub IsHeldRun : List ℕ → Option (List ℕ) → List ℕ → Result (Unit {0}) RunFault → List ℕ → Type 0
 IsHeldRun input left out (Err fault.Write) sent = BeginsWith (outcome input).text sent
 IsHeldRun input left out r sent = BeginsWith (outcome input).text (sent ++ out) × IsRunBy input left r (sent ++ out)

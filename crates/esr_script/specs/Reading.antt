@@ -69,7 +69,8 @@ plain_item_of ws = option_and_then (λ p. both item (name_of p.0) (int_of p.1)) 
 abbrev pub weighted_item_of : List (List ℕ) → Option Command
 weighted_item_of ws =
     option_and_then (λ p.
-    if bytes_eq p.2 (codes "weight") then option_and_then (λ n. both (weighted_item n) (int_of p.1) (limit_of p.3)) (name_of p.0)
+    if bytes_eq p.2 (codes "weight")
+    then option_and_then (λ n. both (weighted_item n) (int_of p.1) (limit_of p.3)) (name_of p.0)
     else None) (four_of ws)
 
 abbrev pub item_of : List (List ℕ) → Option Command
@@ -78,7 +79,8 @@ item_of ws = option_or (plain_item_of ws) (weighted_item_of ws)
 abbrev pub strict_query_of : List (List ℕ) → Option Command
 strict_query_of ws =
     option_and_then (λ p.
-    if bytes_eq p.1 (codes "query") && bytes_eq p.3 (codes "strict") then both begin_strict_query (name_of p.0) (limit_of p.2)
+    if bytes_eq p.1 (codes "query") && bytes_eq p.3 (codes "strict")
+    then both begin_strict_query (name_of p.0) (limit_of p.2)
     else None) (four_of ws)
 
 abbrev pub plain_begin_of : List (List ℕ) → Option Command
@@ -95,7 +97,8 @@ abbrev pub read_of : List (List ℕ) → Option Command
 read_of ws = option_and_then (λ p. both read (name_of p.0) (name_of p.1)) (two_of ws)
 
 abbrev pub write_of : List (List ℕ) → Option Command
-write_of ws = option_and_then (λ p. option_and_then (λ t. both (write t) (name_of p.1) (int_of p.2)) (name_of p.0)) (three_of ws)
+write_of ws =
+    option_and_then (λ p. option_and_then (λ t. both (write t) (name_of p.1) (int_of p.2)) (name_of p.0)) (three_of ws)
 
 abbrev pub one_name_of : List (List ℕ) → Option (List ℕ)
 one_name_of ws = option_and_then name_of (one_of ws)

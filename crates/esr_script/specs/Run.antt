@@ -20,7 +20,8 @@ abbrev pub IsRunBy : List ℕ → Option (List ℕ) → Result (Unit {0}) RunFau
 -- the input was read to its end, and the whole text was written
 IsRunBy input left (Ok done) written = Consumes (Some input) left input × IsWholeText (outcome input) written
 -- the text of the whole lines that were read before the failure
-IsRunBy input left (Err fault.Read) written = (taken : List ℕ) × Consumes (Some input) left taken × IsWholeText (outcome_of_lines (whole_lines taken)) written
+IsRunBy input left (Err fault.Read) written =
+    (taken : List ℕ) × Consumes (Some input) left taken × IsWholeText (outcome_of_lines (whole_lines taken)) written
 -- a front of the text
 IsRunBy input left (Err fault.Write) written = BeginsWith (outcome input).text written
 -- the text of the lines before the one where memory ran out

@@ -48,7 +48,12 @@ pub record State : Type 0 where
   pub history : Schedule
 
 abbrev pub start : State
-start = record { items = []; transactions = []; closed = false; history = record { opening = []; weights = []; entries = [] } }
+start = record {
+  items = [];
+  transactions = [];
+  closed = false;
+  history = record { opening = []; weights = []; entries = [] };
+}
 
 -- transactions are numbered from 1; a name that is not bound stands for 0
 abbrev pub transaction_called : State → List ℕ → TxnId
@@ -84,7 +89,10 @@ begin s name e =
 abbrev pub with_item : State → List ℕ → ℤ → ℕ → State
 with_item s name value weight =
     let h = s.history in
-    record s { items = s.items ++ name ∷ []; history = record h { opening = h.opening ++ value ∷ []; weights = h.weights ++ weight ∷ [] } }
+    record s {
+      items = s.items ++ name ∷ [];
+      history = record h { opening = h.opening ++ value ∷ []; weights = h.weights ++ weight ∷ [] };
+    }
 
 -- what is wrong with the declaration of an item, if something is
 abbrev pub item_error : State → List ℕ → ℤ → ℕ → Option LineError
@@ -118,8 +126,13 @@ obey s (weighted_item name value weight) = Ok (declare s name value weight (weig
 obey s (begin_update name limit) = begin s name (event.BeginUpdate limit)
 obey s (begin_query name limit) = begin s name (event.BeginQuery limit false)
 obey s (begin_strict_query name limit) = begin s name (event.BeginQuery limit true)
-obey s (read txn x) = ask s (record { txn = txn; item = x; value = pos 0 }) (event.Read (transaction_called s txn) (item_called s x))
-obey s (write txn x value) = ask s (record { txn = txn; item = x; value = value }) (event.Write (transaction_called s txn) (item_called s x) value)
+obey s (read txn x) =
+    ask s (record { txn = txn; item = x; value = pos 0 }) (event.Read (transaction_called s txn) (item_called s x))
+obey s (write txn x value) = ask s (record {
+  txn = txn;
+  item = x;
+  value = value;
+}) (event.Write (transaction_called s txn) (item_called s x) value)
 obey s (commit txn) = ask s (record { txn = txn; item = []; value = pos 0 }) (event.Commit (transaction_called s txn))
 obey s (abort txn) = ask s (record { txn = txn; item = []; value = pos 0 }) (event.Abort (transaction_called s txn))
 obey s (audit txn) = Ok (record s { closed = true }, audit_text s txn)

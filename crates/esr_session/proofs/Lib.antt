@@ -2,4 +2,3 @@ pub mod Calls
 pub mod Lists
 pub mod Counts
 pub mod Good
-pub mod Prefix

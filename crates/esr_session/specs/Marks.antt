@@ -5,4 +5,5 @@ use Rattle.esr_session.specs.Receipts.{count_at}
 
 -- a place is marked exactly where some receipt has it
 abbrev pub AreMarked : List Receipt → List Bool → Type 0
-AreMarked rs marks = (place : ℕ) → place < length marks → slice_index_or marks place false ≡ nat_lt 0 (count_at place rs)
+AreMarked rs marks =
+    (place : ℕ) → place < length marks → slice_index_or marks place false ≡ nat_lt 0 (count_at place rs)

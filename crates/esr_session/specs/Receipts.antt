@@ -23,7 +23,8 @@ receipt place event reply = record { at = place; event = event; reply = reply }
 abbrev pub history : List ℤ → List ℕ → List Entry → Schedule
 history opening weights entries = record { opening = opening; weights = weights; entries = entries }
 
--- some legal history of these opening values and this metric has its last entry at the receipt's place, and that entry is the receipt's
+-- some legal history of these opening values and this metric has its last entry at the receipt's place,
+-- and that entry is the receipt's
 abbrev pub IsReceipt : Distance → List ℤ → List ℕ → Receipt → Type 0
 IsReceipt d opening weights r =
     (before : List Entry) × (length before ≡ r.at) × IsLegal d (history opening weights (before ++ entry_of r ∷ []))
@@ -75,7 +76,8 @@ AllGood entries earlier [] = Unit {0}
 AllGood entries earlier (rs ∷ lists) = GoodFrom entries earlier 0 rs × AllGood entries (earlier ++ rs) lists
 
 -- the first receipt of a list that is not good
-pub record IsForeignIn (entries : List Entry) (earlier : List Receipt) (list : List Receipt) (r : Receipt) : Type 0 where
+pub record IsForeignIn (entries : List Entry) (earlier : List Receipt) (list : List Receipt)
+    (r : Receipt) : Type 0 where
   pub good : List Receipt
   pub rest : List Receipt
   pub parts : list ≡ good ++ r ∷ rest
