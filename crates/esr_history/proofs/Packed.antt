@@ -1,0 +1,24 @@
+-- What a log's short forms stand for as its list of long entries grows.
+use Rattle.std.proofs.Common.{◌≡◌, List, [], ◌∷◌, ◌++◌, map, All, refl, ap}
+use Rattle.std.proofs.lemmas.List.{get_or_append_left}
+use Rattle.std.proofs.lemmas.List.Elements.{All-head, All-tail}
+use Rattle.esr_history.specs.declared.event.Entry.{Entry}
+use Rattle.esr_history.specs.declared.short.Short.{Short}
+use Rattle.esr_history.specs.declared.short.Short.TheVariants.{UpdateBegun, QueryBegun, WasRead, WasWritten, HasCommitted, HasAborted, ReadBlocked, WriteBlocked, Long}
+use Rattle.esr_history.specs.Short.{entry_of, IsWithin, no_entry}
+
+-- the same entry with one more in the list
+entry_stays : (long : List Entry) (e : Entry) (s : Short) → IsWithin long s → entry_of (long ++ e ∷ []) s ≡ entry_of long s
+entry_stays long e (UpdateBegun t limit) w = refl
+entry_stays long e (QueryBegun strict t limit) w = refl
+entry_stays long e (WasRead t x value) w = refl
+entry_stays long e (WasWritten t x value) w = refl
+entry_stays long e (HasCommitted t) w = refl
+entry_stays long e (HasAborted t) w = refl
+entry_stays long e (ReadBlocked bar t x other) w = refl
+entry_stays long e (WriteBlocked bar t x other value) w = refl
+entry_stays long e (Long place) w = get_or_append_left long (e ∷ []) no_entry place w
+
+pub entries_stay : (long : List Entry) (e : Entry) (shorts : List Short) → All (IsWithin long) shorts → map (entry_of (long ++ e ∷ [])) shorts ≡ map (entry_of long) shorts
+entries_stay long e [] all = refl
+entries_stay long e (s ∷ shorts) all = rw (entry_stays long e s (All-head (IsWithin long) s shorts all)) (ap (λ es. entry_of long s ∷ es) (entries_stay long e shorts (All-tail (IsWithin long) s shorts all)))

@@ -1,0 +1,47 @@
+-- Entries in 16 bytes.
+use Rattle.std.specs.Prelude.{ℕ, ◌<◌, List, length, ⊤, slice_index_or}
+use Rattle.esr_items.specs.declared.metric.ItemId.{ItemId}
+use Rattle.esr_history.specs.declared.event.TxnId.{TxnId}
+use Rattle.esr_history.specs.declared.event.Event.TheVariants.{BeginUpdate, BeginQuery, Read, Write, Commit, Abort}
+use Rattle.esr_history.specs.declared.event.Reply.{Reply}
+use Rattle.esr_history.specs.declared.event.Reply.TheVariants.{Begun, Value, Wrote, Committed, Aborted, Refused}
+use Rattle.esr_history.specs.declared.event.Refusal.TheVariants.{BlockedByLock, BlockedByImport, BlockedByExport}
+use Rattle.esr_history.specs.declared.event.Entry.{Entry}
+use Rattle.esr_history.specs.declared.short.Bar.{Bar}
+use Rattle.esr_history.specs.declared.short.Bar.TheVariants.{Lock, Import, Export}
+use Rattle.esr_history.specs.declared.short.Short.{Short}
+use Rattle.esr_history.specs.declared.short.Short.TheVariants.{UpdateBegun, QueryBegun, WasRead, WasWritten, HasCommitted, HasAborted, ReadBlocked, WriteBlocked, Long}
+
+abbrev pub txn_of : ℕ → TxnId
+txn_of t = record { 0 = t }
+
+abbrev pub item_of : ℕ → ItemId
+item_of x = record { 0 = x }
+
+-- the reply that says what is in the way
+abbrev pub blocked : Bar → ℕ → Reply
+blocked Lock other = Refused (BlockedByLock (txn_of other))
+blocked Import other = Refused (BlockedByImport (txn_of other))
+blocked Export other = Refused (BlockedByExport (txn_of other))
+
+-- no entry has this form
+abbrev pub no_entry : Entry
+no_entry = record { event = Abort (txn_of 0); reply = Aborted }
+
+-- the entry of a short form, given the list of those that have none
+abbrev pub entry_of : List Entry → Short → Entry
+entry_of long (UpdateBegun t limit) = record { event = BeginUpdate limit; reply = Begun (txn_of t) }
+entry_of long (QueryBegun strict t limit) = record { event = BeginQuery limit strict; reply = Begun (txn_of t) }
+entry_of long (WasRead t x value) = record { event = Read (txn_of t) (item_of x); reply = Value value }
+entry_of long (WasWritten t x value) = record { event = Write (txn_of t) (item_of x) value; reply = Wrote }
+entry_of long (HasCommitted t) = record { event = Commit (txn_of t); reply = Committed }
+entry_of long (HasAborted t) = record { event = Abort (txn_of t); reply = Aborted }
+entry_of long (ReadBlocked bar t x other) = record { event = Read (txn_of t) (item_of x); reply = blocked bar other }
+entry_of long (WriteBlocked bar t x other value) =
+    record { event = Write (txn_of t) (item_of x) value; reply = blocked bar other }
+entry_of long (Long place) = slice_index_or long place no_entry
+
+-- a place in the list is one that it has
+abbrev pub IsWithin : List Entry → Short → Type 0
+IsWithin long (Long place) = place < length long
+IsWithin long s = ⊤
