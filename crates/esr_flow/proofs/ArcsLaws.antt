@@ -1,10 +1,11 @@
 -- The arcs of a problem's network, from the lists of the problem.
-use Rattle.std.proofs.Common.{◌≡◌, ℕ, ◌+◌, ◌<◌, List, ◌++◌, length, get_or, map, flat_map, sym, ap, ◌∙◌, arith}
+use Rattle.std.proofs.Common.{◌≡◌, ℕ, zero, suc, ◌+◌, ◌<◌, ◌≤◌, List, [], ◌∷◌, ◌++◌, length, get_or, map, flat_map, sum_by, sym, ap, ◌∙◌, subst, arith}
 use Rattle.std.proofs.lemmas.List.{length-map, get_or-map}
 use Rattle.std.proofs.lemmas.List.Folds.{flat_map-map}
+use Rattle.std.proofs.lemmas.List.Sums.{sum_by-cons}
 use Rattle.esr_cert.specs.declared.network.Arc.{Arc}
 use Rattle.esr_cert.specs.declared.problem.Chain as code
-use Rattle.esr_cert.specs.Problem.{Chain, Problem, size}
+use Rattle.esr_cert.specs.Problem.{Chain, Problem, greatest, size}
 use Rattle.esr_cert.specs.Network.{chain_links, back_arc, must_arc, network}
 use Rattle.esr_cert.specs.Views.{chain_of}
 use Rattle.esr_cert.proofs.Sound.{IsProblem}
@@ -16,6 +17,22 @@ chains_long p ok chains is k d l =
     let here : get_or p.chains k (chain_of (get_or chains k d)) ≡ chain_of (get_or chains k d) =
     ap (λ (xs : List Chain). get_or xs k (chain_of (get_or chains k d))) (sym is) ∙ get_or-map chain_of chains k d (chain_of (get_or chains k d)) l in
     (ok.chains (chain_of (get_or chains k d)) (k, inside, here)).one_more
+
+greatest_in : (costs : List ℕ) (k d : ℕ) → k < length costs → get_or costs k d ≤ greatest costs
+greatest_in [] k d l = absurd (omega arith)
+greatest_in (c ∷ costs) zero d l = omega arith
+greatest_in (c ∷ costs) (suc k) d l = omega (arith, greatest_in costs k d (omega arith))
+
+costs_in_sum : (chains : List code.Chain) (k : ℕ) (d : code.Chain) → k < length chains → (j c : ℕ) → j < length (get_or chains k d).costs.items → get_or (get_or chains k d).costs.items j c ≤ sum_by (λ (chain : Chain). greatest chain.costs) (map chain_of chains)
+costs_in_sum [] k d l j c inside = absurd (omega arith)
+costs_in_sum (one ∷ chains) zero d l j c inside = omega (arith, sum_by-cons (λ (chain : Chain). greatest chain.costs) (chain_of one) (map chain_of chains), greatest_in one.costs.items j c inside)
+costs_in_sum (one ∷ chains) (suc k) d l j c inside = omega (arith, sum_by-cons (λ (chain : Chain). greatest chain.costs) (chain_of one) (map chain_of chains), costs_in_sum chains k d (omega arith) j c inside)
+
+-- each cost is below the number that stands for no limit
+pub costs_small : (p : Problem) → IsProblem p → (chains : List code.Chain) → map chain_of chains ≡ p.chains → (k : ℕ) (d : code.Chain) → k < length chains → (j c : ℕ) → j < length (get_or chains k d).costs.items → get_or (get_or chains k d).costs.items j c < 18446744073709551615
+costs_small p ok chains is k d l j c inside =
+    let all = subst (λ (xs : List Chain). sum_by (λ (chain : Chain). greatest chain.costs) xs ≤ 2000000000000000000) (sym is) ok.small in
+    omega (arith, costs_in_sum chains k d l j c inside, all)
 
 pub arcs_whole : (p : Problem) (n : ℕ) (chains : List code.Chain) (before : List (ℕ × ℕ)) (must : List ℕ) (a b c : List Arc)
     → n ≡ size p → map chain_of chains ≡ p.chains → before ≡ p.before → must ≡ p.must

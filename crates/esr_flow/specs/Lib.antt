@@ -4,6 +4,7 @@ pub mod Graph
 pub mod Rows
 pub mod Short
 pub mod ShortEntry
+pub mod ShortArc
 pub mod Search
 pub mod Maximum
 pub mod Certificate

@@ -7,8 +7,8 @@ ghost use Rattle.esr_flow.specs.Residual.{room, arc_of, finish};
 ghost use Rattle.esr_flow.specs.Graph.{entry_of};
 
 use crate::entry::{Entry, ShortEntry};
+use crate::short_arc::ShortArc;
 use crate::step::{ShortStep, Step};
-use esr_cert::Arc;
 use std::alloc::{AllocError, Global};
 
 /// Whether a residual amount has room for one more.
@@ -39,7 +39,7 @@ pub struct Places {
 #[derive(Drop)]
 pub struct Graph {
     pub nodes: usize,
-    pub arcs: Vec<Arc>,
+    pub arcs: Vec<ShortArc>,
     pub spans: Vec<Span>,
     pub steps: Vec<ShortStep>,
     pub places: Vec<Places>,
@@ -101,13 +101,13 @@ impl Graph {
 }
 
 /// The residual amount of a step.
-pub fn room_of(arcs: &[Arc], flow: &[u64], step: Step) -> Option<u64>
+pub fn room_of(arcs: &[ShortArc], flow: &[u64], step: Step) -> Option<u64>
     requires arc { arc_of step < length arcs.now }
     requires flow { length flow.now ≡ length arcs.now }
     ensures { result ≡ room arcs.now flow.now step }
 {
     match step {
-        Step::Along(i) => match arcs[i as usize].capacity {
+        Step::Along(i) => match arcs[i as usize].arc().capacity {
             None => None,
             Some(limit) => Some(limit.saturating_sub(flow[i as usize])),
         },
@@ -116,7 +116,7 @@ pub fn room_of(arcs: &[Arc], flow: &[u64], step: Step) -> Option<u64>
 }
 
 /// The entry of a step.
-pub fn entry_of(arcs: &[Arc], flow: &[u64], step: Step) -> ShortEntry
+pub fn entry_of(arcs: &[ShortArc], flow: &[u64], step: Step) -> ShortEntry
     requires arc { arc_of step < length arcs.now }
     requires flow { length flow.now ≡ length arcs.now }
     requires node { finish arcs.now step < 1073741824 }
@@ -130,12 +130,12 @@ pub fn entry_of(arcs: &[Arc], flow: &[u64], step: Step) -> ShortEntry
 }
 
 /// The node that a step leads to.
-pub fn finish_of(arcs: &[Arc], step: Step) -> u32
+pub fn finish_of(arcs: &[ShortArc], step: Step) -> u32
     requires { arc_of step < length arcs.now }
     ensures { result ≡ finish arcs.now step }
 {
     match step {
-        Step::Along(i) => arcs[i as usize].to,
-        Step::Against(i) => arcs[i as usize].from,
+        Step::Along(i) => arcs[i as usize].arc().to,
+        Step::Against(i) => arcs[i as usize].arc().from,
     }
 }

@@ -8,6 +8,7 @@ mod maximum;
 mod network;
 mod rows;
 mod search;
+mod short_arc;
 mod solver;
 mod step;
 mod walk;

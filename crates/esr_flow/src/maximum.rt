@@ -11,9 +11,9 @@ ghost use Rattle.esr_flow.specs.Maximum.{InArcs, HasLimit, LIMIT};
 use crate::entry::ShortEntry;
 use crate::graph::{Graph, room_of};
 use crate::search::{Found, search};
+use crate::short_arc::ShortArc;
 use crate::step::Step;
 use crate::walk::{rewind, walk};
-use esr_cert::Arc;
 use std::alloc::{AllocError, Global};
 
 fn lesser_of(a: Option<u64>, b: Option<u64>) -> Option<u64>
@@ -29,7 +29,7 @@ fn lesser_of(a: Option<u64>, b: Option<u64>) -> Option<u64>
 }
 
 /// The least residual amount on a path.
-fn least_room_of(arcs: &[Arc], flow: &[u64], path: &[Step]) -> Option<u64>
+fn least_room_of(arcs: &[ShortArc], flow: &[u64], path: &[Step]) -> Option<u64>
     requires flow { length flow.now ≡ length arcs.now }
     requires path { InArcs arcs.now path.now }
     ensures { result ≡ least_room arcs.now flow.now path.now }

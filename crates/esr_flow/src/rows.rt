@@ -5,21 +5,22 @@ ghost use Rattle.esr_flow.specs.Graph.{ArePlaces, span_at};
 ghost use Rattle.esr_flow.specs.Rows.{lengthen, AreDegrees, AreBegun, AreRows};
 
 use crate::graph::{Places, Span};
+use crate::short_arc::ShortArc;
 use crate::step::{ShortStep, Step};
-use esr_cert::Arc;
 use std::alloc::{AllocError, Global};
 
 /// The most arcs whose steps numbers of 32 bits count.
 const MOST: usize = 2_147_483_647;
 
 /// How many steps start at each node: the arcs that leave it, and those that come to it.
-fn degrees_of(alloc: Global, nodes: usize, arcs: &[Arc]) -> Result<Vec<usize>, AllocError>
+fn degrees_of(alloc: Global, nodes: usize, arcs: &[ShortArc]) -> Result<Vec<usize>, AllocError>
     requires few { length arcs.now ≤ 2147483647 }
     requires ends { All (λ arc. (arc.from < nodes) × (arc.to < nodes)) arcs.now }
     ensures { IfOk result (λ degrees. AreDegrees arcs.now nodes degrees.items) }
 {
     let mut degrees = vec![in alloc; 0usize; nodes]?;
     for arc in arcs {
+        let arc = arc.arc();
         let from = arc.from as usize;
         degrees[from] += 1;
         let to = arc.to as usize;
@@ -69,7 +70,7 @@ impl Rows {
 }
 
 /// For each node the steps that start at it: first they are counted, then each is put into its row.
-pub fn rows_of(alloc: Global, nodes: usize, arcs: &[Arc]) -> Result<Rows, AllocError>
+pub fn rows_of(alloc: Global, nodes: usize, arcs: &[ShortArc]) -> Result<Rows, AllocError>
     requires { All (λ arc. (arc.from < nodes) × (arc.to < nodes)) arcs.now }
     ensures rows { IfOk result (λ rows. AreRows arcs.now nodes rows.spans.items rows.steps.items) }
     ensures places { IfOk result (λ rows. ArePlaces arcs.now rows.steps.items rows.places.items) }
@@ -86,6 +87,7 @@ pub fn rows_of(alloc: Global, nodes: usize, arcs: &[Arc]) -> Result<Rows, AllocE
         places,
     };
     for (i, arc) in arcs.iter().enumerate() {
+        let arc = arc.arc();
         let along = rows.add_step(arc.from as usize, Step::Along(i as u32));
         let against = rows.add_step(arc.to as usize, Step::Against(i as u32));
         rows.places.push(Places {

@@ -4,11 +4,14 @@ use Rattle.esr_cert.specs.Problem.{size}
 use Rattle.esr_cert.specs.Views.{chain_of}
 use Rattle.esr_cert.specs.Network.{chain_links}
 use Rattle.esr_cert.proofs.Sound.{facts}
-use Rattle.esr_flow.proofs.ArcsLaws.{chains_long, arcs_whole}
+use Rattle.esr_flow.proofs.ArcsLaws.{chains_long, costs_small, arcs_whole}
 use Rattle.esr_flow.proofs.arcs.arcs_of.Goals as goal
 
 pub push_chains-requires-clause-chains : goal.push_chains-requires-clause-chains
 push_chains-requires-clause-chains c = chains_long c.args.problem.now (facts c.args.problem.now c.chains.ensures.sound) c.chains.result.now c.chains.ensures.list
+
+pub push_chains-requires-clause-limits : goal.push_chains-requires-clause-limits
+push_chains-requires-clause-limits c = costs_small c.args.problem.now (facts c.args.problem.now c.chains.ensures.sound) c.chains.result.now c.chains.ensures.list
 
 pub returns : goal.returns
 returns c =

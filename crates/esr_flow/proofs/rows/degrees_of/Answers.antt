@@ -1,5 +1,5 @@
-use Rattle.std.proofs.Common.{arith, ◌≡◌, ℕ, ◌+◌, ◌<◌, ◌++◌, [], ◌∷◌, List, length, get_or, set, None, subst}
-use Rattle.std.proofs.lemmas.List.{length_push}
+use Rattle.std.proofs.Common.{arith, ◌≡◌, ℕ, ◌+◌, ◌<◌, ◌++◌, [], ◌∷◌, List, length, get_or, set, None, subst, ◌∙◌}
+use Rattle.std.proofs.lemmas.List.{length_push, get_or_default}
 use Rattle.esr_cert.specs.declared.network.Arc.{Arc}
 use Rattle.esr_flow.specs.declared.step.Step.TheVariants.{Along, Against}
 use Rattle.esr_flow.specs.Rows.{first_steps}
@@ -23,28 +23,32 @@ module _ (arcs : List Arc) (nodes i : ℕ) (counts : List ℕ) (x y : ℕ) (ends
 
 pub overflow_add-index_mut : goal.overflow_add-index_mut
 overflow_add-index_mut c =
+    let is = c.arc-arc.ensures ∙ (c.arc-item.is ∙ get_or_default c.args.arcs.now c.loop-arc.arc-index c.arc-item.result (record { from = 0; to = 0; capacity = None }) c.loop-arc-test.true) in
     omega (
       arith,
       first_count c.loop-arc.arc-index,
       counted_at c.args.arcs.now c.args.nodes (first_steps c.loop-arc.arc-index) c.loop-arc.degrees.items _ c.index_mut.result.now
-          (c.requires.ends c.loop-arc.arc-index (record { from = 0; to = 0; capacity = None }) c.loop-arc-test.true).0 c.index_mut.ensures.value c.loop-arc.invariant,
+          (c.requires.ends c.loop-arc.arc-index (record { from = 0; to = 0; capacity = None }) c.loop-arc-test.true).0 (rw is at c.index_mut.ensures.value) c.loop-arc.invariant,
     )
 
 pub overflow_add-index_mut-in-loop-arc : goal.overflow_add-index_mut-in-loop-arc
 overflow_add-index_mut-in-loop-arc c =
+    let is = c.arc-arc.ensures ∙ (c.arc-item.is ∙ get_or_default c.args.arcs.now c.loop-arc.arc-index c.arc-item.result (record { from = 0; to = 0; capacity = None }) c.loop-arc-test.true) in
     omega (
       arith,
       first_count c.loop-arc.arc-index,
       length_push (first_steps c.loop-arc.arc-index) (Along c.loop-arc.arc-index),
       counted_at c.args.arcs.now c.args.nodes (first_steps c.loop-arc.arc-index ++ Along c.loop-arc.arc-index ∷ []) _ _ c.index_mut-in-loop-arc.result.now
-          (c.requires.ends c.loop-arc.arc-index (record { from = 0; to = 0; capacity = None }) c.loop-arc-test.true).1 c.index_mut-in-loop-arc.ensures.value
-          (counted_along c.args.arcs.now c.args.nodes c.loop-arc.arc-index c.loop-arc.degrees.items c.index_mut.result.now 0 c.requires.ends c.loop-arc-test.true c.index_mut.ensures.value c.loop-arc.invariant),
+          (c.requires.ends c.loop-arc.arc-index (record { from = 0; to = 0; capacity = None }) c.loop-arc-test.true).1 (rw is at c.index_mut-in-loop-arc.ensures.value)
+          (counted_along c.args.arcs.now c.args.nodes c.loop-arc.arc-index c.loop-arc.degrees.items c.index_mut.result.now 0 c.requires.ends c.loop-arc-test.true (rw is at c.index_mut.ensures.value) c.loop-arc.invariant),
     )
 
 pub loop-arc-preserved : goal.loop-arc-preserved
 loop-arc-preserved c =
+    let is = c.arc-arc.ensures ∙ (c.arc-item.is ∙ get_or_default c.args.arcs.now c.loop-arc.arc-index c.arc-item.result (record { from = 0; to = 0; capacity = None }) c.loop-arc-test.true) in
+    rw is (
     counted_arc c.args.arcs.now c.args.nodes c.loop-arc.arc-index c.loop-arc.degrees.items c.index_mut.result.now c.index_mut-in-loop-arc.result.now c.requires.ends c.loop-arc-test.true
-    c.index_mut.ensures.value c.index_mut-in-loop-arc.ensures.value c.loop-arc.invariant
+    (rw is at c.index_mut.ensures.value) (rw is at c.index_mut-in-loop-arc.ensures.value) c.loop-arc.invariant)
 
 pub returns : goal.returns
 returns c = counted_all c.args.arcs.now c.args.nodes c.loop-arc.arc-index c.loop-arc.degrees.items (omega arith) c.loop-arc.invariant
