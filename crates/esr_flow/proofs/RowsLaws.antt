@@ -84,16 +84,6 @@ pub record Filled (arcs : List Arc) (lengths : List ℕ) (done : List Step) (spa
   pub fits : (v : ℕ) → v < length lengths → length (steps_from arcs v done) ≤ get_or lengths v 0
   pub step : (v k : ℕ) → v < length lengths → k < length (steps_from arcs v done) → step_at steps (sum (take v lengths) + k) ≡ step_at (steps_from arcs v done) k
 
-pub filled_start : (arcs : List Arc) (lengths : List ℕ) (spans : List Span) (steps : List Step) → AreBegun lengths spans → length steps ≡ sum lengths → Filled arcs lengths [] spans steps
-filled_start arcs lengths spans steps begun total = record {
-  count = begun.count;
-  total = total;
-  begin = λ v l. ap (λ (s : Span). s.begin) (begun.begun v l);
-  end = λ v l. omega (arith, ap (λ (s : Span). s.end) (begun.begun v l));
-  fits = λ v l. omega arith;
-  step = λ v k l m. absurd (omega arith);
-}
-
 module _ (arcs : List Arc) (lengths : List ℕ) (done : List Step) (spans : List Span) (steps : List Step) (s : Step) (u : ℕ) (e : start arcs s ≡ u) (l : u < length lengths) (room : length (steps_from arcs u done) < get_or lengths u 0) (h : Filled arcs lengths done spans steps) where
   pub place_within : (span_at spans u).end < length steps
   place_within = omega (arith, h.end u l, h.total, sum_by_more_le (λ x. x) lengths u 0 l)
