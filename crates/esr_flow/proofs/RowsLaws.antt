@@ -10,7 +10,7 @@ use Rattle.esr_flow.specs.declared.graph.Span.{Span}
 use Rattle.esr_cert.specs.Network.{arc_at}
 use Rattle.esr_flow.specs.Residual.{start}
 use Rattle.esr_flow.specs.Graph.{row_in, span_at, step_at}
-use Rattle.esr_flow.specs.Rows.{first_steps, steps_from, row_of, AreDegrees, AreBegun, AreRows, longer}
+use Rattle.esr_flow.specs.Rows.{first_steps, steps_from, row_of, AreDegrees, AreRows, longer}
 use Rattle.esr_flow.proofs.StepsLaws.{steps_here, steps_other, room_for, first_within, first_more, first_count, last_or_not, not_last, at_last}
 
 pub row_length : {X : Type 0} (list : List X) (span : Span) → span.end ≤ length list → length (row_in list span) ≡ span.end - span.begin

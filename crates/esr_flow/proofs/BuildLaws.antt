@@ -1,1 +1,0 @@
--- Arcs added one after another.
