@@ -1,7 +1,7 @@
 -- One step of each loop over a list.
 use Rattle.std.proofs.Common.{◌≡◌, ◌≢◌, ℕ, zero, suc, ◌+◌, ◌≤◌, ◌<◌, List, [], ◌∷◌, Bool, true, false, cond, ◌&&◌, ◌||◌, nat_lt, nat_le, refl, sym, ap, ◌∙◌, sum_by, arith, length, slice_index, get_or, drop, take, map}
 use Rattle.std.proofs.lemmas.Bool.Decides.{nat_tests}
-use Rattle.std.proofs.lemmas.List.{drop_more, drop_all, length-map, get_or-map}
+use Rattle.std.proofs.lemmas.List.{drop_more, length-map, get_or-map}
 use Rattle.std.specs.List.{list_all, list_any}
 use Rattle.std.proofs.lemmas.List.Sums.{sum_by_more}
 use Rattle.std.proofs.lemmas.Bool.{or_left, or_right, or_from}
@@ -83,19 +83,6 @@ item_at ks i k e h = get_or-map (λ (k : Chain). k.item) ks i k 0 h ∙ ap (λ (
     first ks i k e h = ap (λ xs. get_or xs 0 k) (sym (drop_more ks i k h) ∙ e)
 
 -- ---- rows of amounts
-
-pub row_within_yes : (cs flow : List ℕ) (i : ℕ) → i < length cs → i < length flow → get_or flow i 0 ≤ get_or cs i 0 → is_row_within (drop i cs) (drop i flow) ≡ is_row_within (drop (i + 1) cs) (drop (i + 1) flow)
-row_within_yes cs flow i h k l =
-    let t : nat_le (get_or flow i 0) (get_or cs i 0) ≡ true = grind (arith, nat_tests) in
-    rw (drop_more cs i 0 h, drop_more flow i 0 k, t) refl
-
-pub row_within_no : (cs flow : List ℕ) (i : ℕ) → i < length cs → i < length flow → get_or cs i 0 < get_or flow i 0 → is_row_within (drop i cs) (drop i flow) ≡ false
-row_within_no cs flow i h k l =
-    let t : nat_le (get_or flow i 0) (get_or cs i 0) ≡ false = grind (arith, nat_tests) in
-    rw (drop_more cs i 0 h, drop_more flow i 0 k, t) refl
-
-pub row_within_end : (cs flow : List ℕ) (i : ℕ) → length cs ≤ i → length flow ≤ i → is_row_within (drop i cs) (drop i flow) ≡ true
-row_within_end cs flow i h k = rw (drop_all i cs h, drop_all i flow k) refl
 
 -- lists of different lengths
 pub row_within_apart : (cs flow : List ℕ) → length cs ≢ length flow → is_row_within cs flow ≡ false

@@ -17,11 +17,6 @@ use Rattle.esr_history.proofs.Lawful.{begun_number}
 pub active-kept : (done : List Event) (e : Event) → beginning_of e ≡ None → ((t : ℕ) → commits t e ≡ false) → ((t : ℕ) → aborts t e ≡ false) → (t : ℕ) → is_active (done ++ e ∷ []) t ≡ is_active done t
 active-kept done e begins c a t = rw (beginning-kept done e t begins, any_push_no (commits t) done e (c t), any_push_no (aborts t) done e (a t)) refl
 
-and_or_not : (a b : Bool) → (a && (not b && not false)) ≡ (a && not b)
-and_or_not true true = refl
-and_or_not true false = refl
-and_or_not false b = refl
-
 -- a commit or an abort ends its transaction, and no other
 end_cases : (begun committed aborted ends : Bool) → ((begun && (not (committed || ends) && not aborted)) ≡ ((begun && (not committed && not aborted)) && not ends)) × ((begun && (not committed && not (aborted || ends))) ≡ ((begun && (not committed && not aborted)) && not ends))
 end_cases false c a e = (refl, refl)
@@ -36,22 +31,6 @@ active-commit done t u = rw (beginning-kept done (Commit t) u refl, any_push (co
 
 pub active-abort : (done : List Event) (t : TxnId) (u : ℕ) → is_active (done ++ Abort t ∷ []) u ≡ (is_active done u && not (t.0 == u))
 active-abort done t u = rw (beginning-kept done (Abort t) u refl, any_push (aborts u) done (Abort t), any_push_no (commits u) done (Abort t) refl) (end_cases (is_begun done u) (is_committed done u) (is_aborted done u) (t.0 == u)).1
-
--- a lock that is added is held, since its transaction is active
-pub held_more : (active did more : Bool) → (more ≡ true → active ≡ true) → ((active && did) || more) ≡ (active && (did || more))
-held_more true true true is = refl
-held_more true true false is = refl
-held_more true false true is = refl
-held_more true false false is = refl
-held_more false did true is = absurd (false≢true (is refl))
-held_more false did false is = refl
-
--- what ends a transaction drops its locks
-pub held_less : (active did ends : Bool) → ((active && did) && not ends) ≡ ((active && not ends) && did)
-held_less true did true = and_right did false refl
-held_less true true false = refl
-held_less true false false = refl
-held_less false did ends = refl
 
 pub any_implies : (p q : Event → Bool) → ((e : Event) → p e ≡ true → q e ≡ true) → (es : List Event) → list_any p es ≡ true → list_any q es ≡ true
 any_implies p q is [] none = absurd (false≢true none)

@@ -1,7 +1,6 @@
 -- The labels that a search gives: by how many levels a node's first visit comes before the sink's.
-use Rattle.std.proofs.Common.{◌≡◌, ℕ, zero, suc, ◌+◌, ◌-◌, ◌<◌, ◌≤◌, ◌⊎◌, max, List, length, set, replicate, refl, sym, ap, ◌∙◌, subst, inl, inr, arith, length-set, get_or-set_other, get_or-set_same}
+use Rattle.std.proofs.Common.{◌≡◌, ℕ, ◌+◌, ◌-◌, ◌<◌, ◌≤◌, ◌⊎◌, max, List, length, set, sym, ap, ◌∙◌, subst, inl, inr, arith, length-set, get_or-set_other, get_or-set_same}
 use Rattle.std.proofs.lemmas.Bool.{cases_eq, cases_lt}
-use Rattle.std.proofs.lemmas.List.{length-replicate}
 use Rattle.esr_flow.specs.declared.search.Visit.{Visit}
 use Rattle.esr_flow.specs.Residual.{start, finish, Falls}
 use Rattle.esr_cert.specs.Network.{Network}
@@ -12,18 +11,6 @@ pub record Labelled (visits : List Visit) (nodes last : ℕ) (labels : List ℕ)
   pub count : length labels ≡ nodes
   pub some_visit : (v : ℕ) → (label_at labels v ≡ 0) ⊎ ((i : ℕ) × (i < length visits) × ((visit_at visits i).node ≡ v) × (label_at labels v ≡ last - (visit_at visits i).level))
   pub at_least : (j : ℕ) → j < k → last - (visit_at visits j).level ≤ label_at labels (visit_at visits j).node
-
-all_zero : (n v : ℕ) → label_at (replicate n 0) v ≡ 0
-all_zero zero v = refl
-all_zero (suc n) zero = refl
-all_zero (suc n) (suc v) = all_zero n v
-
-pub label_start : (visits : List Visit) (nodes last : ℕ) → Labelled visits nodes last (replicate nodes 0) 0
-label_start visits nodes last = record {
-  count = length-replicate nodes 0;
-  some_visit = λ v. inl (all_zero nodes v);
-  at_least = λ j l. absurd (omega arith);
-}
 
 pub label_more : (visits : List Visit) (nodes last : ℕ) (labels : List ℕ) (k : ℕ) → k < length visits → (visit_at visits k).node < nodes → Labelled visits nodes last labels k → Labelled visits nodes last (set labels (visit_at visits k).node (max (label_at labels (visit_at visits k).node) (last - (visit_at visits k).level))) (k + 1)
 label_more visits nodes last labels k l n h =

@@ -14,7 +14,6 @@ pub mod MaximumLaws
 pub mod WalkLaws
 pub mod PhaseLaws
 pub mod StepsLaws
-pub mod BuildLaws
 pub mod RowsLaws
 pub mod PlacesLaws
 pub mod EntriesLaws

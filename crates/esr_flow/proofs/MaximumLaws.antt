@@ -1,36 +1,16 @@
 -- Least rooms from left to right, and that raised amounts fit.
-use Rattle.std.proofs.Common.{◌≡◌, ℕ, zero, suc, ◌+◌, ◌^◌, ◌<◌, ◌≤◌, min, List, [], ◌∷◌, ◌++◌, length, get_or, take, drop, Option, Some, None, refl, sym, ap, ◌∙◌, arith, add-one}
-use Rattle.std.proofs.lemmas.List.{take_more, drop_more}
+use Rattle.std.proofs.Common.{◌≡◌, ℕ, zero, suc, ◌+◌, ◌^◌, ◌<◌, ◌≤◌, List, [], ◌∷◌, ◌++◌, length, get_or, take, Some, refl, ap, ◌∙◌, arith, add-one}
+use Rattle.std.proofs.lemmas.List.{take_more}
 use Rattle.esr_cert.specs.declared.network.Arc.{Arc}
 use Rattle.esr_flow.specs.declared.step.Step.{Step}
 use Rattle.esr_cert.specs.Flow.{amount_at, IsFlow, worth}
-use Rattle.esr_flow.specs.Residual.{finish, room, IsPath, lesser, least_room, shift, raise}
+use Rattle.esr_flow.specs.Residual.{finish, IsPath, least_room, shift, raise}
 use Rattle.esr_cert.specs.Network.{Network, IsNetwork}
 use Rattle.esr_flow.specs.Augmentation.{Augments, Takes}
 use Rattle.esr_flow.specs.Maximum.{InArcs, LIMIT}
 use Rattle.esr_flow.specs.Search.{IsShortestPath}
 use Rattle.esr_flow.proofs.Labels.{Levels}
 use Rattle.esr_flow.proofs.FlowLaws.{After, augmented, path_labels, raise_at_most}
-
-min_assoc : (a b c : ℕ) → min (min a b) c ≡ min a (min b c)
-min_assoc a b c = omega arith
-
-pub lesser_assoc : (a b c : Option ℕ) → lesser (lesser a b) c ≡ lesser a (lesser b c)
-lesser_assoc None b c = refl
-lesser_assoc (Some a) None c = refl
-lesser_assoc (Some a) (Some b) None = refl
-lesser_assoc (Some a) (Some b) (Some c) = ap (λ n. Some n) (min_assoc a b c)
-
-pub lesser_none_right : (a : Option ℕ) → lesser a None ≡ a
-lesser_none_right None = refl
-lesser_none_right (Some a) = refl
-
--- one step more of the least room
-pub least_more : (arcs : List Arc) (flow : List ℕ) (path : List Step) (i : ℕ) (d : Step) (least : Option ℕ) → i < length path → lesser least (least_room arcs flow (drop i path)) ≡ least_room arcs flow path → lesser (lesser least (room arcs flow (get_or path i d))) (least_room arcs flow (drop (i + 1) path)) ≡ least_room arcs flow path
-least_more arcs flow path i d least l h =
-    lesser_assoc least (room arcs flow (get_or path i d)) (least_room arcs flow (drop (i + 1) path))
-    ∙ ap (λ p. lesser least (least_room arcs flow p)) (sym (drop_more path i d l))
-    ∙ h
 
 raise_push : (flow : List ℕ) (x : ℕ) (path : List Step) (s : Step) → raise flow x (path ++ s ∷ []) ≡ shift (raise flow x path) x s
 raise_push flow x [] s = refl

@@ -38,11 +38,6 @@ module _ (net : Network) (flow : List ℕ) (visits : List Visit) (f : FoundSink 
         is_shortest = λ other p. omega (arith, length-reverse path, b.steps, level, f.nearest other p);
       }
 
-pub back_steps : (net : Network) (flow : List ℕ) (visits : List Visit) → FoundSink net flow visits → (path : List Step) (at : ℕ) → at ≡ 0 → Back net flow visits path at → length (reverse path) ≡ (visit_at visits (length visits - 1)).level
-back_steps net flow visits f path at z b =
-    let level : (visit_at visits at).level ≡ 0 = ap (λ n. (visit_at visits n).level) z ∙ f.searched.first_level in
-    omega (arith, length-reverse path, b.steps, level)
-
 none_marked : (n v : ℕ) → is_marked (replicate n false) v ≡ false
 none_marked zero v = refl
 none_marked (suc n) zero = refl

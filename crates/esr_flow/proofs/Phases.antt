@@ -13,14 +13,6 @@ use Rattle.esr_flow.proofs.Count.{count_below, count_le, count_none_lem, count_f
 use Rattle.esr_flow.proofs.Labels.{Levels, Rooms, Bottle, levels_from, tight, tight_at, outcome, bottleneck, falls_after, length-shift}
 use Rattle.esr_flow.proofs.Distance.{distance, distance_sink, distance_falls, distance_limit, steps_le_nodes}
 
-within_le : (y x : ℕ) (o : Option ℕ) → y ≤ x → within x o ≡ true → within y o ≡ true
-within_le y x None l h = refl
-within_le y x (Some r) l h = le-leb y r (omega (arith, leb-true x r h))
-
-rooms_le : (arcs : List Arc) (flow : List ℕ) (y x : ℕ) (path : List Step) → y ≤ x → Rooms arcs flow x path → Rooms arcs flow y path
-rooms_le arcs flow y x [] l r = tt
-rooms_le arcs flow y x (s ∷ path) l r = (within_le y x (room arcs flow s) l r.0, rooms_le arcs flow y x path l r.1)
-
 -- the lesser of two rooms is within both, and is one of them
 lesser_parts : (a b : Option ℕ) (x : ℕ) → lesser a b ≡ Some x → (within x a ≡ true) × (within x b ≡ true) × ((a ≡ Some x) ⊎ (b ≡ Some x))
 lesser_parts None b x h = (refl, subst (λ o. within x o ≡ true) (sym h) (le-leb x x (omega arith)), inr h)
@@ -34,17 +26,6 @@ lesser_parts (Some a) (Some b) x h =
 within_room : (x : ℕ) (b : Option ℕ) → within x b ≡ true → (r : ℕ) → b ≡ Some r → x ≤ r
 within_room x None h r e = cc
 within_room x (Some s) h r e = let q : s ≡ r = cc in omega (arith, leb-true x s h)
-
-lesser_none : (a b : Option ℕ) → lesser a b ≡ None → (a ≡ None) × (b ≡ None)
-lesser_none None b h = (refl, h)
-lesser_none (Some a) None h = cc
-lesser_none (Some a) (Some b) h = cc
-
-rooms_none : (arcs : List Arc) (flow : List ℕ) (x : ℕ) (path : List Step) → least_room arcs flow path ≡ None → Rooms arcs flow x path
-rooms_none arcs flow x [] h = tt
-rooms_none arcs flow x (s ∷ path) h =
-    let p : (room arcs flow s ≡ None) × (least_room arcs flow path ≡ None) = lesser_none _ _ h in
-    (ap (within x) p.0, rooms_none arcs flow x path p.1)
 
 -- within the least room, within each
 pub rooms_within : (arcs : List Arc) (flow : List ℕ) (x : ℕ) (path : List Step) → within x (least_room arcs flow path) ≡ true → Rooms arcs flow x path

@@ -1,5 +1,5 @@
 -- The places of the steps of arcs, as the steps are laid.
-use Rattle.std.proofs.Common.{◌≡◌, ℕ, ◌+◌, ◌*◌, ◌<◌, List, [], ◌∷◌, ◌++◌, length, get_or, set, take, sum, refl, sym, ap, ◌∙◌, subst, inl, inr, arith}
+use Rattle.std.proofs.Common.{◌≡◌, ℕ, ◌+◌, ◌*◌, ◌<◌, List, [], ◌∷◌, ◌++◌, length, get_or, set, take, sum, sym, ap, ◌∙◌, subst, inl, inr, arith}
 use Rattle.std.proofs.lemmas.Bool.{cases_eq}
 use Rattle.std.proofs.lemmas.List.{get_or_append_left, get_or_push, length_push}
 use Rattle.esr_cert.specs.declared.network.Arc.{Arc}
@@ -9,16 +9,13 @@ use Rattle.esr_flow.specs.declared.graph.Span.{Span}
 use Rattle.esr_flow.specs.declared.graph.Places.{Places}
 use Rattle.esr_flow.specs.Residual.{arc_of, start}
 use Rattle.esr_flow.specs.Graph.{ArePlaces, place_of, span_at, step_at}
-use Rattle.esr_flow.specs.Rows.{first_steps, steps_from, AreDegrees, AreBegun, AreRows, longer}
+use Rattle.esr_flow.specs.Rows.{first_steps, steps_from, AreDegrees, AreRows, longer}
 use Rattle.esr_flow.proofs.StepsLaws.{steps_here, steps_other, first_next, row_known, last_or_not, not_last, at_last}
-use Rattle.esr_flow.proofs.RowsLaws.{Filled, filled_start, filled_more, place_within, room_along, room_against, filled_all, step_with}
+use Rattle.esr_flow.proofs.RowsLaws.{Filled, filled_more, place_within, room_along, room_against, filled_all, step_with}
 
 -- each of some steps lies at its place in the row of its node
 pub record Placed (arcs : List Arc) (lengths : List ℕ) (done : List Step) (places : List Places) : Type 0 where
   pub place : (v k : ℕ) → v < length lengths → k < length (steps_from arcs v done) → place_of places (step_at (steps_from arcs v done) k) ≡ sum (take v lengths) + k
-
-pub placed_start : (arcs : List Arc) (lengths : List ℕ) (places : List Places) → Placed arcs lengths [] places
-placed_start arcs lengths places = record { place = λ v k l m. absurd (omega arith) }
 
 placed_more : (arcs : List Arc) (lengths : List ℕ) (done : List Step) (places : List Places) (s : Step) (u : ℕ) → start arcs s ≡ u → place_of places s ≡ sum (take u lengths) + length (steps_from arcs u done) → Placed arcs lengths done places → Placed arcs lengths (done ++ s ∷ []) places
 placed_more arcs lengths done places s u e at h = record {
@@ -78,15 +75,6 @@ pub record Laid (arcs : List Arc) (nodes i : ℕ) (spans : List Span) (steps : L
   pub filled : Filled arcs degrees (first_steps i) spans steps
   pub placed : Placed arcs degrees (first_steps i) places
   pub count : length places ≡ i
-
-pub laid_start : (arcs : List Arc) (nodes : ℕ) (degrees : List ℕ) (spans : List Span) (steps : List Step) → AreDegrees arcs nodes degrees → AreBegun degrees spans → length steps ≡ 2 * length arcs → Laid arcs nodes 0 spans steps []
-laid_start arcs nodes degrees spans steps are begun long = record {
-  degrees = degrees;
-  are = are;
-  filled = filled_start arcs degrees spans steps begun (omega (arith, are.both));
-  placed = placed_start arcs degrees [];
-  count = refl;
-}
 
 pub laid_long : (arcs : List Arc) (nodes i : ℕ) (spans : List Span) (steps : List Step) (places : List Places) → Laid arcs nodes i spans steps places → length steps ≡ 2 * length arcs
 laid_long arcs nodes i spans steps places h = h.filled.total ∙ h.are.both

@@ -10,7 +10,7 @@ use Rattle.esr_flow.specs.declared.graph.Span.{Span}
 use Rattle.esr_cert.specs.Network.{arc_at}
 use Rattle.esr_flow.specs.Residual.{start}
 use Rattle.esr_flow.specs.Graph.{row_in, span_at, step_at}
-use Rattle.esr_flow.specs.Rows.{first_steps, steps_from, row_of, AreDegrees, AreBegun, AreRows, longer}
+use Rattle.esr_flow.specs.Rows.{first_steps, steps_from, row_of, AreDegrees, AreRows, longer}
 use Rattle.esr_flow.proofs.StepsLaws.{steps_here, steps_other, room_for, first_within, first_more, first_count, last_or_not, not_last, at_last}
 
 pub row_length : {X : Type 0} (list : List X) (span : Span) → span.end ≤ length list → length (row_in list span) ≡ span.end - span.begin
@@ -83,16 +83,6 @@ pub record Filled (arcs : List Arc) (lengths : List ℕ) (done : List Step) (spa
   pub end : (v : ℕ) → v < length lengths → (span_at spans v).end ≡ sum (take v lengths) + length (steps_from arcs v done)
   pub fits : (v : ℕ) → v < length lengths → length (steps_from arcs v done) ≤ get_or lengths v 0
   pub step : (v k : ℕ) → v < length lengths → k < length (steps_from arcs v done) → step_at steps (sum (take v lengths) + k) ≡ step_at (steps_from arcs v done) k
-
-pub filled_start : (arcs : List Arc) (lengths : List ℕ) (spans : List Span) (steps : List Step) → AreBegun lengths spans → length steps ≡ sum lengths → Filled arcs lengths [] spans steps
-filled_start arcs lengths spans steps begun total = record {
-  count = begun.count;
-  total = total;
-  begin = λ v l. ap (λ (s : Span). s.begin) (begun.begun v l);
-  end = λ v l. omega (arith, ap (λ (s : Span). s.end) (begun.begun v l));
-  fits = λ v l. omega arith;
-  step = λ v k l m. absurd (omega arith);
-}
 
 module _ (arcs : List Arc) (lengths : List ℕ) (done : List Step) (spans : List Span) (steps : List Step) (s : Step) (u : ℕ) (e : start arcs s ≡ u) (l : u < length lengths) (room : length (steps_from arcs u done) < get_or lengths u 0) (h : Filled arcs lengths done spans steps) where
   pub place_within : (span_at spans u).end < length steps

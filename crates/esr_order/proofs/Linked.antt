@@ -14,9 +14,6 @@ last_somewhere : (x : ℕ) (xs : List ℕ) → (j : ℕ) × (last_or (Some x) xs
 last_somewhere x [] = (x, refl)
 last_somewhere x (y ∷ xs) = last_somewhere y xs
 
-last_any : (x : ℕ) (y : ℕ) (xs : List ℕ) → last_or (Some x) (y ∷ xs) ≡ last_or None (y ∷ xs)
-last_any x y xs = refl
-
 pub none_empty : (xs : List ℕ) → last_or None xs ≡ None → xs ≡ []
 none_empty [] e = refl
 none_empty (x ∷ xs) e = let w = last_somewhere x xs in let bad : Some w.0 ≡ None = sym w.1 ∙ e in absurd (cc)

@@ -42,14 +42,6 @@ contains_none x c = Contains-In [] x c
 
 -- ---- marks
 
-pub marked_none : (P : Step → Type 0) (marks : List Bool) → AreMarked P [] marks marks
-marked_none P marks = record {
-  len = refl;
-  keeps = λ j h. h;
-  found = λ a c p. absurd (contains_none a c);
-  only = λ j h. inl h;
-}
-
 push_hit : (P : Step → Type 0) (ss : List Step) (s : Step) (old marks : List Bool) → AreMarked P ss old marks → P s → s.place < length marks → AreMarked P (ss ++ s ∷ []) old (slice_set marks s.place true)
 push_hit P ss s old marks m p l = record {
   len = length-set marks s.place true ∙ m.len;

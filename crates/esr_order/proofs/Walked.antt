@@ -49,9 +49,6 @@ abbrev pub IsWalked : List Step → Option Step → Chain → Type 0
 IsWalked ws None c = (ws ≡ []) × (c ≡ nobody)
 IsWalked ws (Some w) c = In w ws × (c ≡ chain_from (last_in ws) w.place) × (last_in ws w.place ≡ Some w.value) × ((i : ℕ) → w.place < i → last_in ws i ≡ None)
 
-pub walked_none : IsWalked [] None nobody
-walked_none = (refl, refl)
-
 -- the chain of one more write, up to its position
 chain_below : (ws : List Step) (s : Step) (p : ℕ) → p ≤ s.place → ((i : ℕ) → p ≤ i → last_in ws i ≡ None) → chain_from (last_in ws) p ≡ chain_from (last_in (ws ++ s ∷ [])) s.place
 chain_below ws s p l none =
