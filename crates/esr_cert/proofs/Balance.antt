@@ -1,55 +1,92 @@
--- Where each update has a row of its touches, the rows tell whether a flow is conserved.
-use Rattle.std.proofs.Common.{Contains, ◌≡◌, ◌≢◌, ℕ, zero, suc, ◌+◌, ◌<◌, List, [], ◌∷◌, true, refl, sym, ap, ◌∙◌, inl, inr, arith, length, get_or, sum_by, eq-eqb, Vec, Global}
-use Rattle.std.proofs.lemmas.Bool.{cases_order, eqb-true}
-use Rattle.esr_cert.specs.Problem.{Problem, size, is_sound}
-use Rattle.esr_cert.specs.Network.{network}
-use Rattle.esr_cert.specs.Flow.{inflow, outflow, is_conserved}
-use Rattle.esr_cert.specs.Certificate.{Certificate, amounts, is_within}
-use Rattle.esr_cert.specs.Index.{all_touches, IsIndex, at_node, amount_in, amount_out, is_balanced, are_balanced}
-use Rattle.esr_cert.specs.declared.index.Place.{Place}
-use Rattle.esr_cert.proofs.Sound.{facts, all_in, all_from}
-use Rattle.esr_cert.proofs.Flows.{conserved_each, conserved_from}
-use Rattle.esr_cert.proofs.Distinct.{same_tests}
-use Rattle.esr_cert.proofs.Certified.{matched}
-use Rattle.esr_cert.proofs.Touches.{inflow_is, outflow_is}
+-- The steps that start at each node tell whether a flow is conserved there.
+use Rattle.std.proofs.Common.{◌≡◌, ◌≢◌, ℕ, zero, suc, ◌+◌, ◌<◌, ◌≤◌, List, [], ◌∷◌, ◌++◌, Bool, true, cond, eqb, refl, sym, ap, ◌∙◌, arith, length, take, sum_by, Some, append_assoc, add-one, false, inl, inr, true≢false, eq-eqb}
+use Rattle.std.proofs.lemmas.Bool.{cases_order, cases_Bool, eqb-true}
+use Rattle.std.proofs.lemmas.List.{take_more, take_all, length-take-le}
+use Rattle.std.proofs.lemmas.List.Elements.{filter-append}
+use Rattle.std.proofs.lemmas.List.Sums.{sum_by-append}
+use Rattle.esr_cert.specs.declared.network.Arc.{Arc}
+use Rattle.esr_cert.specs.declared.step.Step.{Step}
+use Rattle.esr_cert.specs.declared.step.Step.TheVariants.{Along, Against}
+use Rattle.esr_cert.specs.Network.{arc_at, network}
+use Rattle.esr_cert.specs.Flow.{amount_at, carried, inflow, outflow, is_conserved_at, is_conserved}
+use Rattle.esr_cert.specs.Steps.{start}
+use Rattle.esr_cert.specs.Rows.{first_steps, steps_from, row_of}
+use Rattle.esr_cert.specs.Balance.{amount_in, amount_out, is_balanced}
+use Rattle.esr_cert.proofs.Cut.{pick, pick_zero}
+use Rattle.esr_cert.specs.Problem.{Problem, size}
+use Rattle.esr_cert.specs.Certificate.{Certificate, amounts}
+use Rattle.esr_cert.proofs.Sound.{IsProblem}
+use Rattle.esr_cert.proofs.Matched.{IsMatched, amounts_length}
+use Rattle.esr_cert.proofs.Flows.{carried_append, conserved_each, conserved_from}
 
-module _ (p : Problem) (sound : is_sound p ≡ true) (c : Certificate) (within : is_within p c ≡ true) (rows : List (Vec Place Global)) (index : IsIndex (size p) p.before p.chains p.must rows) where
-  -- what the places of a row sum to
-  row_sum : (f : Place → ℕ) (v : ℕ) (row : Vec Place Global) → v < size p → get_or rows v row ≡ row → sum_by f row.items ≡ sum_by (at_node f v) (all_touches p.before p.chains p.must)
-  row_sum f v row l e = ap (λ r. sum_by f r.items) (sym e) ∙ index.same v row f l
+module _ (arcs : List Arc) (flow : List ℕ) (same : length flow ≡ length arcs) (v : ℕ) where
+  -- a sum over the steps at a node and a sum over arcs agree on each arc
+  abbrev Agree : (Step → ℕ) → (Arc → Bool) → Type 0
+  Agree f q =
+      (i : ℕ) → pick (eqb (arc_at arcs i).from v) (f (Along i)) + pick (eqb (arc_at arcs i).to v) (f (Against i)) ≡ pick (q (arc_at arcs i)) (amount_at flow i)
 
-  in_is : (v : ℕ) (row : Vec Place Global) → v < size p → get_or rows v row ≡ row → inflow (network p).arcs (amounts c) v ≡ sum_by (amount_in c) row.items
-  in_is v row l e = inflow_is p (facts p sound) c (matched p c within) v l ∙ sym (row_sum (amount_in c) v row l e)
-
-  out_is : (v : ℕ) (row : Vec Place Global) → v < size p → get_or rows v row ≡ row → outflow (network p).arcs (amounts c) v ≡ sum_by (amount_out c) row.items
-  out_is v row l e = outflow_is p (facts p sound) c (matched p c within) v l ∙ sym (row_sum (amount_out c) v row l e)
-
-  row_at : {X : Type 0} (xs : List X) (v : ℕ) → v < length xs → (x : X) × (get_or xs v x ≡ x)
-  row_at [] v l = absurd (omega arith)
-  row_at (x ∷ xs) zero l = (x, refl)
-  row_at (x ∷ xs) (suc v) l = row_at xs v (omega arith)
-
-  conserved_at : are_balanced c rows ≡ true → (v : ℕ) → v < size p → inflow (network p).arcs (amounts c) v ≡ outflow (network p).arcs (amounts c) v
-  conserved_at h v l =
-      let (row, e) = row_at rows v (omega (arith, index.count)) in
-      let even : sum_by (amount_in c) row.items ≡ sum_by (amount_out c) row.items = eqb-true _ _ (all_in (λ r. is_balanced c r.items) rows row h (v, omega (arith, index.count), e)) in
-      in_is v row l e ∙ even ∙ sym (out_is v row l e)
-
-  balanced_at : is_conserved (network p) (amounts c) ≡ true → (row : Vec Place Global) → Contains rows row → is_balanced c row.items ≡ true
-  balanced_at h row (v, l, e) =
-      let m : v < size p = omega (arith, index.count) in
-      let even : inflow (network p).arcs (amounts c) v ≡ outflow (network p).arcs (amounts c) v = conserved_each (network p) (amounts c) h v (omega arith) (λ (q : v ≡ size p). omega arith) (λ (q : v ≡ size p + 1). omega arith) in
-      eq-eqb (sum_by (amount_in c) row.items) (sum_by (amount_out c) row.items) (sym (in_is v row m e) ∙ even ∙ out_is v row m e)
-
-  pub balanced_is : are_balanced c rows ≡ is_conserved (network p) (amounts c)
-  balanced_is =
-      same_tests (are_balanced c rows) (is_conserved (network p) (amounts c))
-      (λ h. conserved_from (network p) (amounts c) (λ v l ns nt. conserved_at h v (inner v l ns nt)))
-      (λ h. all_from (λ r. is_balanced c r.items) rows (balanced_at h))
+  one_step : (f : Step → ℕ) (s : Step) → sum_by f (steps_from arcs v (s ∷ [])) ≡ pick (eqb (start arcs s) v) (f s)
+  one_step f s = go (eqb (start arcs s) v)
     where
-      inner : (v : ℕ) → v < size p + 2 → v ≢ size p → v ≢ size p + 1 → v < size p
-      inner v l ns nt =
-          elim (cases_order v (size p)) [
-            | inl e ↦ absurd (ns e)
-            | inr o ↦ elim o [ inl k ↦ k | inr k ↦ absurd (nt (omega arith)) ]
-          ]
+      go : (b : Bool) → sum_by f (cond b (s ∷ []) []) ≡ pick b (f s)
+      go true = omega arith
+      go false = refl
+
+  sums : (f : Step → ℕ) (q : Arc → Bool) → Agree f q → (n : ℕ) → n ≤ length arcs → sum_by f (steps_from arcs v (first_steps n)) ≡ carried q (take n arcs) (take n flow)
+  sums f q agree zero l = refl
+  sums f q agree (suc n) l =
+      let split : steps_from arcs v (first_steps (suc n)) ≡ steps_from arcs v (first_steps n) ++ steps_from arcs v (Along n ∷ []) ++ steps_from arcs v (Against n ∷ []) =
+      filter-append (λ step. eqb (start arcs step) v) (first_steps n) (Along n ∷ Against n ∷ [])
+      ∙ ap (λ xs. steps_from arcs v (first_steps n) ++ xs) (filter-append (λ step. eqb (start arcs step) v) (Along n ∷ []) (Against n ∷ []))
+      ∙ sym (append_assoc (steps_from arcs v (first_steps n)) (steps_from arcs v (Along n ∷ [])) (steps_from arcs v (Against n ∷ []))) in
+      let more_arcs : take (suc n) arcs ≡ take n arcs ++ arc_at arcs n ∷ [] = ap (λ m. take m arcs) (sym (add-one n)) ∙ take_more arcs n (record { from = 0; to = 0; capacity = Some 0 }) (omega arith) in
+      let more_flow : take (suc n) flow ≡ take n flow ++ amount_at flow n ∷ [] = ap (λ m. take m flow) (sym (add-one n)) ∙ take_more flow n 0 (omega arith) in
+      omega (
+        arith,
+        ap (sum_by f) split,
+        sum_by-append f (steps_from arcs v (first_steps n) ++ steps_from arcs v (Along n ∷ [])) (steps_from arcs v (Against n ∷ [])),
+        sum_by-append f (steps_from arcs v (first_steps n)) (steps_from arcs v (Along n ∷ [])),
+        one_step f (Along n),
+        one_step f (Against n),
+        agree n,
+        sums f q agree n (omega arith),
+        ap (λ xs. carried q xs (take (suc n) flow)) more_arcs,
+        ap (carried q (take n arcs ++ arc_at arcs n ∷ [])) more_flow,
+        carried_append q (take n arcs) (arc_at arcs n ∷ []) (take n flow) (amount_at flow n ∷ []) (omega (arith, length-take-le n arcs (omega arith), length-take-le n flow (omega arith))),
+      )
+
+  whole : (f : Step → ℕ) (q : Arc → Bool) → Agree f q → sum_by f (row_of arcs v) ≡ carried q arcs flow
+  whole f q agree =
+      sums f q agree (length arcs) (omega arith) ∙ ap (λ xs. carried q xs (take (length arcs) flow)) (take_all (length arcs) arcs (omega arith)) ∙ ap (carried q arcs) (take_all (length arcs) flow (omega arith))
+
+  in_is : sum_by (amount_in flow) (row_of arcs v) ≡ inflow arcs flow v
+  in_is = whole (amount_in flow) (λ arc. eqb arc.to v) (λ i. omega (arith, pick_zero (eqb (arc_at arcs i).from v)))
+
+  out_is : sum_by (amount_out flow) (row_of arcs v) ≡ outflow arcs flow v
+  out_is = whole (amount_out flow) (λ arc. eqb arc.from v) (λ i. omega (arith, pick_zero (eqb (arc_at arcs i).to v)))
+
+  pub balanced_is : is_balanced flow (row_of arcs v) ≡ is_conserved_at arcs flow v
+  balanced_is = ap (λ n. eqb n (sum_by (amount_out flow) (row_of arcs v))) in_is ∙ ap (eqb (inflow arcs flow v)) out_is
+
+-- where the steps at a node are balanced, the flow of a certificate is conserved there
+pub balanced_at : (p : Problem) → IsProblem p → (c : Certificate) → IsMatched p c → (v : ℕ) → is_balanced (amounts c) (row_of (network p).arcs v) ≡ is_conserved_at (network p).arcs (amounts c) v
+balanced_at p ok c m v = balanced_is (network p).arcs (amounts c) (amounts_length p ok c m) v
+
+-- it is conserved where it is at each update
+pub all_conserved : (p : Problem) (flow : List ℕ) → ((v : ℕ) → v < size p → is_conserved_at (network p).arcs flow v ≡ true) → is_conserved (network p) flow ≡ true
+all_conserved p flow h = conserved_from (network p) flow (λ v l ns nt. eqb-true _ _ (h v (inner v l ns nt)))
+  where
+    inner : (v : ℕ) → v < size p + 2 → v ≢ size p → v ≢ size p + 1 → v < size p
+    inner v l ns nt =
+        elim (cases_order v (size p)) [
+          | inl e ↦ absurd (ns e)
+          | inr o ↦ elim o [ inl k ↦ k | inr k ↦ absurd (nt (omega arith)) ]
+        ]
+
+-- and is not where it is not at one
+pub one_not : (p : Problem) (flow : List ℕ) (v : ℕ) → v < size p → is_conserved_at (network p).arcs flow v ≡ false → is_conserved (network p) flow ≡ false
+one_not p flow v l h =
+    elim (cases_Bool (is_conserved (network p) flow)) [
+      | inl whole ↦ absurd (true≢false (sym (eq-eqb _ _ (conserved_each (network p) flow whole v (omega arith) (λ (q : v ≡ size p). omega arith) (λ (q : v ≡ size p + 1). omega arith))) ∙ h))
+      | inr not_whole ↦ not_whole
+    ]

@@ -8,8 +8,11 @@ pub mod Certified
 pub mod Steps
 pub mod Search
 pub mod Distinct
-pub mod Touches
-mod Gains
+pub mod StepsLaws
+pub mod RowsLaws
+pub mod PlacesLaws
+pub mod ArcsLaws
+mod StartsLaws
 mod Balance
-mod Rows
+mod Within
 pub mod Worth

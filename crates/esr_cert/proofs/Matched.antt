@@ -4,7 +4,7 @@ use Rattle.std.specs.List.{flat_map, concat}
 use Rattle.std.proofs.lemmas.Bool.{and_parts, eqb-true}
 use Rattle.std.proofs.lemmas.List.{length-append, length-map}
 use Rattle.esr_cert.specs.Problem.{Chain, Problem, size}
-use Rattle.esr_cert.specs.Network.{Arc, links, chain_links, back_arc, chain_arcs, back_arcs, must_arcs, network}
+use Rattle.esr_cert.specs.Network.{Arc, links, chain_links, back_arc, must_arc, chain_arcs, back_arcs, must_arcs, network}
 use Rattle.esr_cert.specs.Flow.{carried}
 use Rattle.esr_cert.specs.Certificate.{Certificate, amounts, are_rows_matched}
 use Rattle.esr_cert.proofs.Flows.{carried_append}
@@ -63,6 +63,10 @@ module _ (p : Problem) (ok : IsProblem p) (c : Certificate) (m : IsMatched p c) 
   pub first_two_length : length (concat c.chain_flow ++ c.back_flow) ≡ length (chain_arcs p ++ back_arcs p)
   first_two_length =
       omega (arith, chains_length, m.backs, length-map {B = Arc} p.before back_arc, length-append (concat c.chain_flow) c.back_flow, length-append (chain_arcs p) (back_arcs p))
+
+  pub amounts_length : length (amounts c) ≡ length (network p).arcs
+  amounts_length =
+      omega (arith, first_two_length, m.musts, length-map {B = Arc} p.must (must_arc (size p)), length-append (concat c.chain_flow ++ c.back_flow) c.must_flow, length-append (chain_arcs p ++ back_arcs p) (must_arcs p))
 
   -- a sum over all arcs, by the parts
   pub carried_parts : (q : Arc → Bool) → carried q (network p).arcs (amounts c) ≡ carried q (chain_arcs p) (concat c.chain_flow) + carried q (back_arcs p) c.back_flow + carried q (must_arcs p) c.must_flow

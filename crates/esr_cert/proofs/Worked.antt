@@ -5,8 +5,10 @@ use Rattle.esr_cert.specs.Network.{network}
 use Rattle.esr_cert.specs.Flow.{inflow, outflow, worth}
 use Rattle.esr_cert.specs.Cut.{with_source, across}
 use Rattle.esr_cert.specs.Certificate.{Certificate, amounts, fault}
-use Rattle.esr_cert.specs.Index.{all_touches, at_node, amount_in, is_balanced}
-use Rattle.esr_cert.specs.declared.index.Place.TheVariants.{Writer, Second}
+use Rattle.esr_cert.specs.Rows.{row_of}
+use Rattle.esr_cert.specs.Starts.{starts_from}
+use Rattle.esr_cert.specs.Balance.{is_balanced}
+use Rattle.esr_cert.specs.declared.step.Step.TheVariants.{Along, Against}
 use Rattle.esr_cert.specs.declared.certificate.Fault.TheVariants.{SetNotAscending, UnknownUpdate, SetNotClosed, OverCapacity, NotConserved, WorthNotCost, TooManyAugmentations}
 
 -- two updates in a row, and two items that a query read: the second wrote both, the first one of them
@@ -53,16 +55,13 @@ out_at_the_second : outflow (network report).arcs (amounts after_both) 1 ≡ 1
 out_at_the_second = refl
 
 -- the second update is a writer of each item, and the second of the pair
-in_at_its_touches : sum_by (at_node (amount_in after_both) 1) (all_touches report.before report.chains report.must) ≡ 1
-in_at_its_touches = refl
+five_steps : row_of (network report).arcs 1 ≡ Against 1 ∷ Along 2 ∷ Against 3 ∷ Along 4 ∷ Along 5 ∷ []
+five_steps = refl
 
-three_touches : sum_by (at_node (λ _. 1) 1) (all_touches report.before report.chains report.must) ≡ 3
-three_touches = refl
-
-second_is_balanced : is_balanced after_both (Writer 0 1 ∷ Writer 1 0 ∷ Second 0 ∷ []) ≡ true
+second_is_balanced : is_balanced (amounts after_both) (row_of (network report).arcs 1) ≡ true
 second_is_balanced = refl
 
-second_with_more_out : is_balanced (record after_both { back_flow = 1 ∷ [] }) (Writer 0 1 ∷ Writer 1 0 ∷ Second 0 ∷ []) ≡ false
+second_with_more_out : is_balanced (amounts (record after_both { back_flow = 1 ∷ [] })) (row_of (network report).arcs 1) ≡ false
 second_with_more_out = refl
 
 report_certified : fault report after_both ≡ None

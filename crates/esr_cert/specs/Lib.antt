@@ -5,6 +5,11 @@ pub mod Cut
 pub mod Certificate
 pub mod Views
 pub mod Drafts
-pub mod Index
+pub mod Steps
+pub mod Short
+pub mod ShortArc
+pub mod Rows
+pub mod Starts
+pub mod Balance
 pub mod Faults
 pub mod Parts

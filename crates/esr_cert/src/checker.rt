@@ -2,18 +2,20 @@
 //! are found by binary search.
 ghost use Rattle.std.specs.Prelude.{◌≡◌, ℕ, ◌+◌, ◌*◌, ◌<◌, ◌≤◌, ◌^◌, ◌||◌, not, length, get_or, map, Bool, true, IsOk};
 ghost use Rattle.std.specs.List.{list_all, sum, sum_by};
-ghost use Rattle.esr_cert.specs.Problem.{in_set, is_ascending, is_closed, version, chain_cost, cost};
+ghost use Rattle.std.specs.List.Sorted.{IsNonDecreasingBy};
+ghost use Rattle.esr_cert.specs.Problem.{size, in_set, is_ascending, is_closed, version, chain_cost, cost};
 ghost use Rattle.esr_cert.specs.Network.{network};
-ghost use Rattle.esr_cert.specs.Flow.{is_conserved};
+ghost use Rattle.esr_cert.specs.Flow.{amount_at, is_conserved_at, is_conserved};
 ghost use Rattle.esr_cert.specs.Certificate.{amounts, is_within, is_tight, is_short, fault, or_fault};
-ghost use Rattle.esr_cert.specs.Index.{amount_in, amount_out, is_balanced, are_balanced};
+ghost use Rattle.esr_cert.specs.Balance.{is_balanced};
+ghost use Rattle.esr_cert.specs.Starts.{AreStarts};
 ghost use Rattle.esr_cert.specs.Parts.{is_row_within, are_rows_within};
 ghost use Rattle.esr_cert.specs.Views.{chain_of, rows_of, certificate_of};
 
 use crate::certificate::{Certificate, Fault};
-use crate::index::Place;
 use crate::lists::{are_below, contains, is_ascending};
 use crate::problem::{Chain, Problem};
+use crate::step::{ShortStep, Step};
 
 fn keeps_before(before: &[(u32, u32)], set: &[u32]) -> bool
     requires { is_ascending set.now ≡ true }
@@ -91,50 +93,73 @@ fn amount_or_zero(amounts: &[u64], i: usize) -> u64
     }
 }
 
-/// The amounts that come to an update at a place, and go from it.
-fn amounts_at(certificate: &Certificate, place: Place) -> (u64, u64)
-    ensures into { result.0 ≡ amount_in (certificate_of certificate.now) place }
-    ensures from { result.1 ≡ amount_out (certificate_of certificate.now) place }
+/// The last of some rows to begin at or before a number.
+fn row_at(starts: &[u32], number: u32) -> usize
+    requires some { 0 < length starts.now }
+    requires zero { get_or starts.now 0 0 ≡ 0 }
+    requires rising { IsNonDecreasingBy (λ n. n) starts.now }
+    ensures bound { result < length starts.now }
+    ensures begun { get_or starts.now result 0 ≤ number }
+    ensures last { result + 1 < length starts.now → number < get_or starts.now (result + 1) 0 }
 {
-    match place {
-        Place::Writer { chain, writer } => {
-            let i = writer as usize;
-            match certificate.chain_flow.get(chain as usize) {
-                Some(row) => (amount_or_zero(row, i), amount_or_zero(row, i + 1)),
-                None => (0, 0),
-            }
-        }
-        Place::First(i) => (amount_or_zero(&certificate.back_flow, i as usize), 0),
-        Place::Second(i) => (0, amount_or_zero(&certificate.back_flow, i as usize)),
-        Place::Must(i) => (amount_or_zero(&certificate.must_flow, i as usize), 0),
+    starts.partition_point(|start| *start <= number) - 1
+}
+
+/// The amount on an arc, by its number: the arcs of the chains come first, then those of the pairs, then those into
+/// what a set must hold.
+fn amount_on(certificate: &Certificate, starts: &[u32], arc: u32) -> u64
+    requires starts { AreStarts starts.now (rows_of certificate.now.chain_flow.items) }
+    ensures { result ≡ amount_at (amounts (certificate_of certificate.now)) arc }
+{
+    let chain = row_at(starts, arc);
+    let i = (arc - starts[chain]) as usize;
+    if chain < certificate.chain_flow.len() {
+        return amount_or_zero(&certificate.chain_flow[chain], i);
+    }
+    let backs = certificate.back_flow.len();
+    if i < backs {
+        amount_or_zero(&certificate.back_flow, i)
+    } else {
+        amount_or_zero(&certificate.must_flow, i - backs)
     }
 }
 
-/// Whether as much comes to an update as goes from it, of the places that it has part in.
-fn is_balanced(certificate: &Certificate, places: &[Place]) -> bool
-    ensures { result ≡ is_balanced (certificate_of certificate.now) places.now }
+/// Whether as much comes to a node as leaves it, by the steps that start there.
+fn is_balanced(certificate: &Certificate, starts: &[u32], steps: &[ShortStep]) -> bool
+    requires starts { AreStarts starts.now (rows_of certificate.now.chain_flow.items) }
+    ensures { result ≡ is_balanced (amounts (certificate_of certificate.now)) steps.now }
 {
     let mut into: u128 = 0;
     let mut from: u128 = 0;
-    for place in places {
-        let (more_into, more_from) = amounts_at(certificate, *place);
-        into += u128::from(more_into);
-        from += u128::from(more_from);
+    for step in steps {
+        match step.step() {
+            Step::Along(arc) => from += u128::from(amount_on(certificate, starts, arc)),
+            Step::Against(arc) => into += u128::from(amount_on(certificate, starts, arc)),
+        }
     }
     into == from
 }
 
-fn are_balanced(certificate: &Certificate, rows: &[Vec<Place>]) -> bool
-    ensures { result ≡ are_balanced (certificate_of certificate.now) rows.now }
+/// Whether as much comes to an update as leaves it.
+fn is_conserved_at(problem: &Problem, certificate: &Certificate, v: usize) -> bool
+    requires within { is_within problem.now (certificate_of certificate.now) ≡ true }
+    requires update { v < size problem.now }
+    ensures { result ≡ is_conserved_at (network problem.now).arcs (amounts (certificate_of certificate.now)) v }
 {
-    rows.iter().all(|row| is_balanced(certificate, row))
+    let rows = problem.rows();
+    is_balanced(certificate, problem.starts(), rows.row(&rows.steps, v))
 }
 
 fn is_conserved(problem: &Problem, certificate: &Certificate) -> bool
     requires { is_within problem.now (certificate_of certificate.now) ≡ true }
     ensures { result ≡ is_conserved (network problem.now) (amounts (certificate_of certificate.now)) }
 {
-    are_balanced(certificate, problem.rows())
+    for v in 0..problem.updates().len() {
+        if !is_conserved_at(problem, certificate, v) {
+            return false;
+        }
+    }
+    true
 }
 
 /// How many writers there are up to and with the last one in the set.

@@ -5,23 +5,30 @@
 //! and a flow of one worth: it shows that no closed set costs less.
 #![tactic(auto)]
 
+mod arcs;
 mod certificate;
 mod checker;
 mod draft;
-mod index;
 mod lists;
 mod network;
 mod parts;
 mod problem;
 mod range;
+mod rows;
 mod shape;
+mod short_arc;
+mod starts;
+mod step;
 
 pub use certificate::{Certificate, Fault};
 pub use checker::check;
 pub use draft::{ChainDraft, ProblemDraft};
 pub use network::Arc;
 pub use problem::{BundleFault, Chain, Problem};
+pub use rows::{Places, Rows, Span};
 pub use shape::has_shape;
+pub use short_arc::ShortArc;
+pub use step::{ShortStep, Step};
 
 #[cfg(test)]
 mod tests;

@@ -1,12 +1,17 @@
 ghost use Rattle.std.specs.Prelude.{◌≡◌, ◌≢◌, ◌≤◌, map, true, IsOk, IfOk, IfErr, Some, None};
 ghost use Rattle.esr_cert.specs.Problem.{size, has_shape, is_sound};
 ghost use Rattle.esr_cert.specs.Faults.{problem_fault, bundle_fault_number};
-ghost use Rattle.esr_cert.specs.Index.{IsIndex};
+ghost use Rattle.esr_cert.specs.Network.{network};
+ghost use Rattle.esr_cert.specs.Rows.{AreLaid};
+ghost use Rattle.esr_cert.specs.Starts.{starts_from};
 ghost use Rattle.esr_cert.specs.Views.{chain_of, problem_of};
 
-use crate::index::{Place, index_of};
+use crate::arcs::arcs_of;
 use crate::parts::have_shape;
 use crate::range::is_in_range;
+use crate::rows::{Rows, rows_of};
+use crate::short_arc::ShortArc;
+use crate::starts::starts_of;
 use esr_history::TxnId;
 use esr_items::ItemId;
 use std::alloc::{AllocError, Global};
@@ -73,23 +78,26 @@ pub struct Problem {
     before: Vec<(u32, u32)>,
     chains: Vec<Chain>,
     must: Vec<u32>,
-    rows: Vec<Vec<Place>>,
+    starts: Vec<u32>,
+    rows: Rows,
 }
 
 impl Model for Problem {
-    ghost use Rattle.std.specs.Prelude.{◌≡◌, true, length, map};
+    ghost use Rattle.std.specs.Prelude.{◌≡◌, true, map};
     ghost use Rattle.esr_cert.specs.Problem as spec;
 
     ghost Value = { spec.Problem };
 
+    ghost use Rattle.esr_cert.specs.Network.{network};
+    ghost use Rattle.esr_cert.specs.Rows.{AreLaid};
+    ghost use Rattle.esr_cert.specs.Starts.{starts_from};
     ghost use Rattle.esr_cert.specs.Views.{chain_of, problem_of};
-    ghost use Rattle.esr_cert.specs.Index.{IsIndex};
 
     ghost view = { λ p. problem_of p.updates.items p.before.items p.chains.items p.must.items };
 
     ghost invariant = { λ p. (spec.is_sound (problem_of p.updates.items p.before.items p.chains.items p.must.items)
-        ≡ true) × IsIndex (length p.updates.items) p.before.items
-        (map chain_of p.chains.items) p.must.items p.rows.items };
+        ≡ true) × (p.starts.items ≡ starts_from 0 (map chain_of p.chains.items))
+        × AreLaid (network (problem_of p.updates.items p.before.items p.chains.items p.must.items)) p.rows };
 }
 
 impl Problem {
@@ -151,12 +159,15 @@ impl Problem {
         requires sound { is_sound (problem_of updates.items before.items chains.items must.items) ≡ true }
         ensures { IfOk result (λ p. p ≡ problem_of updates.items before.items chains.items must.items) }
     {
-        let rows = index_of(alloc, updates.len(), &before, &chains, &must)?;
+        let arcs = arcs_of(alloc, &updates, &before, &chains, &must)?;
+        let rows = rows_of(alloc, updates.len() + 2, &arcs)?;
+        let starts = starts_of(alloc, &chains)?;
         Ok(Problem {
             updates,
             before,
             chains,
             must,
+            starts,
             rows,
         })
     }
@@ -194,9 +205,34 @@ impl Problem {
         &self.must
     }
 
-    /// For each update the places that it has part in.
-    pub(crate) fn rows(&self) -> &[Vec<Place>]
-        ensures index { IsIndex (size self.now) self.now.before self.now.chains self.now.must result.now }
+    /// The number of the first arc of each chain, and of the first arc after them all.
+    pub(crate) fn starts(&self) -> &[u32]
+        ensures list { result.now ≡ starts_from 0 self.now.chains }
+    {
+        &self.starts
+    }
+
+    /// The arcs of the network.
+    ///
+    /// A read item gives a chain of arcs from the source through its writers to the sink, each with the cost of a
+    /// version as its capacity; each pair of updates an unlimited arc from the later back to the earlier; and each
+    /// update that a set must hold an unlimited arc from the source. Updates are nodes by their positions, and the
+    /// source and the sink come after them.
+    pub fn arcs(&self, alloc: Global) -> Result<Vec<ShortArc>, AllocError>
+        ensures { IfOk result (λ arcs. arcs.items ≡ (network self.now).arcs) }
+    {
+        arcs_of(
+            alloc,
+            &self.updates,
+            &self.before,
+            &self.chains,
+            &self.must,
+        )
+    }
+
+    /// For each node of the network the steps that start there.
+    pub fn rows(&self) -> &Rows
+        ensures laid { AreLaid (network self.now) result.now }
         ensures sound { is_sound self.now ≡ true }
     {
         &self.rows

@@ -4,16 +4,19 @@ use Rattle.std.proofs.lemmas.Bool.{cases_eq, eqb-true, or_cases}
 use Rattle.std.proofs.lemmas.List.{ext_get_or, get_or_default, get_or_read, get_or-map, length-map, take-map, drop-map}
 use Rattle.esr_cert.specs.declared.network.Arc.{Arc}
 use Rattle.esr_cert.specs.Network.{arc_at}
-use Rattle.esr_flow.specs.declared.step.Step.{Step}
-use Rattle.esr_flow.specs.declared.step.Step.TheVariants.{Along, Against}
+use Rattle.esr_cert.specs.declared.step.Step.{Step}
+use Rattle.esr_cert.specs.declared.step.Step.TheVariants.{Along, Against}
 use Rattle.esr_flow.specs.declared.entry.Entry.{Entry}
-use Rattle.esr_flow.specs.declared.graph.Span.{Span}
-use Rattle.esr_flow.specs.declared.graph.Places.{Places}
+use Rattle.esr_cert.specs.declared.rows.Span.{Span}
+use Rattle.esr_cert.specs.declared.rows.Places.{Places}
 use Rattle.esr_flow.specs.declared.graph.Graph.{Graph}
 use Rattle.esr_cert.specs.Flow.{within}
-use Rattle.esr_flow.specs.Residual.{arc_of, start, left_of}
-use Rattle.esr_flow.specs.Graph.{net_of, step_at, same_step, has_step, span_at, row_in, place_of, HasSteps, IsGraph, entry_of, entry_at, AreEntries, IsEntry, Lists}
-use Rattle.esr_flow.proofs.RowsLaws.{row_length, at_row}
+use Rattle.esr_cert.specs.Steps.{arc_of, start}
+use Rattle.esr_flow.specs.Residual.{left_of}
+use Rattle.esr_flow.specs.Graph.{net_of, IsGraph, entry_of, entry_at, AreEntries, IsEntry, Lists}
+use Rattle.esr_cert.specs.Steps.{step_at, same_step, has_step, HasSteps}
+use Rattle.esr_cert.specs.Rows.{span_at, row_in, place_of}
+use Rattle.esr_cert.proofs.RowsLaws.{row_length, at_row}
 use Rattle.esr_flow.proofs.WalkLaws.{start_in}
 
 same_is : (t s : Step) → same_step t s ≡ true → t ≡ s
@@ -76,56 +79,56 @@ same_entry arcs flow i x (Against j) ne =
 
 module _ (g : Graph) (ok : IsGraph g) where
   -- a step lies at its place
-  pub at_place : (s : Step) → arc_of s < length g.arcs.items → (place_of g.places.items s < length g.steps.items) × (step_at g.steps.items (place_of g.places.items s) ≡ s)
+  pub at_place : (s : Step) → arc_of s < length g.arcs.items → (place_of g.rows.now.places.items s < length g.rows.now.steps.items) × (step_at g.rows.now.steps.items (place_of g.rows.now.places.items s) ≡ s)
   at_place s l =
-      let span : Span = span_at g.spans.items (start g.arcs.items s) in
+      let span : Span = span_at g.rows.now.spans.items (start g.arcs.items s) in
       let node : start g.arcs.items s < g.nodes = start_in (net_of g) ok.is_network s l in
-      let (k, m, e) = contains_from (row_in g.steps.items span) s ((ok.lists (start g.arcs.items s) node).all s l refl) in
-      let short : k < span.end - span.begin = omega (arith, row_length g.steps.items span (ok.inside (start g.arcs.items s) node)) in
-      let is : step_at g.steps.items (span.begin + k) ≡ s = sym (at_row g.steps.items span k (Along 0) short) ∙ get_or_default (row_in g.steps.items span) k (Along 0) s m ∙ e in
-      let inside : span.begin + k < length g.steps.items = omega (arith, ok.inside (start g.arcs.items s) node) in
-      let place : place_of g.places.items s ≡ span.begin + k = ap (place_of g.places.items) (sym is) ∙ ok.places.place (span.begin + k) inside in
-      (omega arith, ap (step_at g.steps.items) place ∙ is)
+      let (k, m, e) = contains_from (row_in g.rows.now.steps.items span) s ((ok.lists (start g.arcs.items s) node).all s l refl) in
+      let short : k < span.end - span.begin = omega (arith, row_length g.rows.now.steps.items span (ok.inside (start g.arcs.items s) node)) in
+      let is : step_at g.rows.now.steps.items (span.begin + k) ≡ s = sym (at_row g.rows.now.steps.items span k (Along 0) short) ∙ get_or_default (row_in g.rows.now.steps.items span) k (Along 0) s m ∙ e in
+      let inside : span.begin + k < length g.rows.now.steps.items = omega (arith, ok.inside (start g.arcs.items s) node) in
+      let place : place_of g.rows.now.places.items s ≡ span.begin + k = ap (place_of g.rows.now.places.items) (sym is) ∙ ok.places.place (span.begin + k) inside in
+      (omega arith, ap (step_at g.rows.now.steps.items) place ∙ is)
 
-  row_lists : (flow : List ℕ) (entries : List Entry) → AreEntries g flow entries → (v : ℕ) → v < g.nodes → Lists g.arcs.items flow v (row_in g.steps.items (span_at g.spans.items v)) (row_in entries (span_at g.spans.items v))
+  row_lists : (flow : List ℕ) (entries : List Entry) → AreEntries g flow entries → (v : ℕ) → v < g.nodes → Lists g.arcs.items flow v (row_in g.rows.now.steps.items (span_at g.rows.now.spans.items v)) (row_in entries (span_at g.rows.now.spans.items v))
   row_lists flow entries are v l =
-      let span : Span = span_at g.spans.items v in
-      let same : row_in entries span ≡ map (entry_of g.arcs.items flow) (row_in g.steps.items span) =
-      ap (λ es. row_in es span) are ∙ ap (take (span.end - span.begin)) (drop-map (entry_of g.arcs.items flow) span.begin g.steps.items) ∙ take-map (entry_of g.arcs.items flow) (span.end - span.begin) (drop span.begin g.steps.items) in
-      subst (Lists g.arcs.items flow v (row_in g.steps.items span)) (sym same) (lists_from g.arcs.items flow v (row_in g.steps.items span) (ok.lists v l))
+      let span : Span = span_at g.rows.now.spans.items v in
+      let same : row_in entries span ≡ map (entry_of g.arcs.items flow) (row_in g.rows.now.steps.items span) =
+      ap (λ es. row_in es span) are ∙ ap (take (span.end - span.begin)) (drop-map (entry_of g.arcs.items flow) span.begin g.rows.now.steps.items) ∙ take-map (entry_of g.arcs.items flow) (span.end - span.begin) (drop span.begin g.rows.now.steps.items) in
+      subst (Lists g.arcs.items flow v (row_in g.rows.now.steps.items span)) (sym same) (lists_from g.arcs.items flow v (row_in g.rows.now.steps.items span) (ok.lists v l))
 
   -- the steps and the entries of a node as they were read
-  pub lists_read : (flow : List ℕ) (entries : List Entry) → AreEntries g flow entries → (v : ℕ) → v < g.nodes → (steps : List Step) (row : List Entry) → steps ≡ row_in g.steps.items (span_at g.spans.items v) → row ≡ row_in entries (span_at g.spans.items v) → Lists g.arcs.items flow v steps row
+  pub lists_read : (flow : List ℕ) (entries : List Entry) → AreEntries g flow entries → (v : ℕ) → v < g.nodes → (steps : List Step) (row : List Entry) → steps ≡ row_in g.rows.now.steps.items (span_at g.rows.now.spans.items v) → row ≡ row_in entries (span_at g.rows.now.spans.items v) → Lists g.arcs.items flow v steps row
   lists_read flow entries are v l steps row steps_are row_is =
       subst (λ list. Lists g.arcs.items flow v list row) (sym steps_are)
-      (subst (Lists g.arcs.items flow v (row_in g.steps.items (span_at g.spans.items v))) (sym row_is) (row_lists flow entries are v l))
+      (subst (Lists g.arcs.items flow v (row_in g.rows.now.steps.items (span_at g.rows.now.spans.items v))) (sym row_is) (row_lists flow entries are v l))
 
   -- a step that does not lie at the places of an arc's two steps is of another arc
-  other_arc : (i k : ℕ) (t : Step) → place_of g.places.items t ≡ k → k ≢ place_of g.places.items (Along i) → k ≢ place_of g.places.items (Against i) → arc_of t ≢ i
-  other_arc i k (Along j) p a b e = a (sym p ∙ ap (λ n. place_of g.places.items (Along n)) e)
-  other_arc i k (Against j) p a b e = b (sym p ∙ ap (λ n. place_of g.places.items (Against n)) e)
+  other_arc : (i k : ℕ) (t : Step) → place_of g.rows.now.places.items t ≡ k → k ≢ place_of g.rows.now.places.items (Along i) → k ≢ place_of g.rows.now.places.items (Against i) → arc_of t ≢ i
+  other_arc i k (Along j) p a b e = a (sym p ∙ ap (λ n. place_of g.rows.now.places.items (Along n)) e)
+  other_arc i k (Against j) p a b e = b (sym p ∙ ap (λ n. place_of g.rows.now.places.items (Against n)) e)
 
   pub renewed : (flow : List ℕ) (entries : List Entry) (i x : ℕ) → i < length g.arcs.items → AreEntries g flow entries
-      → AreEntries g (set flow i x) (set (set entries (place_of g.places.items (Along i)) (entry_of g.arcs.items (set flow i x) (Along i))) (place_of g.places.items (Against i)) (entry_of g.arcs.items (set flow i x) (Against i)))
+      → AreEntries g (set flow i x) (set (set entries (place_of g.rows.now.places.items (Along i)) (entry_of g.arcs.items (set flow i x) (Along i))) (place_of g.rows.now.places.items (Against i)) (entry_of g.arcs.items (set flow i x) (Against i)))
   renewed flow entries i x l are =
       let (p, at_p) = at_place (Along i) l in
       let (q, at_q) = at_place (Against i) l in
-      written (entry_of g.arcs.items flow) (entry_of g.arcs.items (set flow i x)) g.steps.items entries (place_of g.places.items (Along i)) (place_of g.places.items (Against i)) (Along i) (Against i) (Along 0) (entry_at [] 0)
+      written (entry_of g.arcs.items flow) (entry_of g.arcs.items (set flow i x)) g.rows.now.steps.items entries (place_of g.rows.now.places.items (Along i)) (place_of g.rows.now.places.items (Against i)) (Along i) (Against i) (Along 0) (entry_at [] 0)
       are p q at_p at_q
-      (λ k m np nq. same_entry g.arcs.items flow i x (step_at g.steps.items k) (other_arc i k (step_at g.steps.items k) (ok.places.place k m) np nq))
+      (λ k m np nq. same_entry g.arcs.items flow i x (step_at g.rows.now.steps.items k) (other_arc i k (step_at g.rows.now.steps.items k) (ok.places.place k m) np nq))
 
   -- the places of an arc as they were read
-  pub read_places : (flow : List ℕ) (entries : List Entry) (i : ℕ) (p : Places) → i < length g.arcs.items → AreEntries g flow entries → p ≡ get_or g.places.items i p → (p.along < length entries) × (p.against < length entries) × (p ≡ get_or g.places.items i (record { along = 0; against = 0 }))
+  pub read_places : (flow : List ℕ) (entries : List Entry) (i : ℕ) (p : Places) → i < length g.arcs.items → AreEntries g flow entries → p ≡ get_or g.rows.now.places.items i p → (p.along < length entries) × (p.against < length entries) × (p ≡ get_or g.rows.now.places.items i (record { along = 0; against = 0 }))
   read_places flow entries i p l are e =
-      let is : p ≡ get_or g.places.items i (record { along = 0; against = 0 }) = get_or_read g.places.items i p (omega (arith, ok.places.count)) e (record { along = 0; against = 0 }) in
-      let long : length entries ≡ length g.steps.items = ap (λ (es : List Entry). length es) are ∙ length-map g.steps.items (entry_of g.arcs.items flow) in (
+      let is : p ≡ get_or g.rows.now.places.items i (record { along = 0; against = 0 }) = get_or_read g.rows.now.places.items i p (omega (arith, ok.places.count)) e (record { along = 0; against = 0 }) in
+      let long : length entries ≡ length g.rows.now.steps.items = ap (λ (es : List Entry). length es) are ∙ length-map g.rows.now.steps.items (entry_of g.arcs.items flow) in (
         omega (arith, (at_place (Along i) l).0, ap (λ (q : Places). q.along) is),
         omega (arith, (at_place (Against i) l).0, ap (λ (q : Places). q.against) is),
         is,
       )
 
-  pub renewed_read : (flow : List ℕ) (entries : List Entry) (i x : ℕ) (p : Places) (a b : Entry) → i < length g.arcs.items → AreEntries g flow entries → p ≡ get_or g.places.items i p → a ≡ entry_of g.arcs.items (set flow i x) (Along i) → b ≡ entry_of g.arcs.items (set flow i x) (Against i) → AreEntries g (set flow i x) (set (set entries p.along a) p.against b)
+  pub renewed_read : (flow : List ℕ) (entries : List Entry) (i x : ℕ) (p : Places) (a b : Entry) → i < length g.arcs.items → AreEntries g flow entries → p ≡ get_or g.rows.now.places.items i p → a ≡ entry_of g.arcs.items (set flow i x) (Along i) → b ≡ entry_of g.arcs.items (set flow i x) (Against i) → AreEntries g (set flow i x) (set (set entries p.along a) p.against b)
   renewed_read flow entries i x p a b l are e at_along at_against =
       subst (λ q. AreEntries g (set flow i x) (set (set entries q.along a) q.against b)) (sym (read_places flow entries i p l are e).2)
-      (subst (λ n. AreEntries g (set flow i x) (set (set entries (place_of g.places.items (Along i)) n) (place_of g.places.items (Against i)) b)) (sym at_along)
-      (subst (λ n. AreEntries g (set flow i x) (set (set entries (place_of g.places.items (Along i)) (entry_of g.arcs.items (set flow i x) (Along i))) (place_of g.places.items (Against i)) n)) (sym at_against) (renewed flow entries i x l are)))
+      (subst (λ n. AreEntries g (set flow i x) (set (set entries (place_of g.rows.now.places.items (Along i)) n) (place_of g.rows.now.places.items (Against i)) b)) (sym at_along)
+      (subst (λ n. AreEntries g (set flow i x) (set (set entries (place_of g.rows.now.places.items (Along i)) (entry_of g.arcs.items (set flow i x) (Along i))) (place_of g.rows.now.places.items (Against i)) n)) (sym at_against) (renewed flow entries i x l are)))

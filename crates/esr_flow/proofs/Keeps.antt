@@ -5,9 +5,10 @@ use Rattle.esr_cert.specs.Network.{arc_at, Network, IsNetwork}
 use Rattle.esr_cert.specs.Flow.{within, amount_at, carried, IsFlow, worth}
 use Rattle.esr_cert.specs.Cut.{crosses, comes_back, limit_of, across, IsLimited, AreLimited}
 use Rattle.esr_cert.proofs.Cut.{cut, carried_at_most, carried_full, full_from, nothing_back, nothing_from}
-use Rattle.esr_flow.specs.declared.step.Step.{Step}
-use Rattle.esr_flow.specs.declared.step.Step.TheVariants.{Along, Against}
-use Rattle.esr_flow.specs.Residual.{left_of, start, finish, IsResidual, IsPath}
+use Rattle.esr_cert.specs.declared.step.Step.{Step}
+use Rattle.esr_cert.specs.declared.step.Step.TheVariants.{Along, Against}
+use Rattle.esr_flow.specs.Residual.{left_of, finish, IsResidual, IsPath}
+use Rattle.esr_cert.specs.Steps.{start}
 
 -- a set that residual steps do not leave
 abbrev pub Keeps : Network → List ℕ → (ℕ → Bool) → Type 0

@@ -3,10 +3,11 @@
 use Rattle.std.proofs.Common.{◌≡◌, ◌≢◌, ℕ, suc, ◌+◌, ◌-◌, ◌<◌, ◌≤◌, Bool, true, false, ◌&&◌, ◌||◌, ◌⊎◌, leb, eqb, List, [], ◌∷◌, length, Option, Some, None, refl, sym, ap, ◌∙◌, subst, inl, inr, arith, length-set, eq-eqb, ne_eqb, eqb-true, le-leb, leb-true, get_or-set_other, get_or-set_same}
 use Rattle.std.proofs.lemmas.Bool.{or_left, or_right, or_cases, and_parts, and_from, and_left, or_from, lt-leb, cases_eq, and_right}
 use Rattle.esr_cert.specs.declared.network.Arc.{Arc}
-use Rattle.esr_flow.specs.declared.step.Step.{Step}
-use Rattle.esr_flow.specs.declared.step.Step.TheVariants.{Along, Against}
+use Rattle.esr_cert.specs.declared.step.Step.{Step}
+use Rattle.esr_cert.specs.declared.step.Step.TheVariants.{Along, Against}
 use Rattle.esr_cert.specs.Flow.{within, amount_at}
-use Rattle.esr_flow.specs.Residual.{left_of, arc_of, start, finish, room, IsPath, Falls, shift, raise}
+use Rattle.esr_flow.specs.Residual.{left_of, finish, room, IsPath, Falls, shift, raise}
+use Rattle.esr_cert.specs.Steps.{arc_of, start}
 use Rattle.esr_cert.specs.Network.{arc_at}
 
 pub label_bound : (arcs : List Arc) (flow : List ℕ) (d : ℕ → ℕ) → Falls arcs flow d → (path : List Step) (a b : ℕ) → IsPath arcs flow a path b → d a ≤ length path + d b

@@ -13,10 +13,6 @@ pub mod LabelLaws
 pub mod MaximumLaws
 pub mod WalkLaws
 pub mod PhaseLaws
-pub mod StepsLaws
-pub mod RowsLaws
-pub mod PlacesLaws
 pub mod EntriesLaws
-pub mod ArcsLaws
 pub mod GraphLaws
 pub mod CertificateLaws

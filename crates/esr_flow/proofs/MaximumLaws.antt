@@ -2,7 +2,7 @@
 use Rattle.std.proofs.Common.{◌≡◌, ℕ, zero, suc, ◌+◌, ◌^◌, ◌<◌, ◌≤◌, List, [], ◌∷◌, ◌++◌, length, get_or, take, Some, refl, ap, ◌∙◌, arith, add-one}
 use Rattle.std.proofs.lemmas.List.{take_more}
 use Rattle.esr_cert.specs.declared.network.Arc.{Arc}
-use Rattle.esr_flow.specs.declared.step.Step.{Step}
+use Rattle.esr_cert.specs.declared.step.Step.{Step}
 use Rattle.esr_cert.specs.Flow.{amount_at, IsFlow, worth}
 use Rattle.esr_flow.specs.Residual.{finish, IsPath, least_room, shift, raise}
 use Rattle.esr_cert.specs.Network.{Network, IsNetwork}

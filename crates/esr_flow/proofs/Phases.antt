@@ -4,7 +4,7 @@ use Rattle.std.proofs.Common.{◌≡◌, ℕ, zero, suc, ◌+◌, ◌*◌, ◌<�
 use Rattle.std.proofs.lemmas.Bool.{or_from, and_right}
 use Rattle.std.proofs.lemmas.List.{length-replicate}
 use Rattle.esr_cert.specs.declared.network.Arc.{Arc}
-use Rattle.esr_flow.specs.declared.step.Step.{Step}
+use Rattle.esr_cert.specs.declared.step.Step.{Step}
 use Rattle.esr_flow.specs.Residual.{Falls, finish, room, IsPath, lesser, least_room, shift, raise}
 use Rattle.esr_cert.specs.Flow.{within}
 use Rattle.esr_cert.specs.Network.{arc_at, Network, IsNetwork}

@@ -3,13 +3,15 @@ use Rattle.std.proofs.Common.{◌≡◌, ◌≢◌, ℕ, ◌+◌, ◌-◌, ◌<�
 use Rattle.std.proofs.lemmas.Bool.{cases_eq}
 use Rattle.std.proofs.lemmas.List.{get_or_append_left, get_or_push, length_push, get_or_default}
 use Rattle.esr_cert.specs.declared.network.Arc.{Arc}
-use Rattle.esr_flow.specs.declared.step.Step.{Step}
-use Rattle.esr_flow.specs.declared.step.Step.TheVariants.{Along, Against}
+use Rattle.esr_cert.specs.declared.step.Step.{Step}
+use Rattle.esr_cert.specs.declared.step.Step.TheVariants.{Along, Against}
 use Rattle.esr_flow.specs.declared.entry.Entry.{Entry}
 use Rattle.esr_flow.specs.declared.search.Visit.{Visit}
-use Rattle.esr_flow.specs.Residual.{arc_of, start, finish, IsResidual}
+use Rattle.esr_cert.specs.Steps.{arc_of, start}
+use Rattle.esr_flow.specs.Residual.{finish, IsResidual}
 use Rattle.esr_cert.specs.Network.{Network, IsNetwork}
-use Rattle.esr_flow.specs.Graph.{step_at, IsEntry, Lists}
+use Rattle.esr_cert.specs.Steps.{step_at}
+use Rattle.esr_flow.specs.Graph.{IsEntry, Lists}
 use Rattle.esr_flow.specs.Search.{visit_at, is_marked, Leads, Searched, FoundSink}
 use Rattle.esr_flow.proofs.SearchLaws.{visit_more, next_head, unmarked_far}
 

@@ -3,10 +3,11 @@ use Rattle.std.proofs.Common.{◌≡◌, ◌≢◌, ℕ, zero, suc, ◌+◌, ◌
 use Rattle.std.proofs.lemmas.Bool.{cases_eq, cases_Bool, cases_lt, cond-true, cond-false}
 use Rattle.std.proofs.lemmas.List.{get_or_append_left, get_or_push, length_push}
 use Rattle.esr_cert.specs.declared.network.Arc.{Arc}
-use Rattle.esr_flow.specs.declared.step.Step.{Step}
-use Rattle.esr_flow.specs.declared.step.Step.TheVariants.{Along, Against}
+use Rattle.esr_cert.specs.declared.step.Step.{Step}
+use Rattle.esr_cert.specs.declared.step.Step.TheVariants.{Along, Against}
 use Rattle.esr_flow.specs.declared.search.Visit.{Visit}
-use Rattle.esr_flow.specs.Residual.{arc_of, start, finish, room, IsResidual, IsPath}
+use Rattle.esr_cert.specs.Steps.{arc_of, start}
+use Rattle.esr_flow.specs.Residual.{finish, room, IsResidual, IsPath}
 use Rattle.esr_cert.specs.Network.{Network, IsNetwork}
 use Rattle.esr_flow.specs.Augmentation.{IsReach}
 use Rattle.esr_flow.specs.Search.{visit_at, is_marked, unmarked, Leads, Comes, Searched}

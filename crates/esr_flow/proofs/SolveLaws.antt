@@ -10,9 +10,10 @@ use Rattle.esr_cert.specs.Flow.{amount_at}
 use Rattle.esr_cert.specs.Cut.{with_source, IsLimited, AreLimited}
 use Rattle.esr_cert.proofs.Sound.{here, there, IsClosed, IsChain, IsProblem, closed_facts, closed_from}
 use Rattle.esr_cert.proofs.Least.{with_the_source, without_sink, limited, version_same}
-use Rattle.esr_flow.specs.declared.step.Step.{Step}
-use Rattle.esr_flow.specs.declared.step.Step.TheVariants.{Along, Against}
-use Rattle.esr_flow.specs.Residual.{left_of, arc_of, start, finish, room, least_room, lesser, IsPath}
+use Rattle.esr_cert.specs.declared.step.Step.{Step}
+use Rattle.esr_cert.specs.declared.step.Step.TheVariants.{Along, Against}
+use Rattle.esr_flow.specs.Residual.{left_of, finish, room, least_room, lesser, IsPath}
+use Rattle.esr_cert.specs.Steps.{arc_of, start}
 use Rattle.esr_flow.specs.Maximum.{HasLimit}
 use Rattle.esr_flow.specs.Certificate.{positions}
 

@@ -2,12 +2,13 @@
 use Rattle.std.proofs.Common.{◌≡◌, ℕ, zero, suc, ◌+◌, ◌-◌, ◌<◌, ◌≤◌, List, [], ◌∷◌, ◌++◌, length, get_or, set, reverse, refl, sym, ap, subst, arith}
 use Rattle.std.proofs.lemmas.List.{length_push, reverse-append, length-reverse}
 use Rattle.esr_cert.specs.declared.network.Arc.{Arc}
-use Rattle.esr_flow.specs.declared.step.Step.{Step}
-use Rattle.esr_flow.specs.declared.step.Step.TheVariants.{Along, Against}
-use Rattle.esr_flow.specs.Residual.{arc_of, start, finish, opposite, IsResidual, IsPath}
+use Rattle.esr_cert.specs.declared.step.Step.{Step}
+use Rattle.esr_cert.specs.declared.step.Step.TheVariants.{Along, Against}
+use Rattle.esr_cert.specs.Steps.{arc_of, start, opposite}
+use Rattle.esr_flow.specs.Residual.{finish, IsResidual, IsPath}
 use Rattle.esr_cert.specs.Network.{Network, IsNetwork}
-use Rattle.esr_flow.specs.declared.graph.Span.{Span}
-use Rattle.esr_flow.specs.Graph.{span_at}
+use Rattle.esr_cert.specs.declared.rows.Span.{Span}
+use Rattle.esr_cert.specs.Rows.{span_at}
 use Rattle.esr_flow.specs.Search.{label_at, Guides, IsGuided}
 use Rattle.esr_flow.proofs.Labels.{label_bound}
 

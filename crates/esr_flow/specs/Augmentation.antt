@@ -1,8 +1,9 @@
 -- Augmentations along shortest paths (Edmonds and Karp, 1972), and what the source reaches in the residual network.
 use Rattle.std.specs.Prelude.{◌≡◌, ℕ, zero, suc, ◌≤◌, Bool, true, List, length, replicate, Some}
 use Rattle.esr_cert.specs.Network.{Network}
-use Rattle.esr_flow.specs.declared.step.Step.{Step}
-use Rattle.esr_flow.specs.Residual.{start, finish, IsResidual, IsPath, least_room, raise}
+use Rattle.esr_cert.specs.declared.step.Step.{Step}
+use Rattle.esr_cert.specs.Steps.{start}
+use Rattle.esr_flow.specs.Residual.{finish, IsResidual, IsPath, least_room, raise}
 
 -- one augmentation, along a residual path with fewest arcs, by the least residual amount on it
 pub record Augments (net : Network) (flow after : List ℕ) : Type 0 where

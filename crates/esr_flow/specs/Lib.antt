@@ -1,10 +1,7 @@
 pub mod Residual
 pub mod Augmentation
 pub mod Graph
-pub mod Rows
-pub mod Short
 pub mod ShortEntry
-pub mod ShortArc
 pub mod Search
 pub mod Maximum
 pub mod Certificate

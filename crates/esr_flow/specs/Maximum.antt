@@ -1,9 +1,10 @@
 -- What a solver needs of a network: its flows are small, and each path to the sink is limited.
 use Rattle.std.specs.Prelude.{◌≡◌, ℕ, ◌<◌, List, length, get_or, None}
 use Rattle.esr_cert.specs.declared.network.Arc.{Arc}
-use Rattle.esr_flow.specs.declared.step.Step.{Step}
+use Rattle.esr_cert.specs.declared.step.Step.{Step}
 use Rattle.esr_cert.specs.Network.{Network}
-use Rattle.esr_flow.specs.Residual.{arc_of, least_room, IsPath}
+use Rattle.esr_cert.specs.Steps.{arc_of}
+use Rattle.esr_flow.specs.Residual.{least_room, IsPath}
 
 abbrev pub LIMIT : ℕ
 LIMIT = 2000000000000000000

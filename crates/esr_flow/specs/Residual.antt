@@ -3,30 +3,18 @@ use Rattle.std.specs.Prelude.{◌≡◌, ℕ, suc, ◌+◌, ◌-◌, ◌<◌, �
 use Rattle.esr_cert.specs.declared.network.Arc.{Arc}
 use Rattle.esr_cert.specs.Network.{arc_at}
 use Rattle.esr_cert.specs.Flow.{within, amount_at}
-use Rattle.esr_flow.specs.declared.step.Step.{Step}
-use Rattle.esr_flow.specs.declared.step.Step.TheVariants.{Along, Against}
+use Rattle.esr_cert.specs.Steps.{arc_of, start}
+use Rattle.esr_cert.specs.declared.step.Step.{Step}
+use Rattle.esr_cert.specs.declared.step.Step.TheVariants.{Along, Against}
 
 -- what is left of a limit
 abbrev pub left_of : Option ℕ → ℕ → Option ℕ
 left_of None amount = None
 left_of (Some limit) amount = Some (limit - amount)
 
-abbrev pub arc_of : Step → ℕ
-arc_of (Along i) = i
-arc_of (Against i) = i
-
-abbrev pub start : List Arc → Step → ℕ
-start arcs (Along i) = (arc_at arcs i).from
-start arcs (Against i) = (arc_at arcs i).to
-
 abbrev pub finish : List Arc → Step → ℕ
 finish arcs (Along i) = (arc_at arcs i).to
 finish arcs (Against i) = (arc_at arcs i).from
-
--- the step back over the same arc
-abbrev pub opposite : Step → Step
-opposite (Along i) = Against i
-opposite (Against i) = Along i
 
 -- the residual amount: unused capacity along an arc, the amount that it carries against it
 abbrev pub room : List Arc → List ℕ → Step → Option ℕ

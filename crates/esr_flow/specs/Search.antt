@@ -1,13 +1,14 @@
 -- What a breadth-first search of the residual network has found.
 use Rattle.std.specs.Prelude.{◌≡◌, ℕ, suc, ◌+◌, ◌-◌, ◌<◌, ◌≤◌, Bool, true, false, if◌then◌else◌, List, [], ◌∷◌, length, get_or}
-use Rattle.esr_flow.specs.declared.step.Step.{Step}
-use Rattle.esr_flow.specs.declared.step.Step.TheVariants.{Along}
+use Rattle.esr_cert.specs.declared.step.Step.{Step}
+use Rattle.esr_cert.specs.declared.step.Step.TheVariants.{Along}
 use Rattle.esr_cert.specs.declared.network.Arc.{Arc}
 use Rattle.esr_flow.specs.declared.search.Visit.{Visit}
 use Rattle.esr_flow.specs.declared.search.Found.{Found}
 use Rattle.esr_flow.specs.declared.search.Found.TheVariants.{Path, Reach}
 use Rattle.esr_cert.specs.Network.{Network}
-use Rattle.esr_flow.specs.Residual.{start, finish, IsResidual, IsPath, Falls}
+use Rattle.esr_cert.specs.Steps.{start}
+use Rattle.esr_flow.specs.Residual.{finish, IsResidual, IsPath, Falls}
 use Rattle.esr_flow.specs.Augmentation.{IsReach}
 
 abbrev pub visit_at : List Visit → ℕ → Visit

@@ -1,14 +1,14 @@
 //! The arcs of a network, the steps that start at each node, and for each step an entry of what has room.
 ghost use Rattle.std.specs.Prelude.{◌≡◌, ◌<◌, true, length, set, IfOk, Vec};
 ghost use Rattle.std.specs.declared.alloc.Global.{Global};
-ghost use Rattle.esr_flow.specs.declared.step.Step.{Step};
+ghost use Rattle.esr_cert.specs.declared.step.Step.{Step};
 ghost use Rattle.esr_cert.specs.Flow.{within};
-ghost use Rattle.esr_flow.specs.Residual.{room, arc_of, finish};
+ghost use Rattle.esr_flow.specs.Residual.{room, finish};
+ghost use Rattle.esr_cert.specs.Steps.{arc_of};
 ghost use Rattle.esr_flow.specs.Graph.{entry_of};
 
 use crate::entry::{Entry, ShortEntry};
-use crate::short_arc::ShortArc;
-use crate::step::{ShortStep, Step};
+use esr_cert::{Rows, ShortArc, ShortStep, Step};
 use std::alloc::{AllocError, Global};
 
 /// Whether a residual amount has room for one more.
@@ -21,54 +21,37 @@ fn has_one(room: Option<u64>) -> bool
     }
 }
 
-/// Where the steps of a node lie.
-#[derive(Clone, Copy)]
-pub struct Span {
-    pub begin: usize,
-    pub end: usize,
-}
-
-/// Where the two steps of an arc lie.
-#[derive(Clone, Copy)]
-pub struct Places {
-    pub along: u32,
-    pub against: u32,
-}
-
-/// The arcs of a network, and for each node the steps that start at it, one after another.
+/// The arcs of a network, and for each node the steps that start at it.
 #[derive(Drop)]
-pub struct Graph {
+pub struct Graph<'a> {
     pub nodes: usize,
     pub arcs: Vec<ShortArc>,
-    pub spans: Vec<Span>,
-    pub steps: Vec<ShortStep>,
-    pub places: Vec<Places>,
+    pub rows: &'a Rows,
     pub source: usize,
     pub sink: usize,
 }
 
-impl Graph {
-    ghost use Rattle.esr_flow.specs.Graph.{IsGraph, AreEntries, row_in, span_at};
+impl<'a> Graph<'a> {
+    ghost use Rattle.esr_flow.specs.Graph.{IsGraph, AreEntries};
+    ghost use Rattle.esr_cert.specs.Rows.{row_in, span_at};
 
     /// The steps that start at a node.
     pub fn steps_at(&self, v: usize) -> &[ShortStep]
         requires graph { IsGraph self.now }
         requires node { v < self.now.nodes }
-        ensures { result.now ≡ row_in self.now.steps.items (span_at self.now.spans.items v) }
+        ensures { result.now ≡ row_in self.now.rows.now.steps.items (span_at self.now.rows.now.spans.items v) }
     {
-        let span = self.spans[v];
-        &self.steps[span.begin..span.end]
+        self.rows.row(&self.rows.steps, v)
     }
 
     /// The entries of a node.
-    pub fn row<'a>(&self, entries: &'a [ShortEntry], v: usize) -> &'a [ShortEntry]
+    pub fn row<'b>(&self, entries: &'b [ShortEntry], v: usize) -> &'b [ShortEntry]
         requires graph { IsGraph self.now }
-        requires entries { length entries.now ≡ length self.now.steps.items }
+        requires entries { length entries.now ≡ length self.now.rows.now.steps.items }
         requires node { v < self.now.nodes }
-        ensures { result.now ≡ row_in entries.now (span_at self.now.spans.items v) }
+        ensures { result.now ≡ row_in entries.now (span_at self.now.rows.now.spans.items v) }
     {
-        let span = self.spans[v];
-        &entries[span.begin..span.end]
+        self.rows.row(entries, v)
     }
 
     /// The entries of all steps, with the residual amounts of a flow.
@@ -77,8 +60,8 @@ impl Graph {
         requires flow { length flow.now ≡ length self.now.arcs.items }
         ensures { IfOk result (λ entries. AreEntries self.now flow.now entries.items) }
     {
-        let mut entries = Vec::with_capacity(alloc, self.steps.len())?;
-        for step in &self.steps {
+        let mut entries = Vec::with_capacity(alloc, self.rows.steps.len())?;
+        for step in &self.rows.steps {
             entries.push(entry_of(&self.arcs, flow, step.step()))?;
         }
         Ok(entries)
@@ -94,7 +77,7 @@ impl Graph {
         ensures entries { AreEntries self.now flow.new entries.new }
     {
         flow[arc as usize] = amount;
-        let places = self.places[arc as usize];
+        let places = self.rows.places[arc as usize];
         entries[places.along as usize] = entry_of(&self.arcs, flow, Step::Along(arc));
         entries[places.against as usize] = entry_of(&self.arcs, flow, Step::Against(arc));
     }

@@ -1,7 +1,8 @@
 //! A greatest flow, by shortest augmenting paths.
 ghost use Rattle.std.specs.Prelude.{◌≡◌, ℕ, ◌+◌, ◌*◌, ◌^◌, ◌<◌, ◌≤◌, false, length, set, take, IfOk, List, None};
-ghost use Rattle.esr_flow.specs.declared.step.Step.{Step};
-ghost use Rattle.esr_flow.specs.Residual.{arc_of, lesser, least_room, shift, raise};
+ghost use Rattle.esr_cert.specs.declared.step.Step.{Step};
+ghost use Rattle.esr_cert.specs.Steps.{arc_of};
+ghost use Rattle.esr_flow.specs.Residual.{lesser, least_room, shift, raise};
 ghost use Rattle.esr_cert.specs.Flow.{amount_at, IsFlow, worth};
 ghost use Rattle.esr_flow.specs.Augmentation.{IsReach, Augments, Takes};
 ghost use Rattle.esr_flow.specs.Graph.{net_of, IsGraph, AreEntries};
@@ -11,8 +12,8 @@ ghost use Rattle.esr_flow.specs.Maximum.{InArcs, HasLimit, LIMIT};
 use crate::entry::ShortEntry;
 use crate::graph::{Graph, room_of};
 use crate::search::{Found, search};
-use crate::short_arc::ShortArc;
-use crate::step::Step;
+use esr_cert::ShortArc;
+use esr_cert::Step;
 use crate::walk::{rewind, walk};
 use std::alloc::{AllocError, Global};
 

@@ -4,33 +4,23 @@ ghost use Rattle.esr_cert.specs.Problem.{is_sound};
 ghost use Rattle.esr_cert.specs.Network as networks;
 ghost use Rattle.esr_flow.specs.Graph.{net_of, IsGraph};
 
-use crate::arcs::arcs_of;
 use crate::graph::Graph;
-use crate::rows::{Rows, rows_of};
 use esr_cert::Problem;
 use esr_history::NoMemory;
 use std::alloc::{AllocError, Global};
 
 /// The graph of a problem's network: updates are nodes by their positions, and the
 /// source and the sink come after them.
-fn graph_of(alloc: Global, problem: &Problem) -> Result<Graph, AllocError>
+fn graph_of<'a>(alloc: Global, problem: &'a Problem) -> Result<Graph<'a>, AllocError>
     ensures graph { IfOk result IsGraph }
     ensures network { IfOk result (λ graph. net_of graph ≡ networks.network problem.now) }
 {
     let source = problem.updates().len();
-    let nodes = source + 2;
-    let arcs = arcs_of(alloc, problem)?;
-    let Rows {
-        spans,
-        steps,
-        places,
-    } = rows_of(alloc, nodes, &arcs)?;
+    let arcs = problem.arcs(alloc)?;
     Ok(Graph {
-        nodes,
+        nodes: source + 2,
         arcs,
-        spans,
-        steps,
-        places,
+        rows: problem.rows(),
         source,
         sink: source + 1,
     })
@@ -46,7 +36,7 @@ fn graph_of(alloc: Global, problem: &Problem) -> Result<Graph, AllocError>
 #[derive(Drop)]
 pub struct Network<'a> {
     pub problem: &'a Problem,
-    pub(crate) graph: Graph,
+    pub(crate) graph: Graph<'a>,
     ghost sound: { is_sound problem.now ≡ true },
     ghost kept: { IsGraph graph },
     ghost same: { net_of graph ≡ networks.network problem.now },

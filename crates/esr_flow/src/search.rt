@@ -1,12 +1,12 @@
 //! Breadth-first search of the residual network.
 ghost use Rattle.std.specs.Prelude.{◌≡◌, ◌+◌, ◌-◌, ◌<◌, ◌≤◌, true, false, length, IfOk};
-ghost use Rattle.esr_flow.specs.declared.step.Step.{Step};
+ghost use Rattle.esr_cert.specs.declared.step.Step.{Step};
 ghost use Rattle.esr_flow.specs.Graph.{net_of, IsGraph, AreEntries, Lists};
 ghost use Rattle.esr_flow.specs.Search.{Searched, visit_at, is_marked, IsShortestPath, AfterScan, FoundSink, IsFound, Guides, label_at};
 
 use crate::entry::ShortEntry;
 use crate::graph::Graph;
-use crate::step::{ShortStep, Step};
+use esr_cert::{ShortStep, Step};
 use std::alloc::{AllocError, Global};
 
 /// A node that was reached, by a step from the node of an earlier visit.

@@ -1,15 +1,17 @@
 //! Walks from the sink back to the source, against steps on which labels fall.
 ghost use Rattle.std.specs.Prelude.{◌≡◌, ◌+◌, ◌<◌, ◌≤◌, true, length, IfOk, IfSome};
-ghost use Rattle.esr_flow.specs.declared.step.Step.{Step};
+ghost use Rattle.esr_cert.specs.declared.step.Step.{Step};
 ghost use Rattle.esr_cert.specs.Flow.{within};
-ghost use Rattle.esr_flow.specs.Residual.{room, opposite};
-ghost use Rattle.esr_flow.specs.Graph.{net_of, IsGraph, AreEntries, Lists, step_at, entry_at};
+ghost use Rattle.esr_flow.specs.Residual.{room};
+ghost use Rattle.esr_cert.specs.Steps.{opposite};
+ghost use Rattle.esr_flow.specs.Graph.{net_of, IsGraph, AreEntries, Lists, entry_at};
+ghost use Rattle.esr_cert.specs.Steps.{step_at};
 ghost use Rattle.esr_flow.specs.Search.{Guides, IsGuided, label_at};
 ghost use Rattle.esr_flow.specs.Maximum.{InArcs};
 
 use crate::entry::ShortEntry;
 use crate::graph::{Graph, finish_of};
-use crate::step::{ShortStep, Step};
+use esr_cert::{ShortStep, Step};
 use std::alloc::{AllocError, Global};
 
 /// The first place of a node's row, from a place on, with a step that leads to a

@@ -2,7 +2,7 @@ use Rattle.std.proofs.Common.{◌≡◌, ◌∙◌, ◌&&◌, eqb, sym, ap, leng
 use Rattle.esr_cert.specs.Parts.{are_rows_within}
 use Rattle.esr_cert.specs.Views.{rows_of, certificate_of}
 use Rattle.esr_cert.proofs.Sound.{facts}
-use Rattle.esr_cert.proofs.Rows.{within_rows}
+use Rattle.esr_cert.proofs.Within.{within_rows}
 use Rattle.esr_cert.proofs.checker.is_within.Goals as goal
 
 pub returns-then-not-are_rows_within : goal.returns-then-not-are_rows_within

@@ -1,6 +1,6 @@
 use Rattle.std.proofs.Common.{◌≡◌, ◌+◌, get_or, set, take, sym, ◌∙◌, ap}
-use Rattle.esr_flow.specs.declared.step.Step.{Step}
-use Rattle.esr_flow.specs.declared.step.Step.TheVariants.{Along}
+use Rattle.esr_cert.specs.declared.step.Step.{Step}
+use Rattle.esr_cert.specs.declared.step.Step.TheVariants.{Along}
 use Rattle.esr_flow.specs.Residual.{raise, shift}
 use Rattle.esr_flow.proofs.MaximumLaws.{raise_more}
 use Rattle.esr_flow.proofs.maximum.raise_along.Goals as goal

@@ -1,8 +1,9 @@
 use Rattle.std.proofs.Common.{arith, ◌≡◌, ℕ, ◌+◌, ◌<◌, true, false, List, [], ◌∷◌, ◌++◌, length, get_or, set, sym, ap, ◌∙◌, subst}
 use Rattle.std.proofs.lemmas.List.{get_or_read}
 use Rattle.esr_flow.specs.declared.entry.Entry.{Entry}
-use Rattle.esr_flow.specs.declared.step.Step.TheVariants.{Along}
-use Rattle.esr_flow.specs.Graph.{net_of, step_at}
+use Rattle.esr_cert.specs.declared.step.Step.TheVariants.{Along}
+use Rattle.esr_flow.specs.Graph.{net_of}
+use Rattle.esr_cert.specs.Steps.{step_at}
 use Rattle.esr_flow.specs.Search.{is_marked, FoundSink}
 use Rattle.esr_flow.proofs.ScanLaws.{Scanning, none_at, visit_of, entry_marked, scan_skip, scan_marked, scan_visit, scan_found, scan_end}
 use Rattle.esr_flow.proofs.search.scan.Goals as goal

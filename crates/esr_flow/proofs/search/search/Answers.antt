@@ -1,9 +1,10 @@
 use Rattle.std.proofs.Common.{arith, ◌≡◌, ℕ, true, false, set, replicate, [], ◌∷◌, subst, sym, ◌∙◌, ap, ◌++◌}
-use Rattle.esr_flow.specs.declared.step.Step.TheVariants.{Along}
+use Rattle.esr_cert.specs.declared.step.Step.TheVariants.{Along}
 use Rattle.std.proofs.lemmas.List.{get_or_default}
 use Rattle.esr_cert.specs.Network.{Network}
 use Rattle.esr_flow.specs.declared.graph.Graph.{Graph}
-use Rattle.esr_flow.specs.Graph.{net_of, row_in, span_at}
+use Rattle.esr_flow.specs.Graph.{net_of}
+use Rattle.esr_cert.specs.Rows.{row_in, span_at}
 use Rattle.esr_flow.specs.Search.{visit_at, is_marked, Searched, AfterScan}
 use Rattle.esr_flow.proofs.EntriesLaws.{lists_read}
 use Rattle.esr_flow.proofs.PathLaws.{begin, sink_unmarked}
@@ -32,8 +33,8 @@ scan-requires-clause-row c =
     ap (λ x. x.node) (c.index.ensures ∙ get_or_default c.loop-head.visits.items c.loop-head.head c.index.result.now (record { node = 0; level = 0; step = Along 0; parent = 0 }) (omega arith)) in
     let second : c.index-in-loop-head.result.now.node ≡ v =
     ap (λ x. x.node) (c.index-in-loop-head.ensures ∙ get_or_default c.loop-head.visits.items c.loop-head.head c.index-in-loop-head.result.now (record { node = 0; level = 0; step = Along 0; parent = 0 }) (omega arith)) in
-    let steps : c.steps_at-steps.result.now ≡ row_in g.steps.items (span_at g.spans.items v) = c.steps_at-steps.ensures ∙ ap (λ n. row_in g.steps.items (span_at g.spans.items n)) first in
-    let row : c.row-row.result.now ≡ row_in c.args.entries.now (span_at g.spans.items v) = c.row-row.ensures ∙ ap (λ n. row_in c.args.entries.now (span_at g.spans.items n)) second in
+    let steps : c.steps_at-steps.result.now ≡ row_in g.rows.now.steps.items (span_at g.rows.now.spans.items v) = c.steps_at-steps.ensures ∙ ap (λ n. row_in g.rows.now.steps.items (span_at g.rows.now.spans.items n)) first in
+    let row : c.row-row.result.now ≡ row_in c.args.entries.now (span_at g.rows.now.spans.items v) = c.row-row.ensures ∙ ap (λ n. row_in c.args.entries.now (span_at g.rows.now.spans.items n)) second in
     lists_read g c.requires.graph c.args.flow.now c.args.entries.now c.requires.entries v (h.nodes c.loop-head.head (omega arith)) c.steps_at-steps.result.now c.row-row.result.now steps row
 
 pub loop-head-preserved : goal.loop-head-preserved

@@ -1,49 +1,31 @@
-use Rattle.std.proofs.Common.{◌≡◌, ◌<◌, length, get_or, map, ap, arith}
-use Rattle.std.proofs.lemmas.List.{length-map, get_or-map}
+use Rattle.std.proofs.Common.{arith, ◌≡◌, ◌∙◌, ap, refl, length, map, sum_by}
+use Rattle.std.proofs.lemmas.List.{length-map}
 use Rattle.esr_cert.specs.Problem.{Problem, size}
-use Rattle.esr_cert.specs.Views.{problem_of, chain_of}
-use Rattle.esr_cert.proofs.Sound.{AreFew, are_few, IsProblem, facts, pairs_known, musts_known, writers_known}
+use Rattle.esr_cert.specs.Network.{network}
+use Rattle.esr_cert.specs.Views.{chain_of, problem_of}
+use Rattle.esr_cert.proofs.Sound.{facts}
+use Rattle.esr_cert.proofs.Steps.{same_parts}
+use Rattle.esr_cert.proofs.Worth.{arc_count}
+use Rattle.esr_cert.proofs.ArcsLaws.{ends_of, costs_count}
 use Rattle.esr_cert.proofs.problem.Problem.of_sound.Goals as goal
-use Rattle.esr_cert.proofs.problem.Problem.of_sound.Goals.{After-deref-3}
 
-abbrev of : After-deref-3 → Problem
-of c = problem_of c.args.updates.items c.args.before.items c.args.chains.items c.args.must.items
+pub rows_of-requires : goal.rows_of-requires
+rows_of-requires c =
+    let p : Problem = problem_of c.args.updates.items c.args.before.items c.args.chains.items c.args.must.items in
+    let given : problem_of c.deref.result.now c.deref-2.result.now c.deref-3.result.now c.deref-4.result.now ≡ p =
+    same_parts c.deref.ensures.value c.deref-2.ensures.value c.deref-3.ensures.value c.deref-4.ensures.value in
+    ends_of p (facts p c.requires.sound) c.deref-5.result.now c.len.result (c.deref-5.ensures.value ∙ c.in_ok-arcs.ensures ∙ ap (λ q. (network q).arcs) given) (omega (arith, length-map c.args.updates.items (λ t. t.0), c.len.ensures, c.args.updates.ok.0))
 
-few : (c : After-deref-3) → AreFew (of c)
-few c = are_few (of c) c.requires.sound
-
-known : (c : After-deref-3) → IsProblem (of c)
-known c = facts (of c) c.requires.sound
-
-count : (c : After-deref-3) → size (of c) ≡ c.len.result
-count c = omega (arith, length-map c.args.updates.items (λ t. t.0), c.len.ensures, c.args.updates.ok.0)
-
-pub index_of-requires-clause-few_pairs : goal.index_of-requires-clause-few_pairs
-index_of-requires-clause-few_pairs c = omega (arith, (few c).pairs, ap length c.deref.ensures.value)
-
-pub index_of-requires-clause-few_chains : goal.index_of-requires-clause-few_chains
-index_of-requires-clause-few_chains c = omega (arith, (few c).chains, ap length c.deref-2.ensures.value, length-map c.args.chains.items chain_of)
-
-pub index_of-requires-clause-few_writers : goal.index_of-requires-clause-few_writers
-index_of-requires-clause-few_writers c =
-    λ k d l.
-    let short : k < length c.args.chains.items = omega (arith, ap length c.deref-2.ensures.value) in
-    let at : get_or (map chain_of c.args.chains.items) k (chain_of d) ≡ chain_of (get_or c.args.chains.items k d) = get_or-map chain_of c.args.chains.items k d (chain_of d) short in
+pub starts_of-requires : goal.starts_of-requires
+starts_of-requires c =
+    let p : Problem = problem_of c.args.updates.items c.args.before.items c.args.chains.items c.args.must.items in
+    let given : problem_of c.deref.result.now c.deref-2.result.now c.deref-3.result.now c.deref-4.result.now ≡ p =
+    same_parts c.deref.ensures.value c.deref-2.ensures.value c.deref-3.ensures.value c.deref-4.ensures.value in
     omega (
       arith,
-      (few c).writers k (chain_of d) (omega (arith, length-map c.args.chains.items chain_of)),
-      ap (λ chain. length chain.writers) at,
-      ap (λ chains. length (get_or chains k d).writers.items) c.deref-2.ensures.value,
+      arc_count p (facts p c.requires.sound),
+      ap length (c.deref-5.ensures.value ∙ c.in_ok-arcs.ensures ∙ ap (λ q. (network q).arcs) given),
+      c.in_ok-rows.ensures.few refl,
+      costs_count c.args.chains.items,
+      ap (sum_by (λ chain. length chain.costs.items)) c.deref-6.ensures.value,
     )
-
-pub index_of-requires-clause-few_must : goal.index_of-requires-clause-few_must
-index_of-requires-clause-few_must c = omega (arith, (few c).must, ap length c.deref-3.ensures.value)
-
-pub index_of-requires-clause-pairs : goal.index_of-requires-clause-pairs
-index_of-requires-clause-pairs c = pairs_known (of c) (known c) c.len.result c.deref.result.now (count c) c.deref.ensures.value
-
-pub index_of-requires-clause-writers : goal.index_of-requires-clause-writers
-index_of-requires-clause-writers c = writers_known (of c) (known c) c.len.result c.deref-2.result.now (count c) (ap (map chain_of) c.deref-2.ensures.value)
-
-pub index_of-requires-clause-must : goal.index_of-requires-clause-must
-index_of-requires-clause-must c = musts_known (of c) (known c) c.len.result c.deref-3.result.now (count c) c.deref-3.ensures.value

@@ -1,5 +1,5 @@
 use Rattle.std.proofs.Common.{set, arith, ap, ◌∙◌, length-set}
-use Rattle.esr_flow.specs.declared.step.Step.TheVariants.{Along, Against}
+use Rattle.esr_cert.specs.declared.step.Step.TheVariants.{Along, Against}
 use Rattle.esr_flow.specs.Graph.{entry_of}
 use Rattle.esr_flow.proofs.EntriesLaws.{read_places, renewed_read}
 use Rattle.esr_flow.proofs.graph.Graph.set_amount.Goals as goal

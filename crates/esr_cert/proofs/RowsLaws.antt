@@ -1,0 +1,196 @@
+-- Rows that lie one after another, as they are counted and filled.
+use Rattle.std.proofs.Common.{◌≡◌, ◌≢◌, ℕ, suc, ◌+◌, ◌-◌, ◌<◌, ◌≤◌, List, [], ◌∷◌, ◌++◌, length, get_or, set, take, drop, sum, Some, sym, ap, ◌∙◌, subst, inl, inr, arith, length-drop, length-take, length-set, get_or-set_same, get_or-set_other}
+use Rattle.std.proofs.lemmas.Bool.{cases_eq, cases_lt}
+use Rattle.std.proofs.lemmas.List.{get_or-take, get_or-drop, take-take, ext_get_or, length_push, get_or_read, get_or_default}
+use Rattle.std.proofs.lemmas.List.Sums.{sum_by_more, sum_by-take-le, sum_by-cons, sum_by_more_le, sum_by-set, get_or-le-sum_by}
+use Rattle.esr_cert.specs.declared.network.Arc.{Arc}
+use Rattle.esr_cert.specs.declared.step.Step.{Step}
+use Rattle.esr_cert.specs.declared.step.Step.TheVariants.{Along, Against}
+use Rattle.esr_cert.specs.declared.rows.Span.{Span}
+use Rattle.esr_cert.specs.Network.{arc_at}
+use Rattle.esr_cert.specs.Steps.{start}
+use Rattle.esr_cert.specs.Rows.{row_in, span_at}
+use Rattle.esr_cert.specs.Steps.{step_at}
+use Rattle.esr_cert.specs.Rows.{first_steps, steps_from, row_of, AreDegrees, AreRows, longer}
+use Rattle.esr_cert.proofs.StepsLaws.{steps_here, steps_other, room_for, first_within, first_more, first_count, last_or_not, not_last, at_last}
+
+pub row_length : {X : Type 0} (list : List X) (span : Span) → span.end ≤ length list → length (row_in list span) ≡ span.end - span.begin
+row_length list span l =
+    omega (arith, length-take (span.end - span.begin) (drop span.begin list), length-drop span.begin list)
+
+pub at_row : {X : Type 0} (list : List X) (span : Span) (k : ℕ) (d : X) → k < span.end - span.begin → get_or (row_in list span) k d ≡ get_or list (span.begin + k) d
+at_row list span k d l =
+    get_or-take (span.end - span.begin) (drop span.begin list) k d l ∙ get_or-drop span.begin list k d
+
+-- where the two steps of an arc that is read start
+pub starts_read : (arcs : List Arc) (i : ℕ) (d : Arc) → i < length arcs → (start arcs (Along i) ≡ (get_or arcs i d).from) × (start arcs (Against i) ≡ (get_or arcs i d).to)
+starts_read arcs i d l =
+    let same : get_or arcs i d ≡ arc_at arcs i = get_or_default arcs i d (record { from = 0; to = 0; capacity = Some 0 }) l in
+    (ap (λ (a : Arc). a.from) (sym same), ap (λ (a : Arc). a.to) (sym same))
+
+-- how many of some steps start at each node
+pub record Counted (arcs : List Arc) (nodes : ℕ) (done : List Step) (counts : List ℕ) : Type 0 where
+  pub count : length counts ≡ nodes
+  pub each : (v : ℕ) → v < nodes → get_or counts v 0 ≡ length (steps_from arcs v done)
+  pub both : sum counts ≡ length done
+
+pub counted_at : (arcs : List Arc) (nodes : ℕ) (done : List Step) (counts : List ℕ) (u x : ℕ) → u < nodes → x ≡ get_or counts u x → Counted arcs nodes done counts → x ≤ length done
+counted_at arcs nodes done counts u x l read h = omega (arith, get_or-le-sum_by (λ n. n) counts u x (omega (arith, h.count)), h.both)
+
+pub counted_more : (arcs : List Arc) (nodes : ℕ) (done : List Step) (counts : List ℕ) (s : Step) (u x : ℕ) → start arcs s ≡ u → u < nodes → x ≡ get_or counts u x → Counted arcs nodes done counts → Counted arcs nodes (done ++ s ∷ []) (set counts u (x + 1))
+counted_more arcs nodes done counts s u x e l read h = record {
+  count = length-set counts u (x + 1) ∙ h.count;
+  each = λ v m. elim (cases_eq v u) [
+    | inl q ↦ subst (λ w. get_or (set counts u (x + 1)) w 0 ≡ length (steps_from arcs w (done ++ s ∷ []))) (sym q) here
+    | inr ne ↦ get_or-set_other counts u v (x + 1) 0 ne ∙ h.each v m ∙ ap length (sym (steps_other arcs v done s (λ q. ne (sym q ∙ e))))
+  ];
+  both = omega (arith, sum_by-set (λ n. n) counts u (x + 1) x (omega (arith, h.count)), h.both, length_push done s);
+}
+  where
+    here : get_or (set counts u (x + 1)) u 0 ≡ length (steps_from arcs u (done ++ s ∷ []))
+    here = omega (arith, get_or-set_same counts u (x + 1) 0 (omega (arith, h.count)), get_or_read counts u x (omega (arith, h.count)) read 0, h.each u l, ap length (steps_here arcs u done s e), length_push (steps_from arcs u done) s)
+
+pub counted_all : (arcs : List Arc) (nodes i : ℕ) (counts : List ℕ) → i ≡ length arcs → Counted arcs nodes (first_steps i) counts → AreDegrees arcs nodes counts
+counted_all arcs nodes i counts e h =
+    let all : Counted arcs nodes (first_steps (length arcs)) counts = subst (λ n. Counted arcs nodes (first_steps n) counts) e h in
+    record { count = all.count; degree = all.each; both = omega (arith, all.both, first_count (length arcs)) }
+
+-- a row ends where those after it begin
+row_before : (lengths : List ℕ) (v u : ℕ) → v < u → u ≤ length lengths → sum (take v lengths) + get_or lengths v 0 ≤ sum (take u lengths)
+row_before lengths v u l m =
+    let more : sum (take (v + 1) lengths) ≡ sum (take v lengths) + get_or lengths v 0 = sum_by_more (λ x. x) lengths v 0 (omega arith) in
+    let part : sum (take (v + 1) (take u lengths)) ≤ sum (take u lengths) = sum_by-take-le (λ x. x) (take u lengths) (v + 1) in
+    omega (arith, more, part, ap sum (take-take (v + 1) u lengths (omega arith)))
+
+-- the row in which a place lies
+pub row_with : (lengths : List ℕ) (k : ℕ) → k < sum lengths → (v : ℕ) × (v < length lengths) × (sum (take v lengths) ≤ k) × (k < sum (take v lengths) + get_or lengths v 0)
+row_with [] k l = absurd (omega arith)
+row_with (n ∷ lengths) k l =
+    let whole : sum (n ∷ lengths) ≡ n + sum lengths = sum_by-cons (λ x. x) n lengths in
+    let rest : k - n < sum lengths → (v : ℕ) × (v < length lengths) × (sum (take v lengths) ≤ k - n) × (k - n < sum (take v lengths) + get_or lengths v 0) = row_with lengths (k - n) in
+    elim (cases_lt k n) [
+      | inl here ↦ (0, omega arith, omega arith, omega arith)
+      | inr after ↦
+          let found : (v : ℕ) × (v < length lengths) × (sum (take v lengths) ≤ k - n) × (k - n < sum (take v lengths) + get_or lengths v 0) = rest (omega (arith, whole)) in
+          let more : sum (n ∷ take found.0 lengths) ≡ n + sum (take found.0 lengths) = sum_by-cons (λ x. x) n (take found.0 lengths) in
+          (suc found.0, omega (arith, found.1), omega (arith, more, found.2), omega (arith, more, found.3))
+    ]
+
+-- some steps lie in their rows, which have room for these lengths
+pub record Filled (arcs : List Arc) (lengths : List ℕ) (done : List Step) (spans : List Span) (steps : List Step) : Type 0 where
+  pub count : length spans ≡ length lengths
+  pub total : length steps ≡ sum lengths
+  pub begin : (v : ℕ) → v < length lengths → (span_at spans v).begin ≡ sum (take v lengths)
+  pub end : (v : ℕ) → v < length lengths → (span_at spans v).end ≡ sum (take v lengths) + length (steps_from arcs v done)
+  pub fits : (v : ℕ) → v < length lengths → length (steps_from arcs v done) ≤ get_or lengths v 0
+  pub step : (v k : ℕ) → v < length lengths → k < length (steps_from arcs v done) → step_at steps (sum (take v lengths) + k) ≡ step_at (steps_from arcs v done) k
+
+module _ (arcs : List Arc) (lengths : List ℕ) (done : List Step) (spans : List Span) (steps : List Step) (s : Step) (u : ℕ) (e : start arcs s ≡ u) (l : u < length lengths) (room : length (steps_from arcs u done) < get_or lengths u 0) (h : Filled arcs lengths done spans steps) where
+  pub place_within : (span_at spans u).end < length steps
+  place_within = omega (arith, h.end u l, h.total, sum_by_more_le (λ x. x) lengths u 0 l)
+
+  span_here : span_at (set spans u (longer (span_at spans u))) u ≡ longer (span_at spans u)
+  span_here = get_or-set_same spans u (longer (span_at spans u)) (record { begin = 0; end = 0 }) (omega (arith, h.count))
+
+  span_other : (v : ℕ) → v ≢ u → span_at (set spans u (longer (span_at spans u))) v ≡ span_at spans v
+  span_other v ne = get_or-set_other spans u v (longer (span_at spans u)) (record { begin = 0; end = 0 }) ne
+
+  not_at : (v : ℕ) → v ≢ u → steps_from arcs v (done ++ s ∷ []) ≡ steps_from arcs v done
+  not_at v ne = steps_other arcs v done s (λ q. ne (sym q ∙ e))
+
+  one_more : length (steps_from arcs u (done ++ s ∷ [])) ≡ length (steps_from arcs u done) + 1
+  one_more = ap length (steps_here arcs u done s e) ∙ length_push (steps_from arcs u done) s
+
+  kept : (k : ℕ) → k ≢ (span_at spans u).end → step_at (set steps (span_at spans u).end s) k ≡ step_at steps k
+  kept k ne = get_or-set_other steps (span_at spans u).end k s (Along 0) ne
+
+  step_here : (k : ℕ) → k < length (steps_from arcs u (done ++ s ∷ [])) → step_at (set steps (span_at spans u).end s) (sum (take u lengths) + k) ≡ step_at (steps_from arcs u (done ++ s ∷ [])) k
+  step_here k m =
+      let row : steps_from arcs u (done ++ s ∷ []) ≡ steps_from arcs u done ++ s ∷ [] = steps_here arcs u done s e in
+      elim (last_or_not (steps_from arcs u done) s k (omega (arith, ap length row))) [
+        | inl before ↦
+            kept (sum (take u lengths) + k) (λ q. omega (arith, h.end u l)) ∙ h.step u k l before
+            ∙ sym (not_last (steps_from arcs u done) s k before) ∙ ap (λ list. step_at list k) (sym row)
+        | inr last ↦
+            let place : sum (take u lengths) + k ≡ (span_at spans u).end = omega (arith, h.end u l) in
+            ap (step_at (set steps (span_at spans u).end s)) place ∙ get_or-set_same steps (span_at spans u).end s (Along 0) place_within
+            ∙ sym (at_last (steps_from arcs u done) s k last) ∙ ap (λ list. step_at list k) (sym row)
+      ]
+
+  -- the places of another row
+  apart : (v k : ℕ) → v ≢ u → v < length lengths → k < length (steps_from arcs v done) → sum (take v lengths) + k ≢ (span_at spans u).end
+  apart v k ne m i q =
+      elim (cases_lt v u) [
+        | inl before ↦ omega (arith, h.end u l, h.fits v m, row_before lengths v u before (omega arith))
+        | inr after ↦ let more : u < v = grind arith in omega (arith, h.end u l, row_before lengths u v more (omega arith))
+      ]
+
+  step_other : (v k : ℕ) → v ≢ u → v < length lengths → k < length (steps_from arcs v (done ++ s ∷ [])) → step_at (set steps (span_at spans u).end s) (sum (take v lengths) + k) ≡ step_at (steps_from arcs v (done ++ s ∷ [])) k
+  step_other v k ne m i =
+      let j : k < length (steps_from arcs v done) = omega (arith, ap length (not_at v ne)) in
+      kept (sum (take v lengths) + k) (apart v k ne m j) ∙ h.step v k m j ∙ ap (λ list. step_at list k) (sym (not_at v ne))
+
+  pub filled_more : Filled arcs lengths (done ++ s ∷ []) (set spans u (longer (span_at spans u))) (set steps (span_at spans u).end s)
+  filled_more = record {
+    count = length-set spans u (longer (span_at spans u)) ∙ h.count;
+    total = length-set steps (span_at spans u).end s ∙ h.total;
+    begin = λ v m. elim (cases_eq v u) [
+      | inl q ↦ subst (λ w. (span_at (set spans u (longer (span_at spans u))) w).begin ≡ sum (take w lengths)) (sym q) (ap (λ (span : Span). span.begin) span_here ∙ h.begin u l)
+      | inr ne ↦ ap (λ (span : Span). span.begin) (span_other v ne) ∙ h.begin v m
+    ];
+    end = λ v m. elim (cases_eq v u) [
+      | inl q ↦
+          subst (λ w. (span_at (set spans u (longer (span_at spans u))) w).end ≡ sum (take w lengths) + length (steps_from arcs w (done ++ s ∷ []))) (sym q)
+          (omega (arith, ap (λ (span : Span). span.end) span_here, h.end u l, one_more))
+      | inr ne ↦ omega (arith, ap (λ (span : Span). span.end) (span_other v ne), h.end v m, ap length (not_at v ne))
+    ];
+    fits = λ v m. elim (cases_eq v u) [
+      | inl q ↦ subst (λ w. length (steps_from arcs w (done ++ s ∷ [])) ≤ get_or lengths w 0) (sym q) (omega (arith, one_more, room))
+      | inr ne ↦ omega (arith, ap length (not_at v ne), h.fits v m)
+    ];
+    step = λ v k m i. elim (cases_eq v u) [
+      | inl q ↦
+          let j : k < length (steps_from arcs u (done ++ s ∷ [])) = subst (λ w. k < length (steps_from arcs w (done ++ s ∷ []))) q i in
+          subst (λ w. step_at (set steps (span_at spans u).end s) (sum (take w lengths) + k) ≡ step_at (steps_from arcs w (done ++ s ∷ [])) k) (sym q) (step_here k j)
+      | inr ne ↦ step_other v k ne m i
+    ];
+  }
+
+-- there is room for the steps of an arc that is not laid yet
+pub room_along : (arcs : List Arc) (nodes : ℕ) (degrees : List ℕ) (i u : ℕ) → AreDegrees arcs nodes degrees → i < length arcs → u < nodes → start arcs (Along i) ≡ u → length (steps_from arcs u (first_steps i)) < get_or degrees u 0
+room_along arcs nodes degrees i u are l m e =
+    let here : length (steps_from arcs u (first_steps i)) < length (steps_from arcs u (first_steps (suc i))) = room_for arcs u (first_steps i) (Against i ∷ []) (Along i) e in
+    omega (arith, here, first_within arcs u (suc i) (length arcs) (omega arith), are.degree u m)
+
+pub room_against : (arcs : List Arc) (nodes : ℕ) (degrees : List ℕ) (i u : ℕ) → AreDegrees arcs nodes degrees → i < length arcs → u < nodes → start arcs (Against i) ≡ u → length (steps_from arcs u (first_steps i ++ Along i ∷ [])) < get_or degrees u 0
+room_against arcs nodes degrees i u are l m e =
+    let here : length (steps_from arcs u (first_steps i ++ Along i ∷ [])) < length (steps_from arcs u ((first_steps i ++ Along i ∷ []) ++ Against i ∷ [])) = room_for arcs u (first_steps i ++ Along i ∷ []) [] (Against i) e in
+    omega (arith, here, ap (λ list. length (steps_from arcs u list)) (first_more i), first_within arcs u (suc i) (length arcs) (omega arith), are.degree u m)
+
+pub filled_all : (arcs : List Arc) (nodes : ℕ) (degrees : List ℕ) (spans : List Span) (steps : List Step) → AreDegrees arcs nodes degrees → Filled arcs degrees (first_steps (length arcs)) spans steps → AreRows arcs nodes spans steps
+filled_all arcs nodes degrees spans steps are h = record {
+  count = h.count ∙ are.count;
+  ordered = λ v l. omega (arith, h.begin v (known v l), h.end v (known v l));
+  inside = inside;
+  row = λ v l. ext_get_or (Along 0) (row_in steps (span_at spans v)) (row_of arcs v) (long v l)
+      (λ k m. at_row steps (span_at spans v) k (Along 0) (omega (arith, long v l, h.begin v (known v l), h.end v (known v l)))
+      ∙ ap (λ n. step_at steps (n + k)) (h.begin v (known v l)) ∙ h.step v k (known v l) (omega (arith, long v l)));
+}
+  where
+    known : (v : ℕ) → v < nodes → v < length degrees
+    known v l = omega (arith, are.count)
+
+    inside : (v : ℕ) → v < nodes → (span_at spans v).end ≤ length steps
+    inside v l = omega (arith, h.end v (known v l), h.fits v (known v l), h.total, sum_by_more_le (λ x. x) degrees v 0 (known v l))
+
+    long : (v : ℕ) → v < nodes → length (row_in steps (span_at spans v)) ≡ length (row_of arcs v)
+    long v l = omega (arith, row_length steps (span_at spans v) (inside v l), h.begin v (known v l), h.end v (known v l))
+
+-- the row of a place of the filled list, and the step there
+pub step_with : (arcs : List Arc) (nodes : ℕ) (degrees : List ℕ) (spans : List Span) (steps : List Step) → AreDegrees arcs nodes degrees → Filled arcs degrees (first_steps (length arcs)) spans steps → (k : ℕ) → k < length steps
+    → (v : ℕ) × (j : ℕ) × (v < length degrees) × (j < length (row_of arcs v)) × (sum (take v degrees) + j ≡ k) × (step_at steps k ≡ step_at (row_of arcs v) j)
+step_with arcs nodes degrees spans steps are h k l =
+    let (v, a, b, c) = row_with degrees k (omega (arith, h.total)) in
+    let j : k - sum (take v degrees) < length (row_of arcs v) = omega (arith, are.degree v (omega (arith, are.count))) in
+    let place : sum (take v degrees) + (k - sum (take v degrees)) ≡ k = omega arith in
+    (v, k - sum (take v degrees), a, j, place, ap (step_at steps) (sym place) ∙ h.step v (k - sum (take v degrees)) a j)

@@ -1,0 +1,183 @@
+-- The steps that start at a node, among those of the first arcs.
+use Rattle.std.proofs.Common.{zero, suc, ◌≡◌, ℕ, ◌+◌, ◌<◌, ◌≤◌, true, cond, ◌⊎◌, eqb, List, [], ◌∷◌, ◌++◌, length, get_or, Contains, refl, sym, ap, ◌∙◌, subst, inl, inr, arith, eq-eqb, ne_eqb, append_assoc, append-nil, add-one, length-append}
+use Rattle.std.proofs.lemmas.Bool.{cases_eq, or_left, or_right}
+use Rattle.std.proofs.lemmas.List.{get_or_append_left, get_or_push, length_push}
+use Rattle.std.proofs.lemmas.List.Elements.{filter-append, Contains-append_left, Contains-push, Contains-push_cases}
+use Rattle.esr_cert.specs.declared.network.Arc.{Arc}
+use Rattle.esr_cert.specs.declared.step.Step.{Step}
+use Rattle.esr_cert.specs.declared.step.Step.TheVariants.{Along, Against}
+use Rattle.esr_cert.specs.Steps.{arc_of, start}
+use Rattle.esr_cert.specs.Steps.{HasSteps, AreOnce, step_at, same_step, has_step}
+use Rattle.esr_cert.specs.Rows.{first_steps, steps_from, row_of}
+
+-- a step more, at the node where it starts and at another
+pub steps_here : (arcs : List Arc) (v : ℕ) (done : List Step) (s : Step) → start arcs s ≡ v → steps_from arcs v (done ++ s ∷ []) ≡ steps_from arcs v done ++ s ∷ []
+steps_here arcs v done s e =
+    filter-append (λ step. eqb (start arcs step) v) done (s ∷ []) ∙ ap (λ b. steps_from arcs v done ++ cond b (s ∷ []) []) (eq-eqb (start arcs s) v e)
+
+pub steps_other : (arcs : List Arc) (v : ℕ) (done : List Step) (s : Step) → (start arcs s ≡ v → ⊥) → steps_from arcs v (done ++ s ∷ []) ≡ steps_from arcs v done
+steps_other arcs v done s ne =
+    filter-append (λ step. eqb (start arcs step) v) done (s ∷ []) ∙ ap (λ b. steps_from arcs v done ++ cond b (s ∷ []) []) (ne_eqb (start arcs s) v ne) ∙ append-nil (steps_from arcs v done)
+
+-- there is room for a step where its row is to have it
+pub room_for : (arcs : List Arc) (v : ℕ) (done rest : List Step) (s : Step) → start arcs s ≡ v → length (steps_from arcs v done) < length (steps_from arcs v (done ++ s ∷ rest))
+room_for arcs v done rest s e =
+    let parts : steps_from arcs v (done ++ s ∷ rest) ≡ steps_from arcs v done ++ s ∷ steps_from arcs v rest =
+    filter-append (λ step. eqb (start arcs step) v) done (s ∷ rest) ∙ ap (λ b. steps_from arcs v done ++ cond b (s ∷ steps_from arcs v rest) (steps_from arcs v rest)) (eq-eqb (start arcs s) v e) in
+    omega (arith, ap length parts, length-append (steps_from arcs v done) (s ∷ steps_from arcs v rest))
+
+pub first_within : (arcs : List Arc) (v i n : ℕ) → i ≤ n → length (steps_from arcs v (first_steps i)) ≤ length (steps_from arcs v (first_steps n))
+first_within arcs v i zero l = let e : i ≡ 0 = omega arith in omega (arith, ap (λ m. length (steps_from arcs v (first_steps m))) e)
+first_within arcs v i (suc n) l =
+    let split : (i ≡ suc n) ⊎ (i ≤ n) = grind arith in
+    let rest : i ≤ n → length (steps_from arcs v (first_steps i)) ≤ length (steps_from arcs v (first_steps n)) = first_within arcs v i n in
+    let more : steps_from arcs v (first_steps (suc n)) ≡ steps_from arcs v (first_steps n) ++ steps_from arcs v (Along n ∷ Against n ∷ []) = filter-append (λ step. eqb (start arcs step) v) (first_steps n) (Along n ∷ Against n ∷ []) in
+    elim split [
+      | inl e ↦ omega (arith, ap (λ m. length (steps_from arcs v (first_steps m))) e)
+      | inr m ↦ omega (arith, rest m, ap length more, length-append (steps_from arcs v (first_steps n)) (steps_from arcs v (Along n ∷ Against n ∷ [])))
+    ]
+
+pub first_more : (n : ℕ) → (first_steps n ++ Along n ∷ []) ++ Against n ∷ [] ≡ first_steps (suc n)
+first_more n = append_assoc (first_steps n) (Along n ∷ []) (Against n ∷ [])
+
+pub first_next : (n : ℕ) → (first_steps n ++ Along n ∷ []) ++ Against n ∷ [] ≡ first_steps (n + 1)
+first_next n = first_more n ∙ ap first_steps (sym (add-one n))
+
+pub first_count : (n : ℕ) → length (first_steps n) ≡ n + n
+first_count zero = refl
+first_count (suc n) = omega (arith, first_count n, length-append (first_steps n) (Along n ∷ Against n ∷ []))
+
+first_known : (n : ℕ) (s : Step) → Contains (first_steps n) s → arc_of s < n
+first_known zero s c = absurd (omega (arith, c.1))
+first_known (suc n) s c =
+    elim (Contains-push_cases (first_steps n ++ Along n ∷ []) (Against n) s (subst (λ steps. Contains steps s) (sym (first_more n)) c)) [
+      | inl before ↦ elim (Contains-push_cases (first_steps n) (Along n) s before) [
+        | inl old ↦ let l : arc_of s < n = first_known n s old in omega arith
+        | inr here ↦ let e : n ≡ arc_of s = ap arc_of here in omega arith
+      ]
+      | inr here ↦ let e : n ≡ arc_of s = ap arc_of here in omega arith
+    ]
+
+first_all : (n : ℕ) (s : Step) → arc_of s < n → Contains (first_steps n) s
+first_all zero s l = absurd (omega arith)
+first_all (suc n) s l = subst (λ steps. Contains steps s) (first_more n) (at s l (first_all n s))
+  where
+    at : (s : Step) → arc_of s < suc n → (arc_of s < n → Contains (first_steps n) s) → Contains ((first_steps n ++ Along n ∷ []) ++ Against n ∷ []) s
+    at (Along i) l old =
+        let split : (i < n) ⊎ (i ≡ n) = grind arith in
+        Contains-append_left (first_steps n ++ Along n ∷ []) (Against n ∷ []) (Along i) (elim split [
+          | inl m ↦ Contains-append_left (first_steps n) (Along n ∷ []) (Along i) (old m)
+          | inr e ↦ subst (λ j. Contains (first_steps n ++ Along n ∷ []) (Along j)) (sym e) (Contains-push (first_steps n) (Along n))
+        ])
+    at (Against i) l old =
+        let split : (i < n) ⊎ (i ≡ n) = grind arith in
+        elim split [
+          | inl m ↦ Contains-append_left (first_steps n ++ Along n ∷ []) (Against n ∷ []) (Against i) (Contains-append_left (first_steps n) (Along n ∷ []) (Against i) (old m))
+          | inr e ↦ subst (λ j. Contains ((first_steps n ++ Along n ∷ []) ++ Against n ∷ []) (Against j)) (sym e) (Contains-push (first_steps n ++ Along n ∷ []) (Against n))
+        ]
+
+-- a row has those of some steps that start at its node, each once, and no others
+record Row (arcs : List Arc) (done : List Step) (v : ℕ) (row : List Step) : Type 0 where
+  starts : (k : ℕ) → k < length row → start arcs (step_at row k) ≡ v
+  known : (k : ℕ) → k < length row → Contains done (step_at row k)
+  once : AreOnce row
+  all : (step : Step) → Contains done step → start arcs step ≡ v → Contains row step
+
+pub last_or_not : (row : List Step) (s : Step) (k : ℕ) → k < length (row ++ s ∷ []) → (k < length row) ⊎ (k ≡ length row)
+last_or_not row s k l = let m : k < length row + 1 = omega (arith, length_push row s) in grind arith
+
+pub not_last : (row : List Step) (s : Step) (k : ℕ) → k < length row → step_at (row ++ s ∷ []) k ≡ step_at row k
+not_last row s k l = get_or_append_left row (s ∷ []) (Along 0) k l
+
+pub at_last : (row : List Step) (s : Step) (k : ℕ) → k ≡ length row → step_at (row ++ s ∷ []) k ≡ s
+at_last row s k e = get_or_push row s (Along 0) k (sym e)
+
+-- what holds of the steps of a row and of one more
+each_push : (P : Step → Type 0) (row : List Step) (s : Step) → P s → ((k : ℕ) → k < length row → P (step_at row k)) → (k : ℕ) → k < length (row ++ s ∷ []) → P (step_at (row ++ s ∷ []) k)
+each_push P row s p h k l =
+    elim (last_or_not row s k l) [
+      | inl m ↦ subst P (sym (not_last row s k m)) (h k m)
+      | inr q ↦ subst P (sym (at_last row s k q)) p
+    ]
+
+once_push : (row : List Step) (s : Step) → ((k : ℕ) → k < length row → step_at row k ≡ s → ⊥) → AreOnce row → AreOnce (row ++ s ∷ [])
+once_push row s other once j k jl kl e =
+    elim (last_or_not row s j jl) [
+      | inl a ↦ elim (last_or_not row s k kl) [
+        | inl b ↦ once j k a b (sym (not_last row s j a) ∙ e ∙ not_last row s k b)
+        | inr b ↦ absurd (other j a (sym (not_last row s j a) ∙ e ∙ at_last row s k b))
+      ]
+      | inr a ↦ elim (last_or_not row s k kl) [
+        | inl b ↦ absurd (other k b (sym (not_last row s k b) ∙ sym e ∙ at_last row s j a))
+        | inr b ↦ a ∙ sym b
+      ]
+    ]
+
+row_more : (arcs : List Arc) (done : List Step) (v : ℕ) (s : Step) → (Contains done s → ⊥) → Row arcs done v (steps_from arcs v done) → Row arcs (done ++ s ∷ []) v (steps_from arcs v (done ++ s ∷ []))
+row_more arcs done v s new old =
+    elim (cases_eq (start arcs s) v) [
+      | inl e ↦ subst (Row arcs (done ++ s ∷ []) v) (sym (steps_here arcs v done s e)) (record {
+        starts = each_push (λ t. start arcs t ≡ v) (steps_from arcs v done) s e old.starts;
+        known = each_push (Contains (done ++ s ∷ [])) (steps_from arcs v done) s (Contains-push done s) (λ k l. Contains-append_left done (s ∷ []) (step_at (steps_from arcs v done) k) (old.known k l));
+        once = once_push (steps_from arcs v done) s (λ k l q. new (subst (Contains done) q (old.known k l))) old.once;
+        all = λ step c at. elim (Contains-push_cases done s step c) [
+          | inl before ↦ Contains-append_left (steps_from arcs v done) (s ∷ []) step (old.all step before at)
+          | inr same ↦ subst (Contains (steps_from arcs v done ++ s ∷ [])) same (Contains-push (steps_from arcs v done) s)
+        ];
+      })
+      | inr ne ↦ subst (Row arcs (done ++ s ∷ []) v) (sym (steps_other arcs v done s ne)) (record {
+        starts = old.starts;
+        known = λ k l. Contains-append_left done (s ∷ []) (step_at (steps_from arcs v done) k) (old.known k l);
+        once = old.once;
+        all = λ step c at. elim (Contains-push_cases done s step c) [
+          | inl before ↦ old.all step before at
+          | inr same ↦ absurd (ne (ap (start arcs) same ∙ at))
+        ];
+      })
+    ]
+
+first_row : (arcs : List Arc) (n v : ℕ) → Row arcs (first_steps n) v (steps_from arcs v (first_steps n))
+first_row arcs zero v = record {
+  starts = λ k l. absurd (omega arith);
+  known = λ k l. absurd (omega arith);
+  once = λ j k l m e. absurd (omega arith);
+  all = λ step c e. absurd (omega (arith, c.1));
+}
+first_row arcs (suc n) v =
+    subst (λ done. Row arcs done v (steps_from arcs v done)) (first_more n)
+    (row_more arcs (first_steps n ++ Along n ∷ []) v (Against n) apart (row_more arcs (first_steps n) v (Along n) (λ c. let l : n < n = first_known n (Along n) c in omega arith) (first_row arcs n v)))
+  where
+    other : Along n ≡ Against n → ⊥
+    other e = cc
+
+    apart : Contains (first_steps n ++ Along n ∷ []) (Against n) → ⊥
+    apart c =
+        elim (Contains-push_cases (first_steps n) (Along n) (Against n) c) [
+          | inl old ↦ let l : n < n = first_known n (Against n) old in omega arith
+          | inr same ↦ other same
+        ]
+
+-- each step of the first n arcs is of one of them
+pub row_known : (arcs : List Arc) (n v k : ℕ) → k < length (steps_from arcs v (first_steps n)) → arc_of (step_at (steps_from arcs v (first_steps n)) k) < n
+row_known arcs n v k l = first_known n (step_at (steps_from arcs v (first_steps n)) k) ((first_row arcs n v).known k l)
+
+same_itself : (s : Step) → same_step s s ≡ true
+same_itself (Along i) = eq-eqb i i refl
+same_itself (Against i) = eq-eqb i i refl
+
+has_from : (steps : List Step) (s : Step) → Contains steps s → has_step steps s ≡ true
+has_from [] s c = absurd (omega (arith, c.1))
+has_from (t ∷ steps) s c = at (has_from steps s) c.0 c.1 c.2
+  where
+    at : (Contains steps s → has_step steps s ≡ true) → (k : ℕ) → k < length (t ∷ steps) → get_or (t ∷ steps) k s ≡ s → has_step (t ∷ steps) s ≡ true
+    at rest zero l e = or_left (same_step t s) (has_step steps s) (ap (λ u. same_step u s) e ∙ same_itself s)
+    at rest (suc k) l e = or_right (same_step t s) (has_step steps s) (rest (k, omega arith, e))
+
+pub has_steps : (arcs : List Arc) (v : ℕ) → HasSteps arcs v (row_of arcs v)
+has_steps arcs v =
+    let row : Row arcs (first_steps (length arcs)) v (row_of arcs v) = first_row arcs (length arcs) v in
+    record {
+      starts = λ k l. (row_known arcs (length arcs) v k l, row.starts k l);
+      once = row.once;
+      all = λ step a e. has_from (row_of arcs v) step (row.all step (first_all (length arcs) step a) e);
+    }

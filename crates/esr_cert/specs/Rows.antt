@@ -1,0 +1,73 @@
+-- For each node the steps that start at it, in rows that lie one after another.
+use Rattle.std.specs.Prelude.{◌≡◌, ℕ, zero, suc, ◌+◌, ◌*◌, ◌-◌, ◌<◌, ◌≤◌, ◌==◌, List, [], ◌∷◌, ◌++◌, length, get_or, set, take, drop, filter, sum}
+use Rattle.esr_cert.specs.declared.network.Arc.{Arc}
+use Rattle.esr_cert.specs.declared.step.Step.{Step}
+use Rattle.esr_cert.specs.declared.step.Step.TheVariants.{Along, Against}
+use Rattle.esr_cert.specs.declared.rows.Span.{Span}
+use Rattle.esr_cert.specs.declared.rows.Places.{Places}
+use Rattle.esr_cert.specs.declared.rows.Rows.{Rows}
+use Rattle.esr_cert.specs.Network.{Network}
+use Rattle.esr_cert.specs.Steps.{arc_of, start, step_at}
+
+abbrev pub span_at : List Span → ℕ → Span
+span_at spans v = get_or spans v (record { begin = 0; end = 0 })
+
+-- what lies in a span
+abbrev pub row_in : {X : Type 0} → List X → Span → List X
+row_in list span = take (span.end - span.begin) (drop span.begin list)
+
+-- the place of a step
+abbrev pub place_of : List Places → Step → ℕ
+place_of places (Along i) = (get_or places i (record { along = 0; against = 0 })).along
+place_of places (Against i) = (get_or places i (record { along = 0; against = 0 })).against
+
+-- each step of a list lies at its place
+pub record ArePlaces (arcs : List Arc) (steps : List Step) (places : List Places) : Type 0 where
+  pub count : length places ≡ length arcs
+  pub in_arcs : (k : ℕ) → k < length steps → arc_of (step_at steps k) < length arcs
+  pub place : (k : ℕ) → k < length steps → place_of places (step_at steps k) ≡ k
+
+-- both steps of each of the first n arcs
+abbrev pub first_steps : ℕ → List Step
+first_steps zero = []
+first_steps (suc n) = first_steps n ++ Along n ∷ Against n ∷ []
+
+-- those of some steps that start at a node
+abbrev pub steps_from : List Arc → ℕ → List Step → List Step
+steps_from arcs v steps = filter (λ step. start arcs step == v) steps
+
+-- all steps that start at a node, by the numbers of their arcs
+abbrev pub row_of : List Arc → ℕ → List Step
+row_of arcs v = steps_from arcs v (first_steps (length arcs))
+
+-- how many steps start at each node, and how many there are
+pub record AreDegrees (arcs : List Arc) (nodes : ℕ) (degrees : List ℕ) : Type 0 where
+  pub count : length degrees ≡ nodes
+  pub degree : (v : ℕ) → v < nodes → get_or degrees v 0 ≡ length (row_of arcs v)
+  pub both : sum degrees ≡ 2 * length arcs
+
+-- where rows of some lengths begin, one after another, with nothing in them
+pub record AreBegun (lengths : List ℕ) (spans : List Span) : Type 0 where
+  pub count : length spans ≡ length lengths
+  pub begun : (v : ℕ) → v < length lengths
+      → span_at spans v ≡ record { begin = sum (take v lengths); end = sum (take v lengths) }
+
+-- the rows of n nodes
+pub record AreRows (arcs : List Arc) (n : ℕ) (spans : List Span) (steps : List Step) : Type 0 where
+  pub count : length spans ≡ n
+  pub ordered : (v : ℕ) → v < n → (span_at spans v).begin ≤ (span_at spans v).end
+  pub inside : (v : ℕ) → v < n → (span_at spans v).end ≤ length steps
+  pub row : (v : ℕ) → v < n → row_in steps (span_at spans v) ≡ row_of arcs v
+
+-- the rows of a network, and the places of the steps of its arcs
+pub record AreLaid (net : Network) (r : Rows) : Type 0 where
+  pub rows : AreRows net.arcs net.nodes r.spans.items r.steps.items
+  pub places : ArePlaces net.arcs r.steps.items r.places.items
+
+-- the span of a row with one more
+abbrev pub longer : Span → Span
+longer span = record { begin = span.begin; end = span.end + 1 }
+
+-- the spans where the row of a node has one more
+abbrev pub lengthen : List Span → ℕ → List Span
+lengthen spans v = set spans v (longer (span_at spans v))

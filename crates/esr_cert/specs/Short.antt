@@ -1,0 +1,20 @@
+-- Steps as numbers: below 2^31 the arc of a step along it, and from there on that of a step against it.
+use Rattle.std.specs.Prelude.{◌≡◌, ℕ, ◌+◌, ◌-◌, nat_lt, if◌then◌else◌}
+use Rattle.std.proofs.Common.{ap, ◌∙◌, inl, inr, arith, cond}
+use Rattle.std.proofs.lemmas.Bool.{cases_lt, lt-ltb, le-ltb}
+use Rattle.esr_cert.specs.declared.step.Step.{Step}
+use Rattle.esr_cert.specs.declared.step.Step.TheVariants.{Along, Against}
+
+abbrev pub step_of : ℕ → Step
+step_of n = if nat_lt n 2147483648 then Along n else Against (n - 2147483648)
+
+abbrev pub number_of : Step → ℕ
+number_of (Along i) = i
+number_of (Against i) = i + 2147483648
+
+pub number_of-step_of : (n : ℕ) → number_of (step_of n) ≡ n
+number_of-step_of n =
+    elim (cases_lt n 2147483648) [
+      | inl l ↦ ap (λ b. number_of (cond b (Along n) (Against (n - 2147483648)))) (lt-ltb n 2147483648 l)
+      | inr m ↦ let back : n - 2147483648 + 2147483648 ≡ n = omega arith in ap (λ b. number_of (cond b (Along n) (Against (n - 2147483648)))) (le-ltb n 2147483648 m) ∙ back
+    ]

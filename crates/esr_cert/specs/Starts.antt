@@ -1,0 +1,15 @@
+-- Where the arcs of each chain begin, which come first among the arcs of a network.
+use Rattle.std.specs.Prelude.{◌≡◌, ℕ, suc, ◌+◌, ◌<◌, ◌≤◌, List, [], ◌∷◌, length, get_or, take}
+use Rattle.std.specs.List.{concat}
+use Rattle.esr_cert.specs.Problem.{Chain}
+
+-- from n on, the number of the first arc of each chain, and of the first arc after them all
+abbrev pub starts_from : ℕ → List Chain → List ℕ
+starts_from n [] = n ∷ []
+starts_from n (chain ∷ chains) = n ∷ starts_from (n + length chain.costs) chains
+
+-- where each of some rows begins when they are joined, none of them empty, and where the last ends
+pub record AreStarts (starts : List ℕ) (rows : List (List ℕ)) : Type 0 where
+  pub count : length starts ≡ suc (length rows)
+  pub at : (k : ℕ) → k ≤ length rows → get_or starts k 0 ≡ length (concat (take k rows))
+  pub filled : (k : ℕ) → k < length rows → 0 < length (get_or rows k [])

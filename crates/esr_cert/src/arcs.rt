@@ -1,0 +1,109 @@
+//! The arcs of a problem's network.
+ghost use Rattle.std.specs.Prelude.{◌≡◌, ℕ, ◌+◌, ◌<◌, ◌≤◌, ◌++◌, length, get_or, map, flat_map, true, All, IfOk};
+ghost use Rattle.esr_cert.specs.declared.problem.Chain.{Chain};
+ghost use Rattle.esr_cert.specs.Problem.{is_sound};
+ghost use Rattle.esr_cert.specs.Views.{chain_of, problem_of};
+ghost use Rattle.esr_cert.specs.Network.{links, chain_links, back_arc, must_arc, network};
+
+use crate::network::Arc;
+use crate::problem::Chain;
+use crate::short_arc::ShortArc;
+use esr_history::TxnId;
+use std::alloc::{AllocError, Global};
+
+/// Adds the arcs of a chain.
+fn push_links(
+    arcs: &mut Vec<ShortArc>,
+    source: u32,
+    sink: u32,
+    writers: &[u32],
+    costs: &[u64],
+) -> Result<(), AllocError>
+    requires count { length costs.now ≡ length writers.now + 1 }
+    requires limits { All (λ c. c < 18446744073709551615) costs.now }
+    ensures { IfOk result (λ _. arcs.new.items ≡ arcs.old.items ++ links source sink writers.now costs.now) }
+{
+    let mut from = source;
+    for (j, cost) in costs.iter().enumerate() {
+        let to = if j < writers.len() { writers[j] } else { sink };
+        arcs.push(ShortArc::of(Arc {
+            from,
+            to,
+            capacity: Some(*cost),
+        }))?;
+        from = to;
+    }
+    Ok(())
+}
+
+/// Adds the arcs of all chains.
+fn push_chains(arcs: &mut Vec<ShortArc>, source: u32, chains: &[Chain]) -> Result<(), AllocError>
+    requires chains { (k : ℕ) (d : Chain) → k < length chains.now
+        → length (get_or chains.now k d).costs.items ≡ length (get_or chains.now k d).writers.items + 1 }
+    requires limits { All (λ chain. All (λ c. c < 18446744073709551615) chain.costs.items) chains.now }
+    requires source { source ≤ 65535 }
+    ensures { IfOk result (λ _. arcs.new.items ≡ arcs.old.items
+        ++ flat_map (λ chain. chain_links source (chain_of chain)) chains.now) }
+{
+    for chain in chains {
+        push_links(arcs, source, source + 1, &chain.writers, &chain.costs)?;
+    }
+    Ok(())
+}
+
+/// Adds the back arcs.
+fn push_backs(arcs: &mut Vec<ShortArc>, before: &[(u32, u32)]) -> Result<(), AllocError>
+    ensures { IfOk result (λ _. arcs.new.items ≡ arcs.old.items ++ map back_arc before.now) }
+{
+    for pair in before {
+        arcs.push(ShortArc::of(Arc {
+            from: pair.1,
+            to: pair.0,
+            capacity: None,
+        }))?;
+    }
+    Ok(())
+}
+
+/// Adds the arcs into the updates that a set must hold.
+fn push_musts(arcs: &mut Vec<ShortArc>, source: u32, must: &[u32]) -> Result<(), AllocError>
+    ensures { IfOk result (λ _. arcs.new.items ≡ arcs.old.items ++ map (must_arc source) must.now) }
+{
+    for u in must {
+        arcs.push(ShortArc::of(Arc {
+            from: source,
+            to: *u,
+            capacity: None,
+        }))?;
+    }
+    Ok(())
+}
+
+/// How many arcs there are.
+fn count_of(before: &[(u32, u32)], chains: &[Chain], must: &[u32]) -> usize {
+    let mut count = before.len().saturating_add(must.len());
+    for chain in chains {
+        count = count.saturating_add(chain.costs.len());
+    }
+    count
+}
+
+/// The arcs of the network of a problem of these parts, in its order.
+pub fn arcs_of(
+    alloc: Global,
+    updates: &[TxnId],
+    before: &[(u32, u32)],
+    chains: &[Chain],
+    must: &[u32],
+) -> Result<Vec<ShortArc>, AllocError>
+    requires sound { is_sound (problem_of updates.now before.now chains.now must.now) ≡ true }
+    ensures { IfOk result (λ arcs. arcs.items
+        ≡ (network (problem_of updates.now before.now chains.now must.now)).arcs) }
+{
+    let source = updates.len() as u32;
+    let mut arcs = Vec::with_capacity(alloc, count_of(before, chains, must))?;
+    push_chains(&mut arcs, source, chains)?;
+    push_backs(&mut arcs, before)?;
+    push_musts(&mut arcs, source, must)?;
+    Ok(arcs)
+}
