@@ -1,12 +1,11 @@
 -- Problems and certificates, worked by hand.
-use Rattle.std.proofs.Common.{◌≡◌, [], ◌∷◌, length, sum_by, true, false, Some, None, refl}
+use Rattle.std.proofs.Common.{◌≡◌, [], ◌∷◌, length, true, false, Some, None, refl}
 use Rattle.esr_cert.specs.Problem.{Problem, in_set, is_closed, cost, has_shape, is_in_range, is_sound}
 use Rattle.esr_cert.specs.Network.{network}
 use Rattle.esr_cert.specs.Flow.{inflow, outflow, worth}
 use Rattle.esr_cert.specs.Cut.{with_source, across}
 use Rattle.esr_cert.specs.Certificate.{Certificate, amounts, fault}
 use Rattle.esr_cert.specs.Rows.{row_of}
-use Rattle.esr_cert.specs.Starts.{starts_from}
 use Rattle.esr_cert.specs.Balance.{is_balanced}
 use Rattle.esr_cert.specs.declared.step.Step.TheVariants.{Along, Against}
 use Rattle.esr_cert.specs.declared.certificate.Fault.TheVariants.{SetNotAscending, UnknownUpdate, SetNotClosed, OverCapacity, NotConserved, WorthNotCost, TooManyAugmentations}

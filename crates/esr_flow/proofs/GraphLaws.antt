@@ -1,9 +1,8 @@
 -- The graph of a problem.
-use Rattle.std.proofs.Common.{◌≡◌, ℕ, ◌+◌, ◌^◌, ◌<◌, List, length, get_or, sym, ap, ◌∙◌, subst, arith, Some}
-use Rattle.std.proofs.lemmas.List.{get_or_default}
+use Rattle.std.proofs.Common.{◌≡◌, ℕ, ◌+◌, ◌^◌, ◌<◌, List, sym, ap, ◌∙◌, subst, arith}
 use Rattle.esr_cert.specs.declared.network.Arc.{Arc}
 use Rattle.esr_cert.specs.Problem.{Problem, size}
-use Rattle.esr_cert.specs.Network.{arc_at, Network, IsNetwork, network}
+use Rattle.esr_cert.specs.Network.{Network, IsNetwork, network}
 use Rattle.esr_cert.proofs.Sound.{IsProblem}
 use Rattle.esr_cert.proofs.Least.{is_network}
 use Rattle.esr_flow.specs.declared.graph.Graph.{Graph}

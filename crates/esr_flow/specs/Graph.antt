@@ -1,16 +1,14 @@
 -- A network with the steps that start at each node, which lie together, and entries of the steps that tell which of
 -- them have room.
-use Rattle.std.specs.Prelude.{◌≡◌, ℕ, ◌-◌, ◌<◌, ◌≤◌, ◌||◌, ◌==◌, Bool, true, false, List, [], ◌∷◌, length, get_or, take, drop, map, Contains, ◌^◌}
+use Rattle.std.specs.Prelude.{◌≡◌, ℕ, ◌<◌, ◌≤◌, false, List, length, get_or, map, Contains, ◌^◌}
 use Rattle.esr_cert.specs.declared.network.Arc.{Arc}
 use Rattle.esr_cert.specs.Network.{Network, IsNetwork}
 use Rattle.esr_cert.specs.declared.step.Step.{Step}
-use Rattle.esr_cert.specs.declared.step.Step.TheVariants.{Along, Against}
 use Rattle.esr_flow.specs.declared.entry.Entry.{Entry}
-use Rattle.esr_cert.specs.declared.rows.Span.{Span}
-use Rattle.esr_cert.specs.declared.rows.Places.{Places}
 use Rattle.esr_flow.specs.declared.graph.Graph.{Graph}
 use Rattle.esr_cert.specs.Flow.{within}
-use Rattle.esr_cert.specs.Steps.{arc_of, start, opposite}
+use Rattle.esr_cert.specs.Steps.{arc_of, start, opposite, step_at, HasSteps}
+use Rattle.esr_cert.specs.Rows.{span_at, row_in, ArePlaces}
 use Rattle.esr_flow.specs.Residual.{finish, room}
 
 abbrev pub net_of : Graph → Network

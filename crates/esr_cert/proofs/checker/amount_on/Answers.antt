@@ -1,4 +1,4 @@
-use Rattle.std.proofs.Common.{arith, ◌≡◌, ◌∙◌, ◌-◌, ◌+◌, ◌<◌, suc, [], refl, length, get_or, ap, sym, List, ℕ}
+use Rattle.std.proofs.Common.{arith, ◌≡◌, ◌∙◌, ◌-◌, ◌+◌, ◌<◌, suc, [], length, get_or, ap, sym, List, ℕ}
 use Rattle.std.proofs.lemmas.List.{length-map, get_or-map}
 use Rattle.esr_cert.specs.Views.{rows_of}
 use Rattle.esr_cert.proofs.StartsLaws.{starts_rise, in_row, in_backs, in_musts}

@@ -1,6 +1,5 @@
-use Rattle.std.proofs.Common.{arith, ◌≡◌, ◌+◌, length, ap, sym, ◌∙◌}
+use Rattle.std.proofs.Common.{arith, length, ap, sym, ◌∙◌}
 use Rattle.std.proofs.lemmas.List.{length-map}
-use Rattle.esr_cert.specs.Problem.{size}
 use Rattle.esr_cert.specs.Certificate.{amounts}
 use Rattle.esr_cert.specs.Views.{certificate_of}
 use Rattle.esr_cert.proofs.Balance.{all_conserved, one_not}

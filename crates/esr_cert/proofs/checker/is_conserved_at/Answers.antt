@@ -1,11 +1,10 @@
-use Rattle.std.proofs.Common.{arith, ◌≡◌, ◌∙◌, ap, sym, subst}
-use Rattle.esr_cert.specs.Problem.{Problem, size}
-use Rattle.esr_cert.specs.Network.{network}
+use Rattle.std.proofs.Common.{arith, ◌∙◌, ap, sym, subst}
+use Rattle.esr_cert.specs.Problem.{Problem}
 use Rattle.esr_cert.specs.Certificate.{Certificate, amounts}
-use Rattle.esr_cert.specs.Rows.{row_in, span_at, row_of}
+use Rattle.esr_cert.specs.Rows.{row_in, span_at}
 use Rattle.esr_cert.specs.Starts.{AreStarts}
 use Rattle.esr_cert.specs.Balance.{is_balanced}
-use Rattle.esr_cert.specs.Views.{certificate_of, rows_of}
+use Rattle.esr_cert.specs.Views.{certificate_of}
 use Rattle.esr_cert.proofs.Sound.{facts}
 use Rattle.esr_cert.proofs.Certified.{matched}
 use Rattle.esr_cert.proofs.StartsLaws.{are_starts}

@@ -1,4 +1,4 @@
-use Rattle.std.proofs.Common.{arith, rules, ℕ, List, length, ◌-◌, ◌+◌, ◌<◌, ◌≤◌, ◌≡◌, get_or, ap, leb}
+use Rattle.std.proofs.Common.{arith, rules, ◌-◌, ◌+◌, ◌≡◌, get_or, ap, leb}
 use Rattle.std.proofs.lemmas.List.Sorted.{IsPartitionedBy-leb, IsPartitionPoint-from_clause}
 use Rattle.esr_cert.proofs.StartsLaws.{IsFound, found}
 use Rattle.esr_cert.proofs.checker.row_at.Goals as goal

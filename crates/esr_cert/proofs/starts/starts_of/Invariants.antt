@@ -1,4 +1,4 @@
-use Rattle.std.proofs.Common.{◌≡◌, ◌++◌, ◌+◌, drop, map, take, length, sum_by}
+use Rattle.std.proofs.Common.{◌≡◌, ◌++◌, drop, map, take, length, sum_by}
 use Rattle.esr_cert.specs.Starts.{starts_from}
 use Rattle.esr_cert.specs.Views.{chain_of}
 use Rattle.esr_cert.proofs.starts.starts_of.Given as goal

@@ -1,8 +1,8 @@
-use Rattle.std.proofs.Common.{arith, ◌≡◌, ◌∙◌, ap, refl, length, map, sum_by}
+use Rattle.std.proofs.Common.{arith, ◌≡◌, ◌∙◌, ap, refl, length, sum_by}
 use Rattle.std.proofs.lemmas.List.{length-map}
-use Rattle.esr_cert.specs.Problem.{Problem, size}
+use Rattle.esr_cert.specs.Problem.{Problem}
 use Rattle.esr_cert.specs.Network.{network}
-use Rattle.esr_cert.specs.Views.{chain_of, problem_of}
+use Rattle.esr_cert.specs.Views.{problem_of}
 use Rattle.esr_cert.proofs.Sound.{facts}
 use Rattle.esr_cert.proofs.Steps.{same_parts}
 use Rattle.esr_cert.proofs.Worth.{arc_count}
