@@ -223,10 +223,10 @@ impl Problem {
     {
         arcs_of(
             alloc,
-            &self.updates,
-            &self.before,
-            &self.chains,
-            &self.must,
+            self.updates(),
+            self.before(),
+            self.chains(),
+            self.must(),
         )
     }
 

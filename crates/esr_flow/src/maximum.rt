@@ -12,9 +12,8 @@ ghost use Rattle.esr_flow.specs.Maximum.{InArcs, HasLimit, LIMIT};
 use crate::entry::ShortEntry;
 use crate::graph::{Graph, room_of};
 use crate::search::{Found, search};
-use esr_cert::ShortArc;
-use esr_cert::Step;
 use crate::walk::{rewind, walk};
+use esr_cert::{ShortArc, Step};
 use std::alloc::{AllocError, Global};
 
 fn lesser_of(a: Option<u64>, b: Option<u64>) -> Option<u64>
