@@ -6,6 +6,7 @@ use Rattle.esr_cert.specs.Flow.{inflow, outflow, worth}
 use Rattle.esr_cert.specs.Cut.{with_source, across}
 use Rattle.esr_cert.specs.Certificate.{Certificate, amounts, fault}
 use Rattle.esr_cert.specs.Rows.{row_of}
+use Rattle.esr_cert.specs.Starts.{starts_from}
 use Rattle.esr_cert.specs.Balance.{is_balanced}
 use Rattle.esr_cert.specs.declared.step.Step.TheVariants.{Along, Against}
 use Rattle.esr_cert.specs.declared.certificate.Fault.TheVariants.{SetNotAscending, UnknownUpdate, SetNotClosed, OverCapacity, NotConserved, WorthNotCost, TooManyAugmentations}
@@ -43,6 +44,9 @@ capacity_between = refl
 
 six_arcs : length (network report).arcs ≡ 6
 six_arcs = refl
+
+three_arcs_and_two : starts_from 0 report.chains ≡ 0 ∷ 3 ∷ 5 ∷ []
+three_arcs_and_two = refl
 
 worth_of_one : worth (network report) (amounts after_both) ≡ 1
 worth_of_one = refl

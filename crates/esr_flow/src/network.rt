@@ -9,8 +9,7 @@ use esr_cert::Problem;
 use esr_history::NoMemory;
 use std::alloc::{AllocError, Global};
 
-/// The graph of a problem's network: updates are nodes by their positions, and the
-/// source and the sink come after them.
+/// The graph of a problem's network.
 fn graph_of<'a>(alloc: Global, problem: &'a Problem) -> Result<Graph<'a>, AllocError>
     ensures graph { IfOk result IsGraph }
     ensures network { IfOk result (λ graph. net_of graph ≡ networks.network problem.now) }
@@ -26,13 +25,9 @@ fn graph_of<'a>(alloc: Global, problem: &'a Problem) -> Result<Graph<'a>, AllocE
     })
 }
 
-/// The network of a problem.
+/// The network of a problem: its arcs beside the rows of steps that the problem keeps.
 ///
-/// A read item gives a chain of arcs from the source through its writers to the sink,
-/// each with the cost of a version as its capacity; each pair of updates an unlimited
-/// arc from the later back to the earlier; and each update that a set must hold an
-/// unlimited arc from the source. Its cuts without unlimited arcs are the closed sets,
-/// and their capacities are the costs.
+/// Its cuts without unlimited arcs are the closed sets, and their capacities are the costs.
 #[derive(Drop)]
 pub struct Network<'a> {
     pub problem: &'a Problem,
