@@ -1,5 +1,5 @@
 -- The places of the steps of arcs, as the steps are laid.
-use Rattle.std.proofs.Common.{◌≡◌, ℕ, ◌+◌, ◌*◌, ◌<◌, List, [], ◌∷◌, ◌++◌, length, get_or, set, take, sum, sym, ap, ◌∙◌, subst, inl, inr, arith}
+use Rattle.std.proofs.Common.{◌≡◌, refl, ℕ, ◌+◌, ◌*◌, ◌<◌, List, [], ◌∷◌, ◌++◌, length, get_or, set, take, sum, sym, ap, ◌∙◌, subst, inl, inr, arith}
 use Rattle.std.proofs.lemmas.Bool.{cases_eq}
 use Rattle.std.proofs.lemmas.List.{get_or_append_left, get_or_push, length_push}
 use Rattle.esr_cert.specs.declared.network.Arc.{Arc}
@@ -7,12 +7,13 @@ use Rattle.esr_cert.specs.declared.step.Step.{Step}
 use Rattle.esr_cert.specs.declared.step.Step.TheVariants.{Along, Against}
 use Rattle.esr_cert.specs.declared.rows.Span.{Span}
 use Rattle.esr_cert.specs.declared.rows.Places.{Places}
+use Rattle.esr_cert.specs.Network.{arc_at}
 use Rattle.esr_cert.specs.Steps.{arc_of, start}
 use Rattle.esr_cert.specs.Rows.{ArePlaces, place_of, span_at}
 use Rattle.esr_cert.specs.Steps.{step_at}
-use Rattle.esr_cert.specs.Rows.{first_steps, steps_from, AreDegrees, AreRows, longer}
+use Rattle.esr_cert.specs.Rows.{first_steps, steps_from, AreDegrees, AreRows, lengthen}
 use Rattle.esr_cert.proofs.StepsLaws.{steps_here, steps_other, first_next, row_known, last_or_not, not_last, at_last}
-use Rattle.esr_cert.proofs.RowsLaws.{Filled, filled_more, place_within, room_along, room_against, filled_all, step_with}
+use Rattle.esr_cert.proofs.RowsLaws.{HasEnds, ends_at, Filled, filled_more, place_within, room_along, room_against, filled_all, step_with}
 
 -- each of some steps lies at its place in the row of its node
 pub record Placed (arcs : List Arc) (lengths : List ℕ) (done : List Step) (places : List Places) : Type 0 where
@@ -77,53 +78,68 @@ pub record Laid (arcs : List Arc) (nodes i : ℕ) (spans : List Span) (steps : L
   pub placed : Placed arcs degrees (first_steps i) places
   pub count : length places ≡ i
 
-pub laid_long : (arcs : List Arc) (nodes i : ℕ) (spans : List Span) (steps : List Step) (places : List Places) → Laid arcs nodes i spans steps places → length steps ≡ 2 * length arcs
-laid_long arcs nodes i spans steps places h = h.filled.total ∙ h.are.both
+pub laid_long : {arcs : List Arc} {nodes i : ℕ} {spans : List Span} {steps : List Step} {places : List Places} → Laid arcs nodes i spans steps places → length steps ≡ 2 * length arcs
+laid_long h = h.filled.total ∙ h.are.both
 
 -- the two steps of an arc are put into the rows of its ends
-module _ (arcs : List Arc) (nodes i : ℕ) (spans : List Span) (steps : List Step) (places : List Places) (from to : ℕ) (a : start arcs (Along i) ≡ from) (b : start arcs (Against i) ≡ to) (l : i < length arcs) (m : from < nodes) (n : to < nodes) (h : Laid arcs nodes i spans steps places) where
-  pub within_along : (span_at spans from).end < length steps
-  within_along = place_within arcs h.degrees (first_steps i) spans steps (Along i) from a (omega (arith, h.are.count)) (room_along arcs nodes h.degrees i from h.are l m a) h.filled
+module _ {arcs : List Arc} {nodes i : ℕ} {spans : List Span} {steps : List Step} {places : List Places} (l : i < length arcs) (ends : HasEnds arcs nodes) (h : Laid arcs nodes i spans steps places) where
+  abbrev from : ℕ
+  from = (arc_at arcs i).from
 
-  module _ (spans_along : List Span) (steps_along : List Step) (e : spans_along ≡ set spans from (longer (span_at spans from))) (q : steps_along ≡ set steps (span_at spans from).end (Along i)) where
+  abbrev to : ℕ
+  to = (arc_at arcs i).to
+
+  known_from : from < length h.degrees
+  known_from = omega (arith, (ends_at arcs nodes i ends l).0, h.are.count)
+
+  known_to : to < length h.degrees
+  known_to = omega (arith, (ends_at arcs nodes i ends l).1, h.are.count)
+
+  room_from : length (steps_from arcs from (first_steps i)) < get_or h.degrees from 0
+  room_from = room_along arcs nodes h.degrees i from h.are l (ends_at arcs nodes i ends l).0 refl
+
+  room_to : length (steps_from arcs to (first_steps i ++ Along i ∷ [])) < get_or h.degrees to 0
+  room_to = room_against arcs nodes h.degrees i to h.are l (ends_at arcs nodes i ends l).1 refl
+
+  pub within_along : (span_at spans from).end < length steps
+  within_along = place_within arcs h.degrees (first_steps i) spans steps (Along i) from refl known_from room_from h.filled
+
+  module _ (spans_along : List Span) (steps_along : List Step) (e : spans_along ≡ lengthen spans from) (q : steps_along ≡ set steps (span_at spans from).end (Along i)) where
     filled_along : Filled arcs h.degrees (first_steps i ++ Along i ∷ []) spans_along steps_along
     filled_along =
         subst (λ list. Filled arcs h.degrees (first_steps i ++ Along i ∷ []) list steps_along) (sym e)
-        (subst (Filled arcs h.degrees (first_steps i ++ Along i ∷ []) (set spans from (longer (span_at spans from)))) (sym q)
-        (filled_more arcs h.degrees (first_steps i) spans steps (Along i) from a (omega (arith, h.are.count)) (room_along arcs nodes h.degrees i from h.are l m a) h.filled))
-
-    pub known_against : to < length spans_along
-    known_against = omega (arith, filled_along.count, h.are.count)
+        (subst (Filled arcs h.degrees (first_steps i ++ Along i ∷ []) (lengthen spans from)) (sym q)
+        (filled_more arcs h.degrees (first_steps i) spans steps (Along i) from refl known_from room_from h.filled))
 
     pub within_against : (span_at spans_along to).end < length steps_along
-    within_against = place_within arcs h.degrees (first_steps i ++ Along i ∷ []) spans_along steps_along (Against i) to b (omega (arith, h.are.count)) (room_against arcs nodes h.degrees i to h.are l n b) filled_along
+    within_against = place_within arcs h.degrees (first_steps i ++ Along i ∷ []) spans_along steps_along (Against i) to refl known_to room_to filled_along
 
     pub long_along : length steps_along ≡ 2 * length arcs
     long_along = filled_along.total ∙ h.are.both
 
-    filled_against : Filled arcs h.degrees (first_steps (i + 1)) (set spans_along to (longer (span_at spans_along to))) (set steps_along (span_at spans_along to).end (Against i))
+    filled_against : Filled arcs h.degrees (first_steps (i + 1)) (lengthen spans_along to) (set steps_along (span_at spans_along to).end (Against i))
     filled_against =
-        subst (λ done. Filled arcs h.degrees done (set spans_along to (longer (span_at spans_along to))) (set steps_along (span_at spans_along to).end (Against i))) (first_next i)
-        (filled_more arcs h.degrees (first_steps i ++ Along i ∷ []) spans_along steps_along (Against i) to b (omega (arith, h.are.count)) (room_against arcs nodes h.degrees i to h.are l n b) filled_along)
+        subst (λ done. Filled arcs h.degrees done (lengthen spans_along to) (set steps_along (span_at spans_along to).end (Against i))) (first_next i)
+        (filled_more arcs h.degrees (first_steps i ++ Along i ∷ []) spans_along steps_along (Against i) to refl known_to room_to filled_along)
 
-    pub laid_more : (spans_against : List Span) (steps_against : List Step) (more : List Places) (p : Places) → spans_against ≡ set spans_along to (longer (span_at spans_along to)) → steps_against ≡ set steps_along (span_at spans_along to).end (Against i) → more ≡ places ++ p ∷ []
+    pub laid_more : (spans_against : List Span) (steps_against : List Step) (more : List Places) (p : Places) → spans_against ≡ lengthen spans_along to → steps_against ≡ set steps_along (span_at spans_along to).end (Against i) → more ≡ places ++ p ∷ []
         → p.along ≡ (span_at spans from).end → p.against ≡ (span_at spans_along to).end → Laid arcs nodes (i + 1) spans_against steps_against more
     laid_more spans_against steps_against more p u v w along against = record {
       degrees = h.degrees;
       are = h.are;
       filled = subst (λ list. Filled arcs h.degrees (first_steps (i + 1)) list steps_against) (sym u)
-          (subst (Filled arcs h.degrees (first_steps (i + 1)) (set spans_along to (longer (span_at spans_along to)))) (sym v) filled_against);
+          (subst (Filled arcs h.degrees (first_steps (i + 1)) (lengthen spans_along to)) (sym v) filled_against);
       placed = subst (Placed arcs h.degrees (first_steps (i + 1))) (sym w)
-          (placed_arc arcs h.degrees i places p from to h.count a b (along ∙ h.filled.end from (omega (arith, h.are.count))) (against ∙ filled_along.end to (omega (arith, h.are.count))) h.placed);
+          (placed_arc arcs h.degrees i places p from to h.count refl refl (along ∙ h.filled.end from known_from) (against ∙ filled_along.end to known_to) h.placed);
       count = omega (arith, ap length w, h.count, length_push places p);
     }
 
-pub laid_rows : (arcs : List Arc) (nodes i : ℕ) (spans : List Span) (steps : List Step) (places : List Places) → i ≡ length arcs → Laid arcs nodes i spans steps places → AreRows arcs nodes spans steps
-laid_rows arcs nodes i spans steps places e laid =
+pub laid_rows : {arcs : List Arc} {nodes i : ℕ} {spans : List Span} {steps : List Step} {places : List Places} → i ≡ length arcs → Laid arcs nodes i spans steps places → AreRows arcs nodes spans steps
+laid_rows {arcs} {nodes} {i} {spans} {steps} {places} e laid =
     let h : Laid arcs nodes (length arcs) spans steps places = subst (λ n. Laid arcs nodes n spans steps places) e laid in
     filled_all arcs nodes h.degrees spans steps h.are h.filled
 
-pub laid_places : (arcs : List Arc) (nodes i : ℕ) (spans : List Span) (steps : List Step) (places : List Places) → i ≡ length arcs → Laid arcs nodes i spans steps places → ArePlaces arcs steps places
-laid_places arcs nodes i spans steps places e laid =
+pub laid_places : {arcs : List Arc} {nodes i : ℕ} {spans : List Span} {steps : List Step} {places : List Places} → i ≡ length arcs → Laid arcs nodes i spans steps places → ArePlaces arcs steps places
+laid_places {arcs} {nodes} {i} {spans} {steps} {places} e laid =
     let h : Laid arcs nodes (length arcs) spans steps places = subst (λ n. Laid arcs nodes n spans steps places) e laid in
     placed_all arcs nodes h.degrees spans steps places h.are h.filled h.count h.placed

@@ -22,11 +22,17 @@ pub at_row : {X : Type 0} (list : List X) (span : Span) (k : ℕ) (d : X) → k 
 at_row list span k d l =
     get_or-take (span.end - span.begin) (drop span.begin list) k d l ∙ get_or-drop span.begin list k d
 
--- where the two steps of an arc that is read start
-pub starts_read : (arcs : List Arc) (i : ℕ) (d : Arc) → i < length arcs → (start arcs (Along i) ≡ (get_or arcs i d).from) × (start arcs (Against i) ≡ (get_or arcs i d).to)
-starts_read arcs i d l =
-    let same : get_or arcs i d ≡ arc_at arcs i = get_or_default arcs i d (record { from = 0; to = 0; capacity = Some 0 }) l in
-    (ap (λ (a : Arc). a.from) (sym same), ap (λ (a : Arc). a.to) (sym same))
+-- an arc that the code reads, whatever the default of the read
+pub arc_read : (arcs : List Arc) (i : ℕ) {d x : Arc} → i < length arcs → d ≡ get_or arcs i d → x ≡ d → x ≡ arc_at arcs i
+arc_read arcs i {d} l is e = e ∙ is ∙ get_or_default arcs i d (record { from = 0; to = 0; capacity = Some 0 }) l
+
+-- the ends of the arcs are nodes, in the words of the contracts of the rows
+abbrev pub HasEnds : List Arc → ℕ → Type 0
+HasEnds arcs nodes = (i : ℕ) (d : Arc) → i < length arcs → ((get_or arcs i d).from < nodes) × ((get_or arcs i d).to < nodes)
+
+-- the ends of one arc are nodes
+pub ends_at : (arcs : List Arc) (nodes i : ℕ) → HasEnds arcs nodes → i < length arcs → ((arc_at arcs i).from < nodes) × ((arc_at arcs i).to < nodes)
+ends_at arcs nodes i ends l = ends i (record { from = 0; to = 0; capacity = Some 0 }) l
 
 -- how many of some steps start at each node
 pub record Counted (arcs : List Arc) (nodes : ℕ) (done : List Step) (counts : List ℕ) : Type 0 where
@@ -34,11 +40,11 @@ pub record Counted (arcs : List Arc) (nodes : ℕ) (done : List Step) (counts : 
   pub each : (v : ℕ) → v < nodes → get_or counts v 0 ≡ length (steps_from arcs v done)
   pub both : sum counts ≡ length done
 
-pub counted_at : (arcs : List Arc) (nodes : ℕ) (done : List Step) (counts : List ℕ) (u x : ℕ) → u < nodes → x ≡ get_or counts u x → Counted arcs nodes done counts → x ≤ length done
-counted_at arcs nodes done counts u x l read h = omega (arith, get_or-le-sum_by (λ n. n) counts u x (omega (arith, h.count)), h.both)
+pub counted_at : {arcs : List Arc} {nodes : ℕ} {done : List Step} {counts : List ℕ} {u x : ℕ} → u < nodes → x ≡ get_or counts u x → Counted arcs nodes done counts → x ≤ length done
+counted_at {arcs} {nodes} {done} {counts} {u} {x} l read h = omega (arith, get_or-le-sum_by (λ n. n) counts u x (omega (arith, h.count)), h.both)
 
-pub counted_more : (arcs : List Arc) (nodes : ℕ) (done : List Step) (counts : List ℕ) (s : Step) (u x : ℕ) → start arcs s ≡ u → u < nodes → x ≡ get_or counts u x → Counted arcs nodes done counts → Counted arcs nodes (done ++ s ∷ []) (set counts u (x + 1))
-counted_more arcs nodes done counts s u x e l read h = record {
+pub counted_more : {arcs : List Arc} {nodes : ℕ} {done : List Step} {counts : List ℕ} (s : Step) {u x : ℕ} → start arcs s ≡ u → u < nodes → x ≡ get_or counts u x → Counted arcs nodes done counts → Counted arcs nodes (done ++ s ∷ []) (set counts u (x + 1))
+counted_more {arcs} {nodes} {done} {counts} s {u} {x} e l read h = record {
   count = length-set counts u (x + 1) ∙ h.count;
   each = λ v m. elim (cases_eq v u) [
     | inl q ↦ subst (λ w. get_or (set counts u (x + 1)) w 0 ≡ length (steps_from arcs w (done ++ s ∷ []))) (sym q) here
@@ -50,8 +56,8 @@ counted_more arcs nodes done counts s u x e l read h = record {
     here : get_or (set counts u (x + 1)) u 0 ≡ length (steps_from arcs u (done ++ s ∷ []))
     here = omega (arith, get_or-set_same counts u (x + 1) 0 (omega (arith, h.count)), get_or_read counts u x (omega (arith, h.count)) read 0, h.each u l, ap length (steps_here arcs u done s e), length_push (steps_from arcs u done) s)
 
-pub counted_all : (arcs : List Arc) (nodes i : ℕ) (counts : List ℕ) → i ≡ length arcs → Counted arcs nodes (first_steps i) counts → AreDegrees arcs nodes counts
-counted_all arcs nodes i counts e h =
+pub counted_all : {arcs : List Arc} {nodes : ℕ} (i : ℕ) {counts : List ℕ} → i ≡ length arcs → Counted arcs nodes (first_steps i) counts → AreDegrees arcs nodes counts
+counted_all {arcs} {nodes} i {counts} e h =
     let all : Counted arcs nodes (first_steps (length arcs)) counts = subst (λ n. Counted arcs nodes (first_steps n) counts) e h in
     record { count = all.count; degree = all.each; both = omega (arith, all.both, first_count (length arcs)) }
 
