@@ -4,14 +4,6 @@ use esr_items::ItemId;
 use std::alloc::{AllocError, Global};
 use std::test::Fail;
 
-fn chain(alloc: Global, item: u32, writers: &[u32], costs: &[u64]) -> Result<Chain, AllocError> {
-    Ok(Chain {
-        item: ItemId(item),
-        writers: writers.to_vec(alloc)?,
-        costs: costs.to_vec(alloc)?,
-    })
-}
-
 fn numbers(alloc: Global, numbers: &[u32]) -> Result<Vec<TxnId>, AllocError> {
     let mut list = Vec::new(alloc);
     for number in numbers {
@@ -20,11 +12,31 @@ fn numbers(alloc: Global, numbers: &[u32]) -> Result<Vec<TxnId>, AllocError> {
     Ok(list)
 }
 
-fn two(alloc: Global, first: Chain, second: Chain) -> Result<Vec<Chain>, AllocError> {
+/// Items with their writers, and what each version costs.
+fn chains(alloc: Global, items: &[(u32, &[u32], &[u64])]) -> Result<Vec<Chain>, AllocError> {
     let mut chains = Vec::new(alloc);
-    chains.push(first)?;
-    chains.push(second)?;
+    for (item, writers, costs) in items {
+        chains.push(Chain {
+            item: ItemId(*item),
+            writers: writers.to_vec(alloc)?,
+            costs: costs.to_vec(alloc)?,
+        })?;
+    }
     Ok(chains)
+}
+
+fn problem(
+    alloc: Global,
+    updates: &[u32],
+    before: &[(u32, u32)],
+    items: &[(u32, &[u32], &[u64])],
+    must: &[u32],
+) -> Result<Problem, BundleFault> {
+    let chains = chains(alloc, items)?;
+    let updates = numbers(alloc, updates)?;
+    let before = before.to_vec(alloc)?;
+    let must = must.to_vec(alloc)?;
+    Problem::new(alloc, updates, before, chains, must)
 }
 
 /// Two updates in a row, and two items: the second wrote both, the first one of them.
@@ -34,62 +46,114 @@ fn report(
     before: &[(u32, u32)],
     cost: u64,
 ) -> Result<Problem, BundleFault> {
-    let first = chain(alloc, 0, &[0, 1], &[0, 10, 1])?;
-    let second = chain(alloc, 1, &[1], &[cost, 0])?;
-    let chains = two(alloc, first, second)?;
-    let updates = numbers(alloc, updates)?;
-    let before = before.to_vec(alloc)?;
-    Problem::new(alloc, updates, before, chains, Vec::new(alloc))
+    problem(
+        alloc,
+        updates,
+        before,
+        &[(0, &[0, 1], &[0, 10, 1]), (1, &[1], &[cost, 0])],
+        &[],
+    )
 }
 
-/// The certificate that the query comes after both updates.
-fn after_both(alloc: Global) -> Result<Certificate, AllocError> {
-    let mut chain_flow = Vec::new(alloc);
-    chain_flow.push(vec![in alloc; 0u64, 0, 1]?)?;
-    chain_flow.push(vec![in alloc; 1u64, 0]?)?;
+/// The parts of a certificate.
+#[derive(Clone, Copy)]
+struct Parts<'a> {
+    set: &'a [u32],
+    chains: &'a [&'a [u64]],
+    backs: &'a [u64],
+    musts: &'a [u64],
+    worth: u64,
+}
+
+fn rows(alloc: Global, chains: &[&[u64]]) -> Result<Vec<Vec<u64>>, AllocError> {
+    let mut rows = Vec::new(alloc);
+    for amounts in chains {
+        rows.push(amounts.to_vec(alloc)?)?;
+    }
+    Ok(rows)
+}
+
+fn certificate(
+    alloc: Global,
+    parts: Parts,
+    augmentations: Option<u64>,
+) -> Result<Certificate, AllocError> {
+    let chain_flow = rows(alloc, parts.chains)?;
+    let set = parts.set.to_vec(alloc)?;
+    let back_flow = parts.backs.to_vec(alloc)?;
+    let must_flow = parts.musts.to_vec(alloc)?;
     Ok(Certificate {
-        set: vec![in alloc; 0u32, 1]?,
+        set,
         chain_flow,
-        back_flow: vec![in alloc; 0u64]?,
-        must_flow: Vec::new(alloc),
-        worth: 1,
-        augmentations: None,
+        back_flow,
+        must_flow,
+        worth: parts.worth,
+        augmentations,
     })
+}
+
+/// The first fault of a certificate of these parts.
+fn fault_of(alloc: Global, problem: &Problem, parts: Parts) -> Result<Option<Fault>, AllocError> {
+    let certificate = certificate(alloc, parts, None)?;
+    Ok(check(problem, &certificate).err())
 }
 
 #[test]
 fn each_fault_of_a_certificate(rt: HostRuntime) -> Result<(), Fail> {
     let alloc = rt.alloc();
     let problem = report(alloc, &[2, 3], &[(0, 1)], 8)?;
-    let whole = after_both(alloc)?;
-    assert_eq!(rt; check(&problem, &whole), Ok(()));
-    let mut other = after_both(alloc)?;
-    other.set = vec![in alloc; 1u32, 0]?;
-    assert_eq!(rt; check(&problem, &other), Err(Fault::SetNotAscending));
-    other.set = vec![in alloc; 0u32, 2]?;
-    assert_eq!(rt; check(&problem, &other), Err(Fault::UnknownUpdate));
-    other.set = vec![in alloc; 1u32]?;
-    assert_eq!(rt; check(&problem, &other), Err(Fault::SetNotClosed));
-    other.set = Vec::new(alloc);
-    assert_eq!(rt; check(&problem, &other), Err(Fault::WorthNotCost));
-    let mut other = after_both(alloc)?;
-    other.worth = 0;
-    assert_eq!(rt; check(&problem, &other), Err(Fault::WorthNotCost));
-    other.back_flow = Vec::new(alloc);
-    assert_eq!(rt; check(&problem, &other), Err(Fault::OverCapacity));
-    other.back_flow = vec![in alloc; 1u64]?;
-    assert_eq!(rt; check(&problem, &other), Err(Fault::NotConserved));
-    let mut other = after_both(alloc)?;
-    let mut rows = Vec::new(alloc);
-    rows.push(vec![in alloc; 0u64, 0, 2]?)?;
-    rows.push(vec![in alloc; 1u64, 0]?)?;
-    other.chain_flow = rows;
-    assert_eq!(rt; check(&problem, &other), Err(Fault::OverCapacity));
-    let mut rows = Vec::new(alloc);
-    rows.push(vec![in alloc; 0u64, 0, 0]?)?;
-    rows.push(vec![in alloc; 1u64, 0]?)?;
-    other.chain_flow = rows;
-    assert_eq!(rt; check(&problem, &other), Err(Fault::NotConserved));
+    let both = Parts {
+        set: &[0, 1],
+        chains: &[&[0, 0, 1], &[1, 0]],
+        backs: &[0],
+        musts: &[],
+        worth: 1,
+    };
+    let cases = [
+        (both, None),
+        (
+            Parts {
+                set: &[1, 0],
+                ..both
+            },
+            Some(Fault::SetNotAscending),
+        ),
+        (
+            Parts {
+                set: &[0, 2],
+                ..both
+            },
+            Some(Fault::UnknownUpdate),
+        ),
+        (Parts { set: &[1], ..both }, Some(Fault::SetNotClosed)),
+        (Parts { set: &[], ..both }, Some(Fault::WorthNotCost)),
+        (Parts { worth: 0, ..both }, Some(Fault::WorthNotCost)),
+        (Parts { backs: &[], ..both }, Some(Fault::OverCapacity)),
+        (
+            Parts {
+                backs: &[1],
+                ..both
+            },
+            Some(Fault::NotConserved),
+        ),
+        (
+            Parts {
+                chains: &[&[0, 0, 2], &[1, 0]],
+                ..both
+            },
+            Some(Fault::OverCapacity),
+        ),
+        (
+            Parts {
+                chains: &[&[0, 0, 0], &[1, 0]],
+                ..both
+            },
+            Some(Fault::NotConserved),
+        ),
+    ];
+    for (i, (parts, fault)) in cases.iter().enumerate() {
+        assert_eq!(rt; fault_of(alloc, &problem, *parts)?, *fault, "at {i}");
+    }
     assert_eq!(rt; Fault::NotConserved.number(), 5);
     assert_eq!(rt; Fault::TooManyAugmentations.number(), 7);
     Ok(())
@@ -120,114 +184,81 @@ fn a_problem_keeps_its_rules(rt: HostRuntime) -> Result<(), Fail> {
 #[test]
 fn a_count_of_augmentations_is_at_most_nodes_times_arcs(rt: HostRuntime) -> Result<(), Fail> {
     let alloc = rt.alloc();
-    let first = chain(alloc, 0, &[0], &[0, 6])?;
-    let second = chain(alloc, 1, &[1], &[2, 0])?;
-    let chains = two(alloc, first, second)?;
-    let updates = numbers(alloc, &[2, 3])?;
-    let before = vec![in alloc; (0u32, 1u32)]?;
-    let problem = Problem::new(alloc, updates, before, chains, Vec::new(alloc))?;
-    let mut chain_flow = Vec::new(alloc);
-    chain_flow.push(vec![in alloc; 0u64, 2]?)?;
-    chain_flow.push(vec![in alloc; 2u64, 0]?)?;
-    let mut certificate = Certificate {
-        set: Vec::new(alloc),
-        chain_flow,
-        back_flow: vec![in alloc; 2u64]?,
-        must_flow: Vec::new(alloc),
+    let problem = problem(
+        alloc,
+        &[2, 3],
+        &[(0, 1)],
+        &[(0, &[0], &[0, 6]), (1, &[1], &[2, 0])],
+        &[],
+    )?;
+    let parts = Parts {
+        set: &[],
+        chains: &[&[0, 2], &[2, 0]],
+        backs: &[2],
+        musts: &[],
         worth: 2,
-        augmentations: None,
     };
-    assert_eq!(rt; check(&problem, &certificate), Ok(()));
-    for (count, short) in [(19, true), (20, true), (21, false)] {
-        certificate.augmentations = Some(count);
-        assert_eq!(rt; check(&problem, &certificate).is_ok(), short, "at {count}");
+    let above = Some(Fault::TooManyAugmentations);
+    for (count, fault) in [(19, None), (20, None), (21, above)] {
+        let certificate = certificate(alloc, parts, Some(count))?;
+        assert_eq!(rt; check(&problem, &certificate).err(), fault, "at {count}");
     }
-    assert_eq!(rt;
-        check(&problem, &certificate),
-        Err(Fault::TooManyAugmentations)
-    );
     Ok(())
 }
 
 #[test]
 fn a_problem_with_no_update(rt: HostRuntime) -> Result<(), Fail> {
     let alloc = rt.alloc();
-    let mut certificate = Certificate {
-        set: Vec::new(alloc),
-        chain_flow: Vec::new(alloc),
-        back_flow: Vec::new(alloc),
-        must_flow: Vec::new(alloc),
+    let nothing = problem(alloc, &[], &[], &[], &[])?;
+    let parts = Parts {
+        set: &[],
+        chains: &[],
+        backs: &[],
+        musts: &[],
         worth: 0,
-        augmentations: Some(0),
     };
-    let nothing = Problem::new(
-        alloc,
-        Vec::new(alloc),
-        Vec::new(alloc),
-        Vec::new(alloc),
-        Vec::new(alloc),
-    )?;
-    assert_eq!(rt; check(&nothing, &certificate), Ok(()));
-    certificate.augmentations = Some(1);
-    assert_eq!(rt;
-        check(&nothing, &certificate),
-        Err(Fault::TooManyAugmentations)
-    );
-    let mut chains = Vec::new(alloc);
-    chains.push(chain(alloc, 0, &[], &[4])?)?;
-    let one_item = Problem::new(
-        alloc,
-        Vec::new(alloc),
-        Vec::new(alloc),
-        chains,
-        Vec::new(alloc),
-    )?;
-    certificate.chain_flow.push(vec![in alloc; 4u64]?)?;
-    certificate.worth = 4;
-    assert_eq!(rt; check(&one_item, &certificate), Ok(()));
+    for (count, fault) in [(0, None), (1, Some(Fault::TooManyAugmentations))] {
+        let certificate = certificate(alloc, parts, Some(count))?;
+        assert_eq!(rt; check(&nothing, &certificate).err(), fault, "at {count}");
+    }
+    let one_item = problem(alloc, &[], &[], &[(0, &[], &[4])], &[])?;
+    let paid = Parts {
+        chains: &[&[4]],
+        worth: 4,
+        ..parts
+    };
+    assert_eq!(rt; fault_of(alloc, &one_item, paid)?, None);
     Ok(())
 }
 
 #[test]
 fn a_set_has_to_hold_must(rt: HostRuntime) -> Result<(), Fail> {
     let alloc = rt.alloc();
-    let mut chains = Vec::new(alloc);
-    chains.push(chain(alloc, 0, &[0], &[0, 5])?)?;
-    let updates = numbers(alloc, &[1])?;
-    let strict = Problem::new(
-        alloc,
-        updates,
-        Vec::new(alloc),
-        chains,
-        vec![in alloc; 0u32]?,
-    )?;
-    let mut chain_flow = Vec::new(alloc);
-    chain_flow.push(vec![in alloc; 0u64, 5]?)?;
-    let mut certificate = Certificate {
-        set: vec![in alloc; 0u32]?,
-        chain_flow,
-        back_flow: Vec::new(alloc),
-        must_flow: vec![in alloc; 5u64]?,
+    let strict = problem(alloc, &[1], &[], &[(0, &[0], &[0, 5])], &[0])?;
+    let seen = Parts {
+        set: &[0],
+        chains: &[&[0, 5]],
+        backs: &[],
+        musts: &[5],
         worth: 5,
-        augmentations: None,
     };
-    assert_eq!(rt; check(&strict, &certificate), Ok(()));
-    certificate.worth = 4;
-    assert_eq!(rt; check(&strict, &certificate), Err(Fault::WorthNotCost));
-    certificate.must_flow = vec![in alloc; 4u64]?;
-    assert_eq!(rt; check(&strict, &certificate), Err(Fault::NotConserved));
-    certificate.must_flow = Vec::new(alloc);
-    assert_eq!(rt; check(&strict, &certificate), Err(Fault::OverCapacity));
-    certificate.set = Vec::new(alloc);
-    assert_eq!(rt; check(&strict, &certificate), Err(Fault::SetNotClosed));
-    let updates = numbers(alloc, &[1])?;
-    let outside = Problem::new(
-        alloc,
-        updates,
-        Vec::new(alloc),
-        Vec::new(alloc),
-        vec![in alloc; 1u32]?,
-    );
+    let cases = [
+        (seen, None),
+        (Parts { worth: 4, ..seen }, Some(Fault::WorthNotCost)),
+        (
+            Parts {
+                musts: &[4],
+                ..seen
+            },
+            Some(Fault::NotConserved),
+        ),
+        (Parts { musts: &[], ..seen }, Some(Fault::OverCapacity)),
+        (Parts { set: &[], ..seen }, Some(Fault::SetNotClosed)),
+    ];
+    for (i, (parts, fault)) in cases.iter().enumerate() {
+        assert_eq!(rt; fault_of(alloc, &strict, *parts)?, *fault, "at {i}");
+    }
+    let outside = problem(alloc, &[1], &[], &[], &[1]);
     assert_eq!(rt; outside.err(), Some(BundleFault::Range));
     Ok(())
 }
