@@ -1,21 +1,24 @@
 -- What the entries of a transaction give are its accesses.
-use Rattle.std.proofs.Common.{◌≡◌, ℕ, ◌+◌, Bool, true, false, not, ◌&&◌, List, [], ◌∷◌, ◌++◌, length, refl, sym, ◌∙◌, ap, Option, None, cond, filter, map, eqb, append_assoc, if◌then◌else◌}
+use Rattle.std.proofs.Common.{◌≡◌, ◌<◌, All, arith, ℕ, ◌+◌, Bool, true, false, not, ◌&&◌, List, [], ◌∷◌, ◌++◌, length, refl, sym, ◌∙◌, ap, Option, None, cond, filter, map, eqb, append_assoc, if◌then◌else◌}
 use Rattle.std.specs.List.{filter_map, slice_get, cons_option}
 use Rattle.std.specs.Option.{option_map}
 use Rattle.std.proofs.lemmas.List.{length-append}
+use Rattle.std.proofs.lemmas.List.Elements.{All-from_recursion}
 use Rattle.esr_history.specs.declared.event.Event.{Event}
 use Rattle.esr_history.specs.declared.event.Event.TheVariants.{BeginUpdate, BeginQuery, Read, Write, Commit, Abort}
 use Rattle.esr_history.specs.declared.event.Reply.{Reply}
 use Rattle.esr_history.specs.declared.event.Entry.{Entry}
 use Rattle.esr_history.specs.Events.{is_refusal}
 use Rattle.esr_history.specs.Links.{accepted_txn, txn_of, is_key, places_from}
-use Rattle.esr_history.specs.Machine.{Schedule}
-use Rattle.esr_history.specs.Operations.{Operation, operation_of, operation_by, answer}
+use Rattle.esr_history.specs.Machine.{Distance, Schedule, IsLegal}
+use Rattle.esr_history.specs.Operations.{Operation, operation_of, operation_by, operations_in, answer}
 use Rattle.esr_history.specs.Queries.{reads_by}
-use Rattle.esr_history.proofs.Membership.{get_seam}
+use Rattle.esr_history.proofs.Membership.{get_seam, In-of_filter, each_in}
+use Rattle.esr_history.proofs.WithinRanges.{legal_items}
 use Rattle.esr_order.specs.declared.accesses.Access.{Access}
 use Rattle.esr_order.specs.Scans.{access_of, access_in, accesses_in}
 use Rattle.esr_order.proofs.Entries.{accepts}
+use Rattle.esr_order.proofs.Lists.{of_map}
 
 -- the entries at the places of a key are those that have it
 entries_from : (key : Entry → Option ℕ) (k : ℕ) (past es : List Entry) → filter_map (slice_get (past ++ es)) (places_from key k (length past) es) ≡ filter (λ e. is_key (key e) k) es
@@ -92,3 +95,11 @@ reads_among q (o ∷ os) = at (eqb o.txn q) o.writes refl (reads_among q os)
 
 pub reads_are : (h : Schedule) (q : ℕ) → filter (λ (a : Access). not a.writes) (accesses_in h.entries q) ≡ map access_of (reads_by h q)
 reads_are h q = reads_among q (filter_map operation_of (filter accepts h.entries))
+
+-- they are on items of the history
+pub accesses_inside : (d : Distance) (h : Schedule) → IsLegal d h → (t n : ℕ) → n ≡ length h.opening → All (λ a. a.item.0 < n) (accesses_in h.entries t)
+accesses_inside d h legal t n is = All-from_recursion (λ (a : Access). a.item.0 < n) (accesses_in h.entries t) (each_in (λ (a : Access). a.item.0 < n) (accesses_in h.entries t) (λ a i.
+    let o = of_map access_of (filter (by t) (operations_in h.entries)) a i in
+    let l : o.0.item < length h.opening = legal_items d h legal o.0 (In-of_filter (by t) (operations_in h.entries) o.0 o.1).0 in
+    let e : o.0.item ≡ a.item.0 = ap (λ (a : Access). a.item.0) o.2 in
+    omega (arith, l, e, is)))

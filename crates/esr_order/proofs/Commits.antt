@@ -29,7 +29,7 @@ use Rattle.esr_history.proofs.Reaches.{legal_reached}
 use Rattle.esr_order.specs.Scans.{commit_by, commit_in, commits_in, is_commit_at, is_end_before, is_ended_before, has_ended_before, end_in, begins_strictly, AreEnds}
 use Rattle.esr_order.proofs.Entries.{given_accepted, given_events, accepts}
 use Rattle.esr_order.proofs.Linked.{split_at, get_inside, get_take}
-use Rattle.esr_order.proofs.ReadItems.{given_in, in_given, in_at, at_in}
+use Rattle.esr_order.proofs.Lists.{given_in, in_given, in_at, at_in}
 use Rattle.esr_order.proofs.Sparse.{sparse_entries}
 use Rattle.esr_order.proofs.Spans.{end_is, IsBegunAt, begun_at}
 

@@ -13,44 +13,18 @@ use Rattle.esr_history.proofs.Membership.{In, In-any, In-filter, Pairs-from_all,
 use Rattle.esr_history.proofs.Versions.{wrote_by, wrote_parts}
 use Rattle.esr_history.proofs.Words.{values_trace}
 use Rattle.esr_history.proofs.WithinRanges.{legal_items}
-use Rattle.esr_order.specs.declared.scan.Step.{Step}
-use Rattle.esr_order.specs.Scans.{step_of}
-use Rattle.esr_order.specs.Listing.{IsTableOf, is_pair, IsBelow}
+use Rattle.esr_order.specs.declared.steps.Step.{Step}
+use Rattle.esr_order.specs.Turns.{turns}
+use Rattle.esr_order.specs.Listing.{is_pair, IsBelow}
 use Rattle.esr_order.specs.Ties.{IsTied, AreNextPaired}
 use Rattle.esr_order.specs.Chains.{Chain, chain_from, if_written, some_chain, last_of, last_in, last_step, last_among, nth, chain_among}
 use Rattle.esr_order.specs.Orders.{Ordered, chain_at, written_chain, IsClosedAt, IsClosedOn, IsOrderAmong, IsOrderOf}
 use Rattle.esr_order.proofs.Tied.{on}
 use Rattle.esr_order.proofs.Walked.{only_writes}
-use Rattle.esr_order.proofs.Fewer.{writes_on, rising, of_pair, between, wrote_last, last_wrote, next_in}
-use Rattle.esr_order.proofs.Found.{steps_placed}
-use Rattle.esr_order.proofs.Placing.{get_at, pairs_placed, last_placed, chain_agree}
-
--- no update is before itself
-pub not_before_itself : (ops : List Operation) (u : ℕ) → any_pair (λ a b. (a.txn == u) && ((b.txn == u) && conflict a b)) ops ≡ true → ⊥
-not_before_itself [] u h = true≢false (sym h)
-not_before_itself (x ∷ xs) u h =
-    ⊎_elim
-    (λ e.
-    let f = In-any (λ (b : Operation). eqb x.txn u && (eqb b.txn u && conflict x b)) xs e in
-    let p = and_parts (eqb x.txn u) (eqb f.0.txn u && conflict x f.0) f.2 in
-    let r = and_parts (eqb f.0.txn u) (conflict x f.0) p.1 in
-    let c = and_parts (not (eqb x.txn f.0.txn)) (eqb x.item f.0.item && (x.writes || f.0.writes)) r.1 in
-    eqb-false x.txn f.0.txn (not-true (eqb x.txn f.0.txn) c.0) (eqb-true x.txn u p.0 ∙ sym (eqb-true f.0.txn u r.0)))
-    (λ e. not_before_itself xs u e)
-    (or_cases (list_any (λ (b : Operation). eqb x.txn u && (eqb b.txn u && conflict x b)) xs) (any_pair (λ (a b : Operation). eqb a.txn u && (eqb b.txn u && conflict a b)) xs) h)
-
-same_default : (xs : List ℕ) (k d e : ℕ) → k < length xs → get_or xs k d ≡ get_or xs k e
-same_default [] k d e h = absurd (omega arith)
-same_default (x ∷ xs) zero d e h = refl
-same_default (x ∷ xs) (suc k) d e h = same_default xs k d e (omega arith)
-
-mapped_in : (f : ℕ → ℕ) (xs : List ℕ) (y : ℕ) → In y (map f xs) → (x : ℕ) × In x xs × (f x ≡ y)
-mapped_in f [] y i = absurd i
-mapped_in f (x ∷ xs) y i = elim i [ inl e ↦ (x, inl refl, e) | inr j ↦ let r = mapped_in f xs y j in (r.0, inr r.1, r.2) ]
-
-in_mapped : (f : ℕ → ℕ) (xs : List ℕ) (x : ℕ) → In x xs → In (f x) (map f xs)
-in_mapped f [] x i = absurd i
-in_mapped f (y ∷ xs) x i = elim i [ inl e ↦ inl (ap f e) | inr j ↦ inr (in_mapped f xs x j) ]
+use Rattle.esr_order.proofs.Fewer.{writes_on, between, wrote_last, last_wrote, next_in}
+use Rattle.esr_order.proofs.Placing.{chain_agree}
+use Rattle.esr_order.proofs.Lists.{in_map, of_map, same_default}
+use Rattle.esr_order.proofs.Turns.{placed, rises, up, pair_inside, pair_before, last_written_by}
 
 -- numbers in a row
 range_above : (a n b : ℕ) → b ≤ a → AllByRecursion (λ i. b ≤ i) (range_with_len a n)
@@ -79,25 +53,24 @@ get_past C f a zero x l = refl
 get_past C f a (suc n) zero l = absurd (omega arith)
 get_past C f a (suc n) (suc x) l = get_past C f (a + 1) n x (omega arith)
 
-module _ (d : Distance) (h : Schedule) (q : ℕ) (legal : IsLegal d h) (us : List ℕ) (once : AllPairs (λ u v. u ≢ v) us) (keeps : AllPairs (λ u v. is_before h v u ≡ false) us) (places : List (Option ℕ)) (table : IsTableOf us places) where
+module _ (d : Distance) (h : Schedule) (q : ℕ) (legal : IsLegal d h) (us : List ℕ) (once : AllPairs (λ u v. u ≢ v) us) (keeps : AllPairs (λ u v. is_before h v u ≡ false) us) where
   abbrev steps : List Step
-  steps = filter_map (step_of places) (operations h)
+  steps = turns (operations h) 0 us
 
-  pair_before : (i j : ℕ) → i < length us → j < length us → is_pair steps i j ≡ is_before h (nth us i) (nth us j)
-  pair_before i j li lj = sym (pairs_placed us places table i j (nth us i) (nth us j) (get_at us i li) (get_at us j lj) (operations h))
+  same_pairs : (i j : ℕ) → i < length us → j < length us → is_pair steps i j ≡ is_before h (nth us i) (nth us j)
+  same_pairs i j li lj = pair_before h us once keeps i j li lj
 
   last_same : (x i : ℕ) → i < length us → last_step steps x i ≡ last_among h us x i
-  last_same x i l = last_placed us places table i (nth us i) x (get_at us i l) (operations h) ∙ sym (ap last_of (values_trace h x (nth us i)))
+  last_same x i l = last_written_by (operations h) us x i l ∙ sym (ap last_of (values_trace h x (nth us i)))
 
-  placed : All (λ s. s.place < length us) steps
-  placed = steps_placed us places table (operations h)
+  all_placed : All (λ s. s.place < length us) steps
+  all_placed = placed (operations h) us
 
-  -- no step clashes with an earlier one of a higher position
-  in_position : (i j : ℕ) → i < j → j < length us → is_pair steps j i ≡ true → ⊥
-  in_position i j lt l is = true≢false (sym is ∙ (pair_before j i l (omega arith) ∙ keeps i j 0 lt l))
+  rising : (x : ℕ) → Pairs (λ (a b : Step). a.place ≤ b.place) (only_writes (on x steps))
+  rising x = Pairs-filter (λ (a b : Step). a.place ≤ b.place) (λ (s : Step). s.writes) (on x steps) (Pairs-filter (λ (a b : Step). a.place ≤ b.place) (λ (s : Step). eqb s.item x) steps (rises (operations h) 0 us))
 
   pub rising_writes : (x : ℕ) → AllPairs (λ (a b : Step). a.place ≤ b.place) (only_writes (on x steps))
-  rising_writes x = rising x (length us) steps placed in_position
+  rising_writes x = All-from_pairs (λ (a b : Step). a.place ≤ b.place) (only_writes (on x steps)) (rising x)
 
   module _ (before : List (ℕ × ℕ)) (ascends : AllPairs IsBelow before) (tied : IsTied steps before) (next : (x : ℕ) → AreNextPaired before (only_writes (on x steps))) (n : ℕ) (part : n ≤ length us) (musts : map (nth us) (range_with_len 0 n) ≡ must h q) (few : length us ≤ 65535) (commits : List TxnId) where
     abbrev found : Ordered
@@ -107,24 +80,20 @@ module _ (d : Distance) (h : Schedule) (q : ℕ) (legal : IsLegal d h) (us : Lis
     upward k e l =
         let p = get_or before k e in
         let is : is_pair steps p.0 p.1 ≡ true = tied.sound k e l in
-        let w = of_pair steps p.0 p.1 is in
-        let low : p.0 < length us = subst (λ m. m < length us) w.4 (All-contains (λ (s : Step). s.place < length us) steps w.0 placed (In-Contains steps w.0 w.2)) in
-        let high : p.1 < length us = subst (λ m. m < length us) w.5 (All-contains (λ (s : Step). s.place < length us) steps w.1 placed (In-Contains steps w.1 w.3)) in (
-          ⊎_elim (λ e. absurd (w.6 e)) (λ o. ⊎_elim (λ lt. lt) (λ gt. absurd (in_position p.1 p.0 gt low is)) o) (cases_order p.0 p.1),
-          high,
-          sym (pair_before p.0 p.1 low high) ∙ is,
-        )
+        let w = pair_inside h us once keeps p.0 p.1 is in
+        let b : is_before h (nth us p.0) (nth us p.1) ≡ true = sym (same_pairs p.0 p.1 w.0 w.1) ∙ is in
+        (up h us once keeps p.0 p.1 w.0 w.1 b, w.1, b)
 
     closed_to : (S : ℕ → Bool) → IsClosedAt us found S → IsClosedOn h q us S
     closed_to S c = record {
       downward = λ u v cu cv b sv.
           let at_u : nth us cu.0 ≡ u = same_default us cu.0 0 u cu.1 ∙ cu.2 in
           let at_v : nth us cv.0 ≡ v = same_default us cv.0 0 v cv.1 ∙ cv.2 in
-          let pair : is_pair steps cu.0 cv.0 ≡ true = pair_before cu.0 cv.0 cu.1 cv.1 ∙ (ap (λ w. is_before h w (nth us cv.0)) at_u ∙ (ap (is_before h u) at_v ∙ b)) in
+          let pair : is_pair steps cu.0 cv.0 ≡ true = same_pairs cu.0 cv.0 cu.1 cv.1 ∙ (ap (λ w. is_before h w (nth us cv.0)) at_u ∙ (ap (is_before h u) at_v ∙ b)) in
           ap S (sym at_u) ∙ tied.closed (λ i. S (nth us i)) c.downward cu.0 cv.0 pair (ap S at_v ∙ sv);
       holds_must = λ u m.
           let i : In u (map (nth us) (range_with_len 0 n)) = subst (In u) (sym (musts)) (Contains-In (must h q) u m) in
-          let at = mapped_in (nth us) (range_with_len 0 n) u i in
+          let at = of_map (nth us) (range_with_len 0 n) u i in
           ap S (sym at.2) ∙ each_at (λ k. S (nth us k) ≡ true) (range_with_len 0 n) at.0 (recursion_from_All (λ k. S (nth us k) ≡ true) (range_with_len 0 n) c.holds_must) at.1;
     }
 
@@ -135,7 +104,7 @@ module _ (d : Distance) (h : Schedule) (q : ℕ) (legal : IsLegal d h) (us : Lis
           c.downward (nth us (get_or before k e).0) (nth us (get_or before k e).1) (here (get_or before k e).0 (omega (arith, p.0, p.1))) (here (get_or before k e).1 p.1) p.2 sv;
       holds_must = All-from_recursion (λ i. S (nth us i) ≡ true) (range_with_len 0 n)
           (each_in (λ i. S (nth us i) ≡ true) (range_with_len 0 n) (λ i j. c.holds_must (nth us i)
-          (In-Contains (must h q) (nth us i) (subst (In (nth us i)) (musts) (in_mapped (nth us) (range_with_len 0 n) i j)))));
+          (In-Contains (must h q) (nth us i) (subst (In (nth us i)) (musts) (in_map (nth us) (range_with_len 0 n) i j)))));
     }
       where
         here : (i : ℕ) → i < length us → Contains us (nth us i)
@@ -186,13 +155,13 @@ module _ (d : Distance) (h : Schedule) (q : ℕ) (legal : IsLegal d h) (us : Lis
         let wrote : All (λ w. (w < length us) × (is_some (last_among h us x w) ≡ true)) ws = All-from_recursion (λ w. (w < length us) × (is_some (last_among h us x w) ≡ true)) ws (each_in (λ w. (w < length us) × (is_some (last_among h us x w) ≡ true)) ws (λ w j.
         let p = In-of_filter (λ i. is_some (last_among h us x i)) (range_with_len 0 (length us)) w j in
         (each_at (λ w. w < length us) (range_with_len 0 (length us)) w (range_below 0 (length us) (length us) (omega arith)) p.0, p.1))) in
-        let rising : AllPairs (λ i j. i < j) ws = All-from_pairs (λ i j. i < j) ws (Pairs-filter (λ i j. i < j) (λ i. is_some (last_among h us x i)) (range_with_len 0 (length us)) (range_rising 0 (length us))) in
+        let ascending : AllPairs (λ i j. i < j) ws = All-from_pairs (λ i j. i < j) ws (Pairs-filter (λ i j. i < j) (λ i. is_some (last_among h us x i)) (range_with_len 0 (length us)) (range_rising 0 (length us))) in
         subst (λ l. Contains before (slice_index_or l i 0, slice_index_or l (i + 1) 0)) (sym same)
         (let a = writer_there (slice_index_or ws i 0) (wrote i 0 (omega arith)) in
         let b = writer_there (slice_index_or ws (i + 1) 0) (wrote (i + 1) 0 l) in
-        between (only_writes (on x steps)) before (next x) (Pairs-from_all (λ (a b : Step). a.place ≤ b.place) (only_writes (on x steps)) (rising_writes x))
-        (slice_index_or ws i 0) (slice_index_or ws (i + 1) 0) (rising i (i + 1) 0 (omega arith) l) a.0 a.1 a.2 b.0 b.1 b.2
-        (λ s j above. next_in ws rising i l s.place (writer_listed s j) above))
+        between (only_writes (on x steps)) before (next x) (rising x)
+        (slice_index_or ws i 0) (slice_index_or ws (i + 1) 0) (ascending i (i + 1) 0 (omega arith) l) a.0 a.1 a.2 b.0 b.1 b.2
+        (λ s j above. next_in ws ascending i l s.place (writer_listed s j) above))
       where
         last_here : (w : ℕ) → w < length us → last_in (only_writes (on x steps)) w ≡ last_among h us x w
         last_here w l = ap (λ ss. last_in ss w) (writes_on x steps) ∙ last_same x w l
@@ -202,7 +171,7 @@ module _ (d : Distance) (h : Schedule) (q : ℕ) (legal : IsLegal d h) (us : Lis
 
         writer_listed : (s : Step) → In s (only_writes (on x steps)) → In s.place (filter (λ i. is_some (last_among h us x i)) (range_with_len 0 (length us)))
         writer_listed s j =
-            let at : s.place < length us = All-contains (λ (s : Step). s.place < length us) steps s placed (In-Contains steps s (In-of_filter (λ (s : Step). eqb s.item x) steps s (In-of_filter (λ (s : Step). s.writes) (on x steps) s j).0).0) in
+            let at : s.place < length us = All-contains (λ (s : Step). s.place < length us) steps s all_placed (In-Contains steps s (In-of_filter (λ (s : Step). eqb s.item x) steps s (In-of_filter (λ (s : Step). s.writes) (on x steps) s j).0).0) in
             In-filter (λ i. is_some (last_among h us x i)) (range_with_len 0 (length us)) s.place (in_range 0 (length us) s.place (omega arith) (omega arith))
             (sym (ap is_some (last_here s.place at)) ∙ wrote_last (only_writes (on x steps)) s j)
 

@@ -1,4 +1,4 @@
--- Steps of updates in a serial order: the writes of an item are in the order of positions, and writers in a row are pairs.
+-- Steps of updates in a serial order: writers of an item in a row are pairs.
 use Rattle.std.proofs.Common.{◌≡◌, ℕ, zero, suc, ◌+◌, ◌<◌, ◌≤◌, ℤ, Bool, true, false, List, [], ◌∷◌, length, get_or, refl, sym, ◌∙◌, ap, subst, arith, inl, inr, ⊎_elim, filter, eqb, cond, map, Option, Some, None, ◌&&◌, ◌==◌, All, AllPairs, Contains}
 use Rattle.std.specs.Prelude.{is_some}
 use Rattle.std.specs.List.{list_any, last_or, filter_map, cons_option, AllByRecursion, slice_get}
@@ -8,10 +8,9 @@ use Rattle.std.proofs.lemmas.List.Elements.{All-contains, All-from_recursion, re
 use Rattle.esr_history.specs.Operations.{Operation}
 use Rattle.esr_history.specs.Serial.{any_pair}
 use Rattle.esr_history.proofs.Membership.{In, In-Contains, In-any, In-filter, In-of_filter, any-from_In, Pairs, All-from_pairs, each_in, each_at, filter-some, any-from_number, In-from_any}
-use Rattle.esr_order.specs.declared.scan.Step.{Step}
-use Rattle.esr_order.specs.Scans.{place_of, step_of}
+use Rattle.esr_order.specs.declared.steps.Step.{Step}
 use Rattle.esr_order.specs.Placements.{is_among}
-use Rattle.esr_order.specs.Listing.{IsTableOf, clash, is_pair}
+use Rattle.esr_order.specs.Listing.{clash, is_pair}
 use Rattle.esr_order.specs.Ties.{AreNextPaired}
 use Rattle.esr_order.specs.Chains.{Chain, chain_from, last_of, last_in, last_step}
 use Rattle.esr_order.proofs.Kept.{clash_from, clash_parts}
@@ -43,53 +42,6 @@ row_chain steps x n row is inside rise c made =
     (subst (All (λ (s : Step). s.place < n)) (sym is) (All-from_recursion (λ (s : Step). s.place < n) (on x steps) (each_in (λ (s : Step). s.place < n) (on x steps) (λ s i. All-contains (λ (s : Step). s.place < n) steps s inside (In-Contains steps s (In-of_filter (λ (s : Step). eqb s.item x) steps s i).0)))))
     (subst (λ l. AllPairs (λ (a b : Step). a.place ≤ b.place) (only_writes l)) (sym is) rise)
     ∙ ap (λ l. chain_from (last_in l) n) (ap only_writes is ∙ writes_on x steps)
-
-abbrev tests : ℕ → ℕ → Step → Step → Bool
-tests i j a b = eqb a.place i && (eqb b.place j && clash a b)
-
--- where no step clashes with an earlier one of a higher position, the writes of an item are in order
-rise : (x n : ℕ) (ss : List Step) → AllByRecursion (λ s. s.place < n) ss → ((i j : ℕ) → i < j → j < n → is_pair ss j i ≡ true → ⊥) → Pairs (λ a b. a.place ≤ b.place) (only_writes (on x ss))
-rise x n [] inside none = tt
-rise x n (s ∷ ss) inside none =
-    let rest : Pairs (λ (a b : Step). a.place ≤ b.place) (only_writes (on x ss)) = rise x n ss inside.1 (λ i j l m p. none i j l m (or_right (list_any (tests j i s) ss) (any_pair (tests j i) ss) p)) in
-    cond_both (eqb s.item x) (s ∷ on x ss) (on x ss) (λ l. Pairs (λ (a b : Step). a.place ≤ b.place) (only_writes l))
-    (λ here. cond_both s.writes (s ∷ only_writes (on x ss)) (only_writes (on x ss)) (λ l. Pairs (λ (a b : Step). a.place ≤ b.place) l)
-    (λ w. (each_in (λ (b : Step). s.place ≤ b.place) (only_writes (on x ss)) (λ b i. ahead b i here w), rest))
-    (λ _. rest))
-    (λ _. rest)
-  where
-    ahead : (b : Step) → In b (only_writes (on x ss)) → eqb s.item x ≡ true → s.writes ≡ true → s.place ≤ b.place
-    ahead b i here w =
-        let p = In-of_filter (λ (s : Step). s.writes) (on x ss) b i in
-        let r = In-of_filter (λ (s : Step). eqb s.item x) ss b p.0 in
-        ⊎_elim (λ e. omega (arith, e))
-        (λ ne. ⊎_elim
-        (λ lt. absurd (none b.place s.place lt inside.0
-        (or_left (list_any (tests s.place b.place s) ss) (any_pair (tests s.place b.place) ss)
-        (any-from_In (tests s.place b.place s) ss b r.0
-        (and_from (eqb s.place s.place) (eqb b.place b.place && clash s b) (eq-eqb s.place s.place refl)
-        (and_from (eqb b.place b.place) (clash s b) (eq-eqb b.place b.place refl)
-        (clash_from s b (λ e. absurd (omega (arith, e, lt))) (eqb-true s.item x here ∙ sym (eqb-true b.item x r.1)) (or_left s.writes b.writes w))))))))
-        (λ gt. omega (arith, gt)) ne)
-        (cases_order b.place s.place)
-
-pub rising : (x n : ℕ) (ss : List Step) → All (λ s. s.place < n) ss → ((i j : ℕ) → i < j → j < n → is_pair ss j i ≡ true → ⊥) → AllPairs (λ a b. a.place ≤ b.place) (only_writes (on x ss))
-rising x n ss inside none = All-from_pairs (λ (a b : Step). a.place ≤ b.place) (only_writes (on x ss)) (rise x n ss (recursion_from_All (λ (s : Step). s.place < n) ss inside) none)
-
--- the steps of a pair
-pub of_pair : (ss : List Step) (i j : ℕ) → is_pair ss i j ≡ true → (a b : Step) × In a ss × In b ss × (a.place ≡ i) × (b.place ≡ j) × (i ≡ j → ⊥)
-of_pair [] i j h = absurd (true≢false (sym h))
-of_pair (z ∷ zs) i j h =
-    ⊎_elim
-    (λ e.
-    let w = In-any (tests i j z) zs e in
-    let p = and_parts (eqb z.place i) (eqb w.0.place j && clash z w.0) w.2 in
-    let r = and_parts (eqb w.0.place j) (clash z w.0) p.1 in
-    let ei : z.place ≡ i = eqb-true z.place i p.0 in
-    let ej : w.0.place ≡ j = eqb-true w.0.place j r.0 in
-    (z, w.0, inl refl, inr w.1, ei, ej, (λ same. (clash_parts z w.0 r.1).0 (ei ∙ (same ∙ sym ej)))))
-    (λ e. let r = of_pair zs i j e in (r.0, r.1, inr r.2, inr r.3, r.4, r.5, r.6))
-    (or_cases (list_any (tests i j z) zs) (any_pair (tests i j) zs) h)
 
 -- of two positions that wrote with none between, the pair is there
 pub between : (ws : List Step) (ps : List (ℕ × ℕ)) → AreNextPaired ps ws → Pairs (λ a b. a.place ≤ b.place) ws → (v w : ℕ) → v < w → (a : Step) → In a ws → a.place ≡ v → (b : Step) → In b ws → b.place ≡ w
@@ -164,45 +116,3 @@ next_in xs rising k l y i above =
     same [] k d e h = absurd (omega arith)
     same (x ∷ xs) zero d e h = refl
     same (x ∷ xs) (suc k) d e h = same xs k d e (omega arith)
-
--- there are as many steps as operations of the updates
-module _ (us : List ℕ) (places : List (Option ℕ)) (table : IsTableOf us places) where
-  known : (t i : ℕ) → place_of places t ≡ Some i → is_among us t ≡ true
-  known t i is = any-from_number us t (there us i ((table t i).0 is))
-    where
-      there : (vs : List ℕ) (i : ℕ) → slice_get vs i ≡ Some t → In t vs
-      there [] i e = absurd (cc)
-      there (v ∷ vs) zero e = inl (let s : Some v ≡ Some t = e in cc)
-      there (v ∷ vs) (suc i) e = inr (there vs i e)
-
-  unknown : (t : ℕ) → place_of places t ≡ None → is_among us t ≡ false
-  unknown t none = false_from_ne_true (is_among us t) (λ h.
-      let w = there us (In-from_any us t h) in
-      let bad : None ≡ Some w.0 = sym none ∙ (table t w.0).1 w.1 in cc)
-    where
-      there : (vs : List ℕ) → In t vs → (i : ℕ) × (slice_get vs i ≡ Some t)
-      there [] i = absurd i
-      there (v ∷ vs) i = ⊎_elim (λ e. (0, ap Some e)) (λ j. let r = there vs j in (suc r.0, r.1)) i
-
-  pub counted : (ops : List Operation) → length (filter_map (step_of places) ops) ≡ length (filter (λ o. is_among us o.txn) ops)
-  counted [] = refl
-  counted (o ∷ ops) = at (place_of places o.txn) refl (counted ops)
-    where
-      at : (p : Option ℕ) → place_of places o.txn ≡ p → length (filter_map (step_of places) ops) ≡ length (filter (λ o. is_among us o.txn) ops)
-          → length (cons_option (option_map (λ i. let s : Step = record { place = i; item = o.item; writes = o.writes; value = o.value } in s) p) (filter_map (step_of places) ops))
-          ≡ length (cond (is_among us o.txn) (o ∷ filter (λ o. is_among us o.txn) ops) (filter (λ o. is_among us o.txn) ops))
-      at None is rest = rest ∙ ap (λ b. length (cond b (o ∷ filter (λ o. is_among us o.txn) ops) (filter (λ o. is_among us o.txn) ops))) (sym (unknown o.txn is))
-      at (Some i) is rest = ap suc rest ∙ ap (λ b. length (cond b (o ∷ filter (λ o. is_among us o.txn) ops) (filter (λ o. is_among us o.txn) ops))) (sym (known o.txn i is))
-
--- the steps are on items of the history
-pub items_below : (n : ℕ) (places : List (Option ℕ)) (ops : List Operation) → ((o : Operation) → In o ops → o.item < n) → All (λ s. s.item < n) (filter_map (step_of places) ops)
-items_below n places ops below = All-from_recursion (λ (s : Step). s.item < n) (filter_map (step_of places) ops) (each ops below)
-  where
-    each : (ops : List Operation) → ((o : Operation) → In o ops → o.item < n) → AllByRecursion (λ (s : Step). s.item < n) (filter_map (step_of places) ops)
-    each [] below = tt
-    each (o ∷ ops) below = at (place_of places o.txn) (each ops (λ p i. below p (inr i)))
-      where
-        at : (p : Option ℕ) → AllByRecursion (λ (s : Step). s.item < n) (filter_map (step_of places) ops)
-            → AllByRecursion (λ (s : Step). s.item < n) (cons_option (option_map (λ i. let s : Step = record { place = i; item = o.item; writes = o.writes; value = o.value } in s) p) (filter_map (step_of places) ops))
-        at None rest = rest
-        at (Some i) rest = (below o (inl refl), rest)

@@ -13,23 +13,9 @@ use Rattle.esr_order.specs.Orders.{IsClosedOn}
 use Rattle.esr_order.specs.Near.{has_written, IsNear, AreNear}
 use Rattle.esr_order.proofs.Ordered.{in_order}
 use Rattle.esr_order.proofs.Early.{must_positions}
-use Rattle.esr_order.proofs.Complete.{not_before_itself, range_below}
-
-at_place : (us : List ℕ) (u : ℕ) → In u us → (i : ℕ) × (i < length us) × (get_or us i 0 ≡ u)
-at_place [] u j = absurd j
-at_place (v ∷ us) u j = ⊎_elim (λ e. (0, omega arith, e)) (λ k. let r = at_place us u k in let l : r.0 < length us = r.1 in (suc r.0, omega arith, r.2)) j
-
-in_mapped : (f : ℕ → ℕ) (xs : List ℕ) (x : ℕ) → In x xs → In (f x) (map f xs)
-in_mapped f [] x i = absurd i
-in_mapped f (y ∷ xs) x i = ⊎_elim (λ e. inl (ap f e)) (λ j. inr (in_mapped f xs x j)) i
-
-mapped_in : (f : ℕ → ℕ) (xs : List ℕ) (y : ℕ) → In y (map f xs) → (x : ℕ) × In x xs × (f x ≡ y)
-mapped_in f [] y i = absurd i
-mapped_in f (x ∷ xs) y i = ⊎_elim (λ e. (x, inl refl, e)) (λ j. let r = mapped_in f xs y j in (r.0, inr r.1, r.2)) i
-
-range_in : (a n i : ℕ) → a ≤ i → i < a + n → In i (range_with_len a n)
-range_in a zero i l m = absurd (omega arith)
-range_in a (suc n) i l m = ⊎_elim (λ e. inl e) (λ o. ⊎_elim (λ lt. inr (range_in (a + 1) n i (omega arith) (omega arith))) (λ gt. absurd (omega (arith, gt, l))) o) (cases_order a i)
+use Rattle.esr_order.proofs.Complete.{range_below, in_range}
+use Rattle.esr_order.proofs.Turns.{not_before_itself}
+use Rattle.esr_order.proofs.Lists.{in_map, of_map, at_place}
 
 module _ (d : Distance) (h : Schedule) (q : ℕ) (legal : IsLegal d h) where
   once : AllPairs (λ u v. u ≢ v) (updates_of h q)
@@ -43,7 +29,7 @@ module _ (d : Distance) (h : Schedule) (q : ℕ) (legal : IsLegal d h) where
   must_down u v cu b m =
       let n : ℕ = length (must h q) in
       let musts : map (update_at h q) (range_with_len 0 n) ≡ must h q = must_positions d h q legal n refl in
-      let w = mapped_in (update_at h q) (range_with_len 0 n) v (subst (In v) (sym musts) (Contains-In (must h q) v m)) in
+      let w = of_map (update_at h q) (range_with_len 0 n) v (subst (In v) (sym musts) (Contains-In (must h q) v m)) in
       let low : w.0 < n = each_at (λ i. i < n) (range_with_len 0 n) w.0 (range_below 0 n n (omega arith)) w.1 in
       let p = at_place (updates_of h q) u (Contains-In (updates_of h q) u cu) in
       let before : is_before h (update_at h q p.0) (update_at h q w.0) ≡ true = ap (λ z. is_before h z (update_at h q w.0)) p.2 ∙ (ap (is_before h u) w.2 ∙ b) in
@@ -52,7 +38,7 @@ module _ (d : Distance) (h : Schedule) (q : ℕ) (legal : IsLegal d h) where
       (λ e. absurd (not_before_itself (operations h) (update_at h q w.0) (subst (λ k. is_before h (update_at h q k) (update_at h q w.0) ≡ true) e before)))
       (λ o. ⊎_elim (λ lt. omega (arith, lt, low)) (λ gt. absurd (true≢false (sym before ∙ keeps w.0 p.0 0 gt p.1))) o)
       (cases_order p.0 w.0) in
-      In-Contains (must h q) u (subst (In u) musts (subst (λ z. In z (map (update_at h q) (range_with_len 0 n))) p.2 (in_mapped (update_at h q) (range_with_len 0 n) p.0 (range_in 0 n p.0 (omega arith) (omega arith)))))
+      In-Contains (must h q) u (subst (In u) musts (subst (λ z. In z (map (update_at h q) (range_with_len 0 n))) p.2 (in_map (update_at h q) (range_with_len 0 n) p.0 (in_range 0 n p.0 (omega arith) (omega arith)))))
 
   -- who is before a near one is near
   pub near_back : (u v : ℕ) → Contains (updates_of h q) u → is_before h u v ≡ true → Contains (updates_of h q) v → IsNear h q v → IsNear h q u

@@ -1,4 +1,4 @@
--- The steps at the places of some updates are the steps of the whole log.
+-- What the entries at some places of a log give, and the places of a key.
 use Rattle.std.proofs.Common.{◌≡◌, ℕ, zero, suc, ◌+◌, ◌<◌, ◌≤◌, Bool, true, false, List, [], ◌∷◌, length, map, refl, sym, ◌∙◌, ap, subst, arith, inl, inr, ⊎_elim, Option, Some, None, Contains}
 use Rattle.std.specs.Prelude.{if◌then◌else◌}
 use Rattle.std.specs.List.{filter_map, cons_option, slice_get, range_with_len}
@@ -16,9 +16,7 @@ use Rattle.esr_history.specs.Events.{is_refusal}
 use Rattle.esr_history.specs.Operations.{Operation, operation_of, operation_by}
 use Rattle.esr_history.specs.Links.{accepted_txn, txn_of, is_key, places_from}
 use Rattle.esr_history.proofs.Membership.{In, In-Contains, Contains-In, Pairs, Pairs-from_all, each_at}
-use Rattle.esr_order.specs.declared.scan.Step.{Step}
-use Rattle.esr_order.specs.Scans.{place_of, step_by, step_at}
-use Rattle.esr_order.specs.Listing.{IsTableOf}
+use Rattle.esr_order.specs.declared.steps.Step.{Step}
 use Rattle.esr_order.proofs.Entries.{all_entries}
 
 abbrev from : {X Y : Type 0} → (X → Option Y) → Option X → Option Y
@@ -90,43 +88,3 @@ places_inside key k n (f ∷ es) i j = at (is_key (key f) k) j (places_inside ke
     at : (b : Bool) → In i (if b then n ∷ places_from key k (n + 1) es else places_from key k (n + 1) es) → (In i (places_from key k (n + 1) es) → i < n + 1 + length es) → i < n + suc (length es)
     at true j rest = ⊎_elim (λ e. omega (arith, e)) (λ k. let l : i < n + 1 + length es = rest k in omega arith) j
     at false j rest = let l : i < n + 1 + length es = rest j in omega arith
-
-op_txn : (ev : Event) (r : Reply) (o : Operation) → operation_by ev r ≡ Some o → txn_of ev r ≡ Some o.txn
-op_txn (BeginUpdate l) r o is = absurd (cc)
-op_txn (BeginQuery l s) r o is = absurd (cc)
-op_txn (Read t x) r o is = ap (option_map (λ (o : Operation). o.txn)) is
-op_txn (Write t x v) r o is = ap (option_map (λ (o : Operation). o.txn)) is
-op_txn (Commit t) r o is = absurd (cc)
-op_txn (Abort t) r o is = absurd (cc)
-
-module _ (txns : List TxnId) (places : List (Option ℕ)) (table : IsTableOf (map (λ t. t.0) txns) places) (es : List Entry) (at : List ℕ) (rises : IsStrictlyIncreasing at)
-    (all : (t : TxnId) → Contains txns t → (i : ℕ) → Contains (places_from accepted_txn t.0 0 es) i → Contains at i)
-    (only : (i : ℕ) → Contains at i → (t : TxnId) × Contains txns t × Contains (places_from accepted_txn t.0 0 es) i) where
-  member : (ts : List TxnId) (p u : ℕ) → slice_get (map (λ t. t.0) ts) p ≡ Some u → (t : TxnId) × In t ts × (t.0 ≡ u)
-  member [] p u is = absurd (cc)
-  member (t ∷ ts) zero u is = (t, inl refl, same_Some t.0 u is)
-  member (t ∷ ts) (suc p) u is = let r = member ts p u is in (r.0, inr r.1, r.2)
-
-  -- an entry that gives a step is at one of the places
-  gives : (i : ℕ) (e : Entry) → slice_get es i ≡ Some e → (In i at → ⊥) → step_at places e ≡ None
-  gives i e is out = cases (is_refusal e.reply) refl (operation_of e) refl
-    where
-      cases : (b : Bool) → is_refusal e.reply ≡ b → (o : Option Operation) → operation_of e ≡ o → (if b then None else step_by places o) ≡ None
-      cases true refused o op = refl
-      cases false ok None op = refl
-      cases false ok (Some o) op = placed (place_of places o.txn) refl
-        where
-          placed : (p : Option ℕ) → place_of places o.txn ≡ p → option_map (λ i. let s : Step = record { place = i; item = o.item; writes = o.writes; value = o.value } in s) p ≡ None
-          placed None none = refl
-          placed (Some p) some =
-              let m = member txns p o.txn ((table o.txn p).0 some) in
-              let key : accepted_txn e ≡ Some o.txn = ap (λ b. if b then None else txn_of e.event e.reply) ok ∙ op_txn e.event e.reply o op in
-              let has : is_key (accepted_txn e) m.0.0 ≡ true = ap (λ k. is_key k m.0.0) key ∙ eq-eqb o.txn m.0.0 (sym m.2) in
-              let z : 0 + i ≡ i = omega arith in
-              let there : In i (places_from accepted_txn m.0.0 0 es) = subst (λ j. In j (places_from accepted_txn m.0.0 0 es)) z (in_places accepted_txn m.0.0 0 es i e is has) in
-              absurd (out (Contains-In at i (all m.0 (In-Contains txns m.0 m.1) i (In-Contains (places_from accepted_txn m.0.0 0 es) i there))))
-
-  pub sparse_steps : filter_map (step_at places) (filter_map (slice_get es) at) ≡ filter_map (step_at places) es
-  sparse_steps =
-      sparse_entries (step_at places) es at rises
-      (λ i j. let r = only i (In-Contains at i j) in places_inside accepted_txn r.0.0 0 es i (Contains-In (places_from accepted_txn r.0.0 0 es) i r.2)) gives

@@ -8,7 +8,7 @@ use Rattle.std.proofs.lemmas.Bool.{true≢false, cond_both, cond-true, cond-fals
 use Rattle.std.proofs.lemmas.List.{length-append}
 use Rattle.esr_history.specs.Serial.{any_pair}
 use Rattle.esr_history.proofs.Membership.{In, In-Contains, Contains-In, In-any, In-filter, In-of_filter, In-append_cases, In-append_left, In-append_right, any-from_In, each_in, filter_none_in}
-use Rattle.esr_order.specs.declared.scan.Step.{Step}
+use Rattle.esr_order.specs.declared.steps.Step.{Step}
 use Rattle.esr_order.specs.Listing.{clash, is_pair}
 use Rattle.esr_order.specs.Ties.{pair_of, last_pair, pairs_to, IsDownward, IsTied, AreNextPaired}
 use Rattle.esr_order.proofs.Kept.{Pair, Holds, fewer, Next, next_more, Kept, writes_in, kept_read, kept_write}
@@ -151,7 +151,7 @@ under_more n (s ∷ ss) =
     ne)
     (cases_order s.item n)
 
-filter_shorter : {X : Type 0} (p : X → Bool) (xs : List X) → length (filter p xs) ≤ length xs
+pub filter_shorter : {X : Type 0} (p : X → Bool) (xs : List X) → length (filter p xs) ≤ length xs
 filter_shorter p [] = omega arith
 filter_shorter p (x ∷ xs) = let rest = filter_shorter p xs in cond_both (p x) (x ∷ filter p xs) (filter p xs) (λ l. length l ≤ suc (length xs)) (λ _. omega (arith, rest)) (λ _. omega (arith, rest))
 

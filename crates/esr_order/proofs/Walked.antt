@@ -5,7 +5,7 @@ use Rattle.std.proofs.lemmas.Bool.{eq-eqb, ne_eqb, cond-true, cond-false, cases_
 use Rattle.std.proofs.lemmas.List.{map-append, take-append-drop}
 use Rattle.std.proofs.lemmas.List.Elements.{filter-append, All-contains}
 use Rattle.esr_history.proofs.Membership.{In, In-of_filter, In-append_right, Pairs, Pairs-from_all, Pairs-left, Pairs-across, In-Contains}
-use Rattle.esr_order.specs.declared.scan.Step.{Step}
+use Rattle.esr_order.specs.declared.steps.Step.{Step}
 use Rattle.esr_order.specs.Chains.{Chain, chain_from, last_in, last_of, with_write, with_last, with_end}
 use Rattle.esr_order.proofs.ChainSteps.{chain_push, chain_skip}
 use Rattle.esr_order.proofs.Placing.{chain_agree}

@@ -4,7 +4,7 @@ use Rattle.std.specs.List.{filter_map, range_with_len, last_or}
 use Rattle.esr_history.specs.Machine.{Schedule}
 use Rattle.esr_history.specs.Serial.{values_by}
 use Rattle.esr_history.specs.Queries.{updates_of}
-use Rattle.esr_order.specs.declared.scan.Step.{Step}
+use Rattle.esr_order.specs.declared.steps.Step.{Step}
 use Rattle.esr_order.specs.declared.chains.Links.{Links}
 
 -- the updates that wrote an item, by their positions in commit order, and the values that they wrote last

@@ -2,10 +2,9 @@ pub mod Placements
 pub mod Least
 pub mod Statements
 pub mod Scans
-pub mod Walks
 pub mod Listing
 pub mod Ties
-pub mod Reach
+pub mod Turns
 pub mod Seeking
 pub mod Chains
 pub mod Orders

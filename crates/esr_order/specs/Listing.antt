@@ -1,12 +1,7 @@
--- The operations of a query's updates by their positions in commit order, and lists of pairs of positions.
+-- Steps of updates that conflict, and pairs of positions.
 use Rattle.std.specs.Prelude.{◌≡◌, ◌↔◌, ◌<◌, ◌⊎◌, ℕ, Bool, not, ◌&&◌, ◌||◌, ◌==◌, List, Option, Some, slice_get}
 use Rattle.esr_history.specs.Serial.{any_pair}
-use Rattle.esr_order.specs.declared.scan.Step.{Step}
-use Rattle.esr_order.specs.Scans.{place_of}
-
--- the table tells of each transaction its position in the list
-abbrev pub IsTableOf : List ℕ → List (Option ℕ) → Type 0
-IsTableOf us places = (t i : ℕ) → (place_of places t ≡ Some i) ↔ (slice_get us i ≡ Some t)
+use Rattle.esr_order.specs.declared.steps.Step.{Step}
 
 -- of two positions, on one item, and at least one of them writes
 abbrev pub clash : Step → Step → Bool

@@ -11,7 +11,6 @@ use Rattle.esr_history.specs.Links.{accepted_end, last_place, facts_of}
 use Rattle.esr_history.specs.Machine.{Schedule, done}
 use Rattle.esr_history.specs.Operations.{Operation, operation_of, operations_in}
 use Rattle.esr_order.specs.declared.accesses.Access.{Access}
-use Rattle.esr_order.specs.declared.scan.Step.{Step}
 
 abbrev pub if_accepted : {Y : Type 0} → (Entry → Option Y) → Entry → Option Y
 if_accepted f e = if is_refusal e.reply then None else f e
@@ -63,21 +62,6 @@ begins_strictly _ = false
 abbrev pub is_strict_begin : Option Entry → Bool
 is_strict_begin None = false
 is_strict_begin (Some e) = begins_strictly e.event
-
--- the position of a transaction among the updates, by its number
-abbrev pub place_of : List (Option ℕ) → ℕ → Option ℕ
-place_of places t = unwrap_or (slice_get places t) None
-
-abbrev pub step_of : List (Option ℕ) → Operation → Option Step
-step_of places o =
-    option_map (λ i. record { place = i; item = o.item; writes = o.writes; value = o.value }) (place_of places o.txn)
-
-abbrev pub step_by : List (Option ℕ) → Option Operation → Option Step
-step_by places None = None
-step_by places (Some o) = step_of places o
-
-abbrev pub step_at : List (Option ℕ) → Entry → Option Step
-step_at places e = if_accepted (λ n. step_by places (operation_of n)) e
 
 -- what was done in an entry, if that is an accepted read or write
 abbrev pub access_of : Operation → Access

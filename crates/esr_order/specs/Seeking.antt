@@ -1,54 +1,24 @@
--- What a search back from the items that a query read has found.
-use Rattle.std.specs.Prelude.{◌≡◌, ◌<◌, ◌⊎◌, ◌||◌, ◌==◌, ℕ, Bool, true, false, IsTrue, List, Contains, length, if◌then◌else◌}
-use Rattle.std.specs.List.{list_any}
-use Rattle.esr_history.specs.Machine.{Schedule}
-use Rattle.esr_history.specs.Queries.{reads_by}
-use Rattle.esr_order.specs.declared.scan.Step.{Step}
-use Rattle.esr_order.specs.declared.search.Search.{Search}
-use Rattle.esr_order.specs.Reach.{marked}
+-- What a search back from a query has come by: the items that the query and the near updates read, and those that these
+-- updates wrote.
+use Rattle.std.specs.Prelude.{ℕ, Bool, false, not, ◌&&◌, ◌||◌, ◌==◌, List, slice_index_or, if◌then◌else◌}
+use Rattle.esr_order.specs.declared.accesses.Access.{Access}
+use Rattle.esr_order.specs.declared.search.Items.{Items}
 
--- which updates are marked, by position, and of which items the writers, and all that used them, have been followed
-pub record Sought : Type 0 where
-  pub marks : List Bool
-  pub writers : List Bool
-  pub users : List Bool
+abbrev pub marked : List Bool → ℕ → Bool
+marked marks i = slice_index_or marks i false
 
-abbrev pub seen_search : Search → Sought
-seen_search s = record { marks = s.marks.items; writers = s.writers.items; users = s.users.items }
+-- a write of item x, or a read of it
+abbrev pub is_access : Bool → ℕ → Access → Bool
+is_access writes x a = (if writes then a.writes else not a.writes) && (a.item.0 == x)
 
-abbrev pub is_followed : Sought → Bool → ℕ → Bool
-is_followed s all x = marked (if all then s.users else s.writers) x
+-- the items that were read, and those that were written, by number
+pub record Seen : Type 0 where
+  pub read : List Bool
+  pub written : List Bool
 
--- an operation below a position: a write, or any
-abbrev pub IsUse : ℕ → Bool → Step → Type 0
-IsUse below all a = (a.place < below) × IsTrue (all || a.writes)
+abbrev pub seen_items : Items → Seen
+seen_items i = record { read = i.read.items; written = i.written.items }
 
--- who did such an operation, below a position, on an item that has been followed is marked
-abbrev pub IsFollowedBelow : List Step → ℕ → Sought → Type 0
-IsFollowedBelow steps below s =
-    (all : Bool) (a : Step) → Contains steps a → IsTrue (is_followed s all a.item) → IsUse below all a
-    → marked s.marks a.place ≡ true
-
--- such an operation on item x
-abbrev pub IsUseOf : ℕ → Bool → ℕ → Step → Type 0
-IsUseOf below all x a = IsUse below all a × (a.item ≡ x)
-
--- a write, below a position, of an item that q read
-abbrev pub IsWriteRead : Schedule → ℕ → ℕ → Step → Type 0
-IsWriteRead h q below a = IsUse below false a × IsTrue (list_any (λ o. o.item == a.item) (reads_by h q))
-
--- such for one of some
-abbrev pub OfEach : {X : Type 0} → (X → Step → Type 0) → List X → Step → Type 0
-OfEach {X} Q xs a = (x : X) × Contains xs x × Q x a
-
--- an operation at a lower position that conflicts with one at position i
-abbrev pub IsBefore : List Step → ℕ → Step → Type 0
-IsBefore steps i a = (b : Step) × Contains steps b × (b.place ≡ i) × IsUseOf i b.writes b.item a
-
--- the marks are the old ones, and those of the steps that are such
-pub record AreMarked (P : Step → Type 0) (steps : List Step) (old new : List Bool) : Type 0 where
-  pub len : length new ≡ length old
-  pub keeps : (j : ℕ) → marked old j ≡ true → marked new j ≡ true
-  pub found : (a : Step) → Contains steps a → P a → marked new a.place ≡ true
-  pub only : (j : ℕ) → marked new j ≡ true
-      → (marked old j ≡ true) ⊎ ((a : Step) × Contains steps a × P a × (a.place ≡ j))
+-- whether an access conflicts with one that has been seen: of one item, and one of the two writes
+abbrev pub conflicts_with : Seen → Access → Bool
+conflicts_with s a = marked s.written a.item.0 || (a.writes && marked s.read a.item.0)

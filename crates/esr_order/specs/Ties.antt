@@ -1,7 +1,7 @@
 -- Few pairs of positions by which steps are tied like by all their clashes: on each item a step with the last write
 -- before it, and a write with the reads since the write before.
 use Rattle.std.specs.Prelude.{◌≡◌, ◌≢◌, ◌≤◌, ◌*◌, ◌==◌, ℕ, Bool, true, IsTrue, List, [], ◌∷◌, ◌++◌, Option, None, Some, All, Contains, filter, length, if◌then◌else◌, ⊤}
-use Rattle.esr_order.specs.declared.scan.Step.{Step}
+use Rattle.esr_order.specs.declared.steps.Step.{Step}
 use Rattle.esr_order.specs.Listing.{is_pair}
 
 -- the pair of two positions, none of a position with itself

@@ -1,10 +1,10 @@
 ghost use Rattle.std.specs.Prelude.{◌≡◌, ◌<◌, ◌≤◌, ℕ, List, IfOk, OnOk, All, AllPairs, filter, map};
 ghost use Rattle.std.specs.List.{range_with_len};
-ghost use Rattle.esr_order.specs.declared.scan.Step.{Step};
+ghost use Rattle.esr_order.specs.declared.steps.Step.{Step};
 ghost use Rattle.esr_order.specs.Ties.{on_item};
 ghost use Rattle.esr_order.specs.Chains.{last_in, last_step, chain_from, with_write, with_last, with_end, seen_links};
 
-use crate::scan::Step;
+use crate::steps::Step;
 use std::alloc::{AllocError, Global};
 
 /// The updates that wrote an item, by their positions in commit order, and the

@@ -4,12 +4,10 @@
 mod accesses;
 mod chains;
 mod laws;
-mod near;
 mod order;
-mod pairs;
 mod scan;
 mod search;
-mod split;
+mod steps;
 mod ties;
 mod walk;
 

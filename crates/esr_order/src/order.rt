@@ -13,10 +13,9 @@ ghost use Rattle.esr_history.specs.Machine.{done};
 ghost use Rattle.esr_history.specs.Operations.{commit_order, operations};
 
 use crate::chains::{Links, chains_of};
-use crate::pairs::places_of;
-use crate::scan::{committed, count_must, is_committed_query, steps_of, updates_before};
+use crate::scan::{committed, count_must, is_committed_query, updates_before};
 use crate::search::near_of;
-use crate::split::by_item;
+use crate::steps::rows_of;
 use crate::ties::pairs_of;
 use esr_history::{History, TxnId};
 use esr_items::{ItemId, Metric};
@@ -87,8 +86,7 @@ fn among<M: Metric>(
     commits: Vec<TxnId>,
     first: usize,
 ) -> Result<Order, AllocError>
-    requires known { All (λ t. t.0 ≤ 65535) commits.items }
-    requires once { AllPairs (λ t u. t.0 ≢ u.0) commits.items }
+    requires once { AllPairs (λ t u. t ≢ u) (map (λ t. t.0) commits.items) }
     requires few { length commits.items ≤ 65535 }
     requires keeps { AllPairs (λ u v. is_before history.now.schedule v u ≡ false) (map (λ t. t.0) commits.items) }
     requires first { first ≤ length commits.items }
@@ -99,9 +97,7 @@ fn among<M: Metric>(
         (filter (λ p. is_among (map (λ t. t.0) commits.items) p.txn) (operations history.now.schedule))) }
 {
     let _legal = history.log(); // brings the invariant into the proof
-    let places = places_of(alloc, &commits, 65535)?;
-    let steps = steps_of(alloc, history, &commits, &places)?;
-    let rows = by_item(alloc, &steps, history.items())?;
+    let rows = rows_of(alloc, history, &commits)?;
     let before = pairs_of(alloc, &rows)?;
     let chains = chains_of(alloc, &rows)?;
     let must = first_positions(alloc, first)?;

@@ -6,24 +6,12 @@ ghost use Rattle.esr_history.specs.Events.{is_begun, is_update};
 ghost use Rattle.esr_history.specs.Machine.{done};
 ghost use Rattle.esr_history.specs.Operations.{commit_order};
 ghost use Rattle.esr_history.specs.Queries.{before_begin, is_committed_query, is_strict, updates_of, must};
-ghost use Rattle.esr_order.specs.Listing.{IsTableOf};
-ghost use Rattle.esr_order.specs.Scans.{commit_in, is_commit_at, is_strict_begin, has_ended_before, end_in, AreEnds, place_of, step_at};
+ghost use Rattle.esr_order.specs.Scans.{commit_in, is_commit_at, is_strict_begin, has_ended_before, end_in, AreEnds};
 
-use crate::accesses::access_in;
-use crate::walk::{places_among, places_of_txn};
+use crate::walk::places_of_txn;
 use esr_history::{Entry, Event, History, Log, TxnId};
 use esr_items::Metric;
 use std::alloc::{AllocError, Global};
-
-/// An accepted read or write of an update, which is given by its position in
-/// commit order. The value is the one answered, or the one written.
-#[derive(Clone, Copy)]
-pub struct Step {
-    pub place: u32,
-    pub item: u32,
-    pub writes: bool,
-    pub value: i64,
-}
 
 /// The transaction that commits in an entry, if that is accepted.
 fn committer_of(entry: Entry) -> Option<TxnId>
@@ -217,56 +205,4 @@ pub fn count_must<M: Metric>(
     } else {
         Ok(0)
     }
-}
-
-fn place_in(places: &[Option<u32>], t: u32) -> Option<u32>
-    ensures { result ≡ place_of places.now t }
-{
-    places.get(t as usize).copied().unwrap_or(None)
-}
-
-fn step_in(places: &[Option<u32>], entry: Entry) -> Option<Step>
-    ensures { result ≡ step_at places.now entry }
-{
-    let Some(access) = access_in(entry) else {
-        return None;
-    };
-    place_in(places, access.txn.0).map(|place| Step {
-        place,
-        item: access.item.0,
-        writes: access.writes,
-        value: access.value,
-    })
-}
-
-/// The operations at these places of updates that have a position, in order.
-pub fn steps_at(
-    alloc: Global,
-    log: &Log,
-    at: &[u64],
-    places: &[Option<u32>],
-) -> Result<Vec<Step>, AllocError>
-    ensures { IfOk result (λ v. v.items ≡ filter_map (step_at places.now)
-        (filter_map (slice_get log.now.entries) at.now)) }
-{
-    at.iter()
-        .filter_map(|i| log.get(*i as usize))
-        .filter_map(|entry| step_in(places, entry))
-        .collect(alloc)
-}
-
-/// The operations of these updates, which have the positions, in order. It goes along their
-/// links.
-pub fn steps_of<M: Metric>(
-    alloc: Global,
-    history: &History<M>,
-    txns: &[TxnId],
-    places: &[Option<u32>],
-) -> Result<Vec<Step>, AllocError>
-    requires { IsTableOf (map (λ t. t.0) txns.now) places.now }
-    ensures { IfOk result (λ v. v.items ≡ filter_map (step_at places.now) history.now.schedule.entries) }
-{
-    let at = places_among(alloc, history, txns)?;
-    let steps = steps_at(alloc, history.log(), &at, places)?;
-    Ok(steps)
 }

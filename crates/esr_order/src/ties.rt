@@ -1,11 +1,11 @@
 //! Few pairs of updates that tie them like the whole conflict order.
 ghost use Rattle.std.specs.Prelude.{◌≡◌, ◌≤◌, ◌<◌, ◌++◌, ℕ, List, IfOk, OnOk, All, AllPairs, Contains, filter, length, map};
 ghost use Rattle.std.specs.List.{range_with_len};
-ghost use Rattle.esr_order.specs.declared.scan.Step.{Step};
+ghost use Rattle.esr_order.specs.declared.steps.Step.{Step};
 ghost use Rattle.esr_order.specs.Listing.{IsBelow};
 ghost use Rattle.esr_order.specs.Ties.{pair_of, last_pair, pairs_to, on_item, IsTied, AreNextPaired};
 
-use crate::scan::Step;
+use crate::steps::Step;
 use std::alloc::{AllocError, Global};
 
 /// Adds the pair of two positions, none of a position with itself.

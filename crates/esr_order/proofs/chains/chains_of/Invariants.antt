@@ -1,6 +1,6 @@
 use Rattle.std.proofs.Common.{◌≡◌, ◌<◌, ◌≤◌, ℕ, List, All, AllPairs, filter, map}
 use Rattle.std.specs.List.{range_with_len}
-use Rattle.esr_order.specs.declared.scan.Step.{Step}
+use Rattle.esr_order.specs.declared.steps.Step.{Step}
 use Rattle.esr_order.specs.Ties.{on_item}
 use Rattle.esr_order.specs.Chains.{last_step, chain_from, seen_links}
 use Rattle.esr_order.proofs.chains.chains_of.Given as goal

@@ -1,123 +1,132 @@
-use Rattle.std.proofs.Common.{◌≡◌, ◌≤◌, ◌<◌, ◌+◌, ◌-◌, ◌↔◌, suc, true, refl, sym, ap, subst, ◌∙◌, arith, length, map}
-use Rattle.std.specs.Prelude.{nat_lt}
-use Rattle.std.specs.List.{filter_map, range_with_len}
-use Rattle.std.proofs.Math.Nat.{le_trans}
-use Rattle.esr_history.specs.Events.{beginnings}
-use Rattle.esr_history.specs.Machine.{Schedule, done}
+use Rattle.std.proofs.Common.{◌≡◌, ◌<◌, ◌≤◌, ◌-◌, ◌||◌, ⊎_elim, suc, Bool, true, false, sym, ◌∙◌, ap, subst, inr, length, map, reverse, get_or, List, ℕ, All, arith, ◌++◌, ◌∷◌, []}
+use Rattle.std.specs.List.{list_any}
+use Rattle.std.proofs.lemmas.Bool.{true≢false}
+use Rattle.std.proofs.lemmas.List.{reverse-append}
+use Rattle.esr_history.specs.Machine.{Schedule, IsLegal}
 use Rattle.esr_history.specs.Queries.{updates_of}
-use Rattle.esr_history.proofs.WithinRanges.{legal_begins}
-use Rattle.esr_order.specs.declared.search.Search.{Search}
-use Rattle.esr_order.specs.Scans.{step_at}
-use Rattle.esr_order.specs.Listing.{IsTableOf}
-use Rattle.esr_order.specs.Reach.{marked}
+use Rattle.esr_history.specs.declared.event.TxnId.{TxnId}
+use Rattle.esr_order.specs.declared.accesses.Access.{Access}
+use Rattle.esr_order.specs.declared.search.Items.{Items}
+use Rattle.esr_order.specs.Scans.{accesses_in}
 use Rattle.esr_order.specs.Chains.{update_at}
-use Rattle.esr_order.specs.Near.{IsNear}
-use Rattle.esr_order.specs.Seeking.{seen_search, IsFollowedBelow, AreMarked, IsWriteRead, IsBefore}
-use Rattle.esr_order.proofs.Gathered.{commits_known, commits_once, commits_few, commits_length}
-use Rattle.esr_order.proofs.Sought.{marked_at}
-use Rattle.esr_order.proofs.Back.{IsBack, back_start, back_miss, back_hit, back_done, length_row}
-use Rattle.esr_order.proofs.NearFound.{near_kept}
+use Rattle.esr_order.specs.Near.{IsNear, AreNear}
+use Rattle.esr_order.specs.Seeking.{marked, is_access, seen_items, conflicts_with}
+use Rattle.esr_order.proofs.Accessed.{accesses_inside}
+use Rattle.esr_order.proofs.Gathered.{commits_length}
+use Rattle.esr_order.proofs.NearFound.{low_must}
+use Rattle.esr_order.proofs.Seeking.{AreSeen, IsNearFrom, seen_more, near_all, hit, miss, near_by, is_near_by, number_at}
+use Rattle.esr_order.proofs.Divided.{no_txn}
+use Rattle.esr_order.proofs.search.near_of.Given as given
 use Rattle.esr_order.proofs.search.near_of.Goals as goal
-use Rattle.esr_order.proofs.search.near_of.Goals.{then-index+in_ok-mark_before, else-index}
+use Rattle.esr_order.proofs.search.near_of.Goals.{then-i-first+in_ok-push, then-i-first-via-then-i-first, then-i-first-via-else-i-first+then-conflict, else-i-first+else-conflict}
 
-pub places_of-requires-clause-known : goal.places_of-requires-clause-known
-places_of-requires-clause-known g c =
-    let h : Schedule = c.args.history.now.schedule in
-    let most : length (beginnings (done h)) ≤ 65535 = legal_begins g.M.Metric.distance_by h c.log-legal.ensures.legal in
-    λ k e l. le_trans (commits_known g.M.Metric.distance_by h c.args.q.0 c.log-legal.ensures.legal c.args.updates.now c.requires.updates (length (beginnings (done h))) refl k e l) most
+pub add-requires-clause-read : goal.add-requires-clause-read
+add-requires-clause-read g c =
+    subst (λ l. All (λ (a : Access). a.item.0 < length c.loop-i.items.read.items) l) (sym (c.deref-then-i-first.ensures.value ∙ c.in_ok-accesses.ensures))
+    (accesses_inside g.M.Metric.distance_by c.args.history.now.schedule c.log-legal.ensures.legal _ (length c.loop-i.items.read.items) c.loop-i.invariant.0)
 
-pub places_of-requires-clause-once : goal.places_of-requires-clause-once
-places_of-requires-clause-once g c = commits_once g.M.Metric.distance_by c.args.history.now.schedule c.args.q.0 c.log-legal.ensures.legal c.args.updates.now c.requires.updates
+pub add-requires-clause-written : goal.add-requires-clause-written
+add-requires-clause-written g c =
+    subst (λ l. All (λ (a : Access). a.item.0 < length c.loop-i.items.written.items) l) (sym (c.deref-then-i-first.ensures.value ∙ c.in_ok-accesses.ensures))
+    (accesses_inside g.M.Metric.distance_by c.args.history.now.schedule c.log-legal.ensures.legal _ (length c.loop-i.items.written.items) c.loop-i.invariant.1)
 
-pub places_of-requires-clause-few : goal.places_of-requires-clause-few
-places_of-requires-clause-few g c =
-    let few : length c.args.updates.now ≤ 65535 = commits_few g.M.Metric.distance_by c.args.history.now.schedule c.args.q.0 c.log-legal.ensures.legal c.args.updates.now c.requires.updates in
-    (omega arith, omega arith)
+module _ (g : given.Over) (c : goal.After-drop-accesses-in-loop-i g) where
+  abbrev h : Schedule
+  h = c.args.history.now.schedule
 
-pub overflow_sub-k-end : goal.overflow_sub-k-end
-overflow_sub-k-end g c =
-    let low : c.marked_first-low.result ≤ length c.deref-2.result.now = c.marked_first-low.ensures.within in
-    let same : length c.deref-2.result.now ≡ length c.in_ok-search.search.marks.items = ap length c.deref-2.ensures.value in
-    let len : length c.in_ok-search.search.marks.items ≡ length (map (λ i. nat_lt i c.args.first) (range_with_len 0 (length c.args.updates.now))) = c.in_ok-search.ensures.marks.len in
-    omega (arith, low, same, len, length_row (λ i. nat_lt i c.args.first) 0 (length c.args.updates.now))
+  abbrev q : ℕ
+  q = c.args.q.0
 
-pub loop-k-init : goal.loop-k-init
-loop-k-init g c =
-    let h : Schedule = c.args.history.now.schedule in
-    let d = g.M.Metric.distance_by in
-    let q = c.args.q.0 in
-    let places = c.in_ok-places.places.items in
-    let n = length c.args.updates.now in
-    let table : IsTableOf (updates_of h q) places = subst (λ us. IsTableOf us places) c.requires.updates c.in_ok-places.ensures in
-    let marks : AreMarked (IsWriteRead h q n) (filter_map (step_at places) h.entries) (map (λ i. nat_lt i c.args.first) (range_with_len 0 n)) c.in_ok-search.search.marks.items =
-    subst (λ ps. AreMarked (IsWriteRead h q n) (filter_map (step_at ps) h.entries) (map (λ i. nat_lt i c.args.first) (range_with_len 0 n)) c.in_ok-search.search.marks.items) c.deref.ensures.value c.in_ok-search.ensures.marks in
-    let followed : IsFollowedBelow (filter_map (step_at places) h.entries) n (seen_search c.in_ok-search.search) =
-    subst (λ ps. IsFollowedBelow (filter_map (step_at ps) h.entries) n (seen_search c.in_ok-search.search)) c.deref.ensures.value c.in_ok-search.ensures.followed in
-    let z : n - 0 ≡ n = omega arith in
-    subst (λ b. IsBack h q places c.marked_first-low.result b (seen_search c.in_ok-search.search)) (sym z)
-    (back_start d h q c.log-legal.ensures.legal places table c.args.first n c.requires.first (commits_length d h q c.log-legal.ensures.legal c.args.updates.now c.requires.updates) (seen_search c.in_ok-search.search) marks followed
-    c.marked_first-low.result (λ i l. ap (λ ms. marked ms i) (sym c.deref-2.ensures.value) ∙ c.marked_first-low.ensures.marked i l))
+  abbrev i : ℕ
+  i = c.loop-i.i - 1
 
-pub index-requires : goal.index-requires
-index-requires g c =
-    let len : length c.loop-k.search.marks.items ≡ length (updates_of c.args.history.now.schedule c.args.q.0) = c.loop-k.invariant.len in
-    let n : length c.args.updates.now ≡ length (updates_of c.args.history.now.schedule c.args.q.0) = commits_length g.M.Metric.distance_by c.args.history.now.schedule c.args.q.0 c.log-legal.ensures.legal c.args.updates.now c.requires.updates in
-    omega (arith, len, n, c.loop-k-test.true, c.loop-k.search.marks.ok.0)
+  abbrev us : List ℕ
+  us = map (λ t. t.0) (reverse c.loop-i.near.items)
 
-pub mark_before-requires-clause-within : goal.mark_before-requires-clause-within
-mark_before-requires-clause-within g c =
-    let len : length c.loop-k.search.marks.items ≡ length (updates_of c.args.history.now.schedule c.args.q.0) = c.loop-k.invariant.len in
-    let n : length c.args.updates.now ≡ length (updates_of c.args.history.now.schedule c.args.q.0) = commits_length g.M.Metric.distance_by c.args.history.now.schedule c.args.q.0 c.log-legal.ensures.legal c.args.updates.now c.requires.updates in
-    omega (arith, len, n)
+  abbrev u : ℕ
+  u = update_at h q i
 
-pub mark_before-requires-clause-followed : goal.mark_before-requires-clause-followed
-mark_before-requires-clause-followed g c =
-    subst (λ ps. IsFollowedBelow (filter_map (step_at ps) c.args.history.now.schedule.entries) (length c.args.updates.now - 1 - c.loop-k.k) (seen_search c.loop-k.search)) (sym c.deref-then-index.ensures.value)
-    (λ all a ca has p. c.loop-k.invariant.followed all a ca has (let l : a.place < length c.args.updates.now - 1 - c.loop-k.k = p.0 in omega arith, p.1))
+  -- what is to be shown of items and of near updates
+  abbrev Holds : Items → List TxnId → Type 0
+  Holds items near = (length items.read.items ≡ length h.opening) × (length items.written.items ≡ length h.opening) × AreSeen h q (map (λ t. t.0) (reverse near)) (seen_items items) × IsNearFrom h q i (map (λ t. t.0) (reverse near))
 
-pub loop-k-preserved : goal.loop-k-preserved
-loop-k-preserved g c =
-    let h : Schedule = c.args.history.now.schedule in
-    let d = g.M.Metric.distance_by in
-    let q = c.args.q.0 in
-    let places = c.in_ok-places.places.items in
-    let n = length c.args.updates.now in
-    let i = n - 1 - c.loop-k.k in
-    let low = c.marked_first-low.result in
-    let legal = c.log-legal.ensures.legal in
-    let table : IsTableOf (updates_of h q) places = subst (λ us. IsTableOf us places) c.requires.updates c.in_ok-places.ensures in
-    let test : c.loop-k.k < n - low = c.loop-k-test.true in
-    let from : n - c.loop-k.k ≡ suc i = omega arith in
-    let to : i ≡ n - (c.loop-k.k + 1) = omega arith in
-    let inside : i < length (updates_of h q) = omega (arith, test, commits_length d h q legal c.args.updates.now c.requires.updates) in
-    let so_far : IsBack h q places low (suc i) (seen_search c.loop-k.search) = subst (λ b. IsBack h q places low b (seen_search c.loop-k.search)) from c.loop-k.invariant in
-    let len : length c.loop-k.search.marks.items ≡ length (updates_of h q) = so_far.len in
-    let here : marked c.loop-k.search.marks.items i ≡ c.index.result.now = marked_at c.loop-k.search.marks.items i c.index.result.now (omega (arith, inside, len)) c.index.ensures in
-    subst (λ b. IsBack h q places low b (seen_search c.if-index.search)) to
-    (elim c.if-index.branch [
-      | then-index+in_ok-mark_before w ↦
-          subst (λ (s : Search). IsBack h q places low i (seen_search s)) (sym w.search-is)
-          (back_hit d h q legal places table low i (seen_search c.loop-k.search) so_far inside (here ∙ w.if-index.true) (seen_search w.mark_before.new.self)
-          (subst (λ ps. AreMarked (IsBefore (filter_map (step_at ps) h.entries) i) (filter_map (step_at ps) h.entries) c.loop-k.search.marks.items w.mark_before.new.self.marks.items) w.deref-then-index.ensures.value w.in_ok-mark_before.ensures.marks)
-          (subst (λ ps. IsFollowedBelow (filter_map (step_at ps) h.entries) i (seen_search w.mark_before.new.self)) w.deref-then-index.ensures.value w.in_ok-mark_before.ensures.followed))
-      | else-index w ↦
-          subst (λ (s : Search). IsBack h q places low i (seen_search s)) (sym w.search-is)
-          (back_miss d h q legal places table low i (seen_search c.loop-k.search) so_far (here ∙ w.if-index.false))
-    ])
+  legal : IsLegal g.M.Metric.distance_by c.args.history.now.schedule
+  legal = c.log-legal.ensures.legal
+
+  here : i < length c.args.updates.now
+  here = omega (arith, c.loop-i-test.true, c.loop-i.auto.i)
+
+  inside : i < length (updates_of c.args.history.now.schedule c.args.q.0)
+  inside = omega (arith, here, commits_length g.M.Metric.distance_by h q legal c.args.updates.now c.requires.updates)
+
+  so_far : IsNearFrom c.args.history.now.schedule c.args.q.0 (suc i) us
+  so_far = let from : c.loop-i.i ≡ suc i = omega (arith, c.loop-i-test.true) in subst (λ k. IsNearFrom h q k us) from c.loop-i.invariant.3
+
+  number : (get_or c.args.updates.now i no_txn).0 ≡ u
+  number = number_at c.args.updates.now (updates_of h q) i no_txn c.requires.updates here
+
+  accesses : c.in_ok-accesses.accesses.items ≡ accesses_in c.args.history.now.schedule.entries u
+  accesses = c.in_ok-accesses.ensures ∙ ap (accesses_in h.entries) number
+
+  -- whether what the update did conflicts with what has been seen
+  conflicts : (b : Bool) (list : List Access) → list ≡ c.in_ok-accesses.accesses.items → b ≡ list_any (conflicts_with (seen_items c.loop-i.items)) list → list_any (conflicts_with (seen_items c.loop-i.items)) (accesses_in h.entries u) ≡ b
+  conflicts b list same is = sym (is ∙ ap (list_any (conflicts_with (seen_items c.loop-i.items))) (same ∙ accesses))
+
+  add : (items : Items) (near : List TxnId) (list : List Access) → IsNear h q u → near ≡ c.loop-i.near.items ++ get_or c.args.updates.now i no_txn ∷ [] → list ≡ c.in_ok-accesses.accesses.items
+      → length items.read.items ≡ length c.loop-i.items.read.items → length items.written.items ≡ length c.loop-i.items.written.items
+      → ((x : ℕ) → marked items.read.items x ≡ (marked c.loop-i.items.read.items x || list_any (is_access false x) list))
+      → ((x : ℕ) → marked items.written.items x ≡ (marked c.loop-i.items.written.items x || list_any (is_access true x) list)) → Holds items near
+  add items near list is_near pushed same read_len written_len read written =
+      let numbers : u ∷ us ≡ map (λ t. t.0) (reverse near) =
+      sym (ap (λ l. map (λ t. t.0) (reverse l)) pushed
+      ∙ (ap (map (λ t. t.0)) (reverse-append c.loop-i.near.items (get_or c.args.updates.now i no_txn ∷ [])) ∙ ap (λ n. n ∷ us) number)) in
+      let did_by : list ≡ accesses_in h.entries u = same ∙ accesses in (
+        read_len ∙ c.loop-i.invariant.0,
+        written_len ∙ c.loop-i.invariant.1,
+        subst (λ vs. AreSeen h q vs (seen_items items)) numbers (seen_more h q u us (seen_items c.loop-i.items) (seen_items items) c.loop-i.invariant.2
+            (λ x. read x ∙ ap (λ l. marked c.loop-i.items.read.items x || list_any (is_access false x) l) did_by)
+            (λ x. written x ∙ ap (λ l. marked c.loop-i.items.written.items x || list_any (is_access true x) l) did_by)),
+        subst (IsNearFrom h q i) numbers (hit g.M.Metric.distance_by h q legal i inside us so_far is_near),
+      )
+
+  keep : (first : c.args.first ≤ i) → list_any (conflicts_with (seen_items c.loop-i.items)) (accesses_in h.entries u) ≡ false → Holds c.loop-i.items c.loop-i.near.items
+  keep first none = (
+    c.loop-i.invariant.0,
+    c.loop-i.invariant.1,
+    c.loop-i.invariant.2,
+    miss g.M.Metric.distance_by h q legal i inside us so_far (λ n. ⊎_elim
+        (λ low. absurd (omega (arith, low, first, c.requires.first)))
+        (λ is. true≢false (sym is ∙ none))
+        (is_near_by g.M.Metric.distance_by h q legal i inside us so_far (seen_items c.loop-i.items) c.loop-i.invariant.2 n)),
+  )
+
+  early : i < c.args.first → IsNear h q u
+  early l = inr (inr (low_must g.M.Metric.distance_by h q legal i (omega (arith, l, c.requires.first))))
+
+pub loop-i-preserved : goal.loop-i-preserved
+loop-i-preserved g c =
+    elim c.if-i-first.branch [
+      | then-i-first+in_ok-push w ↦
+          let is_near : IsNear (h g c) (q g c) (u g c) =
+          elim w.then-i-first.branch [
+            | then-i-first-via-then-i-first v ↦ early g c v.if-i-first.true
+            | then-i-first-via-else-i-first+then-conflict v ↦
+                near_by g.M.Metric.distance_by (h g c) (q g c) (legal g c) (i g c) (inside g c) (us g c) (so_far g c) (seen_items c.loop-i.items) c.loop-i.invariant.2
+                (conflicts g c v.conflict.result v.deref.result.now v.deref.ensures.value v.conflict.ensures ∙ v.if-conflict.true)
+          ] in
+          subst (λ items. Holds g c items c.if-i-first.near.items) (sym w.items-is)
+          (subst (λ near. Holds g c w.add.new.self near.items) (sym w.near-is)
+          (add g c w.add.new.self w.push.new.self.items w.deref-then-i-first.result.now is_near w.in_ok-push.ensures.items w.deref-then-i-first.ensures.value
+          w.add.ensures.read_len w.add.ensures.written_len w.add.ensures.read w.add.ensures.written))
+      | else-i-first+else-conflict w ↦
+          subst (λ items. Holds g c items c.if-i-first.near.items) (sym w.items-is)
+          (subst (λ near. Holds g c c.loop-i.items near.items) (sym w.near-is)
+          (keep g c w.if-i-first.false (conflicts g c w.conflict.result w.deref.result.now w.deref.ensures.value w.conflict.ensures ∙ w.if-conflict.false)))
+    ]
 
 pub returns : goal.returns
-returns g c =
-    let h : Schedule = c.args.history.now.schedule in
-    let d = g.M.Metric.distance_by in
-    let q = c.args.q.0 in
-    let places = c.in_ok-places.places.items in
-    let n = length c.args.updates.now in
-    let legal = c.log-legal.ensures.legal in
-    let table : IsTableOf (updates_of h q) places = subst (λ us. IsTableOf us places) c.requires.updates c.in_ok-places.ensures in
-    let over : n - c.marked_first-low.result ≤ c.loop-k.k = c.loop-k-test.false in
-    let end : n - c.loop-k.k ≤ c.marked_first-low.result = omega arith in
-    record {
-      near = near_kept d h q legal c.deref-3.result.now
-          (λ i l. subst (λ ms. (marked ms i ≡ true) ↔ IsNear h q (update_at h q i)) (sym c.deref-3.ensures.value) (back_done d h q legal places table c.marked_first-low.result (n - c.loop-k.k) end (seen_search c.loop-k.search) c.loop-k.invariant i l))
-          c.args.updates.now c.in_ok-near.near.items c.requires.updates c.in_ok-near.ensures;
-    }
+returns g c = record {
+  near = subst (λ l. AreNear c.args.history.now.schedule c.args.q.0 (map (λ t. t.0) l)) (sym c.reverse.ensures.items)
+      (near_all c.args.history.now.schedule c.args.q.0 (map (λ t. t.0) (reverse c.loop-i.near.items))
+      (let z : c.loop-i.i ≡ 0 = omega (arith, c.loop-i-test.false) in subst (λ i. IsNearFrom c.args.history.now.schedule c.args.q.0 i (map (λ t. t.0) (reverse c.loop-i.near.items))) z c.loop-i.invariant.3));
+}

@@ -1,6 +1,6 @@
 use Rattle.std.proofs.Common.{◌≡◌, ℕ, List, map}
 use Rattle.std.specs.List.{range_with_len}
-use Rattle.esr_order.specs.declared.scan.Step.{Step}
+use Rattle.esr_order.specs.declared.steps.Step.{Step}
 use Rattle.esr_order.specs.Ties.{on_item}
 use Rattle.esr_order.proofs.Tied.{TiedBelow}
 use Rattle.esr_order.proofs.ties.ties_among.Given as goal

@@ -22,9 +22,6 @@ near_of-requires-clause-updates g c =
 run : (g : Rattle.esr_order.proofs.order.Order.near_in.Given.Over) (c : goal.In_ok-near g) → IsNearRun c.args.history.now.schedule c.args.q.0 c.in_ok-first.first c.in_ok-near.near.items
 run g c = near_run g.M.Metric.distance_by c.args.history.now.schedule c.args.q.0 c.log-legal.ensures.legal c.in_ok-near.near.items c.in_ok-near.ensures.near c.in_ok-first.first c.in_ok-first.ensures
 
-pub among-requires-clause-known : goal.among-requires-clause-known
-among-requires-clause-known g c = (run g c).known
-
 pub among-requires-clause-once : goal.among-requires-clause-once
 among-requires-clause-once g c = (run g c).once
 

@@ -1,11 +1,8 @@
-use Rattle.std.proofs.Common.{◌≡◌, ◌*◌, ◌≤◌, length, map, filter, sym, ◌∙◌, ap, subst, AllPairs, false, refl}
+use Rattle.std.proofs.Common.{◌≡◌, ◌≢◌, ◌*◌, ◌≤◌, length, map, filter, sym, ◌∙◌, ap, subst, AllPairs, false}
 use Rattle.std.specs.List.{range_with_len}
-use Rattle.std.proofs.Math.Nat.{le_trans}
-use Rattle.esr_history.specs.Events.{beginnings}
-use Rattle.esr_history.specs.Machine.{Schedule, done}
+use Rattle.esr_history.specs.Machine.{Schedule}
 use Rattle.esr_history.specs.Queries.{updates_of}
 use Rattle.esr_history.specs.Serial.{is_before}
-use Rattle.esr_history.proofs.WithinRanges.{legal_begins}
 use Rattle.esr_history.proofs.Membership.{All-from_pairs}
 use Rattle.esr_history.specs.Operations.{operations}
 use Rattle.esr_order.specs.Placements.{is_among}
@@ -14,19 +11,9 @@ use Rattle.esr_order.specs.Orders.{IsOrderAmong}
 use Rattle.esr_order.proofs.Ordered.{in_order}
 use Rattle.esr_order.proofs.Early.{must_below, must_positions}
 use Rattle.esr_order.proofs.Complete.{order_whole}
-use Rattle.esr_order.proofs.Gathered.{commits_known, commits_once, commits_few, commits_length}
+use Rattle.esr_order.proofs.Gathered.{commits_few, commits_length}
 use Rattle.esr_order.proofs.Commits.{updates_are, query_begun}
 use Rattle.esr_order.proofs.order.Order.of.Goals as goal
-
-pub among-requires-clause-known : goal.among-requires-clause-known
-among-requires-clause-known g c =
-    let h : Schedule = c.args.history.now.schedule in
-    let d = g.M.Metric.distance_by in
-    let q = c.args.q.0 in
-    let commits = c.in_ok-commits.commits.items in
-    let same : map (λ t. t.0) commits ≡ updates_of h q = updates_are h q c.deref.result.now (ap (map (λ t. t.0)) c.deref.ensures.value ∙ c.in_ok-committed.ensures) commits c.in_ok-commits.ensures in
-    let most : length (beginnings (done h)) ≤ 65535 = legal_begins d h c.log-legal.ensures.legal in
-    λ k e l. le_trans (commits_known d h q c.log-legal.ensures.legal commits same (length (beginnings (done h))) refl k e l) most
 
 pub among-requires-clause-once : goal.among-requires-clause-once
 among-requires-clause-once g c =
@@ -35,7 +22,7 @@ among-requires-clause-once g c =
     let q = c.args.q.0 in
     let commits = c.in_ok-commits.commits.items in
     let same : map (λ t. t.0) commits ≡ updates_of h q = updates_are h q c.deref.result.now (ap (map (λ t. t.0)) c.deref.ensures.value ∙ c.in_ok-committed.ensures) commits c.in_ok-commits.ensures in
-    commits_once d h q c.log-legal.ensures.legal commits same
+    subst (λ us. AllPairs (λ u v. u ≢ v) us) (sym same) (All-from_pairs (λ u v. u ≢ v) (updates_of h q) (in_order d h q c.log-legal.ensures.legal).once)
 
 pub among-requires-clause-few : goal.among-requires-clause-few
 among-requires-clause-few g c =
