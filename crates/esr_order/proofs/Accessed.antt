@@ -1,24 +1,24 @@
 -- What the entries of a transaction give are its accesses.
-use Rattle.std.proofs.Common.{◌≡◌, ◌<◌, All, arith, ℕ, ◌+◌, Bool, true, false, not, ◌&&◌, List, [], ◌∷◌, ◌++◌, length, refl, sym, ◌∙◌, ap, Option, None, cond, filter, map, eqb, append_assoc, if◌then◌else◌}
+use Rattle.std.proofs.Common.{◌≡◌, ◌<◌, All, arith, ℕ, ◌+◌, Bool, true, false, not, List, [], ◌∷◌, ◌++◌, length, refl, sym, ◌∙◌, ap, Option, None, Some, reverse, cond, filter, map, eqb, append_assoc, if◌then◌else◌}
 use Rattle.std.specs.List.{filter_map, slice_get, cons_option}
 use Rattle.std.specs.Option.{option_map}
-use Rattle.std.proofs.lemmas.List.{length-append}
+use Rattle.std.proofs.lemmas.List.{length-append, reverse-append}
 use Rattle.std.proofs.lemmas.List.Elements.{All-from_recursion}
 use Rattle.esr_history.specs.declared.event.Event.{Event}
 use Rattle.esr_history.specs.declared.event.Event.TheVariants.{BeginUpdate, BeginQuery, Read, Write, Commit, Abort}
 use Rattle.esr_history.specs.declared.event.Reply.{Reply}
 use Rattle.esr_history.specs.declared.event.Entry.{Entry}
 use Rattle.esr_history.specs.Events.{is_refusal}
-use Rattle.esr_history.specs.Links.{accepted_txn, txn_of, is_key, places_from}
+use Rattle.esr_history.specs.Links.{accepted_txn, txn_in, txn_of, is_key, places_from, last_place, earlier, coded}
 use Rattle.esr_history.specs.Machine.{Distance, Schedule, IsLegal}
 use Rattle.esr_history.specs.Operations.{Operation, operation_of, operation_by, operations_in, answer}
-use Rattle.esr_history.specs.Queries.{reads_by}
 use Rattle.esr_history.proofs.Membership.{get_seam, In-of_filter, each_in}
 use Rattle.esr_history.proofs.WithinRanges.{legal_items}
 use Rattle.esr_order.specs.declared.accesses.Access.{Access}
-use Rattle.esr_order.specs.Scans.{access_of, access_in, accesses_in}
+use Rattle.esr_order.specs.Scans.{access_of, access_in, access_by, access_at, accesses_in}
 use Rattle.esr_order.proofs.Entries.{accepts}
 use Rattle.esr_order.proofs.Lists.{of_map}
+use Rattle.esr_order.proofs.Linked.{IsWalk, walk_none, walk_next, walk_done, walk_smaller, accepted_owns}
 
 -- the entries at the places of a key are those that have it
 entries_from : (key : Entry → Option ℕ) (k : ℕ) (past es : List Entry) → filter_map (slice_get (past ++ es)) (places_from key k (length past) es) ≡ filter (λ e. is_key (key e) k) es
@@ -73,28 +73,40 @@ accesses_kept t (e ∷ es) =
     ∙ (access_more t e (filter_map access_in (filter (λ e. is_key (accepted_txn e) t) es)) (filter_map operation_of (filter accepts es)) (accesses_kept t es) (is_refusal e.reply)
     ∙ ap (λ l. map access_of (filter (by t) l)) (sym (spread operation_of (accepts e) e (filter accepts es))))
 
-pub accesses_along : (t : ℕ) (es : List Entry) → filter_map access_in (filter_map (slice_get es) (places_from accepted_txn t 0 es)) ≡ accesses_in es t
+accesses_along : (t : ℕ) (es : List Entry) → filter_map access_in (filter_map (slice_get es) (places_from accepted_txn t 0 es)) ≡ accesses_in es t
 accesses_along t es = ap (filter_map access_in) (entries_from accepted_txn t [] es) ∙ accesses_kept t es
 
--- the reads among the accesses of q are the reads of q
-reads_among : (q : ℕ) (os : List Operation) → filter (λ (a : Access). not a.writes) (map access_of (filter (by q) os)) ≡ map access_of (filter (λ (o : Operation). not o.writes && (eqb o.txn q)) os)
-reads_among q [] = refl
-reads_among q (o ∷ os) = at (eqb o.txn q) o.writes refl (reads_among q os)
-  where
-    W : List Access
-    W = filter (λ (a : Access). not a.writes) (map access_of (filter (by q) os))
+-- on the way back along a transaction: what the places behind gave, the last first
+pub record IsBackTo (es : List Entry) (t : ℕ) (accesses : List Access) (next : Option ℕ) : Type 0 where
+  pub places : List ℕ
+  pub walk : IsWalk accepted_txn t es places next
+  pub gave : reverse accesses ≡ filter_map access_in (filter_map (slice_get es) (reverse places))
 
-    R : List Operation
-    R = filter (λ (o : Operation). not o.writes && (eqb o.txn q)) os
+pub back_none : (es : List Entry) (t : ℕ) (next : Option ℕ) → next ≡ last_place accepted_txn t es → IsBackTo es t [] next
+back_none es t next is = record { places = []; walk = walk_none accepted_txn t es next is; gave = refl }
 
-    at : (own w : Bool) → o.writes ≡ w → W ≡ map access_of R → filter (λ (a : Access). not a.writes) (map access_of (cond own (o ∷ filter (by q) os) (filter (by q) os))) ≡ map access_of (cond (not w && own) (o ∷ R) R)
-    at true true is rest = ap (λ b. cond (not b) (access_of o ∷ W) W) is ∙ rest
-    at true false is rest = ap (λ b. cond (not b) (access_of o ∷ W) W) is ∙ ap (λ l. access_of o ∷ l) rest
-    at false true is rest = rest
-    at false false is rest = rest
+module _ (es : List Entry) (t : ℕ) (accesses : List Access) (next : Option ℕ) (b : IsBackTo es t accesses next) where
+  -- one entry further back
+  pub back_more : (i : ℕ) → next ≡ Some i → (o : Option Access) → o ≡ access_at es i → (more : List Access) → reverse more ≡ cons_option o (reverse accesses) → (after : Option ℕ) → after ≡ earlier accepted_txn txn_in es i → IsBackTo es t more after
+  back_more i is o gives more grown after then_is = record {
+    places = b.places ++ i ∷ [];
+    walk = walk_next accepted_txn txn_in (accepted_owns txn_in) t es b.places next b.walk i is (b.places ++ i ∷ []) after refl then_is;
+    gave =
+        grown
+        ∙ (ap (cons_option o) b.gave
+        ∙ (at (slice_get es i) o gives
+        ∙ ap (λ l. filter_map access_in (filter_map (slice_get es) l)) (sym (reverse-append b.places (i ∷ [])))));
+  }
+    where
+      at : (e : Option Entry) (o : Option Access) → o ≡ access_by e → cons_option o (filter_map access_in (filter_map (slice_get es) (reverse b.places))) ≡ filter_map access_in (cons_option e (filter_map (slice_get es) (reverse b.places)))
+      at None o is = ap (λ p. cons_option p (filter_map access_in (filter_map (slice_get es) (reverse b.places)))) is
+      at (Some e) o is = ap (λ p. cons_option p (filter_map access_in (filter_map (slice_get es) (reverse b.places)))) is
 
-pub reads_are : (h : Schedule) (q : ℕ) → filter (λ (a : Access). not a.writes) (accesses_in h.entries q) ≡ map access_of (reads_by h q)
-reads_are h q = reads_among q (filter_map operation_of (filter accepts h.entries))
+  pub back_smaller : (i : ℕ) → next ≡ Some i → (after : Option ℕ) → after ≡ earlier accepted_txn txn_in es i → coded after < coded next
+  back_smaller i is after then_is = walk_smaller accepted_txn txn_in (accepted_owns txn_in) t es b.places next b.walk i is after then_is
+
+  pub back_done : next ≡ None → reverse accesses ≡ accesses_in es t
+  back_done none = b.gave ∙ (ap (λ l. filter_map access_in (filter_map (slice_get es) l)) (walk_done accepted_txn t es b.places next none b.walk) ∙ accesses_along t es)
 
 -- they are on items of the history
 pub accesses_inside : (d : Distance) (h : Schedule) → IsLegal d h → (t n : ℕ) → n ≡ length h.opening → All (λ a. a.item.0 < n) (accesses_in h.entries t)

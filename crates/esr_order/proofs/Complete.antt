@@ -1,15 +1,15 @@
 -- What is found makes an order of the query.
-use Rattle.std.proofs.Common.{◌≡◌, ◌≢◌, ℕ, zero, suc, ◌+◌, ◌<◌, ◌≤◌, Bool, true, false, not, ◌&&◌, ◌||◌, ◌==◌, List, [], ◌∷◌, length, Option, None, Some, All, AllPairs, Contains, refl, sym, ◌∙◌, ap, subst, arith, inl, inr, ⊎_elim, map, filter, eqb, slice_index_or, get_or}
+use Rattle.std.proofs.Common.{◌≡◌, ◌≢◌, ℕ, zero, suc, ◌+◌, ◌<◌, ◌≤◌, Bool, true, false, List, [], ◌∷◌, length, None, Some, All, AllPairs, Contains, refl, sym, ◌∙◌, ap, subst, arith, inl, inr, ⊎_elim, map, filter, eqb, slice_index_or, get_or}
 use Rattle.std.specs.Prelude.{IsTrue, is_some}
-use Rattle.std.specs.List.{filter_map, list_any, slice_get, range_with_len, AllByRecursion}
+use Rattle.std.specs.List.{slice_get, range_with_len, AllByRecursion}
 use Rattle.std.proofs.lemmas.Bool.{true≢false, cases_order, and_parts, or_cases, not-true, eqb-false, eqb-true, cond_both}
 use Rattle.std.proofs.lemmas.List.Elements.{All-contains, All-from_recursion, recursion_from_All, Contains-get_or}
 use Rattle.esr_history.specs.declared.event.TxnId.{TxnId}
 use Rattle.esr_history.specs.Machine.{Distance, Schedule, IsLegal}
-use Rattle.esr_history.specs.Operations.{Operation, operations}
-use Rattle.esr_history.specs.Serial.{any_pair, conflict, is_before, values_by}
+use Rattle.esr_history.specs.Operations.{operations}
+use Rattle.esr_history.specs.Serial.{is_before, values_by}
 use Rattle.esr_history.specs.Queries.{updates_of, must}
-use Rattle.esr_history.proofs.Membership.{In, In-any, In-filter, Pairs-from_all, Contains-In, In-Contains, Pairs, All-from_pairs, Pairs-filter, In-of_filter, each_in, each_at, filter_none_in}
+use Rattle.esr_history.proofs.Membership.{In, In-filter, Contains-In, In-Contains, Pairs, All-from_pairs, Pairs-filter, In-of_filter, each_in, each_at, filter_none_in}
 use Rattle.esr_history.proofs.Versions.{wrote_by, wrote_parts}
 use Rattle.esr_history.proofs.Words.{values_trace}
 use Rattle.esr_history.proofs.WithinRanges.{legal_items}

@@ -11,7 +11,7 @@ use Rattle.esr_order.specs.declared.accesses.Access.{Access}
 use Rattle.esr_order.specs.declared.steps.Step.{Step}
 use Rattle.esr_order.specs.Scans.{access_of, accesses_in}
 use Rattle.esr_order.specs.Turns.{step_of, step_at, turn, turns, AreRowsOf}
-use Rattle.esr_order.proofs.Tied.{on, no_step, take_more, get_map}
+use Rattle.esr_order.proofs.Tied.{on, take_more, get_map}
 
 map_set : {X Y : Type 0} (f : X → Y) (xs : List X) (i : ℕ) (x : X) → map f (slice_set xs i x) ≡ slice_set (map f xs) i (f x)
 map_set f [] i x = refl

@@ -1,19 +1,13 @@
 -- Steps of updates in a serial order: writers of an item in a row are pairs.
-use Rattle.std.proofs.Common.{◌≡◌, ℕ, zero, suc, ◌+◌, ◌<◌, ◌≤◌, ℤ, Bool, true, false, List, [], ◌∷◌, length, get_or, refl, sym, ◌∙◌, ap, subst, arith, inl, inr, ⊎_elim, filter, eqb, cond, map, Option, Some, None, ◌&&◌, ◌==◌, All, AllPairs, Contains}
+use Rattle.std.proofs.Common.{◌≡◌, ℕ, zero, suc, ◌+◌, ◌<◌, ◌≤◌, ℤ, Bool, true, false, List, [], ◌∷◌, length, get_or, refl, sym, ◌∙◌, ap, subst, arith, inl, inr, ⊎_elim, filter, eqb, cond, map, Some, ◌&&◌, ◌==◌, All, AllPairs, Contains}
 use Rattle.std.specs.Prelude.{is_some}
-use Rattle.std.specs.List.{list_any, last_or, filter_map, cons_option, AllByRecursion, slice_get}
-use Rattle.std.specs.Option.{option_map}
-use Rattle.std.proofs.lemmas.Bool.{true≢false, cond_both, cases_order, cases_eq, and_parts, and_from, or_left, or_right, eqb-true, eq-eqb, or_cases, false_from_ne_true}
-use Rattle.std.proofs.lemmas.List.Elements.{All-contains, All-from_recursion, recursion_from_All}
-use Rattle.esr_history.specs.Operations.{Operation}
-use Rattle.esr_history.specs.Serial.{any_pair}
-use Rattle.esr_history.proofs.Membership.{In, In-Contains, In-any, In-filter, In-of_filter, any-from_In, Pairs, All-from_pairs, each_in, each_at, filter-some, any-from_number, In-from_any}
+use Rattle.std.specs.List.{last_or}
+use Rattle.std.proofs.lemmas.Bool.{true≢false, cases_order, cases_eq, eqb-true, eq-eqb}
+use Rattle.std.proofs.lemmas.List.Elements.{All-contains, All-from_recursion}
+use Rattle.esr_history.proofs.Membership.{In, In-Contains, In-filter, In-of_filter, Pairs, each_in, each_at, filter-some}
 use Rattle.esr_order.specs.declared.steps.Step.{Step}
-use Rattle.esr_order.specs.Placements.{is_among}
-use Rattle.esr_order.specs.Listing.{clash, is_pair}
 use Rattle.esr_order.specs.Ties.{AreNextPaired}
 use Rattle.esr_order.specs.Chains.{Chain, chain_from, last_of, last_in, last_step}
-use Rattle.esr_order.proofs.Kept.{clash_from, clash_parts}
 use Rattle.esr_order.proofs.Tied.{on}
 use Rattle.esr_order.proofs.Walked.{only_writes}
 

@@ -3,13 +3,13 @@ pub mod Writers
 pub mod Placed
 pub mod Ordered
 pub mod Entries
-pub mod Accessed
 pub mod Kept
 pub mod Turns
 pub mod Tied
 pub mod Walked
 pub mod Fewer
 pub mod Linked
+pub mod Accessed
 pub mod Sparse
 pub mod Spans
 pub mod Commits

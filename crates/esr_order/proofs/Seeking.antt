@@ -1,12 +1,12 @@
 -- A search back in commit order finds the near updates.
-use Rattle.std.proofs.Common.{◌≡◌, ◌≢◌, ◌↔◌, ◌⊎◌, ℕ, zero, suc, ◌+◌, ◌<◌, ◌≤◌, Bool, true, false, not, ◌&&◌, ◌||◌, List, [], ◌∷◌, length, drop, get_or, refl, sym, ◌∙◌, ap, subst, arith, inl, inr, ⊎_elim, AllPairs, Contains, filter, map, cond, eqb}
+use Rattle.std.proofs.Common.{◌≡◌, ◌≢◌, ◌↔◌, ◌⊎◌, ℕ, zero, suc, ◌<◌, ◌≤◌, Bool, true, false, not, ◌&&◌, ◌||◌, List, [], ◌∷◌, length, drop, get_or, refl, sym, ◌∙◌, ap, subst, arith, inl, inr, ⊎_elim, AllPairs, Contains, filter, map, cond, eqb}
 use Rattle.std.specs.Prelude.{if◌then◌else◌, IsTrue}
 use Rattle.std.specs.List.{list_any}
 use Rattle.std.proofs.lemmas.Bool.{true≢false, and_parts, and_from, or_cases, or_left, or_right, eqb-true, eq-eqb, ne_eqb, false_from_ne_true}
 use Rattle.esr_history.specs.declared.event.TxnId.{TxnId}
 use Rattle.esr_history.specs.Machine.{Distance, Schedule, IsLegal}
 use Rattle.esr_history.specs.Operations.{Operation, operations}
-use Rattle.esr_history.specs.Serial.{conflict, is_before}
+use Rattle.esr_history.specs.Serial.{is_before}
 use Rattle.esr_history.specs.Queries.{updates_of, must, reads_by}
 use Rattle.esr_history.proofs.Membership.{In, In-Contains, Contains-In, In-any, In-filter, In-of_filter, In-from_any, any-from_In, any-from_number, All-from_pairs, filter_agree_in}
 use Rattle.esr_history.proofs.Traces.{writes_item}
@@ -22,7 +22,7 @@ use Rattle.esr_order.proofs.Ordered.{in_order}
 use Rattle.esr_order.proofs.Early.{must_positions, must_below}
 use Rattle.esr_order.proofs.Complete.{range_below}
 use Rattle.esr_order.proofs.NearLaws.{near_back}
-use Rattle.esr_order.proofs.NearFound.{there, low_must}
+use Rattle.esr_order.proofs.NearFound.{there}
 use Rattle.esr_order.proofs.Turns.{up, ahead, conflict_parts}
 use Rattle.esr_order.proofs.Lists.{in_map, of_map, at_place}
 

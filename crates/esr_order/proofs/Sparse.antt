@@ -1,22 +1,14 @@
 -- What the entries at some places of a log give, and the places of a key.
-use Rattle.std.proofs.Common.{◌≡◌, ℕ, zero, suc, ◌+◌, ◌<◌, ◌≤◌, Bool, true, false, List, [], ◌∷◌, length, map, refl, sym, ◌∙◌, ap, subst, arith, inl, inr, ⊎_elim, Option, Some, None, Contains}
+use Rattle.std.proofs.Common.{◌≡◌, ℕ, zero, suc, ◌+◌, ◌<◌, ◌≤◌, Bool, true, false, List, [], ◌∷◌, length, refl, sym, ◌∙◌, ap, subst, arith, inl, inr, ⊎_elim, Option, Some, None}
 use Rattle.std.specs.Prelude.{if◌then◌else◌}
 use Rattle.std.specs.List.{filter_map, cons_option, slice_get, range_with_len}
 use Rattle.std.specs.List.Sorted.{IsStrictlyIncreasing}
-use Rattle.std.specs.Option.{option_map}
-use Rattle.std.proofs.lemmas.Bool.{cases_order, eq-eqb}
+use Rattle.std.proofs.lemmas.Bool.{cases_order}
 use Rattle.std.proofs.lemmas.Option.{same_Some}
 use Rattle.std.proofs.lemmas.List.Kept.{AllPairs-from_increasing}
-use Rattle.esr_history.specs.declared.event.Event.{Event}
-use Rattle.esr_history.specs.declared.event.Event.TheVariants.{BeginUpdate, BeginQuery, Read, Write, Commit, Abort}
-use Rattle.esr_history.specs.declared.event.TxnId.{TxnId}
-use Rattle.esr_history.specs.declared.event.Reply.{Reply}
 use Rattle.esr_history.specs.declared.event.Entry.{Entry}
-use Rattle.esr_history.specs.Events.{is_refusal}
-use Rattle.esr_history.specs.Operations.{Operation, operation_of, operation_by}
-use Rattle.esr_history.specs.Links.{accepted_txn, txn_of, is_key, places_from}
-use Rattle.esr_history.proofs.Membership.{In, In-Contains, Contains-In, Pairs, Pairs-from_all, each_at}
-use Rattle.esr_order.specs.declared.steps.Step.{Step}
+use Rattle.esr_history.specs.Links.{is_key, places_from}
+use Rattle.esr_history.proofs.Membership.{In, Pairs, Pairs-from_all, each_at}
 use Rattle.esr_order.proofs.Entries.{all_entries}
 
 abbrev from : {X Y : Type 0} → (X → Option Y) → Option X → Option Y

@@ -1,14 +1,13 @@
 -- Steps of updates, one update after another, say what the operations of the history say.
-use Rattle.std.proofs.Common.{◌≡◌, ◌≢◌, ℕ, zero, suc, ◌+◌, ◌<◌, ◌≤◌, ℤ, Bool, true, false, not, ◌&&◌, ◌||◌, List, [], ◌∷◌, ◌++◌, length, map, filter, refl, sym, ◌∙◌, ap, subst, arith, inl, inr, ⊎_elim, All, AllPairs, eqb, cond, append-nil}
+use Rattle.std.proofs.Common.{◌≡◌, ◌≢◌, ℕ, zero, suc, ◌+◌, ◌<◌, ◌≤◌, ℤ, Bool, true, false, not, ◌&&◌, ◌||◌, List, [], ◌∷◌, ◌++◌, length, map, filter, refl, sym, ◌∙◌, ap, subst, arith, ⊎_elim, All, AllPairs, eqb, cond, append-nil}
 use Rattle.std.specs.Prelude.{⊤}
-use Rattle.std.specs.List.{list_any, AllByRecursion}
 use Rattle.std.proofs.lemmas.Bool.{true≢false, cases_order, and_parts, and_from, eqb-true, eq-eqb, ne_eqb, eqb-false, not-true}
 use Rattle.std.proofs.lemmas.List.{length-append}
 use Rattle.std.proofs.lemmas.List.Elements.{All-contains, All-from_recursion, filter-append}
 use Rattle.esr_history.specs.Machine.{Schedule}
 use Rattle.esr_history.specs.Operations.{Operation, operations}
 use Rattle.esr_history.specs.Serial.{any_pair, conflict, is_before}
-use Rattle.esr_history.proofs.Membership.{In, In-Contains, In-append_cases, In-append_left, In-append_right, In-filter, In-of_filter, In-from_any, Pairs, Pairs-append, Pairs-filter, All-from_pairs, Pairs-from_all, each_in, each_at, filter_agree_in, filter_none_in}
+use Rattle.esr_history.proofs.Membership.{In, In-Contains, In-append_cases, In-append_left, In-append_right, In-filter, In-of_filter, In-from_any, Pairs, Pairs-append, each_in, each_at, filter_none_in}
 use Rattle.esr_history.proofs.Versions.{wrote_by, conflict_of}
 use Rattle.esr_order.specs.declared.steps.Step.{Step}
 use Rattle.esr_order.specs.Placements.{is_among}

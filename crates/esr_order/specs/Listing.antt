@@ -1,5 +1,5 @@
 -- Steps of updates that conflict, and pairs of positions.
-use Rattle.std.specs.Prelude.{◌≡◌, ◌↔◌, ◌<◌, ◌⊎◌, ℕ, Bool, not, ◌&&◌, ◌||◌, ◌==◌, List, Option, Some, slice_get}
+use Rattle.std.specs.Prelude.{◌≡◌, ◌<◌, ◌⊎◌, ℕ, Bool, not, ◌&&◌, ◌||◌, ◌==◌, List}
 use Rattle.esr_history.specs.Serial.{any_pair}
 use Rattle.esr_order.specs.declared.steps.Step.{Step}
 

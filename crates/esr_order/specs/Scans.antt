@@ -1,5 +1,5 @@
 -- What the entries of a log give, where they are accepted.
-use Rattle.std.specs.Prelude.{◌≡◌, ℕ, List, [], ◌∷◌, Bool, true, false, ◌==◌, Option, None, Some, Contains, is_some, filter, map, nat_lt, slice_get, unwrap_or, if◌then◌else◌}
+use Rattle.std.specs.Prelude.{◌≡◌, ℕ, List, [], ◌∷◌, Bool, true, false, ◌==◌, Option, None, Some, Contains, is_some, filter, map, nat_lt, slice_get, if◌then◌else◌}
 use Rattle.std.specs.Option.{option_map}
 use Rattle.esr_history.specs.declared.event.TxnId.{TxnId}
 use Rattle.esr_history.specs.declared.event.Event.{Event}
@@ -69,6 +69,14 @@ access_of o = record { txn = record { 0 = o.txn }; item = record { 0 = o.item };
 
 abbrev pub access_in : Entry → Option Access
 access_in e = if_accepted (λ n. option_map access_of (operation_of n)) e
+
+-- what was done in the entry at a place, if there is one
+abbrev pub access_by : Option Entry → Option Access
+access_by None = None
+access_by (Some e) = access_in e
+
+abbrev pub access_at : List Entry → ℕ → Option Access
+access_at es i = access_by (slice_get es i)
 
 -- what t read and wrote, in order
 abbrev pub accesses_in : List Entry → ℕ → List Access

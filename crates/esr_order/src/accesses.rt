@@ -1,10 +1,8 @@
 //! What transactions read and wrote.
-ghost use Rattle.std.specs.Prelude.{◌≡◌, IfOk, reverse};
-ghost use Rattle.std.specs.List.{filter_map, slice_get};
+ghost use Rattle.std.specs.Prelude.{◌≡◌, IfOk};
 ghost use Rattle.esr_history.specs.Operations.{answer};
-ghost use Rattle.esr_order.specs.Scans.{access_in, accesses_in};
+ghost use Rattle.esr_order.specs.Scans.{access_in, access_at, accesses_in};
 
-use crate::walk::places_of_txn;
 use esr_history::{Entry, Event, History, Log, Reply, TxnId};
 use esr_items::{ItemId, Metric};
 use std::alloc::{AllocError, Global};
@@ -53,16 +51,11 @@ pub fn access_in(entry: Entry) -> Option<Access>
     }
 }
 
-/// What was done in the entries at these places, the last first.
-fn accesses_at(alloc: Global, log: &Log, at: &[u64]) -> Result<Vec<Access>, AllocError>
-    ensures { IfOk result (λ v. v.items
-        ≡ filter_map access_in (filter_map (slice_get log.now.entries) (reverse at.now))) }
+/// What was done in the entry at a place.
+fn access_at(log: &Log, i: u64) -> Option<Access>
+    ensures { result ≡ access_at log.now.entries i }
 {
-    at.iter()
-        .rev()
-        .filter_map(|i| log.get(*i as usize))
-        .filter_map(access_in)
-        .collect(alloc)
+    log.get(i as usize).and_then(access_in)
 }
 
 /// What a transaction read and wrote, in order. It goes along the links of the transaction.
@@ -73,7 +66,15 @@ pub fn accesses_of<M: Metric>(
 ) -> Result<Vec<Access>, AllocError>
     ensures { IfOk result (λ v. v.items ≡ accesses_in history.now.schedule.entries t.0) }
 {
-    let at = places_of_txn(alloc, history, t)?;
-    let accesses = accesses_at(alloc, history.log(), &at)?;
+    let log = history.log();
+    let mut accesses = Vec::new(alloc);
+    let mut next = history.last_of_txn(t);
+    while let Some(i) = next {
+        if let Some(access) = access_at(log, i) {
+            accesses.push(access)?;
+        }
+        next = history.earlier_of_txn(i);
+    }
+    accesses.reverse();
     Ok(accesses)
 }

@@ -1,4 +1,4 @@
-use Rattle.std.proofs.Common.{◌≡◌, ◌<◌, ℕ, length, map, sym, ◌∙◌, ap, subst, All, List, filter}
+use Rattle.std.proofs.Common.{◌≡◌, ℕ, length, map, ◌∙◌, ap, List, filter}
 use Rattle.std.specs.List.{range_with_len}
 use Rattle.std.proofs.lemmas.List.{length-map}
 use Rattle.esr_history.specs.Machine.{Schedule}

@@ -1,4 +1,4 @@
-use Rattle.std.proofs.Common.{◌≡◌, sym, ◌∙◌, ap, subst, ◌<◌, length, map, take, get_or, All, arith, ◌++◌, ◌+◌, drop}
+use Rattle.std.proofs.Common.{◌≡◌, sym, ◌∙◌, ap, subst, ◌<◌, length, map, take, All, ◌++◌, ◌+◌, drop}
 use Rattle.esr_history.specs.Operations.{operations}
 use Rattle.esr_order.specs.declared.accesses.Access.{Access}
 use Rattle.esr_order.specs.Turns.{turns, step_at, AreRowsOf}

@@ -1,4 +1,4 @@
-use Rattle.std.proofs.Common.{◌≡◌, ◌<◌, sym, ◌∙◌, ap, subst, length, All}
+use Rattle.std.proofs.Common.{◌<◌, sym, ◌∙◌, ap, subst, length, All}
 use Rattle.esr_order.specs.declared.accesses.Access.{Access}
 use Rattle.esr_order.proofs.Accessed.{accesses_inside}
 use Rattle.esr_order.proofs.search.Items.of_query.Goals as goal
