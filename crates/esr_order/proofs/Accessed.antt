@@ -1,5 +1,5 @@
 -- What the entries of a transaction give are its accesses.
-use Rattle.std.proofs.Common.{◌≡◌, ◌<◌, All, arith, ℕ, ◌+◌, Bool, true, false, not, List, [], ◌∷◌, ◌++◌, length, refl, sym, ◌∙◌, ap, Option, None, Some, reverse, cond, filter, map, eqb, append_assoc, if◌then◌else◌}
+use Rattle.std.proofs.Common.{◌≡◌, ◌<◌, All, arith, ℕ, ◌+◌, Bool, true, false, not, ◌&&◌, List, [], ◌∷◌, ◌++◌, length, refl, sym, ◌∙◌, ap, Option, None, Some, reverse, cond, filter, map, eqb, append_assoc, if◌then◌else◌}
 use Rattle.std.specs.List.{filter_map, slice_get, cons_option}
 use Rattle.std.specs.Option.{option_map}
 use Rattle.std.proofs.lemmas.List.{length-append, reverse-append}
@@ -12,6 +12,7 @@ use Rattle.esr_history.specs.Events.{is_refusal}
 use Rattle.esr_history.specs.Links.{accepted_txn, txn_in, txn_of, is_key, places_from, last_place, earlier, coded}
 use Rattle.esr_history.specs.Machine.{Distance, Schedule, IsLegal}
 use Rattle.esr_history.specs.Operations.{Operation, operation_of, operation_by, operations_in, answer}
+use Rattle.esr_history.specs.Queries.{reads_by}
 use Rattle.esr_history.proofs.Membership.{get_seam, In-of_filter, each_in}
 use Rattle.esr_history.proofs.WithinRanges.{legal_items}
 use Rattle.esr_order.specs.declared.accesses.Access.{Access}
@@ -115,3 +116,23 @@ accesses_inside d h legal t n is = All-from_recursion (λ (a : Access). a.item.0
     let l : o.0.item < length h.opening = legal_items d h legal o.0 (In-of_filter (by t) (operations_in h.entries) o.0 o.1).0 in
     let e : o.0.item ≡ a.item.0 = ap (λ (a : Access). a.item.0) o.2 in
     omega (arith, l, e, is)))
+
+-- the reads among the accesses of q are the reads of q
+reads_among : (q : ℕ) (os : List Operation) → filter (λ (a : Access). not a.writes) (map access_of (filter (by q) os)) ≡ map access_of (filter (λ (o : Operation). not o.writes && (eqb o.txn q)) os)
+reads_among q [] = refl
+reads_among q (o ∷ os) = at (eqb o.txn q) o.writes refl (reads_among q os)
+  where
+    W : List Access
+    W = filter (λ (a : Access). not a.writes) (map access_of (filter (by q) os))
+
+    R : List Operation
+    R = filter (λ (o : Operation). not o.writes && (eqb o.txn q)) os
+
+    at : (own w : Bool) → o.writes ≡ w → W ≡ map access_of R → filter (λ (a : Access). not a.writes) (map access_of (cond own (o ∷ filter (by q) os) (filter (by q) os))) ≡ map access_of (cond (not w && own) (o ∷ R) R)
+    at true true is rest = ap (λ b. cond (not b) (access_of o ∷ W) W) is ∙ rest
+    at true false is rest = ap (λ b. cond (not b) (access_of o ∷ W) W) is ∙ ap (λ l. access_of o ∷ l) rest
+    at false true is rest = rest
+    at false false is rest = rest
+
+pub reads_are : (h : Schedule) (q : ℕ) → filter (λ (a : Access). not a.writes) (accesses_in h.entries q) ≡ map access_of (reads_by h q)
+reads_are h q = reads_among q (filter_map operation_of (filter accepts h.entries))
