@@ -2,6 +2,7 @@ mod audits;
 mod placements;
 mod plain;
 
+use audits::played;
 use esr_core::{Machine, StepError};
 use esr_history::{Event, Reply, TxnId};
 use esr_items::{ItemId, Plain, Store};
@@ -75,12 +76,31 @@ fn order_of(alloc: Global, m: &Machine<Plain>, q: u32) -> Result<Order, OrderErr
     }
 }
 
+/// Whether the updates that wrote an item are these, with these values.
+fn has_chain(order: &Order, x: u32, writers: &[u32], values: &[i64]) -> bool {
+    match order.chain(ItemId(x)) {
+        Some(links) => links.writers.as_slice() == writers && links.values.as_slice() == values,
+        None => false,
+    }
+}
+
+/// The order of a query in the history of these events, all of which are accepted.
+fn order_in(alloc: Global, opening: &[i64], events: &[Event], q: u32) -> Option<Order> {
+    let m = played(alloc, opening, events)?;
+    order_of(alloc, &m, q).ok()
+}
+
+/// Whether the events are accepted, and a transaction has no order then.
+fn refuses_in(alloc: Global, opening: &[i64], events: &[Event], t: u32) -> bool {
+    match played(alloc, opening, events) {
+        Some(m) => matches!(order_of(alloc, &m, t), Err(OrderError::NotACommittedQuery)),
+        None => false,
+    }
+}
+
 #[test]
 fn order_through_a_third_item(rt: HostRuntime) {
     let alloc = rt.alloc();
-    let mut m = opened(alloc, 3)
-        .or_else(|| opened(alloc, 3))
-        .expect(&rt, "memory");
     let events = [
         query(9),
         update(9),
@@ -95,27 +115,22 @@ fn order_through_a_third_item(rt: HostRuntime) {
         read(1, 1),
         commit(1),
     ];
-    assert!(rt; play(&mut m, &events));
-    let order = order_of(alloc, &m, 1).expect(&rt, "an order");
+    let order = order_in(alloc, &[0, 0, 0], &events, 1).expect(&rt, "an order");
     assert!(rt; order.commits() == &[TxnId(2), TxnId(3)][..]);
     assert!(rt; order.before() == &[(0, 1)][..]);
     assert!(rt; order.must().is_empty());
     for (x, writer, value) in [(0, 0, 6), (1, 1, 2), (2, 0, 1)] {
-        let links = order.chain(ItemId(x)).expect(&rt, "a chain");
-        assert!(rt; links.writers.as_slice() == &[writer][..], "at {x}");
-        assert!(rt; links.values.as_slice() == &[value][..], "at {x}");
+        assert!(rt; has_chain(&order, x, &[writer], &[value]), "at {x}");
     }
     assert!(rt; order.chain(ItemId(3)).is_none());
-    assert!(rt; matches!(order_of(alloc, &m, 2), Err(OrderError::NotACommittedQuery)));
-    assert!(rt; matches!(order_of(alloc, &m, 0), Err(OrderError::NotACommittedQuery)));
+    for t in [2, 0] {
+        assert!(rt; refuses_in(alloc, &[0, 0, 0], &events, t), "for {t}");
+    }
 }
 
 #[test]
 fn two_updates_over_a_report(rt: HostRuntime) {
     let alloc = rt.alloc();
-    let mut m = opened(alloc, 2)
-        .or_else(|| opened(alloc, 2))
-        .expect(&rt, "memory");
     let events = [
         query(100),
         update(100),
@@ -127,59 +142,54 @@ fn two_updates_over_a_report(rt: HostRuntime) {
         write(3, 1, 8),
         commit(3),
         read(1, 1),
+        commit(1),
     ];
-    assert!(rt; play(&mut m, &events));
-    assert!(rt; matches!(order_of(alloc, &m, 1), Err(OrderError::NotACommittedQuery)));
-    assert!(rt; play(&mut m, &[commit(1)]));
-    let order = order_of(alloc, &m, 1).expect(&rt, "an order");
+    assert!(rt; refuses_in(alloc, &[0, 0], &events[..10], 1));
+    let order = order_in(alloc, &[0, 0], &events, 1).expect(&rt, "an order");
     assert!(rt; order.commits() == &[TxnId(2), TxnId(3)][..]);
-    let links = order.chain(ItemId(0)).expect(&rt, "a chain");
-    assert!(rt; links.writers.as_slice() == &[0, 1][..]);
-    assert!(rt; links.values.as_slice() == &[10, 1][..]);
+    assert!(rt; has_chain(&order, 0, &[0, 1], &[10, 1]));
 }
 
 #[test]
 fn strict_report(rt: HostRuntime) {
     let alloc = rt.alloc();
     for (strict, must) in [(true, 1), (false, 0)] {
-        let mut m = opened(alloc, 1)
-            .or_else(|| opened(alloc, 1))
-            .expect(&rt, "memory");
-        let begin = Event::BeginQuery { limit: 9, strict };
-        let abort = Event::Abort { txn: TxnId(3) };
-        assert!(rt;
-            play(
-                &mut m,
-                &[
-                    update(9),
-                    write(1, 0, 5),
-                    commit(1),
-                    begin,
-                    update(9),
-                    write(3, 0, 0),
-                    read(2, 0),
-                    abort,
-                    commit(2)
-                ]
-            )
-        );
-        let order = order_of(alloc, &m, 2).expect(&rt, "an order");
+        let events = [
+            update(9),
+            write(1, 0, 5),
+            commit(1),
+            Event::BeginQuery { limit: 9, strict },
+            update(9),
+            write(3, 0, 0),
+            read(2, 0),
+            Event::Abort { txn: TxnId(3) },
+            commit(2),
+        ];
+        let order = order_in(alloc, &[0], &events, 2).expect(&rt, "an order");
         assert!(rt; order.commits() == &[TxnId(1)][..]);
         assert!(rt; order.must().len() == must);
+    }
+}
+
+/// A query, and ten updates of one item, each after the one before it.
+fn one_after_another(alloc: Global) -> Option<Machine<Plain>> {
+    let mut m = played(alloc, &[0], &[query(9)])?;
+    for u in 2..12u32 {
+        if !play(&mut m, &[update(9), write(u, 0, 1), commit(u)]) {
+            return None;
+        }
+    }
+    if play(&mut m, &[commit(1)]) {
+        Some(m)
+    } else {
+        None
     }
 }
 
 #[test]
 fn ten_updates_of_one_item(rt: HostRuntime) {
     let alloc = rt.alloc();
-    let mut m = opened(alloc, 1)
-        .or_else(|| opened(alloc, 1))
-        .expect(&rt, "memory");
-    assert!(rt; play(&mut m, &[query(9)]));
-    for u in 2..12u32 {
-        assert!(rt; play(&mut m, &[update(9), write(u, 0, 1), commit(u)]));
-    }
-    assert!(rt; play(&mut m, &[commit(1)]));
+    let m = one_after_another(alloc).expect(&rt, "a history");
     let order = order_of(alloc, &m, 1).expect(&rt, "an order");
     assert!(rt; order.before().len() == 9);
     assert!(rt; order.before()[0] == (0, 1));

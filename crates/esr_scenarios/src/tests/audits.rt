@@ -39,37 +39,57 @@ fn book_of(alloc: Global, m: &Machine<Plain>) -> Result<Book, AuditError> {
     }
 }
 
-/// Whether these were found, with a certificate that passes the check.
-fn has(found: &Finding, q: u32, distance: u64, import: u64, before: &[TxnId]) -> bool {
-    found.query == TxnId(q)
-        && found.distance == distance
-        && found.import == import
-        && found.before.as_slice() == before
+/// What is found of a query.
+#[derive(Clone, Copy)]
+struct Row<'a> {
+    query: u32,
+    distance: u64,
+    import: u64,
+    before: &'a [TxnId],
+}
+
+/// Whether this was found, with a certificate that passes the check.
+fn has(found: &Finding, row: Row) -> bool {
+    found.query == TxnId(row.query)
+        && found.distance == row.distance
+        && found.import == row.import
+        && found.before.as_slice() == row.before
         && check(&found.problem, &found.certificate) == Ok(())
 }
 
 /// Whether the audit of a query finds these, and the plain program too, and whether links, locks and
 /// orders are the plain ones.
-fn finds(
-    alloc: Global,
-    m: &Machine<Plain>,
-    q: u32,
-    distance: u64,
-    import: u64,
-    before: &[TxnId],
-) -> bool {
-    match audit_of(alloc, m, q) {
+fn finds(alloc: Global, m: &Machine<Plain>, row: Row) -> bool {
+    match audit_of(alloc, m, row.query) {
         Ok(found) => {
-            has(&found, q, distance, import, before)
-                && listed(alloc, m, q) == Some((distance, before.len()))
+            has(&found, row)
+                && listed(alloc, m, row.query) == Some((row.distance, row.before.len()))
                 && agrees(alloc, m, 1)
         }
         Err(_) => false,
     }
 }
 
-fn is_refused(alloc: Global, m: &Machine<Plain>, q: u32) -> bool {
-    matches!(audit_of(alloc, m, q), Err(AuditError::NotACommittedQuery))
+/// The same, of the history of these events, all of which are accepted.
+fn finds_in(alloc: Global, opening: &[i64], events: &[Event], row: Row) -> bool {
+    match played(alloc, opening, events) {
+        Some(m) => finds(alloc, &m, row),
+        None => false,
+    }
+}
+
+/// Whether the events are accepted, and the audit of a transaction is refused then.
+fn refuses_in(alloc: Global, opening: &[i64], events: &[Event], t: u32) -> bool {
+    match played(alloc, opening, events) {
+        Some(m) => matches!(audit_of(alloc, &m, t), Err(AuditError::NotACommittedQuery)),
+        None => false,
+    }
+}
+
+/// The audit of the whole history of these events, all of which are accepted.
+fn book_in(alloc: Global, opening: &[i64], events: &[Event]) -> Option<Book> {
+    let m = played(alloc, opening, events)?;
+    book_of(alloc, &m).ok()
 }
 
 /// An update writes beside a report that reads what it wrote, and ends.
@@ -86,22 +106,30 @@ fn beside_a_report(end: Event) -> [Event; 6] {
 
 #[test]
 fn report_beside_a_writer(rt: HostRuntime) {
-    let alloc = rt.alloc();
-    let m = played(alloc, &[100], &beside_a_report(commit(1))).expect(&rt, "a history");
-    assert!(rt; finds(alloc, &m, 2, 0, 7, &[TxnId(1)]));
+    let events = beside_a_report(commit(1));
+    let row = Row {
+        query: 2,
+        distance: 0,
+        import: 7,
+        before: &[TxnId(1)],
+    };
+    assert!(rt; finds_in(rt.alloc(), &[100], &events, row));
 }
 
 #[test]
 fn aborted_write_was_read(rt: HostRuntime) {
-    let alloc = rt.alloc();
-    let abort = Event::Abort { txn: TxnId(1) };
-    let m = played(alloc, &[100], &beside_a_report(abort)).expect(&rt, "a history");
-    assert!(rt; finds(alloc, &m, 2, 7, 7, &[]));
+    let events = beside_a_report(Event::Abort { txn: TxnId(1) });
+    let row = Row {
+        query: 2,
+        distance: 7,
+        import: 7,
+        before: &[],
+    };
+    assert!(rt; finds_in(rt.alloc(), &[100], &events, row));
 }
 
 #[test]
 fn nearer_before_the_update(rt: HostRuntime) {
-    let alloc = rt.alloc();
     let events = [
         query(5),
         update(5),
@@ -112,13 +140,17 @@ fn nearer_before_the_update(rt: HostRuntime) {
         read(1, 0),
         commit(1),
     ];
-    let m = played(alloc, &[0, 0], &events).expect(&rt, "a history");
-    assert!(rt; finds(alloc, &m, 1, 3, 5, &[]));
+    let row = Row {
+        query: 1,
+        distance: 3,
+        import: 5,
+        before: &[],
+    };
+    assert!(rt; finds_in(rt.alloc(), &[0, 0], &events, row));
 }
 
 #[test]
 fn smaller_of_two_sets(rt: HostRuntime) {
-    let alloc = rt.alloc();
     let events = [
         query(9),
         update(4),
@@ -128,14 +160,18 @@ fn smaller_of_two_sets(rt: HostRuntime) {
         read(1, 0),
         commit(1),
     ];
-    let m = played(alloc, &[0], &events).expect(&rt, "a history");
-    assert!(rt; finds(alloc, &m, 1, 4, 4, &[]));
+    let row = Row {
+        query: 1,
+        distance: 4,
+        import: 4,
+        before: &[],
+    };
+    assert!(rt; finds_in(rt.alloc(), &[0], &events, row));
 }
 
-#[test]
-fn two_updates_over_a_report(rt: HostRuntime) {
-    let alloc = rt.alloc();
-    let events = [
+/// Two updates write over what a report read, before it reads again.
+fn over_a_report() -> [Event; 11] {
+    [
         query(100),
         update(100),
         update(100),
@@ -146,23 +182,36 @@ fn two_updates_over_a_report(rt: HostRuntime) {
         write(3, 1, 8),
         commit(3),
         read(1, 1),
-    ];
-    let mut m = played(alloc, &[0, 0], &events).expect(&rt, "a history");
-    assert!(rt; is_refused(alloc, &m, 1), "while it is active");
-    assert!(rt; play(&mut m, &[commit(1)]));
-    assert!(rt; finds(alloc, &m, 1, 1, 19, &[TxnId(2), TxnId(3)]));
+        commit(1),
+    ]
+}
+
+#[test]
+fn two_updates_over_a_report(rt: HostRuntime) {
+    let alloc = rt.alloc();
+    let events = over_a_report();
+    let row = Row {
+        query: 1,
+        distance: 1,
+        import: 19,
+        before: &[TxnId(2), TxnId(3)],
+    };
+    assert!(rt;
+        refuses_in(alloc, &[0, 0], &events[..10], 1),
+        "while it is active"
+    );
+    assert!(rt; finds_in(alloc, &[0, 0], &events, row));
     for t in [0, 2, 4] {
-        assert!(rt; is_refused(alloc, &m, t), "for {t}");
+        assert!(rt; refuses_in(alloc, &[0, 0], &events, t), "for {t}");
     }
-    let book = book_of(alloc, &m).expect(&rt, "a book");
-    assert!(rt; book.order.as_slice() == &[TxnId(2), TxnId(3)][..]);
+    let book = book_in(alloc, &[0, 0], &events).expect(&rt, "a book");
+    assert!(rt; book.order.as_slice() == row.before);
     assert!(rt; book.findings.len() == 1);
-    assert!(rt; has(&book.findings[0], 1, 1, 19, &[TxnId(2), TxnId(3)]));
+    assert!(rt; has(&book.findings[0], row));
 }
 
 #[test]
 fn order_through_a_third_item(rt: HostRuntime) {
-    let alloc = rt.alloc();
     let events = [
         query(9),
         update(9),
@@ -177,14 +226,25 @@ fn order_through_a_third_item(rt: HostRuntime) {
         read(1, 1),
         commit(1),
     ];
-    let m = played(alloc, &[0, 0, 0], &events).expect(&rt, "a history");
-    assert!(rt; finds(alloc, &m, 1, 2, 6, &[]));
+    let row = Row {
+        query: 1,
+        distance: 2,
+        import: 6,
+        before: &[],
+    };
+    assert!(rt; finds_in(rt.alloc(), &[0, 0, 0], &events, row));
 }
 
 #[test]
 fn values_at_the_edge(rt: HostRuntime) {
     let alloc = rt.alloc();
     let edge = 1_000_000_000_000;
+    let row = Row {
+        query: 1,
+        distance: 0,
+        import: 2_000_000_000_000,
+        before: &[],
+    };
     let begins = [
         query(2_000_000_000_000),
         update(2_000_000_000_000),
@@ -194,7 +254,7 @@ fn values_at_the_edge(rt: HostRuntime) {
     let past = answer(&mut m, write(2, 0, 1_000_000_000_001));
     assert!(rt; past == Ok(Reply::Refused(Refusal::ValueOutOfRange)));
     assert!(rt; play(&mut m, &[write(2, 0, edge), commit(2), commit(1)]));
-    assert!(rt; finds(alloc, &m, 1, 0, 2_000_000_000_000, &[]));
+    assert!(rt; finds(alloc, &m, row));
     assert!(rt;
         m.totals()
             == Totals {
@@ -208,7 +268,8 @@ fn values_at_the_edge(rt: HostRuntime) {
 #[test]
 fn strict_report(rt: HostRuntime) {
     let alloc = rt.alloc();
-    for strict in [true, false] {
+    let seen: &[TxnId] = &[TxnId(1)];
+    for (strict, distance, before) in [(true, 5, seen), (false, 0, &[])] {
         let events = [
             update(9),
             write(1, 0, 5),
@@ -220,20 +281,26 @@ fn strict_report(rt: HostRuntime) {
             Event::Abort { txn: TxnId(3) },
             commit(2),
         ];
-        let m = played(alloc, &[0], &events).expect(&rt, "a history");
-        if strict {
-            assert!(rt; finds(alloc, &m, 2, 5, 5, &[TxnId(1)]));
-        } else {
-            assert!(rt; finds(alloc, &m, 2, 0, 5, &[]));
-        }
+        let row = Row {
+            query: 2,
+            distance,
+            import: 5,
+            before,
+        };
+        assert!(rt; finds_in(alloc, &[0], &events, row));
     }
 }
 
 #[test]
 fn queries_that_read_little(rt: HostRuntime) {
-    let alloc = rt.alloc();
     let events = [query(0), commit(1), query(0), read(2, 0), commit(2)];
-    let m = played(alloc, &[7], &events).expect(&rt, "a history");
-    assert!(rt; finds(alloc, &m, 1, 0, 0, &[]));
-    assert!(rt; finds(alloc, &m, 2, 0, 0, &[]));
+    for query in [1, 2] {
+        let row = Row {
+            query,
+            distance: 0,
+            import: 0,
+            before: &[],
+        };
+        assert!(rt; finds_in(rt.alloc(), &[7], &events, row), "for {query}");
+    }
 }

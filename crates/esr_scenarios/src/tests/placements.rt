@@ -84,13 +84,6 @@ fn operations_in(alloc: Global, log: &Log) -> Result<Vec<Operation>, AllocError>
         .collect(alloc)
 }
 
-fn commits_in(alloc: Global, log: &Log) -> Result<Vec<u32>, AllocError> {
-    (0..log.len())
-        .filter_map(|i| log.get(i))
-        .filter_map(commit_in)
-        .collect(alloc)
-}
-
 /// Whether an operation comes before one of u that it conflicts with, and is v's.
 fn is_after(operations: &[Operation], u: u32, v: u32) -> bool {
     operations.iter().enumerate().any(|(i, late)| {
@@ -136,45 +129,36 @@ fn begins_strictly(entry: Entry, q: u32) -> bool {
     }
 }
 
-/// The updates that committed before a query did.
-fn updates_before(alloc: Global, log: &Log, q: u32) -> Result<Vec<u32>, AllocError> {
-    let updates: Vec<u32> = (0..log.len())
+/// Whether a transaction is an update.
+fn is_update(log: &Log, t: u32) -> bool {
+    (0..log.len())
         .filter_map(|i| log.get(i))
-        .filter_map(update_in)
-        .collect(alloc)?;
-    let mut before = Vec::new(alloc);
-    for t in &commits_in(alloc, log)? {
-        if *t == q {
-            return Ok(before);
-        }
-        if updates.contains(t) {
-            before.push(*t)?;
-        }
-    }
-    Ok(before)
+        .any(|entry| update_in(entry) == Some(t))
 }
 
-/// Those of the updates that committed before a strict query began; of another, none.
-fn seen_at_begin(
-    alloc: Global,
-    log: &Log,
-    q: u32,
-    updates: &[u32],
-) -> Result<Vec<u32>, AllocError> {
-    let mut seen = Vec::new(alloc);
-    for i in 0..log.len() {
-        if let Some(entry) = log.get(i) {
-            if begins_strictly(entry, q) {
-                return Ok(seen);
-            }
-            if let Some(t) = commit_in(entry) {
-                if updates.contains(&t) {
-                    seen.push(t)?;
-                }
-            }
-        }
-    }
-    Ok(Vec::new(alloc))
+/// The updates that committed in so many first entries.
+fn updates_in(alloc: Global, log: &Log, first: usize) -> Result<Vec<u32>, AllocError> {
+    (0..first)
+        .filter_map(|i| log.get(i))
+        .filter_map(commit_in)
+        .filter(|t| is_update(log, *t))
+        .collect(alloc)
+}
+
+/// The updates that committed before a query did.
+fn updates_before(alloc: Global, log: &Log, q: u32) -> Result<Vec<u32>, AllocError> {
+    let end = (0..log.len())
+        .filter(|i| log.get(*i).and_then(commit_in) == Some(q))
+        .next();
+    updates_in(alloc, log, end.unwrap_or(log.len()))
+}
+
+/// Those that committed before a strict query began; of another, none.
+fn seen_at_begin(alloc: Global, log: &Log, q: u32) -> Result<Vec<u32>, AllocError> {
+    let begin = (0..log.len())
+        .filter(|i| log.get(*i).is_some_and(|entry| begins_strictly(entry, q)))
+        .next();
+    updates_in(alloc, log, begin.unwrap_or(0))
 }
 
 /// What the plain program looks at: the opening values and the accepted operations of a
@@ -196,7 +180,7 @@ impl Small {
             opening.push(history.opening(ItemId(x)))?;
         }
         let updates = updates_before(alloc, m.log(), q)?;
-        let must = seen_at_begin(alloc, m.log(), q, &updates)?;
+        let must = seen_at_begin(alloc, m.log(), q)?;
         Ok(Small {
             opening,
             operations: operations_in(alloc, m.log())?,
@@ -240,6 +224,14 @@ impl Small {
         least
     }
 
+    /// The updates at these positions, where there are so many.
+    fn ordered(&self, alloc: Global, positions: &[usize]) -> Result<Vec<u32>, AllocError> {
+        positions
+            .iter()
+            .filter_map(|i| self.updates.get(*i).copied())
+            .collect(alloc)
+    }
+
     /// The same of all orders of up to three updates, and how many updates are before the
     /// position in those that have the fewest.
     fn least(&self, alloc: Global) -> Result<(u64, usize), AllocError> {
@@ -252,12 +244,7 @@ impl Small {
             [2, 0, 1],
             [2, 1, 0],
         ] {
-            let mut order = Vec::new(alloc);
-            for i in list {
-                if let Some(u) = self.updates.get(i) {
-                    order.push(*u)?;
-                }
-            }
+            let order = self.ordered(alloc, &list)?;
             let (distance, n) = self.least_in(&order);
             let is_less = distance < least.0 || distance == least.0 && n < least.1;
             if keeps_conflicts(&self.operations, &order) && is_less {
@@ -327,14 +314,19 @@ fn audited(alloc: Global, m: &Machine<Plain>, q: u32) -> Option<(u64, usize)> {
     Some((found.distance, found.before.len()))
 }
 
+/// What the audit finds of the query of a history, and what the plain program does.
+fn small_row(alloc: Global, seed: u64) -> Option<((u64, usize), Option<(u64, usize)>)> {
+    let m = small_history(alloc, seed)?;
+    let found = audited(alloc, &m, 1)?;
+    Some((found, listed(alloc, &m, 1)))
+}
+
 #[test]
 fn least_of_all_placements(rt: HostRuntime) -> Result<(), Fail> {
-    let alloc = rt.alloc();
     let mut far = [0u32; 4];
     for seed in 0..300u64 {
-        let m = small_history(alloc, seed).ok_or("a history")?;
-        let found = audited(alloc, &m, 1).ok_or("a finding")?;
-        assert_eq!(rt; Some(found), listed(alloc, &m, 1), "history {seed}");
+        let (found, plain) = small_row(rt.alloc(), seed).ok_or("a finding")?;
+        assert_eq!(rt; Some(found), plain, "history {seed}");
         if found.0 > 0 && found.1 < 4 {
             far[found.1] = far[found.1].saturating_add(1);
         }
@@ -354,15 +346,21 @@ fn least_if_free(alloc: Global, m: &Machine<Plain>, q: u32) -> Option<u64> {
     Some(distance)
 }
 
+/// What the audit finds of the strict query of a history, what the plain program does, and the least distance if it were
+/// not strict.
+fn strict_row(alloc: Global, seed: u64) -> Option<((u64, usize), Option<(u64, usize)>, u64)> {
+    let m = strict_history(alloc, seed)?;
+    let found = audited(alloc, &m, 4)?;
+    let free = least_if_free(alloc, &m, 4)?;
+    Some((found, listed(alloc, &m, 4), free))
+}
+
 #[test]
 fn least_of_all_strict_placements(rt: HostRuntime) -> Result<(), Fail> {
-    let alloc = rt.alloc();
     let mut farther = 0u32;
     for seed in 0..300u64 {
-        let m = strict_history(alloc, seed).ok_or("a history")?;
-        let found = audited(alloc, &m, 4).ok_or("a finding")?;
-        assert_eq!(rt; Some(found), listed(alloc, &m, 4), "history {seed}");
-        let free = least_if_free(alloc, &m, 4).ok_or("a distance")?;
+        let (found, plain, free) = strict_row(rt.alloc(), seed).ok_or("a finding")?;
+        assert_eq!(rt; Some(found), plain, "history {seed}");
         if free < found.0 {
             farther = farther.saturating_add(1);
         }

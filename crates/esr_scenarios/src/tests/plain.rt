@@ -22,6 +22,11 @@ fn item_in(entry: Entry) -> Option<u32> {
     }
 }
 
+/// The entry at a place, if it is an accepted operation on an item.
+fn accepted_on(log: &Log, i: usize, x: u32) -> Option<Entry> {
+    accepted(log, i).filter(|entry| item_in(*entry) == Some(x))
+}
+
 /// The transaction that begins in an entry.
 fn begun_in(reply: Reply) -> Option<u32> {
     match reply {
@@ -58,7 +63,7 @@ fn is_end(entry: Entry) -> bool {
 fn last_on_item(log: &Log, first: usize, x: u32) -> Option<u64> {
     (0..first)
         .rev()
-        .filter(|i| accepted(log, *i).and_then(item_in) == Some(x))
+        .filter(|i| accepted_on(log, *i, x).is_some())
         .map(|i| i as u64)
         .next()
 }
@@ -183,7 +188,7 @@ fn holder(
     i: usize,
     write: bool,
 ) -> Option<u32> {
-    let entry = accepted(log, at).filter(|entry| item_in(*entry) == Some(x))?;
+    let entry = accepted_on(log, at, x)?;
     let t = txn_in(entry)?;
     let holds = is_active(facts, t, i) && !is_query(facts, t);
     if holds && (write || written_in(entry).is_some()) {
@@ -193,15 +198,38 @@ fn holder(
     }
 }
 
+/// The smaller of a number and one that may be there.
+fn smaller(least: Option<u32>, u: u32) -> Option<u32> {
+    match least {
+        Some(v) if v < u => least,
+        _ => Some(u),
+    }
+}
+
+/// The smallest other update than t whose lock on an item is in the way of an operation at a place.
+fn holder_beside(
+    log: &Log,
+    facts: &[Option<Facts>],
+    t: u32,
+    x: u32,
+    i: usize,
+    write: bool,
+) -> Option<u32> {
+    let mut least = None;
+    for at in 0..i {
+        match holder(log, facts, at, x, i, write) {
+            Some(u) if u != t => least = smaller(least, u),
+            _ => {}
+        }
+    }
+    least
+}
+
 /// The smallest other update whose lock is in the way of the entry at a place.
 fn blocker(log: &Log, facts: &[Option<Facts>], i: usize, entry: Entry) -> Option<u32> {
     let x = item_in(entry)?;
     let t = txn_in(entry)?;
-    let write = written_in(entry).is_some();
-    (0..i)
-        .filter_map(|at| holder(log, facts, at, x, i, write))
-        .filter(|u| *u != t)
-        .min()
+    holder_beside(log, facts, t, x, i, written_in(entry).is_some())
 }
 
 /// Whether the entry at a place was blocked exactly where the list of locks says so.
@@ -217,8 +245,26 @@ fn lock_agrees(log: &Log, facts: &[Option<Facts>], i: usize) -> bool {
     }
 }
 
-/// What an update that has not aborted before the place i, and has committed where that is asked for,
-/// wrote to an item by the entry at a place.
+/// The entry in which a transaction ended before the place i.
+fn end_before(log: &Log, facts: &[Option<Facts>], t: u32, i: usize) -> Option<Entry> {
+    let end = facts_at(facts, t)?.end?;
+    if end < i as u64 {
+        log.get(end as usize)
+    } else {
+        None
+    }
+}
+
+/// Whether what a transaction wrote stands at the place i: it has not aborted before that, and has committed where that
+/// is asked for.
+fn stands(log: &Log, facts: &[Option<Facts>], t: u32, i: usize, committed: bool) -> bool {
+    match end_before(log, facts, t, i) {
+        None => !committed,
+        Some(last) => matches!(last.event, Event::Commit { .. }),
+    }
+}
+
+/// What was written to an item by the entry at a place, where it stands at the place i.
 fn left_by(
     log: &Log,
     facts: &[Option<Facts>],
@@ -227,17 +273,13 @@ fn left_by(
     i: usize,
     committed: bool,
 ) -> Option<i64> {
-    let entry = accepted(log, at).filter(|entry| item_in(*entry) == Some(x))?;
+    let entry = accepted_on(log, at, x)?;
     let value = written_in(entry)?;
-    let end = facts_at(facts, txn_in(entry)?)?
-        .end
-        .filter(|end| *end < i as u64);
-    let last = end.and_then(|end| log.get(end as usize));
-    let stays = match last {
-        None => !committed,
-        Some(last) => matches!(last.event, Event::Commit { .. }),
-    };
-    if stays { Some(value) } else { None }
+    if stands(log, facts, txn_in(entry)?, i, committed) {
+        Some(value)
+    } else {
+        None
+    }
 }
 
 /// The current value of an item before a place, or its committed one.
@@ -330,7 +372,9 @@ struct Operation {
     write: bool,
 }
 
-fn operation_in(entry: Entry, commits: &[TxnId]) -> Option<Operation> {
+/// The operation in the entry at a place, if it is one of these updates.
+fn operation_at(log: &Log, i: usize, commits: &[TxnId]) -> Option<Operation> {
+    let entry = accepted(log, i)?;
     let item = item_in(entry)?;
     let txn = txn_in(entry)?;
     let position = commits.iter().position(|u| u.0 == txn)?;
@@ -348,8 +392,7 @@ fn operations_in(
     commits: &[TxnId],
 ) -> Result<Vec<Operation>, AllocError> {
     (0..log.len())
-        .filter_map(|i| accepted(log, i))
-        .filter_map(|entry| operation_in(entry, commits))
+        .filter_map(|i| operation_at(log, i, commits))
         .collect(alloc)
 }
 
@@ -408,15 +451,18 @@ fn is_behind(own: &[(usize, Operation)], k: usize, late: Operation) -> bool {
     })
 }
 
+/// Whether all operations that are behind one of these, and conflict with it, are of marked updates.
+fn all_marked(operations: &[Operation], own: &[(usize, Operation)], marks: &[bool]) -> bool {
+    operations.iter().enumerate().all(|(k, late)| is_marked(marks, late.position)
+        || !is_behind(own, k, *late))
+}
+
 /// Whether rows of an order's pairs lead from an update to all that conflict with it and come after
 /// it.
 fn row_agrees(alloc: Global, order: &Order, operations: &[Operation], i: usize) -> Option<bool> {
     let marks = reached(alloc, order, i).ok()?;
     let own = own(alloc, operations, i).ok()?;
-    Some(
-        operations.iter().enumerate().all(|(k, late)| is_marked(&marks, late.position)
-            || !is_behind(&own, k, *late)),
-    )
+    Some(all_marked(operations, &own, &marks))
 }
 
 /// Whether an order's pairs tie its updates as all pairs of updates that conflict do, and are few.
@@ -467,22 +513,26 @@ fn seeds_of(alloc: Global, log: &Log, order: &Order, q: u32) -> Result<Vec<bool>
     Ok(seeds)
 }
 
-/// Whether an update is near: a row of pairs leads from it to a marked one.
-fn is_near(alloc: Global, order: &Order, seeds: &[bool], i: usize) -> Option<bool> {
-    let marks = reached(alloc, order, i).ok()?;
-    Some((0..marks.len()).any(|j| is_marked(&marks, j) && is_marked(seeds, j)))
-}
-
-/// The near updates of a query.
-fn near_of(alloc: Global, log: &Log, order: &Order, q: u32) -> Option<Vec<TxnId>> {
-    let seeds = seeds_of(alloc, log, order, q).ok()?;
-    let mut near = Vec::new(alloc);
-    for (i, u) in order.commits().iter().enumerate() {
-        if is_near(alloc, order, &seeds, i)? {
-            near.push(*u).ok()?;
+/// Marks the updates from which a row of an order's pairs leads to a marked one. The pairs are in order and go upward.
+fn mark_back(order: &Order, marks: &mut [bool]) {
+    for (from, to) in order.before().iter().rev() {
+        if is_marked(marks, *to as usize) {
+            mark(marks, *from as usize);
         }
     }
-    Some(near)
+}
+
+/// The near updates of a query: those from which a row of pairs leads to a seed, or which are one.
+fn near_of(alloc: Global, log: &Log, order: &Order, q: u32) -> Result<Vec<TxnId>, AllocError> {
+    let mut marks = seeds_of(alloc, log, order, q)?;
+    mark_back(order, &mut marks);
+    order
+        .commits()
+        .iter()
+        .enumerate()
+        .filter(|(i, _)| is_marked(&marks, *i))
+        .map(|(_, u)| *u)
+        .collect(alloc)
 }
 
 /// Whether the chains of an order have the writers of each item.
@@ -514,7 +564,7 @@ fn both_agree(
     near: &Order,
 ) -> Option<bool> {
     let log = m.log();
-    let updates = near_of(alloc, log, whole, q)?;
+    let updates = near_of(alloc, log, whole, q).ok()?;
     let same = near.commits() == updates.as_slice() && near.must().len() == whole.must().len();
     Some(same && pairs_agree(alloc, log, whole)? && pairs_agree(alloc, log, near)?)
 }
