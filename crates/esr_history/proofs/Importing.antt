@@ -53,10 +53,7 @@ low_next d h e r is low =
     last : (e : Event) → NoneApplies (reasons d h e) → AllByRecursion (λ (b : Beginning). b.limit ≤ 10 ^ 18) (cons_option (beginning_of e) [])
     last (BeginUpdate l) none = (low_limit l none.0, tt)
     last (BeginQuery l s) none = (low_limit l none.0, tt)
-    last (Read t x) none = tt
-    last (Write t x v) none = tt
-    last (Commit t) none = tt
-    last (Abort t) none = tt
+    last _ none = tt
 
 low_limits : (events : List Event) → AreLow events → (t : ℕ) → limit_of events t ≤ 10 ^ 18
 low_limits events low zero = omega arith
@@ -132,10 +129,7 @@ module _ (d : Distance) (h : Schedule) (legal : IsLegal d h) (e : Event) (r : Re
       opened_zero : (f : Event) (k : ℕ) → slice_index_or (with_number table f) k 0 ≡ slice_index_or table k 0
       opened_zero (BeginUpdate l) k = more_zero table k
       opened_zero (BeginQuery l s) k = more_zero table k
-      opened_zero (Read t x) k = refl
-      opened_zero (Write t x v) k = refl
-      opened_zero (Commit t) k = refl
-      opened_zero (Abort t) k = refl
+      opened_zero _ k = refl
 
       opened_at : (k : ℕ) → slice_index_or (with_number table e) k 0 ≡ import_in (charges_in d h) k
       opened_at k = opened_zero e k ∙ import_at d h legal table are k
@@ -149,7 +143,4 @@ module _ (d : Distance) (h : Schedule) (legal : IsLegal d h) (e : Event) (r : Re
       opened_length : (f : Event) → e ≡ f → length (with_number table f) ≡ begun_count (extended h e r).entries + 1
       opened_length (BeginUpdate l) same = more_length (BeginUpdate l) (record { query = false; strict = false; limit = l }) same refl
       opened_length (BeginQuery l s) same = more_length (BeginQuery l s) (record { query = true; strict = s; limit = l }) same refl
-      opened_length (Read t x) same = same_length (Read t x) same refl
-      opened_length (Write t x v) same = same_length (Write t x v) same refl
-      opened_length (Commit t) same = same_length (Commit t) same refl
-      opened_length (Abort t) same = same_length (Abort t) same refl
+      opened_length e same = same_length e same refl

@@ -280,8 +280,6 @@ module _ (d : Distance) (h : Schedule) where
           ])
 
   accepted_step : (e : Event) → IsReached d h → NoneApplies (reasons d h e) → IsReached d (extended h e (acceptance h e))
-  accepted_step (BeginUpdate l) reached none = begin_step (BeginUpdate l) (acceptance h (BeginUpdate l)) refl refl refl refl (λ q. refl) reached
-  accepted_step (BeginQuery l s) reached none = begin_step (BeginQuery l s) (acceptance h (BeginQuery l s)) refl refl refl refl (λ q. refl) reached
   accepted_step (Read t x) reached none =
       let allowed = read_allowed d h t x none in
       let act : is_active (done h) t.0 ≡ true = not_ended h t.0 allowed.active in
@@ -294,6 +292,7 @@ module _ (d : Distance) (h : Schedule) where
       write_step t x v reached (not_ended h t.0 allowed.active) (when_none (is_query (done h) t.0) QueryMayNotWrite allowed.update) allowed.free
   accepted_step (Commit t) reached none = commit_step t reached (not_ended h t.0 (end_allowed h t none).active)
   accepted_step (Abort t) reached none = abort_step t reached (not_ended h t.0 (end_allowed h t none).active)
+  accepted_step e reached none = begin_step e (acceptance h e) refl refl refl refl (λ q. refl) reached
 
   pub reached_step : (e : Event) (r : Reply) → r ≡ reply_to d h e → IsReached d h → IsReached d (extended h e r)
   reached_step e r is reached = at (refusal d h e) refl

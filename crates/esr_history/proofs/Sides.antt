@@ -56,10 +56,7 @@ due_kinds d opening events (Write u x v) = write (is_update events u.0) refl
     write : (b : Bool) → is_update events u.0 ≡ b → AllByRecursion (IsOfKinds events) (if b then filter_map (charge_of_write d opening events u.0 x.0 v) (numbers events) else [])
     write false is = tt
     write true is = Each-filter_map (IsOfKinds events) (charge_of_write d opening events u.0 x.0 v) (gives is) (numbers events)
-due_kinds d opening events (BeginUpdate l) = tt
-due_kinds d opening events (BeginQuery l s) = tt
-due_kinds d opening events (Commit t) = tt
-due_kinds d opening events (Abort t) = tt
+due_kinds d opening events _ = tt
 
 charges_kinds_after : (d : ℕ → ℤ → ℤ → ℕ) (opening : List ℤ) (before later : List Event) → AllByRecursion (IsOfKinds (before ++ later)) (charges_after d opening before later)
 charges_kinds_after d opening before [] = tt
