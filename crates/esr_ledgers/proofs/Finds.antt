@@ -1,7 +1,6 @@
 -- A search through a list from its front.
 use Rattle.std.proofs.Common.{◌≡◌, ℕ, zero, suc, ◌+◌, ◌-◌, ◌<◌, ap, sym, ◌∙◌, List, [], ◌∷◌, length, Bool, true, false, refl, arith, inl, inr, None, Some, get_or, take, add-one}
 use Rattle.std.specs.Prelude.{find}
-use Rattle.std.specs.List.{AllByRecursion}
 use Rattle.std.proofs.lemmas.Bool.{cases_Bool, cases_lt}
 use Rattle.std.proofs.lemmas.List.{get_or_default}
 use Rattle.esr_history.specs.Ascending.{IsAscendingBy, IsGapFor}
