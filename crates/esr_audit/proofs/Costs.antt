@@ -5,13 +5,14 @@ use Rattle.std.proofs.lemmas.Bool.{cases_eq, eq-eqb, ne_eqb}
 use Rattle.std.proofs.lemmas.List.Sums.{sum_by-cons}
 use Rattle.std.proofs.lemmas.List.Elements.{recursion_from_All}
 use Rattle.std.proofs.lemmas.List.FromFn.{get_or-map-range_with_len}
+use mathlib.Core.Bool.{or-true}
 use Rattle.esr_history.specs.Machine.{Distance, Schedule, distance_in}
 use Rattle.esr_history.specs.Operations.{Operation}
 use Rattle.esr_history.specs.Serial.{state}
 use Rattle.esr_history.specs.Queries.{updates_of, reads_by, distance_from, members, cost}
 use Rattle.esr_history.proofs.Membership.{In, each_in, each_at}
 use Rattle.esr_cert.specs.Problem as problems
-use Rattle.esr_cert.specs.Problem.{Chain, Problem, version, chain_cost}
+use Rattle.esr_cert.specs.Problem.{Problem, version, chain_cost}
 use Rattle.esr_order.specs.Near.{has_written}
 use Rattle.esr_audit.specs.Problems.{passes_at, places, items_read, writers_of, read_distance, version_cost, chain_for, StandsFor}
 use Rattle.esr_audit.proofs.Values.{state_by_version}
@@ -86,11 +87,7 @@ distance_by_item d h q w inside =
     read_here : (os : List Operation) (o : Operation) → In o os → list_any (λ (p : Operation). eqb p.item o.item) os ≡ true
     read_here [] o i = absurd i
     read_here (p ∷ os) o (inl e) = ap (λ b. b || list_any (λ (p : Operation). eqb p.item o.item) os) (eq-eqb p.item o.item (ap (λ (r : Operation). r.item) e))
-    read_here (p ∷ os) o (inr i) = let rest = read_here os o i in ap (λ b. eqb p.item o.item || b) rest ∙ or_true (eqb p.item o.item)
-      where
-        or_true : (b : Bool) → (b || true) ≡ true
-        or_true true = refl
-        or_true false = refl
+    read_here (p ∷ os) o (inr i) = let rest = read_here os o i in ap (λ b. eqb p.item o.item || b) rest ∙ or-true (eqb p.item o.item)
 
 module _ (d : Distance) (h : Schedule) (q : ℕ) (p : Problem) (stands : StandsFor d h q p) (inside : AllByRecursion (λ (o : Operation). o.item < length h.opening) (reads_by h q)) where
   chain_is : (S : ℕ → Bool) (x : ℕ) → filter (has_written h x) p.updates ≡ writers_of h q x → chain_cost (passes_at p.updates S) (chain_for d h q p.updates x) ≡ read_distance d h q x (state h (members h q S) x)

@@ -1,8 +1,9 @@
 -- Costs and chains gathered one after another.
-use Rattle.std.proofs.Common.{◌≡◌, ℕ, ℤ, pos, zero, suc, refl, ◌+◌, ◌<◌, ◌≤◌, Bool, true, false, cond, List, [], ◌∷◌, ◌++◌, length, take, get_or, map, filter, arith, ap, ◌∙◌, sym, w64, FitsSigned, append-nil, eqb}
+use Rattle.std.proofs.Common.{◌≡◌, ℕ, ℤ, pos, refl, ◌+◌, ◌<◌, ◌≤◌, Bool, true, false, cond, List, [], ◌∷◌, ◌++◌, length, take, get_or, map, filter, arith, ap, ◌∙◌, sym, w64, FitsSigned, append-nil, eqb}
 use Rattle.std.specs.List.{range_with_len, AllByRecursion}
 use Rattle.std.proofs.lemmas.Int.{ints}
 use Rattle.std.proofs.lemmas.List.{take_more, map-append}
+use Rattle.esr_history.proofs.Charges.{range-push}
 use Rattle.esr_items.specs.Values.{IsValue}
 use Rattle.esr_audit.specs.declared.reads.Reading.{Reading}
 use Rattle.esr_audit.specs.Reads.{values_of}
@@ -19,17 +20,10 @@ cost_step D o vs costs new r i pushed so_far l is =
     ∙ sym (map-append D (o ∷ take i vs) (get_or vs i (pos 0) ∷ []))
     ∙ ap (λ xs. map D (o ∷ xs)) (sym (take_more vs i (pos 0) l))
 
-range_more : (a n : ℕ) → range_with_len a (n + 1) ≡ range_with_len a n ++ (a + n) ∷ []
-range_more a n = let e : n + 1 ≡ suc n = omega arith in ap (range_with_len a) e ∙ more a n
-  where
-    more : (a n : ℕ) → range_with_len a (suc n) ≡ range_with_len a n ++ (a + n) ∷ []
-    more a zero = let e : a ≡ a + 0 = omega arith in ap (λ m. m ∷ []) e
-    more a (suc n) = let e : (a + 1) + n ≡ a + suc n = omega arith in ap (λ xs. a ∷ xs) (more (a + 1) n ∙ ap (λ m. range_with_len (a + 1) n ++ m ∷ []) e)
-
 pub items_more : (P : ℕ → Bool) (n : ℕ) → filter P (range_with_len 0 (n + 1)) ≡ filter P (range_with_len 0 n) ++ (cond (P n) (n ∷ []) [])
 items_more P n =
     let e : 0 + n ≡ n = omega arith in
-    ap (filter P) (range_more 0 n ∙ ap (λ m. range_with_len 0 n ++ m ∷ []) e) ∙ pushed (range_with_len 0 n)
+    ap (filter P) (range-push 0 n ∙ ap (λ m. range_with_len 0 n ++ m ∷ []) e) ∙ pushed (range_with_len 0 n)
   where
     pushed : (xs : List ℕ) → filter P (xs ++ n ∷ []) ≡ filter P xs ++ (cond (P n) (n ∷ []) [])
     pushed [] = cases (P n)

@@ -33,13 +33,12 @@ distinct_from (u ∷ us) p = and_from (not (in_set us u)) (is_distinct us) (ap n
     absent (v ∷ vs) a = ap (λ b. b || in_set vs u) (ne_eqb v u (λ (e : v ≡ u). a.0 (sym e))) ∙ absent vs a.1
 
 pairs_ascend : (ps : List (ℕ × ℕ)) → Pairs IsBelow ps → are_pairs_ascending ps ≡ true
-pairs_ascend [] a = refl
-pairs_ascend (p ∷ []) a = refl
 pairs_ascend (p ∷ r ∷ rest) a = and_from (pair_lt p r) (are_pairs_ascending (r ∷ rest)) (below (a.0).0) (pairs_ascend (r ∷ rest) a.1)
   where
     below : IsBelow p r → pair_lt p r ≡ true
     below (inl l) = or_left (nat_lt p.0 r.0) ((eqb p.0 r.0) && nat_lt p.1 r.1) (lt-ltb p.0 r.0 l)
     below (inr (e, l)) = or_right (nat_lt p.0 r.0) ((eqb p.0 r.0) && nat_lt p.1 r.1) (and_from (eqb p.0 r.0) (nat_lt p.1 r.1) (eq-eqb p.0 r.0 e) (lt-ltb p.1 r.1 l))
+pairs_ascend _ a = refl
 
 -- those of some numbers in a row that pass a test ascend
 range_ascends_from : (P : ℕ → Bool) (x a n : ℕ) → x < a → is_ascending (x ∷ filter P (range_with_len a n)) ≡ true
@@ -61,12 +60,11 @@ range_ascends P a (suc n) = pick (P a) (range_ascends_from P a (a + 1) n (omega 
     pick false with_it without = without
 
 linked_from : (before : List (ℕ × ℕ)) (ws : List ℕ) → ((i : ℕ) → i + 1 < length ws → Contains before (slice_index_or ws i 0, slice_index_or ws (i + 1) 0)) → are_linked before ws ≡ true
-linked_from before [] near = refl
-linked_from before (w ∷ []) near = refl
 linked_from before (w ∷ x ∷ rest) near =
     and_from (has_pair before w x) (are_linked before (x ∷ rest))
     (any-from_In (λ (e : ℕ × ℕ). eqb e.0 w && eqb e.1 x) before (w, x) (Contains-In before (w, x) (near 0 (omega arith))) (and_from (eqb w w) (eqb x x) (eq-eqb w w refl) (eq-eqb x x refl)))
     (linked_from before (x ∷ rest) (λ i l. let e : suc i + 1 ≡ suc (i + 1) = omega arith in subst (λ k. Contains before (slice_index_or (x ∷ rest) i 0, slice_index_or (w ∷ x ∷ rest) k 0)) e (near (suc i) (omega arith))))
+linked_from before _ near = refl
 
 module _ (d : Distance) (h : Schedule) (q : ℕ) (legal : IsLegal d h) (us : List ℕ) (near : AreNear h q us) (o : Ordered) (good : IsOrderAmong h q us o) where
   -- the writers of an item, each a pair with the next

@@ -6,15 +6,16 @@ use Rattle.std.proofs.Math.Path.{fun_ext}
 use Rattle.std.proofs.lemmas.Bool.{cases_eq, eq-eqb, ne_eqb, eqb-true, false≢true, and_parts, and_from, or_left, or_right, or_cases}
 use Rattle.std.proofs.lemmas.Option.{same_Some}
 use Rattle.std.proofs.lemmas.List.Elements.{All-from_recursion}
+use mathlib.Core.Bool.{and-true}
 use Rattle.esr_history.specs.Machine.{Distance, Schedule}
 use Rattle.esr_history.specs.Operations.{Operation}
 use Rattle.esr_history.specs.Queries.{updates_of, reads_by, cost}
 use Rattle.esr_history.proofs.Membership.{each_in}
 use Rattle.esr_order.specs.Placements.{is_among, IsClosed, IsLeastSet, IsSmallestLeastSet}
 use Rattle.esr_cert.specs.Problem as problems
-use Rattle.esr_cert.specs.Problem.{Problem, size, is_closed, is_sound, in_set, is_ascending, is_distinct, IsSmallestLeast}
+use Rattle.esr_cert.specs.Problem.{Problem, size, is_closed, IsSmallestLeast}
 use Rattle.esr_cert.proofs.Sound as sound
-use Rattle.esr_cert.proofs.Sound.{IsProblem, facts}
+use Rattle.esr_cert.proofs.Sound.{IsProblem}
 use Rattle.esr_audit.specs.Problems.{passes_at, StandsFor}
 use Rattle.esr_audit.proofs.Costs.{cost_stands}
 
@@ -51,16 +52,12 @@ module _ (d : Distance) (h : Schedule) (q : ℕ) (p : Problem) (stands : StandsF
   updates_closed : IsClosed h q (λ u. is_among p.updates u && true)
   updates_closed = (stands.closed (λ u. true)).0 whole_closed
 
-  and_true : (b : Bool) → (b && true) ≡ b
-  and_true true = refl
-  and_true false = refl
-
   part_closed : (T : ℕ → Bool) → IsClosed h q T → IsClosed h q (λ u. is_among p.updates u && T u)
   part_closed T c = record {
     downward = λ u v cu cv b t.
         let both : (is_among p.updates v ≡ true) × (T v ≡ true) = and_parts (is_among p.updates v) (T v) t in
-        and_from (is_among p.updates u) (T u) (sym (and_true (is_among p.updates u)) ∙ updates_closed.downward u v cu cv b (and_true (is_among p.updates v) ∙ both.0)) (c.downward u v cu cv b both.1);
-    holds_must = λ u m. and_from (is_among p.updates u) (T u) (sym (and_true (is_among p.updates u)) ∙ updates_closed.holds_must u m) (c.holds_must u m);
+        and_from (is_among p.updates u) (T u) (sym (and-true (is_among p.updates u)) ∙ updates_closed.downward u v cu cv b (and-true (is_among p.updates v) ∙ both.0)) (c.downward u v cu cv b both.1);
+    holds_must = λ u m. and_from (is_among p.updates u) (T u) (sym (and-true (is_among p.updates u)) ∙ updates_closed.holds_must u m) (c.holds_must u m);
   }
 
   within_updates : (S : ℕ → Bool) → ((u : ℕ) → S u ≡ true → is_among p.updates u ≡ true) → (λ u. is_among p.updates u && S u) ≡ S
@@ -94,6 +91,11 @@ module _ (d : Distance) (h : Schedule) (q : ℕ) (p : Problem) (stands : StandsF
 
 -- ---- the transactions at a list of positions
 
+pub among_element : (us : List ℕ) (i u : ℕ) → slice_get us i ≡ Some u → is_among us u ≡ true
+among_element [] i u e = absurd (cc)
+among_element (v ∷ us) zero u e = or_left (eqb v u) (is_among us u) (eq-eqb v u (same_Some v u e))
+among_element (v ∷ us) (suc i) u e = or_right (eqb v u) (is_among us u) (among_element us i u e)
+
 pub known_at : (us : List ℕ) (set : List ℕ) (u : ℕ) → is_among (filter_map (slice_get us) set) u ≡ true → is_among us u ≡ true
 known_at us [] u h = absurd (false≢true h)
 known_at us (i ∷ set) u h = at (slice_get us i) refl (known_at us set u) h
@@ -102,11 +104,6 @@ known_at us (i ∷ set) u h = at (slice_get us i) refl (known_at us set u) h
     at None e rest h = rest h
     at (Some v) e rest h =
         elim (or_cases (eqb v u) (is_among (filter_map (slice_get us) set) u) h) [
-          | inl s ↦ ap (is_among us) (sym (eqb-true v u s)) ∙ found us i v e
+          | inl s ↦ ap (is_among us) (sym (eqb-true v u s)) ∙ among_element us i v e
           | inr r ↦ rest r
         ]
-      where
-        found : (us : List ℕ) (i v : ℕ) → slice_get us i ≡ Some v → is_among us v ≡ true
-        found [] i v e = absurd (cc)
-        found (w ∷ us) zero v e = or_left (eqb w v) (is_among us v) (eq-eqb w v (same_Some w v e))
-        found (w ∷ us) (suc i) v e = or_right (eqb w v) (is_among us v) (found us i v e)

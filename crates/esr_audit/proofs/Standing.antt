@@ -2,7 +2,7 @@
 use Rattle.std.proofs.Common.{◌≡◌, ◌≢◌, ℕ, zero, suc, ◌+◌, ◌<◌, ◌≤◌, ◌↔◌, Bool, true, ◌&&◌, ◌||◌, eqb, List, [], ◌∷◌, length, filter, map, refl, sym, ap, ◌∙◌, subst, inl, inr, arith, Some, Contains}
 use Rattle.std.specs.Prelude.{All, AllPairs, IsTrue, nat_lt}
 use Rattle.std.specs.List.{list_any, slice_get, range_with_len, AllByRecursion}
-use Rattle.std.proofs.lemmas.Bool.{cases_eq, eqb-true, eq-eqb, ne_eqb, and_from, or_left, or_right, lt-ltb}
+use Rattle.std.proofs.lemmas.Bool.{cases_eq, eqb-true, eq-eqb, ne_eqb, and_from, lt-ltb}
 use Rattle.std.proofs.lemmas.Option.{slice_get-get_or}
 use Rattle.std.proofs.lemmas.List.{length-map}
 use Rattle.std.proofs.lemmas.List.Elements.{All-contains, All-from_recursion, recursion_from_All}
@@ -23,7 +23,7 @@ use Rattle.esr_audit.specs.declared.reads.Reading.{Reading}
 use Rattle.esr_order.specs.Near.{has_written}
 use Rattle.esr_audit.specs.Problems.{passes_at, places, items_read, writers_of, chain_for, StandsFor}
 use Rattle.esr_audit.specs.Reads.{gathered, items_in, reading_of}
-use Rattle.esr_audit.proofs.Smallest.{passes_here}
+use Rattle.esr_audit.proofs.Smallest.{passes_here, among_element}
 use Rattle.esr_audit.proofs.Positions.{filter_agree, ascending_range}
 use Rattle.esr_audit.proofs.Versions.{read_alike, gathered_stands}
 
@@ -35,11 +35,6 @@ problem_from d h q o = record {
   chains = map (gathered (distance_in d h) h.opening o (map reading_of (reads_by h q))) (items_in (map reading_of (reads_by h q)) (length h.opening));
   must = o.must;
 }
-
-among_element : (us : List ℕ) (i u : ℕ) → slice_get us i ≡ Some u → is_among us u ≡ true
-among_element [] i u e = absurd (cc)
-among_element (v ∷ us) zero u e = or_left (eqb v u) (is_among us u) (eq-eqb v u (let s : Some v ≡ Some u = e in cc))
-among_element (v ∷ us) (suc i) u e = or_right (eqb v u) (is_among us u) (among_element us i u e)
 
 -- each element of a list in which none stands twice has one place
 one_place : (us : List ℕ) → AllPairs (λ u v. u ≢ v) us → (i j u : ℕ) → slice_get us i ≡ Some u → slice_get us j ≡ Some u → i ≡ j
@@ -58,9 +53,8 @@ one_place us once i j u a b = go us (Pairs-from_all (λ u v. u ≢ v) us once) i
     go (v ∷ vs) p (suc i) (suc j) a b = ap suc (go vs p.1 i j a b)
 
 ascending_from_pairs : (xs : List ℕ) → Pairs (λ i j. i < j) xs → is_ascending xs ≡ true
-ascending_from_pairs [] p = refl
-ascending_from_pairs (x ∷ []) p = refl
 ascending_from_pairs (x ∷ y ∷ rest) p = and_from (nat_lt x y) (is_ascending (y ∷ rest)) (lt-ltb x y (p.0).0) (ascending_from_pairs (y ∷ rest) p.1)
+ascending_from_pairs _ p = refl
 
 module _ (d : Distance) (h : Schedule) (q : ℕ) (legal : IsLegal d h) (us : List ℕ) (near : AreNear h q us) (o : Ordered) (good : IsOrderAmong h q us o) where
   count : length o.commits ≡ length us

@@ -4,6 +4,7 @@ use Rattle.std.specs.Prelude.{is_some}
 use Rattle.std.specs.List.{list_any, filter_map, cons_option, slice_get, slice_index_or, range_with_len, last_or, AllByRecursion}
 use Rattle.std.proofs.lemmas.List.Sums.{sum_by-cons}
 use Rattle.std.proofs.lemmas.Option.{get_or_from_slice_get}
+use Rattle.std.proofs.lemmas.List.FromFn.{length-map-range_with_len}
 use Rattle.esr_items.specs.Values.{value_at}
 use Rattle.esr_history.specs.Events.{last_value}
 use Rattle.esr_history.specs.Machine.{Distance, Schedule, done, distance_in}
@@ -163,12 +164,8 @@ pub versions_are : (h : Schedule) (us : List ℕ) (o : Ordered) (x : ℕ) → ch
 versions_are h us o x is =
     let c : Chain = chain_from (last_among h us x) (length us) in
     let equal : length c.values ≡ length c.writers =
-    ap length (chain_values h us x) ∙ length_mapped (λ j. state h (take (suc j) (filter (has_written h x) us)) x) 0 (length (filter (has_written h x) us)) ∙ sym (ap length (chain_writers h us x) ∙ length-places us (has_written h x)) in
+    ap length (chain_values h us x) ∙ length-map-range_with_len (λ j. state h (take (suc j) (filter (has_written h x) us)) x) 0 (length (filter (has_written h x) us)) ∙ sym (ap length (chain_writers h us x) ∙ length-places us (has_written h x)) in
     ap values_in is ∙ written_values c equal ∙ chain_values h us x
-  where
-    length_mapped : {Y : Type 0} (f : ℕ → Y) (a n : ℕ) → length (map f (range_with_len a n)) ≡ n
-    length_mapped f a zero = refl
-    length_mapped f a (suc n) = let r = length_mapped f (a + 1) n in omega (arith, r)
 
 -- the chain that is gathered of an item is that of the problem that stands for the query, where all its writers are listed
 pub gathered_stands : (d : Distance) (h : Schedule) (q : ℕ) (us : List ℕ) (o : Ordered) (x : ℕ) → chain_at o x ≡ chain_among h us x → filter (has_written h x) us ≡ writers_of h q x

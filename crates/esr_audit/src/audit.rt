@@ -188,6 +188,7 @@ fn book_of<M: Metric>(alloc: Global, history: &History<M>) -> Result<Book, Audit
 ///
 /// # Errors
 /// `NoMemory` where memory was refused.
+#[tactic(auto, using(esr_history::proofs::Laws::legal_serializable, esr_history::proofs::Charges::legal_within_limits))]
 pub fn audit_history<M: Metric>(alloc: Global, history: &History<M>) -> Result<Book, AuditError>
     ensures legal { IsLegal M.distance_by history.now.schedule }
     ensures serializable { IsSerializable history.now.schedule }

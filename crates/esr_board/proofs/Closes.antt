@@ -7,6 +7,7 @@ use Rattle.std.proofs.lemmas.List.Sums.{sum_by-cons, sum_by-append, sum_by_push}
 use Rattle.atomic_table.specs.Table.{State, Me}
 use Rattle.esr_board.specs.declared.hand.Plan.{Plan}
 use Rattle.std.proofs.lemmas.List.Concat.{flat_map-cons}
+use Rattle.esr_audit.proofs.Costs.{sum_mapped}
 use Rattle.atomic_table.proofs.Lists.{at_set}
 use Rattle.esr_board.specs.declared.hand.Hand.{Hand}
 use Rattle.esr_board.specs.declared.board.BoardSeat.{BoardSeat}
@@ -32,10 +33,6 @@ module _ {X : Type 0} where
   zero_sum : (f : X → ℕ) (xs : List X) → AllAt (λ x. f x ≡ 0) xs → sum_by f xs ≡ 0
   zero_sum f [] a = refl
   zero_sum f (x ∷ xs) a = let h = a zero x refl in let t = zero_sum f xs (λ j y. a (suc j) y) in omega (arith, sum_by-cons f x xs)
-
-sum_map : {X Y : Type 0} (f : Y → ℕ) (g : X → Y) (xs : List X) → sum_by f (map g xs) ≡ sum_by (λ x. f (g x)) xs
-sum_map f g [] = refl
-sum_map f g (x ∷ xs) = let r = sum_map f g xs in omega (arith, sum_by-cons f (g x) (map g xs), sum_by-cons (λ y. f (g y)) x xs)
 
 pub sum_flat : {X : Type 0} (weight : ℕ → ℕ) (g : X → List ℕ) (xs : List X) → sum_by weight (flat_map g xs) ≡ sum_by (λ x. sum_by weight (g x)) xs
 sum_flat weight g [] = refl
@@ -65,12 +62,12 @@ given_at jobs seats word given views id v r at numbers passes its = let kept : L
     (λ weight.
         let change = sum_set (λ (h : Hand). sum_by weight h.drawn) views id v spent at in
         let two = sum_by-append (λ (h : Hand). sum_by weight h.drawn) hands kept in
-        let mapped = sum_map (λ (h : Hand). sum_by weight h.drawn) hand_of given in
+        let mapped = sum_mapped (λ (h : Hand). sum_by weight h.drawn) hand_of given in
         let same = numbers weight in
         let was = r.0 weight in omega arith),
     (let change = sum_set (passes_of jobs) views id v spent at in
         let two = sum_by-append (passes_of jobs) hands kept in
-        let mapped = sum_map (passes_of jobs) hand_of given in let was = r.1 in omega arith),
+        let mapped = sum_mapped (passes_of jobs) hand_of given in let was = r.1 in omega arith),
     at_append (λ h. passes_of jobs h ≡ 0 → h.drawn ≡ []) hands kept
         (at_map_of (λ h. passes_of jobs h ≡ 0 → h.drawn ≡ []) given (λ k d l none_left. let one = each_one jobs given its k d l in absurd (omega arith)))
         (λ j h there idle. ⊎_elim
@@ -87,7 +84,7 @@ count_all given = sym (ones (all_drawn given)) ∙ sum_flat (λ _. 1) drawn give
 count_parts : (jobs seats word : ℕ) (given : List BoardSeat) (st : IsBoardAt jobs seats (map hand_of given) word) → length (all_drawn given) + sum_by (λ (h : Hand). sum_by (λ _. 1) h.drawn) st.0 ≡ word
 count_parts jobs seats word given st =
     let two = sum_by-append (λ (h : Hand). sum_by (λ _. 1) h.drawn) (map hand_of given) st.0 in
-    let mapped = sum_map (λ (h : Hand). sum_by (λ _. 1) h.drawn) hand_of given in
+    let mapped = sum_mapped (λ (h : Hand). sum_by (λ _. 1) h.drawn) hand_of given in
     let all = st.1.0 (λ _. 1) in
     let a = count_all given in let b = ones (below word) in let c = length-below word in omega arith
 
@@ -105,7 +102,7 @@ once jobs seats word given st same n =
     let weight : ℕ → ℕ = λ m. cond {A = ℕ} (eqb m n) 1 0 in
     let others = zero_sum (λ (h : Hand). sum_by weight h.drawn) st.0 (λ k h e. empty_if weight h.drawn (sum_zero (λ (h : Hand). sum_by (λ _. 1) h.drawn) st.0 (omega arith) k h e)) in
     let two = sum_by-append (λ (h : Hand). sum_by weight h.drawn) (map hand_of given) st.0 in
-    let mapped = sum_map (λ (h : Hand). sum_by weight h.drawn) hand_of given in
+    let mapped = sum_mapped (λ (h : Hand). sum_by weight h.drawn) hand_of given in
     let flat = sum_flat weight drawn given in
     let all = st.1.0 weight in
     let is : times n (all_drawn given) ≡ times n (below word) = omega arith in
@@ -118,7 +115,7 @@ pub missing : (jobs seats word : ℕ) (given : List BoardSeat) → IsBoardAt job
 missing jobs seats word given st its less = ⊎_elim (λ (l : length given < seats). l)
     (λ (g : seats ≤ length given).
     let two = sum_by-append (passes_of jobs) (map hand_of given) st.0 in
-    let mapped = sum_map (passes_of jobs) hand_of given in
+    let mapped = sum_mapped (passes_of jobs) hand_of given in
     let each = sum_each_one jobs given (each_one jobs given its) in
     let all = st.1.1 in
     let idle : sum_by (passes_of jobs) st.0 ≡ 0 = omega arith in

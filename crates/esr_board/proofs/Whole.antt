@@ -1,5 +1,5 @@
 -- Where the seats hold each number once, each job has its finding.
-use Rattle.std.proofs.Common.{◌≡◌, ℕ, zero, suc, ◌+◌, ◌<◌, ◌≤◌, ◌⊎◌, cond, eqb, leb, ltb, List, [], ◌∷◌, ◌++◌, map, length, get_or, slice_index, sym, refl, ap, ◌∙◌, subst, inl, inr, ⊎_elim, arith, sum_by, filter, All, Option, lt-ltb, le-ltb, eq-eqb}
+use Rattle.std.proofs.Common.{◌≡◌, ℕ, zero, suc, ◌+◌, ◌<◌, ◌≤◌, ◌⊎◌, cond, eqb, leb, ltb, List, [], ◌∷◌, ◌++◌, map, length, sym, refl, ap, ◌∙◌, subst, inl, inr, ⊎_elim, arith, sum_by, filter, All, Option, lt-ltb, le-ltb, eq-eqb}
 use Rattle.std.proofs.lemmas.Bool.{cases_lt}
 use Rattle.std.proofs.lemmas.List.Sums.{sum_by-cons, sum_by_push}
 use Rattle.std.proofs.lemmas.List.Elements.{All-append}
@@ -13,10 +13,6 @@ use Rattle.esr_board.specs.Shares.{IsFilled}
 use Rattle.esr_board.proofs.Closes.{sum_flat}
 
 module _ {X : Type 0} where
-  pub any_default : (xs : List X) (k : ℕ) (d e : X) → k < length xs → get_or xs k d ≡ get_or xs k e
-  any_default [] k d e l = absurd (omega arith)
-  any_default (x ∷ xs) zero d e l = refl
-  any_default (x ∷ xs) (suc k) d e l = any_default xs k d e (omega arith)
 
   pub all_pushed : (P : X → Type 0) (old new : List X) (x : X) → new ≡ old ++ x ∷ [] → All P old → P x → All P new
   all_pushed P old new x e a p = subst (All P) (sym e) (All-append P old (x ∷ []) a one)

@@ -41,9 +41,8 @@ pub reading_from : (bytes : List ℕ) (d : Data) → IsTree bytes d → (b : Pro
     → IsReadingOf bytes r
 reading_from bytes d t b h (Ok x) ok err = (d, t, stands d b h ∙ ok)
 reading_from bytes d t b h (Err Json) ok err = absurd (not_json b (err (λ e. cc)))
-reading_from bytes d t b h (Err Shape) ok err = (d, t, stands d b h ∙ err (λ e. cc))
-reading_from bytes d t b h (Err Range) ok err = (d, t, stands d b h ∙ err (λ e. cc))
 reading_from bytes d t b h (Err NoMemory) ok err = tt
+reading_from bytes d t b h _ ok err = (d, t, stands d b h ∙ err (λ e. cc))
 
 pub not_faulty : (p : Problem) → is_sound p ≡ true → problem_fault p ≡ None
 not_faulty p h =

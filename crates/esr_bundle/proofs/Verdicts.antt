@@ -1,11 +1,11 @@
 -- Verdicts on bytes, and what bytes a reader gave.
-use Rattle.std.proofs.Common.{◌≡◌, ◌≢◌, ℕ, ◌<◌, take, length-take, length-append, List, [], ◌∷◌, ◌++◌, length, refl, sym, ap, ◌∙◌, arith, Option, Some, None, Result, Ok, Err, IfOk, IsOk, append-nil}
+use Rattle.std.proofs.Common.{◌≡◌, ◌≢◌, ℕ, ◌<◌, take, length-take, length-append, List, ◌++◌, length, refl, sym, ap, ◌∙◌, arith, Option, Some, None, Result, Ok, Err, IfOk, IsOk, append-nil}
 use Rattle.std.specs.Io.KnownBytes.{Consumes, IsAtEnd}
 use Rattle.std.specs.declared.alloc.AllocError.{AllocError}
+use Rattle.std.proofs.lemmas.List.{nil_from_length}
 use Rattle.esr_cert.specs.Problem.{Problem}
 use Rattle.esr_cert.specs.Certificate.{Certificate, fault, or_fault}
 use Rattle.esr_cert.specs.Faults.{fault_number, bundle_fault_number}
-use Rattle.esr_cert.specs.Views.{certificate_of}
 use Rattle.esr_cert.specs.declared.certificate.Fault.{Fault}
 use Rattle.esr_cert.specs.declared.problem.BundleFault.{BundleFault}
 use Rattle.esr_cert.specs.declared.problem.BundleFault.TheVariants.{Json, Shape, Range, NoMemory}
@@ -40,13 +40,9 @@ bad bytes f (Err e) is other h = tt
 
 -- ---- the bytes of a reader
 
-nothing : (l : List ℕ) → length l ≡ 0 → l ≡ []
-nothing [] h = refl
-nothing (x ∷ xs) h = absurd (omega arith)
-
 -- a read that gave nothing
 pub no_more : (old new more : List ℕ) → new ≡ old ++ more → length more ≡ 0 → new ≡ old
-no_more old new more is none = is ∙ ap (λ l. old ++ l) (nothing more none) ∙ append-nil old
+no_more old new more is none = is ∙ ap (λ l. old ++ l) (nil_from_length more none) ∙ append-nil old
 
 -- room for bytes stays, whatever is read into it
 pub room_kept : (xs ys : List ℕ) (n : ℕ) → 0 < n → 0 < length xs → 0 < length (take n (xs ++ ys))

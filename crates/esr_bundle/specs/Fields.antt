@@ -22,10 +22,8 @@ numbers_of = list_of number_of
 
 -- exactly two numbers
 abbrev pub two_of : Items → Option (ℕ × ℕ)
-two_of no_items = None
-two_of (item a no_items) = None
 two_of (item a (item b no_items)) = option_and_then (λ x. option_map (λ y. (x, y)) (number_of b)) (number_of a)
-two_of (item a (item b (item c rest))) = None
+two_of _ = None
 
 abbrev pub pair_of : Data → Option (ℕ × ℕ)
 pair_of d = option_and_then two_of (as_array d)

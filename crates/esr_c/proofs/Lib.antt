@@ -1,2 +1,1 @@
-mod Opens
 pub mod Words

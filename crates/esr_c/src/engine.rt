@@ -83,7 +83,7 @@ fn is_value(v: i64) -> bool
 }
 
 /// A machine of these opening values on the heap.
-#[tactic(auto, using(crate::proofs::Opens::opened_values))]
+#[tactic(auto, using(esr_core::proofs::Replayed::opened_values))]
 fn made(alloc: Global, opening: &[i64]) -> Result<Box<Machine<Plain>, Global>, Status>
     ensures ok { IfOk result (λ b. b.value ≡ fresh opening.now) }
     ensures many { IsErrOf result Status.TooManyItems ↔ (MOST_ITEMS < length opening.now) }

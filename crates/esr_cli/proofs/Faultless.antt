@@ -121,19 +121,15 @@ check_none s words none =
     then_none (defaults_fault (settled s.rules end).rows s.rules) _ (then_none (settle_fault s.rules s.args_override_self end) _
     (then_none (walk_fault s [] (walk_from nothing_held) words) _ none))
 
+must_be_given : (b : Bool) → check_kinds false false (not b || false) ≡ [] → b ≡ true
+must_be_given true h = refl
+must_be_given false h = absurd (cc)
+
 query_is_given : (rows : List Row) → check_fault certify_shape rows false ≡ [] → is_given (codes "NAME") rows ≡ true
-query_is_given rows none = go (is_given (codes "NAME") rows) none
-  where
-    go : (b : Bool) → check_kinds false false (not b || false) ≡ [] → b ≡ true
-    go true h = refl
-    go false h = absurd (cc)
+query_is_given rows none = must_be_given (is_given (codes "NAME") rows) none
 
 name_is_given : (name : Text) (rows : List Row) → check_fault (named_shape name) rows false ≡ [] → is_given (codes "NAME") rows ≡ true
-name_is_given name rows none = go (is_given (codes "NAME") rows) none
-  where
-    go : (b : Bool) → check_kinds false false (not b || false) ≡ [] → b ≡ true
-    go true h = refl
-    go false h = absurd (cc)
+name_is_given name rows none = must_be_given (is_given (codes "NAME") rows) none
 
 named_served : (name : Text) → (ask : Text → Request) → ((t : Text) → HasWorkers (ask t))
     → ((rows : List Row) → request_in_one name rows ≡ option_map ask (first_of (codes "NAME") rows)) → IsServed (named_shape name)

@@ -10,8 +10,8 @@ use Rattle.clap.specs.Facts.{explicit_source, parser_of_value, unwrap_or_range}
 use Rattle.clap.specs.ValueTests.{accepts}
 use Rattle.clap.specs.Values.{refused_kind}
 use Rattle.clap.specs.Matches.{count_text}
-use Rattle.clap.specs.Walk.{count_of, Held, Names, Outcome, Row, Rule, Step, Text, Waiting, Walk, action_of, after_flag, after_step, arg_by_id, arg_by_index, arg_by_long, arg_by_short, at_row, attached_value, bundle, bundle_met, bundle_step, counted, default_rows, first_of, flag_met, has_row, idle, is_empty, is_pending, long_met, long_or_other, more_values, most_values, new_count, nothing_held, one_of, option, option_met, option_word, plain_word, positional, reacted, reading_by, rows_after, settled, settled_rows, short_met, short_or_plain, subcommand_met, subcommand_or_other, takes_several, takes_values, to_positional, used, used_as, used_by_id, values_or_missing, walk, walk_from, walked, walked_from, with_default, with_values, without, word_met}
-use Rattle.clap.specs.Walk.{done, waits, plain, refused, next, trailing, subcommand, value}
+use Rattle.clap.specs.Walk.{count_of, Held, Names, Outcome, Row, Rule, Step, Text, Waiting, Walk, action_of, after_flag, after_step, arg_by_id, arg_by_index, arg_by_long, arg_by_short, at_row, attached_value, bundle, bundle_met, bundle_step, counted, default_rows, first_of, flag_met, has_row, is_empty, is_pending, long_met, long_or_other, more_values, most_values, new_count, nothing_held, one_of, option, option_met, option_word, plain_word, reacted, reading_by, rows_after, settled, settled_rows, short_met, short_or_plain, subcommand_met, subcommand_or_other, takes_several, takes_values, to_positional, used, used_as, used_by_id, values_or_missing, walk, walk_from, walked, walked_from, with_default, with_values, without, word_met}
+use Rattle.clap.specs.Walk.{done, plain, refused, trailing, value}
 use Rattle.clap.specs.Simple.{Shape}
 use Rattle.clap.specs.Kinds.{Kinds, or_else, range_kinds, request_kinds, value_kinds}
 use Rattle.std.proofs.lemmas.Slice.Eq.{bytes_eq-Decides}
@@ -201,19 +201,17 @@ module _ (name : Text) (test : Text → Bool) where
     bundle_good (suc k) flags skip so_far h none good = step_good k (slice_get (chars flags) 0) flags skip so_far h (bundle_good k) none good
 
     plain_good : (waiting : Waiting) (word : Text) (h : Held) → Good h.rows → Good (plain_word s.rules waiting word h).0.rows
-    plain_good idle word h good = good
     plain_good (option id) word h good = go (arg_by_id s.rules id)
       where
         go : (a : Option Rule) → Good (option_word a id word h).0.rows
         go None = good
         go (Some a) = good
-    plain_good positional word h good = good
+    plain_good _ word h good = good
 
     flag_good : (waiting : Waiting) (word : Text) (h : Held) (o : Outcome) → Good h.rows → Good (after_flag s.rules waiting word h o).0.rows
-    flag_good waiting word h done good = good
-    flag_good waiting word h (waits id) good = good
     flag_good waiting word h plain good = plain_good waiting word h good
     flag_good waiting word h refused good = plain_good waiting word h good
+    flag_good waiting word h _ good = good
 
     long_or_good : (waiting : Waiting) (word : Text) (long : Option (Text × Option Text)) (h : Held) → flag_word_fault s.rules s.args_override_self long word h ≡ [] → Good h.rows
         → Good (long_or_other s.rules waiting word long h).0.rows
@@ -250,10 +248,8 @@ module _ (name : Text) (test : Text → Bool) where
         go false passed = settled_good h passed good
 
     after_good : (word : Text) (w : Walk) (h : Held) (step : Step) → step_fault s w.position h step ≡ [] → Good h.rows → Good (after_step s.rules word w h step).held.rows
-    after_good word w h (next waiting) none good = good
-    after_good word w h (trailing position) none good = good
-    after_good word w h (subcommand name) none good = good
     after_good word w h value none good = positional_good (arg_by_index s.rules w.position) word w h none good
+    after_good word w h _ none good = good
 
     turn_good : (names : Names) (w : Walk) (word : Text) → turn_fault s names w word ≡ [] → Good w.held.rows → Good (walked s.rules names w word).held.rows
     unfolding walked

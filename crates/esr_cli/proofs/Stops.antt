@@ -2,8 +2,8 @@
 use Rattle.std.proofs.Common.{◌≡◌, ℕ, Bool, cond, codes, true, false, refl, sym, ap, subst, List, [], ◌∷◌, Option, Some, None, IfSome, is_some, true≢false, fold}
 use Rattle.std.specs.Str.{bytes_eq}
 use Rattle.clap.specs.Lexer.{long_of, short_of}
-use Rattle.clap.specs.Walk.{Held, Names, Outcome, Rule, Step, Text, Waiting, Walk, after_flag, after_step, arg_by_index, arg_by_long, bundle, idle, long_met, long_or_other, option, plain_word, positional, short_or_plain, subcommand_met, subcommand_or_other, to_positional, walked, walked_from, word_met}
-use Rattle.clap.specs.Walk.{done, waits, plain, refused, next, trailing, subcommand, value}
+use Rattle.clap.specs.Walk.{Held, Names, Outcome, Rule, Step, Text, Waiting, Walk, after_flag, after_step, arg_by_index, arg_by_long, bundle, idle, long_met, long_or_other, plain_word, short_or_plain, subcommand_met, subcommand_or_other, to_positional, walked, walked_from, word_met}
+use Rattle.clap.specs.Walk.{plain, refused, trailing, subcommand, value}
 use Rattle.clap.specs.Simple.{Shape}
 use Rattle.clap.specs.Kinds.{Kinds, or_else}
 use Rattle.clap.specs.Faults.{other_fault, turn_fault, walk_fault, word_fault}
@@ -30,14 +30,12 @@ then_none (k ∷ ks) b none = absurd (cc)
 
 plain_goes : (c : List Rule) (waiting : Waiting) (word : Text) (h : Held) → GoesOn (plain_word c waiting word h).1
 plain_goes c idle word h = tt
-plain_goes c (option id) word h = tt
-plain_goes c positional word h = tt
+plain_goes c _ word h = tt
 
 flag_goes : (c : List Rule) (waiting : Waiting) (word : Text) (h : Held) (o : Outcome) → GoesOn (after_flag c waiting word h o).1
-flag_goes c waiting word h done = tt
-flag_goes c waiting word h (waits id) = tt
 flag_goes c waiting word h plain = plain_goes c waiting word h
 flag_goes c waiting word h refused = plain_goes c waiting word h
+flag_goes c waiting word h _ = tt
 
 short_goes : (c : List Rule) (waiting : Waiting) (word : Text) (flags : Option Text) (h : Held) → GoesOn (short_or_plain c waiting word flags h).1
 short_goes c waiting word (Some flags) h = flag_goes c waiting word (bundle c flags h).0 (bundle c flags h).1
@@ -59,10 +57,9 @@ to_positional_goes c None word w h on = on
 to_positional_goes c (Some a) word w h on = refl
 
 step_goes : (c : List Rule) (word : Text) (w : Walk) (h : Held) (step : Step) → w.stopped ≡ None → GoesOn step → (after_step c word w h step).stopped ≡ None
-step_goes c word w h (next waiting) on goes = on
-step_goes c word w h (trailing position) on goes = on
 step_goes c word w h (subcommand name) on goes = absurd goes
 step_goes c word w h value on goes = to_positional_goes c (arg_by_index c w.position) word w h on
+step_goes c word w h _ on goes = on
 
 elsewhere : (stop : Option (Text × List Text)) → stop ≡ None → StopsElsewhere stop
 elsewhere stop on = subst StopsElsewhere (sym on) tt

@@ -21,7 +21,7 @@ use Rattle.esr_history.proofs.Allowed.{none_applies, read_allowed}
 use Rattle.esr_history.proofs.Lawful.{when_none, not_ended}
 use Rattle.esr_ledgers.specs.declared.account.Account.{Account}
 use Rattle.esr_ledgers.specs.declared.ledgers.Quote.{Quote}
-use Rattle.esr_ledgers.specs.declared.ledgers.Quote.TheVariants.{Fits, Import, Export}
+use Rattle.esr_ledgers.specs.declared.ledgers.Quote.TheVariants.{Fits}
 use Rattle.esr_ledgers.specs.Books.{quote_of, charged}
 use Rattle.esr_locks.specs.Tables.{locks_at}
 use Rattle.esr_core.specs.declared.state.Transaction.{Transaction}
@@ -34,8 +34,7 @@ use Rattle.esr_core.proofs.Reasons.{due_some, due_none}
 
 pub fits_from : (q : Quote) → reason_of q ≡ None → q ≡ Fits
 fits_from Fits is = refl
-fits_from (Import q) is = absurd (cc)
-fits_from (Export u) is = absurd (cc)
+fits_from _ is = absurd (cc)
 
 reads_le : (es : List Event) (t x : ℕ) → reads_of es t x ≤ all_reads_of es t
 reads_le es t x = sum_by-le-sum_by (λ e. if reads t x e then 1 else 0) (λ e. if reads_any t e then 1 else 0) es one

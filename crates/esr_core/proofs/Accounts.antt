@@ -1,9 +1,8 @@
 -- The accounts of transactions.
 use Rattle.std.proofs.Common.{◌≡◌, ℕ, zero, suc, ℤ, ◌+◌, ◌<◌, ◌≤◌, List, [], ◌∷◌, ◌++◌, length, Bool, true, false, not, refl, sym, ◌∙◌, ap, arith, Option, None, Some, if◌then◌else◌, map, add-zero, length-append}
-use Rattle.std.specs.Prelude.{is_some, unwrap_or}
+use Rattle.std.specs.Prelude.{unwrap_or}
 use Rattle.std.specs.List.{range_with_len}
 use Rattle.std.specs.Option.{option_map}
-use Rattle.std.proofs.lemmas.Bool.{false≢true}
 use Rattle.std.proofs.lemmas.Option.{slice_get_past}
 use Rattle.std.proofs.lemmas.List.FromFn.{map-range_with_len_more}
 use Rattle.esr_history.specs.declared.event.Event.{Event}
@@ -13,6 +12,8 @@ use Rattle.esr_history.proofs.Charges.{import-push, export-push}
 use Rattle.esr_history.proofs.Lawful.{begun_number}
 use Rattle.esr_history.proofs.Ranges.{map_same, find_in_range, none_in_range, placed_end}
 use Rattle.esr_history.proofs.Sides.{charges_kinds, no_import, no_export}
+use Rattle.esr_history.proofs.Sums.{query_begun}
+use Rattle.esr_history.proofs.Orderly.{update_begun}
 use Rattle.esr_ledgers.specs.declared.account.Account.{Account}
 use Rattle.esr_ledgers.specs.Books.{number, account_of, is_open, is_open_query, is_open_update, limit_at, amount_at, new_account, opened}
 use Rattle.esr_core.specs.Tied.{entry_of, books_of}
@@ -33,34 +34,20 @@ module _ (d : ℕ → ℤ → ℤ → ℕ) (opening : List ℤ) (events : List E
       let n : (1 ≤ t) × (t < 1 + length (beginnings events)) = begun_number events t is in
       find_in_range number (entry_of d opening events) (λ u. refl) t 1 (length (beginnings events)) n.0 n.1
 
-  pub query_is_begun : (t : ℕ) → is_query events t ≡ true → is_begun events t ≡ true
-  query_is_begun t is = at (beginning events t) is
-    where
-      at : (o : Option Beginning) → unwrap_or (option_map (λ b. b.query) o) false ≡ true → is_some o ≡ true
-      at None no_query = absurd (false≢true no_query)
-      at (Some b) query = refl
-
-  pub update_is_begun : (t : ℕ) → is_update events t ≡ true → is_begun events t ≡ true
-  update_is_begun t is = at (beginning events t) is
-    where
-      at : (o : Option Beginning) → unwrap_or (option_map (λ b. not b.query) o) false ≡ true → is_some o ≡ true
-      at None no_update = absurd (false≢true no_update)
-      at (Some b) update = refl
-
   pub open_query_is : (t : ℕ) → is_query events t ≡ true → is_open_query (books_of d opening events) t ≡ true
-  open_query_is t is = ap (λ (o : Option Account). unwrap_or (option_map (λ (a : Account). a.query) o) false) (account_begun t (query_is_begun t is)) ∙ is
+  open_query_is t is = ap (λ (o : Option Account). unwrap_or (option_map (λ (a : Account). a.query) o) false) (account_begun t (query_begun events t is)) ∙ is
 
   pub open_update_is : (t : ℕ) → is_update events t ≡ true → is_open_update (books_of d opening events) t ≡ true
-  open_update_is t is = ap (λ (o : Option Account). unwrap_or (option_map (λ (a : Account). not a.query) o) false) (account_begun t (update_is_begun t is)) ∙ ap not (update_or_query events t is)
+  open_update_is t is = ap (λ (o : Option Account). unwrap_or (option_map (λ (a : Account). not a.query) o) false) (account_begun t (update_begun events t is)) ∙ ap not (update_or_query events t is)
 
   pub limit_is : (t : ℕ) → is_begun events t ≡ true → limit_at (books_of d opening events) t ≡ limit_of events t
   limit_is t is = ap (λ (o : Option Account). unwrap_or (option_map (λ (a : Account). a.limit) o) 0) (account_begun t is)
 
   pub import_is : (t : ℕ) → is_query events t ≡ true → amount_at (books_of d opening events) t ≡ import_in (charges d opening events) t
-  import_is t is = ap (λ (o : Option Account). unwrap_or (option_map (λ (a : Account). a.amount) o) 0) (account_begun t (query_is_begun t is)) ∙ rw is refl
+  import_is t is = ap (λ (o : Option Account). unwrap_or (option_map (λ (a : Account). a.amount) o) 0) (account_begun t (query_begun events t is)) ∙ rw is refl
 
   pub export_is : (t : ℕ) → is_update events t ≡ true → amount_at (books_of d opening events) t ≡ export_in (charges d opening events) t
-  export_is t is = ap (λ (o : Option Account). unwrap_or (option_map (λ (a : Account). a.amount) o) 0) (account_begun t (update_is_begun t is)) ∙ rw (update_or_query events t is) refl
+  export_is t is = ap (λ (o : Option Account). unwrap_or (option_map (λ (a : Account). a.amount) o) 0) (account_begun t (update_begun events t is)) ∙ rw (update_or_query events t is) refl
 
   -- the next number is not open
   pub next_not_open : is_open (books_of d opening events) (suc (length (beginnings events))) ≡ false

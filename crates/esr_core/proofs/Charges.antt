@@ -20,13 +20,16 @@ use Rattle.esr_history.specs.Ascending.{IsAscendingBy}
 use Rattle.esr_history.proofs.Charges.{import-push, export-push}
 use Rattle.esr_history.proofs.Ranges.{map_same, filter_map_ascends}
 use Rattle.esr_history.proofs.Sides.{due_kinds, no_import}
+use Rattle.esr_history.proofs.Words.{query_not_update}
+use Rattle.esr_history.proofs.Sums.{query_begun}
+use Rattle.esr_history.proofs.Orderly.{update_begun}
 use Rattle.esr_ledgers.specs.declared.account.Account.{Account}
 use Rattle.esr_ledgers.specs.Books.{number, is_open_query, limit_at, amount_at, total_of, would_pass, quoted, quote_of, raised, imported, charged, AreCharges}
 use Rattle.esr_core.specs.Tied.{entry_of, books_of}
 use Rattle.esr_core.specs.States.{reason_of, charges_to}
-use Rattle.esr_core.proofs.Held.{numbers-kept, query-kept, limit-kept, query_or_update}
+use Rattle.esr_core.proofs.Held.{numbers-kept, query-kept, limit-kept}
 use Rattle.esr_core.proofs.Rows.{begun_at}
-use Rattle.esr_core.proofs.Accounts.{query_is_begun, update_is_begun, open_query_is, open_update_is, limit_is, import_is, export_is}
+use Rattle.esr_core.proofs.Accounts.{open_query_is, open_update_is, limit_is, import_is, export_is}
 
 abbrev is_some_charge : List (TxnId × ℕ) → Bool
 is_some_charge [] = false
@@ -125,7 +128,7 @@ module _ (d : ℕ → ℤ → ℤ → ℕ) (opening : List ℤ) (events : List E
       at : (t : ℕ) (q : Bool) → is_query events t ≡ q → is_begun events t ≡ true
           → (if t == u.0 then more (total_of cs) (more (import_in (charges_by u.0 cs) t) (record { number = record { 0 = t }; query = q; limit = limit_of events t; amount = if q then import_in (charges d opening events) t else export_in (charges d opening events) t })) else more (import_in (charges_by u.0 cs) t) (record { number = record { 0 = t }; query = q; limit = limit_of events t; amount = if q then import_in (charges d opening events) t else export_in (charges d opening events) t })) ≡ entry_of d opening (events ++ e ∷ []) t
       at t true is begun =
-          let other : t ≡ u.0 → ⊥ = λ (g : t ≡ u.0). false≢true (sym (query_or_update events t is) ∙ (ap (is_update events) g ∙ update)) in
+          let other : t ≡ u.0 → ⊥ = λ (g : t ≡ u.0). false≢true (sym (query_not_update events t is) ∙ (ap (is_update events) g ∙ update)) in
           rw (ne_eqb t u.0 other) (kept t true (import_in (charges d opening events) t + import_in (charges_by u.0 cs) t) 0 is (imports t))
       at t false is begun =
           let nothing : import_in (charges_by u.0 cs) t ≡ 0 = ap (λ (gs : List Charge). import_in gs t) (sym owed) ∙ no_import events (due d opening events e) (due_kinds d opening events e) t is in
@@ -194,7 +197,7 @@ module _ (d : Distance) (h : Schedule) where
       → import_full d h (charges_by u cs) ≡ option_map (λ (c : TxnId × ℕ). BlockedByImport c.0) (find (λ (c : TxnId × ℕ). would_pass (books_of (d h.weights) h.opening (done h)) c.0.0 c.1) cs)
   first_import u [] all = refl
   first_import u (c ∷ cs) all =
-      let limit : limit_at (books_of (d h.weights) h.opening (done h)) c.0.0 ≡ limit_of (done h) c.0.0 = limit_is (d h.weights) h.opening (done h) c.0.0 (query_is_begun (d h.weights) h.opening (done h) c.0.0 all.0) in
+      let limit : limit_at (books_of (d h.weights) h.opening (done h)) c.0.0 ≡ limit_of (done h) c.0.0 = limit_is (d h.weights) h.opening (done h) c.0.0 (query_begun (done h) c.0.0 all.0) in
       let amount : amount_at (books_of (d h.weights) h.opening (done h)) c.0.0 ≡ import_in (charges_in d h) c.0.0 = import_is (d h.weights) h.opening (done h) c.0.0 all.0 in
       let same : would_pass (books_of (d h.weights) h.opening (done h)) c.0.0 c.1 ≡ nat_lt (limit_of (done h) c.0.0) (import_in (charges_in d h) c.0.0 + c.1) = ap (λ n. nat_lt n (amount_at (books_of (d h.weights) h.opening (done h)) c.0.0 + c.1)) limit ∙ ap (λ n. nat_lt (limit_of (done h) c.0.0) (n + c.1)) amount in
       elim (cases_Bool (nat_lt (limit_of (done h) c.0.0) (import_in (charges_in d h) c.0.0 + c.1))) [
@@ -218,7 +221,7 @@ module _ (d : Distance) (h : Schedule) where
   quote_reason u c cs update all =
       let books = books_of (d h.weights) h.opening (done h) in
       let same : would_pass books u.0 (total_of (c ∷ cs)) ≡ nat_lt (limit_of (done h) u.0) (export_in (charges_in d h) u.0 + total_of (c ∷ cs)) =
-      ap (λ n. nat_lt n (amount_at books u.0 + total_of (c ∷ cs))) (limit_is (d h.weights) h.opening (done h) u.0 (update_is_begun (d h.weights) h.opening (done h) u.0 update)) ∙ ap (λ n. nat_lt (limit_of (done h) u.0) (n + total_of (c ∷ cs))) (export_is (d h.weights) h.opening (done h) u.0 update) in
+      ap (λ n. nat_lt n (amount_at books u.0 + total_of (c ∷ cs))) (limit_is (d h.weights) h.opening (done h) u.0 (update_begun (done h) u.0 update)) ∙ ap (λ n. nat_lt (limit_of (done h) u.0) (n + total_of (c ∷ cs))) (export_is (d h.weights) h.opening (done h) u.0 update) in
       let exports : export_full d h (charges_by u.0 (c ∷ cs)) ≡ (if would_pass books u.0 (total_of (c ∷ cs)) then Some (BlockedByExport u) else None) =
       ap (λ n. option_map (λ (g : Charge). BlockedByExport (record { 0 = g.update })) (find (λ (g : Charge). nat_lt (limit_of (done h) g.update) (export_in (charges_in d h) g.update + n)) (charges_by u.0 (c ∷ cs)))) (total_by u.0 (c ∷ cs))
       ∙ export_over u.0 (c ∷ cs) (total_of (c ∷ cs)) (would_pass books u.0 (total_of (c ∷ cs))) (sym same) in

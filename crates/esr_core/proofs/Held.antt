@@ -3,7 +3,7 @@ use Rattle.std.proofs.Common.{◌≡◌, ℕ, suc, ◌+◌, ◌<◌, ◌≤◌, 
 use Rattle.std.specs.Prelude.{is_some, unwrap_or, slice_get}
 use Rattle.std.specs.List.{list_any, range_with_len}
 use Rattle.std.specs.Option.{option_map}
-use Rattle.std.proofs.lemmas.Bool.{cases_Bool, false≢true, and_parts, and_right, or_right, or_left, or_cases, false_from_ne_true}
+use Rattle.std.proofs.lemmas.Bool.{cases_Bool, false≢true, and_parts, and_right, or_right, or_left, or_cases, false_from_ne_true, not-true}
 use Rattle.esr_history.specs.declared.event.TxnId.{TxnId}
 use Rattle.esr_history.specs.declared.event.Event.{Event}
 use Rattle.esr_history.specs.declared.event.Event.TheVariants.{BeginUpdate, BeginQuery, Read, Write, Commit, Abort}
@@ -42,35 +42,15 @@ any_implies p q is (e ∷ es) some =
 
 pub reads_name : (t x : ℕ) (e : Event) → reads t x e ≡ true → names t e ≡ true
 reads_name t x (Read u y) is = (and_parts (u.0 == t) (y.0 == x) is).0
-reads_name t x (Write u y v) is = absurd (false≢true is)
-reads_name t x (BeginUpdate l) is = absurd (false≢true is)
-reads_name t x (BeginQuery l s) is = absurd (false≢true is)
-reads_name t x (Commit u) is = absurd (false≢true is)
-reads_name t x (Abort u) is = absurd (false≢true is)
+reads_name t x _ is = absurd (false≢true is)
 
 pub writes_name : (t x : ℕ) (e : Event) → writes t x e ≡ true → names t e ≡ true
 writes_name t x (Write u y v) is = (and_parts (u.0 == t) (y.0 == x) is).0
-writes_name t x (Read u y) is = absurd (false≢true is)
-writes_name t x (BeginUpdate l) is = absurd (false≢true is)
-writes_name t x (BeginQuery l s) is = absurd (false≢true is)
-writes_name t x (Commit u) is = absurd (false≢true is)
-writes_name t x (Abort u) is = absurd (false≢true is)
+writes_name t x _ is = absurd (false≢true is)
 
 pub commits_name : (t : ℕ) (e : Event) → commits t e ≡ true → names t e ≡ true
 commits_name t (Commit u) is = is
-commits_name t (Read u y) is = absurd (false≢true is)
-commits_name t (Write u y v) is = absurd (false≢true is)
-commits_name t (BeginUpdate l) is = absurd (false≢true is)
-commits_name t (BeginQuery l s) is = absurd (false≢true is)
-commits_name t (Abort u) is = absurd (false≢true is)
-
-pub aborts_name : (t : ℕ) (e : Event) → aborts t e ≡ true → names t e ≡ true
-aborts_name t (Abort u) is = is
-aborts_name t (Read u y) is = absurd (false≢true is)
-aborts_name t (Write u y v) is = absurd (false≢true is)
-aborts_name t (BeginUpdate l) is = absurd (false≢true is)
-aborts_name t (BeginQuery l s) is = absurd (false≢true is)
-aborts_name t (Commit u) is = absurd (false≢true is)
+commits_name t _ is = absurd (false≢true is)
 
 pub active-same : (done : List Event) (e : Event) (u : ℕ) → ((t : ℕ) → commits t e ≡ false) → ((t : ℕ) → aborts t e ≡ false) → is_begun done u ≡ true → is_active (done ++ e ∷ []) u ≡ is_active done u
 active-same done e u c a begun = rw (is_begun-push done e u begun, begun, any_push_no (commits u) done e (c u), any_push_no (aborts u) done e (a u)) refl
@@ -114,24 +94,12 @@ update-kept done e none t = ap (λ (o : Option Beginning). unwrap_or (option_map
 pub limit-kept : (done : List Event) (e : Event) → beginning_of e ≡ None → (t : ℕ) → limit_of (done ++ e ∷ []) t ≡ limit_of done t
 limit-kept done e none t = ap (λ (o : Option Beginning). unwrap_or (option_map (λ b. b.limit) o) 0) (beginning-kept done e t none)
 
--- an update is no query
-pub query_or_update : (done : List Event) (t : ℕ) → is_query done t ≡ true → is_update done t ≡ false
-query_or_update done t is = at (beginning done t) is
-  where
-    at : (o : Option Beginning) → unwrap_or (option_map (λ b. b.query) o) false ≡ true → unwrap_or (option_map (λ b. not b.query) o) false ≡ false
-    at None is' = absurd (false≢true is')
-    at (Some b) is' = ap not is'
-
 pub update_or_query : (done : List Event) (t : ℕ) → is_update done t ≡ true → is_query done t ≡ false
 update_or_query done t is = at (beginning done t) is
   where
     at : (o : Option Beginning) → unwrap_or (option_map (λ b. not b.query) o) false ≡ true → unwrap_or (option_map (λ b. b.query) o) false ≡ false
     at None is' = absurd (false≢true is')
-    at (Some b) is' = not_is b.query is'
-      where
-        not_is : (q : Bool) → not q ≡ true → q ≡ false
-        not_is true h = absurd (false≢true h)
-        not_is false h = refl
+    at (Some b) is' = not-true b.query is'
 
 -- the beginnings after a begin
 pub beginnings-begin : (done : List Event) (e : Event) (b : Beginning) → IsBegin e b → beginnings (done ++ e ∷ []) ≡ beginnings done ++ b ∷ []

@@ -1,13 +1,15 @@
 -- The locks on items.
 use Rattle.std.proofs.Common.{◌≡◌, ℕ, suc, ℤ, ◌+◌, ◌<◌, ◌≤◌, List, [], ◌∷◌, ◌++◌, length, Bool, true, false, not, ◌&&◌, ◌||◌, ◌==◌, refl, sym, ◌∙◌, ap, arith, inl, inr, Option, None, Some, if◌then◌else◌, map, set, append-nil, add-zero, length-append}
-use Rattle.std.specs.Prelude.{find, filter, unwrap_or, count_by}
+use Rattle.std.specs.Prelude.{find, filter, unwrap_or}
 use Rattle.std.specs.List.{range_with_len, list_any, filter_map}
 use Rattle.std.specs.Option.{option_map}
-use Rattle.std.proofs.lemmas.Bool.{cases_Bool, cases_eq, false≢true, and_parts, and_from, and_left, and_right, or_right, or_parts, eq-eqb, ne_eqb, eqb-true, false_from_ne_true}
+use Rattle.std.proofs.lemmas.Bool.{cases_Bool, cases_eq, false≢true, and_parts, and_from, and_left, and_right, or_right, eq-eqb, ne_eqb, eqb-true, false_from_ne_true}
 use Rattle.std.proofs.lemmas.Option.{same_Some}
 use Rattle.std.proofs.lemmas.List.FromFn.{length-map-range_with_len, get_or-map-range_with_len}
 use Rattle.std.proofs.lemmas.List.Elements.{filter_agree, filter-append}
-use Rattle.std.proofs.lemmas.List.Sums.{sum_by_push, sum_by-cons}
+use Rattle.std.proofs.lemmas.List.Sums.{sum_by_push}
+use mathlib.Core.List.{map-map}
+use mathlib.Core.Bool.{and-true}
 use Rattle.esr_items.specs.declared.metric.ItemId.{ItemId}
 use Rattle.esr_history.specs.declared.event.TxnId.{TxnId}
 use Rattle.esr_history.specs.declared.event.Event.{Event}
@@ -15,16 +17,18 @@ use Rattle.esr_history.specs.declared.event.Event.TheVariants.{Read, Write}
 use Rattle.esr_history.specs.Events.{Beginning, beginning_of, beginnings, beginning, numbers, commits, aborts, reads, writes, is_active, is_begun, is_query, is_update, holds_read, holds_write, reads_of}
 use Rattle.esr_history.specs.Machine.{writer}
 use Rattle.esr_history.specs.ItemLocks.{ItemLocks, query_reads, item_locks, locks_of}
-use Rattle.esr_history.specs.Orderly.{IsOrderly, names}
+use Rattle.esr_history.specs.Orderly.{IsOrderly}
 use Rattle.esr_history.specs.Ascending.{placed}
-use Rattle.esr_history.proofs.Lists.{any_push, any_push_no, find_least, filter_map_push_none}
+use Rattle.esr_history.proofs.Lists.{any_push, any_push_no, find_least, filter_map_push_none, find_some, or_false}
 use Rattle.esr_history.proofs.Charges.{range-push}
 use Rattle.esr_history.proofs.Orderly.{active_parts, update_begun}
 use Rattle.esr_history.proofs.Lawful.{begun_number}
 use Rattle.esr_history.proofs.Ranges.{map_same, set_range, filter_map_placed, filter_map_dropped, filter-filter_map, kept_if, kept_if_own, find_same, any_in_filter, filter_in_any}
+use Rattle.esr_history.proofs.Reaches.{count_none}
+use Rattle.esr_history.proofs.Words.{query_not_update}
 use Rattle.esr_locks.specs.Tables.{locks_at, no_locks, is_writer, is_reader, with_reader, with_writer, with_query_read, released, keeps_from_reading, keeps_from_writing, IsLeast}
 use Rattle.esr_locks.proofs.Least.{IsLeast-same}
-use Rattle.esr_core.proofs.Held.{active-kept, held-begin, IsBegin, numbers-kept, query-kept, update-kept, beginnings-begin, beginning-begin, not_named, reads_name, writes_name, query_or_update, update_or_query}
+use Rattle.esr_core.proofs.Held.{active-kept, held-begin, IsBegin, numbers-kept, query-kept, update-kept, beginnings-begin, beginning-begin, not_named, reads_name, writes_name, update_or_query}
 
 -- who passes as a writer of an item, as a reader of it
 abbrev wrote : List Event → ℕ → ℕ → Bool
@@ -63,9 +67,6 @@ module _ (done : List Event) (o : IsOrderly done) where
       (is, λ v l. false_from_ne_true (wrote done x v) (λ is_v. let e : v ≡ u = one_writer x v u is_v is in omega arith))
       (wrote_number x)
 
-  pub writer_none : (x : ℕ) → ((u : ℕ) → wrote done x u ≡ false) → writer done x ≡ None
-  writer_none x none = find_least (wrote done x) (length (beginnings done)) None none (wrote_number x)
-
   -- the writer of the locks on an item is who holds the write lock
   pub writer_is : (x u : ℕ) → is_writer (item_locks done x) u ≡ wrote done x u
   writer_is x u =
@@ -76,15 +77,7 @@ module _ (done : List Event) (o : IsOrderly done) where
     where
       found : (w : Option ℕ) → writer done x ≡ w → unwrap_or (option_map (λ v. v == u) w) false ≡ true → wrote done x u ≡ true
       found None is it = absurd (false≢true it)
-      found (Some v) is it = ap (wrote done x) (sym (eqb-true v u it)) ∙ passes (wrote done x) (numbers done) v is
-        where
-          passes : (p : ℕ → Bool) (us : List ℕ) (w : ℕ) → find p us ≡ Some w → p w ≡ true
-          passes p [] w f = absurd (cc)
-          passes p (z ∷ us) w f =
-              elim (cases_Bool (p z)) [
-                | inl pz ↦ let same : Some z ≡ Some w = rw pz at f in rw (← same_Some z w same) pz
-                | inr fz ↦ passes p us w (rw fz at f)
-              ]
+      found (Some v) is it = ap (wrote done x) (sym (eqb-true v u it)) ∙ find_some (wrote done x) (numbers done) v is
 
   pub reader_is : (x u : ℕ) → is_reader (item_locks done x) u ≡ read_it done x u
   reader_is x u =
@@ -135,22 +128,12 @@ locks_agree old new x n w r q =
     let queries : filter_map (query_reads new x) (numbers new) ≡ filter_map (query_reads old x) (numbers old) = ap (filter_map (query_reads new x)) n ∙ filter_map_agree (query_reads new x) (query_reads old x) q (numbers old) in
     locks_same (writer new x) (writer old x) (filter (read_it new x) (numbers new)) (filter (read_it old x) (numbers old)) (filter_map (query_reads new x) (numbers new)) (filter_map (query_reads old x) (numbers old)) writers readers queries
 
-or_nothing : (b : Bool) → (b || false) ≡ b
-or_nothing true = refl
-or_nothing false = refl
-
 query_reads_own : (done : List Event) (x u : ℕ) (y : ℕ × ℕ) → query_reads done x u ≡ Some y → y.0 ≡ u
 query_reads_own done x u y is = at (is_query done u && holds_read done u x) is
   where
     at : (b : Bool) → (if b then Some (u, reads_of done u x) else None) ≡ Some y → y.0 ≡ u
     at true is' = ap (λ (z : ℕ × ℕ). z.0) (sym (same_Some (u, reads_of done u x) y is'))
     at false is' = absurd (cc)
-
-count_none : (p : Event → Bool) (es : List Event) → list_any p es ≡ false → count_by p es ≡ 0
-count_none p [] none = refl
-count_none p (e ∷ es) none =
-    let parts : (p e ≡ false) × (list_any p es ≡ false) = or_parts (p e) (list_any p es) none in
-    sum_by-cons (λ f. if p f then 1 else 0) e es ∙ rw (parts.0, count_none p es parts.1) refl
 
 -- An event that begins and ends nothing.
 module _ (done : List Event) (e : Event) (none : beginning_of e ≡ None) (c : (t : ℕ) → commits t e ≡ false) (a : (t : ℕ) → aborts t e ≡ false) (x : ℕ) where
@@ -167,16 +150,16 @@ module _ (done : List Event) (e : Event) (none : beginning_of e ≡ None) (c : (
   query-step u = rw (query-kept done e none u, active-kept done e none c a u, any_push (reads u x) done e, count-step u) refl
 
   wrote-same : (u : ℕ) → writes u x e ≡ false → wrote (done ++ e ∷ []) x u ≡ wrote done x u
-  wrote-same u fails = wrote-step u ∙ ap (λ b. is_update done u && (is_active done u && b)) (ap (λ b. list_any (writes u x) done || b) fails ∙ or_nothing (list_any (writes u x) done))
+  wrote-same u fails = wrote-step u ∙ ap (λ b. is_update done u && (is_active done u && b)) (ap (λ b. list_any (writes u x) done || b) fails ∙ or_false (list_any (writes u x) done))
 
   read-same : (u : ℕ) → reads u x e ≡ false → read_it (done ++ e ∷ []) x u ≡ read_it done x u
-  read-same u fails = read-step u ∙ ap (λ b. is_update done u && (is_active done u && b)) (ap (λ b. list_any (reads u x) done || b) fails ∙ or_nothing (list_any (reads u x) done))
+  read-same u fails = read-step u ∙ ap (λ b. is_update done u && (is_active done u && b)) (ap (λ b. list_any (reads u x) done || b) fails ∙ or_false (list_any (reads u x) done))
 
   query-same : (u : ℕ) → reads u x e ≡ false → query_reads (done ++ e ∷ []) x u ≡ query_reads done x u
   query-same u fails =
       query-step u
       ∙ (ap (λ b. if is_query done u && (is_active done u && (list_any (reads u x) done || b)) then Some (u, reads_of done u x + (if b then 1 else 0)) else None) fails
-      ∙ (ap (λ b. if is_query done u && (is_active done u && b) then Some (u, reads_of done u x + 0) else None) (or_nothing (list_any (reads u x) done))
+      ∙ (ap (λ b. if is_query done u && (is_active done u && b) then Some (u, reads_of done u x + 0) else None) (or_false (list_any (reads u x) done))
       ∙ ap (λ n. if is_query done u && holds_read done u x then Some (u, n) else None) (add-zero (reads_of done u x))))
 
   -- an event on another item
@@ -254,7 +237,7 @@ module _ (done : List Event) (t : TxnId) (x : ItemId) where
       readers u =
           elim (cases_eq u t.0) [
             | inl e ↦
-                let no_update : is_update done u ≡ false = ap (is_update done) e ∙ query_or_update done t.0 query in
+                let no_update : is_update done u ≡ false = ap (is_update done) e ∙ query_not_update done t.0 query in
                 read-step done (Read t x) refl (λ v. refl) (λ v. refl) x.0 u
                 ∙ (ap (λ b. b && (is_active done u && (list_any (reads u x.0) done || reads u x.0 (Read t x)))) no_update
                 ∙ sym (ap (λ b. b && holds_read done u x.0) no_update))
@@ -319,11 +302,7 @@ module _ (done : List Event) (o : IsOrderly done) (e : Event) (none : beginning_
       ∙ ap (λ b. if b then Some (u, reads_of done u x) else None) (rw (query-kept done e none u, ends u, any_push_no (reads u x) done e (no_reads u x)) (drops (is_query done u) (is_active done u) (t == u) (list_any (reads u x) done)))
 
   stays_true : (b : Bool) (u : ℕ) → (u ≡ t → ⊥) → (b && not (t == u)) ≡ b
-  stays_true b u ne = ap (λ c. b && not c) (ne_eqb t u (λ (f : t ≡ u). ne (sym f))) ∙ and_true b
-    where
-      and_true : (c : Bool) → (c && true) ≡ c
-      and_true true = refl
-      and_true false = refl
+  stays_true b u ne = ap (λ c. b && not c) (ne_eqb t u (λ (f : t ≡ u). ne (sym f))) ∙ and-true b
 
   gone : (b : Bool) → (b && not (t == t)) ≡ false
   gone b = ap (λ c. b && not c) (eq-eqb t t refl) ∙ and_right b false refl
@@ -379,7 +358,7 @@ find_longer p a n fails = ap (find p) (range-push a n) ∙ at (range_with_len a 
     at [] = rw fails refl
     at (u ∷ us) =
         elim (cases_Bool (p u)) [
-          | inl passes ↦ rw passes refl
+          | inl find_some ↦ rw find_some refl
           | inr isnt ↦ rw isnt (at us)
         ]
 
@@ -411,10 +390,6 @@ module _ (done : List Event) (o : IsOrderly done) (e : Event) (b : Beginning) (i
   query-begin u =
       ap (λ n. if is_query (done ++ e ∷ []) u && holds_read (done ++ e ∷ []) u x then Some (u, n) else None) (sum_by_push (λ f. if reads u x f then 1 else 0) done e ∙ (ap (λ c. reads_of done u x + (if c then 1 else 0)) (is.reads_none u x) ∙ add-zero (reads_of done u x)))
       ∙ ap (λ p. if p then Some (u, reads_of done u x) else None) (ap (λ p. is_query (done ++ e ∷ []) u && p) (holds-read u) ∙ kind-same (λ w. unwrap_or (option_map (λ c. c.query) w) false) u (holds_read done u x) (begun_holder u (list_any (reads u x) done)))
-
-  -- the next transaction holds nothing
-  next_holds : (p : Event → Bool) → ((g : Event) → p g ≡ true → names (suc (length (beginnings done))) g ≡ true) → (is_active done (1 + length (beginnings done)) && list_any p done) ≡ false
-  next_holds p names_it = and_right (is_active done (1 + length (beginnings done))) (list_any p done) (not_named done o p names_it)
 
   pub locks-begin : item_locks (done ++ e ∷ []) x ≡ item_locks done x
   locks-begin =
@@ -467,11 +442,7 @@ all-write done t x v n l o update act =
     one_item done (Write t x v) n x.0 (with_writer t.0) l (locks-write done t x v o update act)
     (λ y ne. locks-other done (Write t x v) refl (λ w. refl) (λ w. refl) y (λ u. and_right (t.0 == u) (x.0 == y) (ne_eqb x.0 y (λ (f : x.0 ≡ y). ne (sym f)))) (λ u. refl))
 
-map_map : {A B C : Type 0} (g : B → C) (f : A → B) (xs : List A) → map g (map f xs) ≡ map (λ x. g (f x)) xs
-map_map g f [] = refl
-map_map g f (x ∷ xs) = ap (λ ys. g (f x) ∷ ys) (map_map g f xs)
-
 pub all-end : (done : List Event) → IsOrderly done → (e : Event) → beginning_of e ≡ None → (t : ℕ) → ((u : ℕ) → is_active (done ++ e ∷ []) u ≡ (is_active done u && not (t == u)))
     → ((u x : ℕ) → reads u x e ≡ false) → ((u x : ℕ) → writes u x e ≡ false) → (n : ℕ) → map (released t) (locks_of done n) ≡ locks_of (done ++ e ∷ []) n
 all-end done o e none t ends r w n =
-    map_map (released t) (item_locks done) (range_with_len 0 n) ∙ map_same (λ x. released t (item_locks done x)) (item_locks (done ++ e ∷ [])) 0 n (λ x low high. sym (locks-end done o e none t ends r w x))
+    map-map (released t) (item_locks done) (range_with_len 0 n) ∙ map_same (λ x. released t (item_locks done x)) (item_locks (done ++ e ∷ [])) 0 n (λ x low high. sym (locks-end done o e none t ends r w x))

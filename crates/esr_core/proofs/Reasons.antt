@@ -1,7 +1,7 @@
 -- The reasons to refuse an event, by the parts of the machine.
-use Rattle.std.proofs.Common.{◌≡◌, ℕ, suc, ℤ, ◌<◌, ◌≤◌, List, [], ◌∷◌, length, Bool, true, false, ◌&&◌, refl, sym, ◌∙◌, ap, subst, arith, inl, inr, Option, None, Some, if◌then◌else◌, get_or}
-use Rattle.std.specs.Prelude.{find, nat_le}
-use Rattle.std.proofs.lemmas.Bool.{cases_Bool, and_parts}
+use Rattle.std.proofs.Common.{◌≡◌, ℕ, suc, ℤ, ◌<◌, ◌≤◌, List, [], ◌∷◌, length, Bool, true, false, ◌&&◌, refl, sym, ◌∙◌, ap, subst, arith, Option, None, Some, if◌then◌else◌, get_or, ◌-◌, ◌+◌}
+use Rattle.std.specs.Prelude.{nat_le}
+use Rattle.std.proofs.lemmas.Bool.{and_parts}
 use Rattle.std.proofs.lemmas.Bool.Decides.{nat_tests}
 use Rattle.std.proofs.lemmas.Option.{same_Some}
 use Rattle.std.proofs.lemmas.List.Elements.{All-from_recursion}
@@ -16,11 +16,12 @@ use Rattle.esr_history.specs.declared.event.Refusal.TheVariants.{TooManyReads, Q
 use Rattle.esr_history.specs.Events.{numbers, is_query, is_update, holds_write, all_reads_of, committed_value}
 use Rattle.esr_history.specs.Machine.{Distance, Schedule, Charge, done, due_in, writer, charge_of_read, first_reason, not_begun, ended, no_item, many_reads, query_writes, out_of_range, read_blocked, write_blocked, blocked_by, import_full, export_full, refusal, when, other_writer, other_holder}
 use Rattle.esr_history.specs.ItemLocks.{ItemLocks, item_locks}
+use Rattle.esr_history.proofs.Lists.{find_some}
 use Rattle.esr_ledgers.specs.declared.account.Account.{Account}
 use Rattle.esr_ledgers.specs.Books.{quote_of, AreCharges, is_open_query}
 use Rattle.esr_locks.specs.Tables.{locks_at, keeps_from_reading, keeps_from_writing, IsLeast}
 use Rattle.esr_core.specs.declared.state.Transaction.{Transaction}
-use Rattle.esr_core.specs.Tied.{IsTied, books_of}
+use Rattle.esr_core.specs.Tied.{IsTied, books_of, row_of}
 use Rattle.esr_core.specs.States.{reason_of, read_charge}
 use Rattle.esr_core.proofs.Rows.{row_is}
 use Rattle.esr_core.proofs.Locks.{locks_len, locks_here, least_writer, least_holder}
@@ -42,27 +43,24 @@ alone None = refl
 alone (Some w) = refl
 
 pub writer_update : (events : List Event) (x u : ℕ) → writer events x ≡ Some u → is_update events u ≡ true
-writer_update events x u found = (and_parts (is_update events u) (holds_write events u x) (passes (λ v. is_update events v && holds_write events v x) (numbers events) u found)).0
-  where
-    passes : (p : ℕ → Bool) (us : List ℕ) (w : ℕ) → find p us ≡ Some w → p w ≡ true
-    passes p [] w f = absurd (cc)
-    passes p (z ∷ us) w f =
-        elim (cases_Bool (p z)) [
-          | inl pz ↦ let same : Some z ≡ Some w = rw pz at f in rw (← same_Some z w same) pz
-          | inr fz ↦ passes p us w (rw fz at f)
-        ]
+writer_update events x u found = (and_parts (is_update events u) (holds_write events u x) (find_some (λ v. is_update events v && holds_write events v x) (numbers events) u found)).0
 
 module _ (d : Distance) (h : Schedule) (items : List Versions) (table : List Transaction) (locks : List ItemLocks) (accounts : List Account) (tie : IsTied (d h.weights) h.opening (done h) items table locks accounts) where
   pub locks_count : length locks ≡ length items
   locks_count = ap length tie.locked ∙ (locks_len (done h) (length h.opening) ∙ sym tie.count)
 
-  pub row_query : (t k : ℕ) (r : Transaction) → t ≡ suc k → k < length table → r ≡ get_or table k r → r.query ≡ is_query (done h) t
-  row_query t k r number l at = ap (λ (q : Transaction). q.query) (row_is (done h) table tie.rows k r l at) ∙ ap (is_query (done h)) (sym number)
+  -- the row that is found at a transaction's number
+  module _ (t : ℕ) (r : Transaction) (known : (0 < t) × (t ≤ length table)) (at : (k : ℕ) → t ≡ k + 1 → r ≡ get_or table k r) where
+    row_known : r ≡ row_of (done h) t
+    row_known =
+        let number : t ≡ suc (t - 1) = omega arith in
+        row_is (done h) table tie.rows (t - 1) r (omega arith) (at (t - 1) (omega arith)) ∙ ap (row_of (done h)) (sym number)
 
-  pub row_reads : (t k : ℕ) (r : Transaction) → t ≡ suc k → k < length table → r ≡ get_or table k r → is_query (done h) t ≡ true → r.reads ≡ all_reads_of (done h) t
-  row_reads t k r number l at query =
-      ap (λ (q : Transaction). q.reads) (row_is (done h) table tie.rows k r l at)
-      ∙ (ap (λ (n : ℕ). if is_query (done h) n then all_reads_of (done h) n else 0) (sym number) ∙ ap (λ (b : Bool). if b then all_reads_of (done h) t else 0) query)
+    pub row_query : r.query ≡ is_query (done h) t
+    row_query = ap (λ (q : Transaction). q.query) row_known
+
+    pub row_reads : is_query (done h) t ≡ true → r.reads ≡ all_reads_of (done h) t
+    row_reads query = ap (λ (q : Transaction). q.reads) row_known ∙ ap (λ (b : Bool). if b then all_reads_of (done h) t else 0) query
 
   inside : (x : ℕ) → x < length items → x < length h.opening
   inside x l = rw (← tie.count) l

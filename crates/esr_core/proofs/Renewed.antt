@@ -16,11 +16,6 @@ use Rattle.esr_core.specs.declared.state.Transaction.{Transaction}
 use Rattle.esr_core.specs.Tied.{IsTied, row_of, rows_of}
 use Rattle.esr_core.specs.Renewed.{committed_values, state_over, AreSerializableAsOne}
 
--- opening values, as a store has them
-pub opened_values : (vs : List ℤ) → map (λ (w : Versions). w.committed) (map opened vs) ≡ vs
-opened_values [] = refl
-opened_values (v ∷ vs) = ap (λ ws. v ∷ ws) (opened_values vs)
-
 -- the rows of active transactions
 active_in : (events : List Event) (ts : List ℕ) → list_any (λ (r : Transaction). r.active) (map (row_of events) ts) ≡ list_any (is_active events) ts
 active_in events [] = refl

@@ -1,23 +1,27 @@
 -- The table of transactions.
 use Rattle.std.proofs.Common.{◌≡◌, ℕ, zero, suc, ◌+◌, ◌<◌, ◌≤◌, List, [], ◌∷◌, ◌++◌, length, Bool, true, false, not, ◌&&◌, ◌==◌, refl, sym, ◌∙◌, ap, arith, Option, None, Some, if◌then◌else◌, map, get_or, set, add-zero}
-use Rattle.std.specs.Prelude.{is_some, slice_get, count_by, unwrap_or}
-use Rattle.std.specs.List.{range_with_len, list_any}
+use Rattle.std.specs.Prelude.{is_some, slice_get, unwrap_or}
+use Rattle.std.specs.List.{range_with_len}
 use Rattle.std.specs.Option.{option_map}
-use Rattle.std.proofs.lemmas.Bool.{false≢true, eq-eqb, ne_eqb, and_right, or_parts}
+use Rattle.std.proofs.lemmas.Bool.{false≢true, eq-eqb, ne_eqb, and_right}
 use Rattle.std.proofs.lemmas.Option.{slice_get_past}
 use Rattle.std.proofs.lemmas.List.FromFn.{length-map-range_with_len, get_or-map-range_with_len, map-range_with_len_more}
-use Rattle.std.proofs.lemmas.List.Sums.{sum_by_push, sum_by-cons}
+use Rattle.std.proofs.lemmas.List.Sums.{sum_by_push}
+use Rattle.std.proofs.lemmas.List.{length_push}
+use mathlib.Core.Bool.{and-true}
 use Rattle.esr_history.specs.declared.event.Event.{Event}
-use Rattle.esr_history.specs.declared.event.Event.TheVariants.{BeginUpdate, BeginQuery, Read, Write, Commit, Abort}
+use Rattle.esr_history.specs.declared.event.Event.TheVariants.{Read}
 use Rattle.esr_history.specs.declared.event.Refusal.TheVariants.{AlreadyEnded, NoSuchTransaction}
 use Rattle.esr_history.specs.Events.{Beginning, beginning_of, beginnings, numbers, commits, aborts, reads_any, is_active, is_begun, is_query, all_reads_of}
 use Rattle.esr_history.specs.Machine.{Schedule, done, when, first_reason, not_begun, ended}
 use Rattle.esr_history.specs.Orderly.{IsOrderly, names}
 use Rattle.esr_history.proofs.Lists.{any_push_no}
 use Rattle.esr_history.proofs.Ranges.{map_same, set_range}
+use Rattle.esr_history.proofs.Reaches.{count_none}
+use Rattle.esr_history.proofs.Orderly.{names_aborter}
 use Rattle.esr_core.specs.declared.state.Transaction.{Transaction}
 use Rattle.esr_core.specs.Tied.{row_of, rows_of}
-use Rattle.esr_core.proofs.Held.{active-kept, active-same, IsBegin, numbers-kept, query-kept, beginnings-begin, beginning-begin, beginning-new, not_named, commits_name, aborts_name}
+use Rattle.esr_core.proofs.Held.{active-kept, active-same, IsBegin, numbers-kept, query-kept, beginnings-begin, beginning-begin, beginning-new, not_named, commits_name}
 
 -- there is a row for each transaction
 pub rows_len : (done : List Event) (table : List Transaction) → table ≡ rows_of done → length table ≡ length (beginnings done)
@@ -56,19 +60,9 @@ row q a n = record { query = q; active = a; reads = if q then n else 0 }
 row_same : (p q a b : Bool) (m n : ℕ) → p ≡ q → a ≡ b → m ≡ n → row p a m ≡ row q b n
 row_same p q a b m n e f g = ap (λ (x : Bool). row x a m) e ∙ (ap (λ (x : Bool). row q x m) f ∙ ap (λ (x : ℕ). row q b x) g)
 
-count_none : (p : Event → Bool) (es : List Event) → list_any p es ≡ false → count_by p es ≡ 0
-count_none p [] none = refl
-count_none p (e ∷ es) none =
-    let parts : (p e ≡ false) × (list_any p es ≡ false) = or_parts (p e) (list_any p es) none in
-    sum_by-cons (λ f. if p f then 1 else 0) e es ∙ rw (parts.0, count_none p es parts.1) refl
-
 reads_any_name : (t : ℕ) (e : Event) → reads_any t e ≡ true → names t e ≡ true
 reads_any_name t (Read u y) is = is
-reads_any_name t (Write u y v) is = absurd (false≢true is)
-reads_any_name t (BeginUpdate l) is = absurd (false≢true is)
-reads_any_name t (BeginQuery l s) is = absurd (false≢true is)
-reads_any_name t (Commit u) is = absurd (false≢true is)
-reads_any_name t (Abort u) is = absurd (false≢true is)
+reads_any_name t _ is = absurd (false≢true is)
 
 -- the table after a begin
 pub rows-begin : (done : List Event) → IsOrderly done → (e : Event) (b : Beginning) → IsBegin e b → (table : List Transaction) → table ≡ rows_of done
@@ -81,11 +75,7 @@ rows-begin done o e b is table was =
     ∙ ap (λ n. map (row_of (done ++ e ∷ [])) (range_with_len 1 n)) (sym (longer)))))
   where
     longer : length (beginnings (done ++ e ∷ [])) ≡ length (beginnings done) + 1
-    longer = ap length (beginnings-begin done e b is) ∙ len (beginnings done)
-      where
-        len : (xs : List Beginning) → length (xs ++ b ∷ []) ≡ length xs + 1
-        len [] = refl
-        len (x ∷ xs) = let l : length (xs ++ b ∷ []) ≡ length xs + 1 = len xs in omega arith
+    longer = ap length (beginnings-begin done e b is) ∙ length_push (beginnings done) b
 
     no_more : (t : ℕ) → all_reads_of (done ++ e ∷ []) t ≡ all_reads_of done t
     no_more t = sum_by_push (λ f. if reads_any t f then 1 else 0) done e ∙ rw (is.reads_any_none t) (omega arith)
@@ -101,7 +91,7 @@ rows-begin done o e b is table was =
         let n = suc (length (beginnings done)) in
         let no_reads : all_reads_of (done ++ e ∷ []) n ≡ 0 = no_more n ∙ count_none (reads_any n) done (not_named done o (reads_any n) (reads_any_name n)) in
         let query : is_query (done ++ e ∷ []) n ≡ b.query = ap (λ (w : Option Beginning). unwrap_or (option_map (λ (c : Beginning). c.query) w) false) (beginning-new done e b is) in
-        let active : is_active (done ++ e ∷ []) n ≡ true = rw (beginning-new done e b is, any_push_no (commits n) done e (is.commits_none n), any_push_no (aborts n) done e (is.aborts_none n), not_named done o (commits n) (commits_name n), not_named done o (aborts n) (aborts_name n)) refl in
+        let active : is_active (done ++ e ∷ []) n ≡ true = rw (beginning-new done e b is, any_push_no (commits n) done e (is.commits_none n), any_push_no (aborts n) done e (is.aborts_none n), not_named done o (commits n) (commits_name n), not_named done o (aborts n) (names_aborter n)) refl in
         either b.query ∙ row_same b.query (is_query (done ++ e ∷ []) n) true (is_active (done ++ e ∷ []) n) 0 (all_reads_of (done ++ e ∷ []) n) (sym query) (sym active) (sym no_reads)
       where
         either : (q : Bool) → ◌≡◌ {A = Transaction} (record { query = q; active = true; reads = 0 }) (row q true 0)
@@ -174,9 +164,5 @@ module _ (done : List Event) (e : Event) (none : beginning_of e ≡ None) where
 
       other : (t : ℕ) → (t ≡ 1 + k → ⊥) → row_of (done ++ e ∷ []) t ≡ row_of done t
       other t ne =
-          after t (is_active done t) (ends t ∙ (ap (λ (b : Bool). is_active done t && not b) (ne_eqb (suc k) t (λ (f : suc k ≡ t). ne (omega arith))) ∙ and_true (is_active done t)))
+          after t (is_active done t) (ends t ∙ (ap (λ (b : Bool). is_active done t && not b) (ne_eqb (suc k) t (λ (f : suc k ≡ t). ne (omega arith))) ∙ and-true (is_active done t)))
           ∙ ap (λ (m : ℕ). row (is_query done t) (is_active done t) m) (count t)
-        where
-          and_true : (b : Bool) → (b && true) ≡ b
-          and_true true = refl
-          and_true false = refl

@@ -20,9 +20,8 @@ use Rattle.esr_drive.specs.Sheets as sheets
 use Rattle.esr_drive.proofs.Placing.{places_kept, places_more, places_opened, resolved_none, resolved_more}
 
 onto-current : (done : List (List Command)) (cur : List Command) (c : Command) → onto_last c (done ++ cur ∷ []) ≡ done ++ (cur ++ c ∷ []) ∷ []
-onto-current [] cur c = refl
-onto-current (b ∷ []) cur c = refl
 onto-current (b ∷ next ∷ done) cur c = ap (λ l. b ∷ l) (onto-current (next ∷ done) cur c)
+onto-current _ cur c = refl
 
 some_blocks : (done : List (List Command)) (cur : List Command) → nat_eq (length (done ++ cur ∷ [])) 0 ≡ false
 some_blocks done cur = let n = length-append done (cur ∷ []) in grind (arith, nat_tests, n)

@@ -1,10 +1,12 @@
 -- Calls of a block, one after another.
-use Rattle.std.proofs.Common.{◌≡◌, ℕ, ℤ, zero, suc, ◌+◌, ◌<◌, Bool, true, false, cond, List, [], ◌∷◌, ◌++◌, length, length-append, take, get_or, Option, Some, None, unwrap_or, refl, ap, ap₂, sym, subst, ◌∙◌, arith, ltb-true, ◌⊎◌, inl, inr, one-add, append_assoc}
+use Rattle.std.proofs.Common.{◌≡◌, ℕ, ℤ, zero, suc, ◌+◌, ◌<◌, Bool, true, List, [], ◌∷◌, ◌++◌, length, length-append, take, get_or, Option, Some, None, unwrap_or, refl, ap, ap₂, sym, subst, ◌∙◌, arith, ltb-true, inl, inr, one-add, append_assoc}
 use Rattle.std.specs.Prelude.{slice_get}
 use Rattle.std.specs.List.{position, position_or_len}
 use Rattle.std.specs.Option.{option_and_then}
-use Rattle.std.proofs.lemmas.List.{take_more}
+use Rattle.std.proofs.lemmas.List.{take_more, get_or_default}
 use Rattle.std.proofs.lemmas.List.Elements.{All-push}
+use Rattle.std.proofs.lemmas.Bool.{cases_Bool}
+use Rattle.std.proofs.lemmas.Option.{cond_some}
 use Rattle.esr_history.specs.declared.event.Event.{Event}
 use Rattle.esr_history.specs.declared.event.Event.TheVariants as event
 use Rattle.esr_history.specs.declared.event.Reply.{Reply}
@@ -61,15 +63,11 @@ length-answers [] replies e = refl
 length-answers (c ∷ calls) [] e = absurd (omega (arith, e))
 length-answers (c ∷ calls) (r ∷ replies) e = ap suc (length-answers calls replies (omega (arith, e)))
 
-which : (v : Bool) → (v ≡ true) ⊎ (v ≡ false)
-which true = inl refl
-which false = inr refl
-
 place-answers : (name : List ℕ) (calls : List Call) (replies : List Reply) → length calls ≡ length replies
     → position_or_len (λ a. begins name a.command) (answers_of calls replies) ≡ position_or_len (λ c. begins name (command_of c)) calls
 place-answers name [] replies e = refl
 place-answers name (c ∷ calls) [] e = absurd (omega (arith, e))
-place-answers name (c ∷ calls) (r ∷ replies) e = elim (which (begins name (command_of c))) [
+place-answers name (c ∷ calls) (r ∷ replies) e = elim (cases_Bool (begins name (command_of c))) [
   | inl t ↦ rw t refl
   | inr f ↦
       let left : position_or_len (λ a. begins name a.command) (answers_of (c ∷ calls) (r ∷ replies)) ≡ suc (position_or_len (λ a. begins name a.command) (answers_of calls replies)) = rw (f, one-add) refl in
@@ -109,30 +107,19 @@ number_same calls replies name begin e is =
 -- the event of a call is the one that the file says
 pub event_resolved : (names : List (List ℕ)) (calls : List Call) (replies : List Reply) (c : Call) → length calls ≡ length replies → IsResolved names calls c
     → event_of names (answers_of calls replies) (command_of c) ≡ Some (event_by replies c)
-event_resolved names calls replies (call.BeginUpdate name limit) e is = refl
-event_resolved names calls replies (call.BeginQuery name limit) e is = refl
-event_resolved names calls replies (call.BeginStrictQuery name limit) e is = refl
 event_resolved names calls replies (call.Read txn x) e is =
     ap₂ (λ t i. Some (event.Read t i)) (number_same calls replies txn.name.now txn.begin e is.0) (sym is.1)
 event_resolved names calls replies (call.Write txn x value) e is =
     ap₂ (λ t i. Some (event.Write t i value)) (number_same calls replies txn.name.now txn.begin e is.0) (sym is.1)
 event_resolved names calls replies (call.Commit txn) e is = ap (λ t. Some (event.Commit t)) (number_same calls replies txn.name.now txn.begin e is)
 event_resolved names calls replies (call.Abort txn) e is = ap (λ t. Some (event.Abort t)) (number_same calls replies txn.name.now txn.begin e is)
-
-chosen_some : (v : Bool) (n m : ℕ) → cond v (Some n) None ≡ Some m → (v ≡ true) × (n ≡ m)
-chosen_some true n m e = (refl, cc)
-chosen_some false n m e = cc
+event_resolved names calls replies _ e is = refl
 
 pub position_within : {X : Type 0} (p : X → Bool) (xs : List X) (place : ℕ) → position p xs ≡ Some place → place < length xs
 position_within p xs place e =
-    let found = chosen_some _ _ _ e in
+    let found = cond_some _ _ _ e in
     let lt : position_or_len p xs < length xs = ltb-true _ _ found.0 in
     omega (arith, lt, found.1)
-
-pub same_at : {X : Type 0} (xs : List X) (i : ℕ) (d e : X) → i < length xs → get_or xs i d ≡ get_or xs i e
-same_at [] i d e lt = absurd (omega (arith, lt))
-same_at (x ∷ xs) zero d e lt = refl
-same_at (x ∷ xs) (suc i) d e lt = same_at xs i d e (omega (arith, lt))
 
 -- one more call with its receipts
 pub block_more : (names : List (List ℕ)) (d : Distance) (o : List ℤ) (w : List ℕ) (calls : List Call) (replies seen : List Reply) (i : ℕ) (x : Call) (e : Event) (r : Receipt) (old new blocked : List Receipt)
@@ -147,6 +134,6 @@ block_more names d o w calls replies seen i x e r old new blocked same lt len re
     let makes_it : event_of names earlier (command_of c) ≡ Some e =
     event_resolved names (take i calls) replies c taken (resolved i x lt) ∙ ap Some (sym (makes ∙ ap (λ l. event_by l c) same)) in
     let on = more earlier old (command_of c) e r.reply (blocked ++ r ∷ []) runs makes_it (run_of d o w e r blocked all is few patient) in
-    let answers = answers_more calls replies i c r.reply lt len (same_at calls i x c lt) in
+    let answers = answers_more calls replies i c r.reply lt len (get_or_default calls i x c lt) in
     subst (λ (l : List Receipt). AreRuns names (answers_of (take (i + 1) calls) (replies ++ r.reply ∷ [])) l) (sym (grown ∙ append_assoc old blocked (r ∷ [])))
     (subst (λ (l : List Answered). AreRuns names l (old ++ (blocked ++ r ∷ []))) (sym answers) on)

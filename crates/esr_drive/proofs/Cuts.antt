@@ -1,8 +1,10 @@
 -- What the first line feed says of the lines, and what the lines say of the reading.
-use Rattle.std.proofs.Common.{◌≡◌, ℕ, ◌+◌, ◌-◌, ◌<◌, ◌≤◌, List, [], ◌∷◌, ◌++◌, Bool, true, false, cond, length, take, drop, refl, sym, ◌∙◌, ap, subst, arith, inl, inr, Result, Ok, Err, nat_eq, Some, None, ltb-true, length-drop, length-take, length-append}
+use Rattle.std.proofs.Common.{◌≡◌, ℕ, ◌+◌, ◌-◌, ◌<◌, ◌≤◌, List, [], ◌∷◌, ◌++◌, Bool, true, false, length, take, drop, refl, sym, ◌∙◌, ap, subst, arith, inl, inr, Result, Ok, Err, nat_eq, Some, None, ltb-true, length-drop, length-take, length-append}
 use Rattle.std.proofs.Math.Seq.{take-length}
 use Rattle.std.proofs.lemmas.List.{drop-append-le, drop-drop, append-nil, append_assoc}
 use Rattle.std.proofs.lemmas.Bool.Decides.{nat_tests}
+use Rattle.std.proofs.lemmas.Option.{cond_some}
+use Rattle.std.proofs.lemmas.Bool.{cases_Bool}
 use Rattle.std.specs.Prelude.{nat_lt, IfSome, Option, if◌then◌else◌}
 use Rattle.std.specs.Io.KnownBytes.{Consumes}
 use Rattle.esr_drive.specs.Plan.{cut_fault, plan_of, plan_from, nothing}
@@ -11,15 +13,12 @@ use Rattle.esr_drive.specs.declared.fault.DriveFault.{DriveFault}
 use Rattle.esr_drive.specs.declared.fault.DriveFault.TheVariants as fault
 use Rattle.esr_drive.specs.declared.fault.DriveFault.TheVariants.{TooManyLines, LineTooLong}
 use Rattle.std.specs.List.{position}
+use Rattle.esr_history.proofs.Ascending.{le_ltb, lt_ltb}
 use Rattle.esr_script.specs.Lines.{lines}
 use Rattle.esr_script.specs.Parts.{line_len}
-use Rattle.esr_script.proofs.Cutting.{Begins, begins, which, front, behind_front, split-front, plain-front, lines-line, lines-last}
+use Rattle.esr_script.proofs.Cutting.{Begins, begins, front, behind_front, split-front, plain-front, lines-line, lines-last}
 use Rattle.esr_script.proofs.Prefix.{none_is_length}
 use Rattle.esr_drive.proofs.Calling.{position_within}
-
-chosen_some : (v : Bool) (n m : ℕ) → cond v (Some n) None ≡ Some m → (v ≡ true) × (n ≡ m)
-chosen_some true n m e = (refl, cc)
-chosen_some false n m e = cc
 
 pub no_feed : (bytes : List ℕ) → position (λ b. nat_eq b 10) bytes ≡ None → 0 < length bytes → lines bytes ≡ bytes ∷ []
 no_feed bytes e some = lines-last bytes (sym (none_is_length bytes e)) some
@@ -27,7 +26,7 @@ no_feed bytes e some = lines-last bytes (sym (none_is_length bytes e)) some
 pub at_feed : (bytes : List ℕ) (place : ℕ) → position (λ b. nat_eq b 10) bytes ≡ Some place
     → (lines bytes ≡ take place bytes ∷ lines (take (length bytes - (place + 1)) (drop (place + 1) bytes)))
 at_feed bytes place e =
-    let found = chosen_some _ _ _ e in
+    let found = cond_some _ _ _ e in
     let within : line_len bytes < length bytes = ltb-true _ _ found.0 in
     let all : take (length bytes - (place + 1)) (drop (place + 1) bytes) ≡ drop (place + 1) bytes =
     ap (λ n. take n (drop (place + 1) bytes)) (sym (length-drop (place + 1) bytes)) ∙ take-length (drop (place + 1) bytes) in
@@ -40,17 +39,11 @@ at_feed bytes place e =
 is_not : (a b : ℕ) → (a ≡ b → ⊥) → nat_eq a b ≡ false
 is_not a b h = grind (arith, nat_tests)
 
-not_above : (a b : ℕ) → b ≤ a → nat_lt a b ≡ false
-not_above a b h = grind (arith, nat_tests)
-
-above : (a b : ℕ) → a < b → nat_lt a b ≡ true
-above a b h = grind (arith, nat_tests)
-
 -- a line that may be read
 pub cut_more : (count : ℕ) (ls more : List (List ℕ)) (line : List ℕ) → ls ≡ line ∷ more → (count ≡ 2000000 → ⊥) → length line ≤ 200
     → cut_fault count ls ≡ cut_fault (count + 1) more
 cut_more count ls more line is few short =
-    ap (cut_fault count) is ∙ rw (is_not count 2000000 few, not_above 200 (length line) short) refl
+    ap (cut_fault count) is ∙ rw (is_not count 2000000 few, le_ltb 200 (length line) short) refl
 
 -- a line too many
 pub cut_many : (count : ℕ) (ls more : List (List ℕ)) (line : List ℕ) → ls ≡ line ∷ more → count ≡ 2000000 → cut_fault count ls ≡ Some TooManyLines
@@ -59,7 +52,7 @@ cut_many count ls more line is all = ap (λ n. cut_fault n ls) all ∙ ap (cut_f
 -- a line that is too long
 pub cut_long : (count : ℕ) (ls more : List (List ℕ)) (line : List ℕ) → ls ≡ line ∷ more → (count ≡ 2000000 → ⊥) → 200 < length line → cut_fault count ls ≡ Some LineTooLong
 cut_long count ls more line is few long =
-    ap (cut_fault count) is ∙ rw (is_not count 2000000 few, above 200 (length line) long) refl
+    ap (cut_fault count) is ∙ rw (is_not count 2000000 few, lt_ltb 200 (length line) long) refl
 
 pub some : (n : ℕ) → nat_eq n 0 ≡ false → 0 < n
 some n h = grind (arith, nat_tests)
@@ -90,7 +83,7 @@ pub mark_line : (bytes : List ℕ) (start count len : ℕ) → At bytes start co
     → (count ≡ 2000000 → ⊥) → len ≤ 200 → At bytes (start + len + 1) (count + 1)
 mark_line bytes start count len at found few short rest =
     let tail = drop start bytes in
-    let is = chosen_some _ _ _ found in
+    let is = cond_some _ _ _ found in
     let within : line_len tail < length tail = ltb-true _ _ is.0 in
     let size : length (front tail) ≤ 200 = omega (arith, length-take (line_len tail) tail, short, is.1) in
     let cut : lines (tail ++ rest) ≡ front tail ∷ lines (behind_front tail ++ rest) =
@@ -133,9 +126,9 @@ whole_fine bytes start count at fine =
 -- no line too many
 pub few_lines : (count : ℕ) (ls : List (List ℕ)) → count ≤ 2000000 → cut_fault count ls ≡ None → count + length ls ≤ 2000000
 few_lines count [] le none = omega (arith, le)
-few_lines count (l ∷ ls) le none = elim (which (nat_eq count 2000000)) [
+few_lines count (l ∷ ls) le none = elim (cases_Bool (nat_eq count 2000000)) [
   | inl t ↦ let many : cut_fault count (l ∷ ls) ≡ Some TooManyLines = rw t refl in let both : Some TooManyLines ≡ None = sym many ∙ none in cc
-  | inr f ↦ elim (which (nat_lt 200 (length l))) [
+  | inr f ↦ elim (cases_Bool (nat_lt 200 (length l))) [
     | inl t ↦ let long : cut_fault count (l ∷ ls) ≡ Some LineTooLong = rw (f, t) refl in let both : Some LineTooLong ≡ None = sym long ∙ none in cc
     | inr g ↦
         let on : cut_fault count (l ∷ ls) ≡ cut_fault (count + 1) ls = rw (f, g) refl in
@@ -170,7 +163,7 @@ pub line_fault : (bytes : List ℕ) (start count len : ℕ) (e : DriveFault) →
     → (rest : List ℕ) → cut_fault 0 (lines (bytes ++ rest)) ≡ Some e
 line_fault bytes start count len e at is bad =
     let found = found_in bytes start (Some len) is in
-    let place = chosen_some _ _ _ found in
+    let place = cond_some _ _ _ found in
     let within = position_within (λ b. nat_eq b 10) (drop start bytes) len found in
     mark_fault bytes start count len e at (omega (arith, within)) (sym place.1) bad
 
@@ -202,14 +195,9 @@ begun_fine bytes start count is few short = last_fine (drop start bytes) count (
 -- ---- the faults of reading
 
 abbrev IsCut : DriveFault → Type 0
-IsCut fault.Read = ⊥
-IsCut fault.Write = ⊥
 IsCut fault.LineTooLong = Unit {0}
-IsCut fault.NoMemory = ⊥
-IsCut fault.HistoryFull = ⊥
 IsCut fault.TooManyLines = Unit {0}
-IsCut (fault.BadScript line error) = ⊥
-IsCut fault.Close = ⊥
+IsCut _ = ⊥
 
 abbrev IsNoneOrCut : Option DriveFault → Type 0
 IsNoneOrCut None = Unit {0}
@@ -228,14 +216,9 @@ is_cut : (bytes : List ℕ) (e : DriveFault) → cut_fault 0 (lines bytes) ≡ S
 is_cut bytes e is = subst (λ (o : Option DriveFault). IsNoneOrCut o) is (all_cut 0 (lines bytes))
 
 by_fault : (known : Option (List ℕ)) (e : DriveFault) → IsCut e → IfSome known (λ input. plan_of input ≡ Err e) → IsReadFault known e
-by_fault known fault.Read c p = absurd c
-by_fault known fault.Write c p = absurd c
 by_fault known fault.LineTooLong c p = p
-by_fault known fault.NoMemory c p = absurd c
-by_fault known fault.HistoryFull c p = absurd c
 by_fault known fault.TooManyLines c p = p
-by_fault known (fault.BadScript line error) c p = absurd c
-by_fault known fault.Close c p = absurd c
+by_fault known _ c p = absurd c
 
 planned : (known left : Option (List ℕ)) (bytes : List ℕ) (e : DriveFault) → Consumes known left bytes → ((rest : List ℕ) → cut_fault 0 (lines (bytes ++ rest)) ≡ Some e)
     → IfSome known (λ input. plan_of input ≡ Err e)

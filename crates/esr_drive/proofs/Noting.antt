@@ -1,5 +1,5 @@
 -- The table of the names that transactions began by.
-use Rattle.std.proofs.Common.{Bor, ◌≡◌, ◌≢◌, ℕ, zero, suc, ◌+◌, ◌-◌, ◌<◌, ◌≤◌, List, [], ◌∷◌, ◌++◌, Bool, true, false, not, cond, length, take, drop, map, get_or, Option, Some, None, unwrap_or, refl, ap, sym, ◌∙◌, arith, nat_eq, if◌then◌else◌}
+use Rattle.std.proofs.Common.{Bor, ◌≡◌, ◌≢◌, ℕ, zero, suc, ◌+◌, ◌-◌, ◌<◌, ◌≤◌, List, [], ◌∷◌, ◌++◌, Bool, true, false, not, cond, length, take, drop, map, get_or, Option, Some, None, unwrap_or, refl, ap, sym, ◌∙◌, arith, nat_eq, if◌then◌else◌, add-one}
 use Rattle.std.specs.Prelude.{slice_set, slice_get, replicate, Vec}
 use Rattle.std.specs.declared.alloc.Global.{Global}
 use Rattle.std.specs.List.{flat_map, filter, filter_map, find, range_with_len}
@@ -175,10 +175,7 @@ note_is names place number x o name is on same =
     map-set (λ (n : Bor (List ℕ)). n.now) names place x
     ∙ (ap (slice_set (map (λ (n : Bor (List ℕ)). n.now) names) place) same
     ∙ (sym (set_at place name (map (λ (n : Bor (List ℕ)). n.now) names))
-    ∙ ap (λ o. with_number o name (map (λ (n : Bor (List ℕ)). n.now) names)) (sym (is ∙ ap Some (on ∙ one_up place)))))
-  where
-    one_up : (n : ℕ) → n + 1 ≡ suc n
-    one_up n = omega arith
+    ∙ ap (λ o. with_number o name (map (λ (n : Bor (List ℕ)). n.now) names)) (sym (is ∙ ap Some (on ∙ add-one place)))))
 
 pub unwrap_now : (o : Option (Bor (List ℕ))) (d r : Bor (List ℕ)) (new : Option (List ℕ)) → option_map (λ (n : Bor (List ℕ)). n.now) o ≡ new → r ≡ unwrap_or o d → d.now ≡ []
     → r.now ≡ unwrap_or new []

@@ -1,12 +1,15 @@
 -- Where the begins of a block stand, and what its calls name, after one more call.
-use Rattle.std.proofs.Common.{◌≡◌, ℕ, zero, suc, ◌+◌, ◌<◌, ◌≤◌, ◌⊎◌, inl, inr, List, [], ◌∷◌, ◌++◌, Bool, true, false, cond, nat_lt, length, take, get_or, Option, Some, None, refl, ap, sym, subst, ◌∙◌, arith, ltb-true, ltb-false, one-add, if◌then◌else◌}
+use Rattle.std.proofs.Common.{◌≡◌, ℕ, zero, suc, ◌+◌, ◌<◌, ◌≤◌, inl, inr, List, [], ◌∷◌, ◌++◌, Bool, true, false, cond, nat_lt, length, take, get_or, Option, Some, None, refl, ap, sym, subst, ◌∙◌, arith, ltb-true, ltb-false, one-add, if◌then◌else◌}
 use Rattle.std.specs.Prelude.{slice_get}
 use Rattle.std.specs.List.{position, position_or_len}
 use Rattle.std.specs.Option.{option_map}
 use Rattle.std.specs.Str.{bytes_eq}
 use Rattle.std.proofs.lemmas.Bool.Decides.{nat_tests}
-use Rattle.std.proofs.lemmas.List.{take-append-le, take_all, get_or_append_left, get_or_at}
+use Rattle.std.proofs.lemmas.List.{take-append-le, take_all, get_or_append_left, get_or_at, length_push}
 use Rattle.std.proofs.lemmas.Slice.Eq.{bytes_eq-Decides}
+use Rattle.std.proofs.lemmas.Bool.{cases_Bool}
+use Rattle.std.proofs.lemmas.Option.{cond_some}
+use Rattle.esr_history.proofs.Ascending.{le_ltb, lt_ltb}
 use Rattle.esr_report.specs.Names.{position_of}
 use Rattle.esr_drive.specs.declared.call.Call.{Call}
 use Rattle.esr_drive.specs.Plan.{new_name}
@@ -14,14 +17,10 @@ use Rattle.esr_drive.specs.Blocks.{begins}
 use Rattle.esr_drive.specs.Calls.{command_of, place_of, IsResolved, AreResolved}
 use Rattle.esr_drive.specs.Drafts.{place_since, ArePlaces}
 
-which : (v : Bool) → (v ≡ true) ⊎ (v ≡ false)
-which true = inl refl
-which false = inr refl
-
 -- ---- the first place that passes a test
 
 one_more : (n m : ℕ) → nat_lt (1 + n) (1 + m) ≡ nat_lt n m
-one_more n m = elim (which (nat_lt n m)) [
+one_more n m = elim (cases_Bool (nat_lt n m)) [
   | inl t ↦ grind (arith, nat_tests)
   | inr f ↦ grind (arith, nat_tests)
 ]
@@ -57,11 +56,11 @@ module _ {X : Type 0} (p : X → Bool) where
       ∙ (ap (λ b. cond b (Some (1 + position_or_len p xs)) None) (one_more (position_or_len p xs) (length xs)) ∙ up (nat_lt (position_or_len p xs) (length xs)) (position_or_len p xs)))
 
   pub position_push : (xs : List X) (y : X) → position p (xs ++ y ∷ []) ≡ or_last (position p xs) (p y) (length xs)
-  position_push [] y = elim (which (p y)) [
+  position_push [] y = elim (cases_Bool (p y)) [
     | inl t ↦ at_head y [] t ∙ sym (ap (λ b. cond b (Some 0) None) t)
     | inr f ↦ at_tail y [] f ∙ sym (ap (λ b. cond b (Some 0) None) f)
   ]
-  position_push (x ∷ xs) y = elim (which (p x)) [
+  position_push (x ∷ xs) y = elim (cases_Bool (p x)) [
     | inl t ↦ at_head x (xs ++ y ∷ []) t ∙ ap (λ o. or_last o (p y) (length (x ∷ xs))) (sym (at_head x xs t))
     | inr f ↦
         at_tail x (xs ++ y ∷ []) f
@@ -97,28 +96,18 @@ get_last [] x (suc k) is = absurd (omega (arith, is))
 get_last (y ∷ places) x zero is = absurd (omega (arith, is))
 get_last (y ∷ places) x (suc k) is = get_last places x k (omega (arith, is))
 
-chosen_some : (v : Bool) (n m : ℕ) → cond v (Some n) None ≡ Some m → (v ≡ true) × (n ≡ m)
-chosen_some true n m e = (refl, cc)
-chosen_some false n m e = cc
-
 within : (begun : List (List ℕ)) (name : List ℕ) (k : ℕ) → position_of begun name ≡ Some k → k < length begun
 within begun name k is =
-    let found = chosen_some _ _ _ is in
+    let found = cond_some _ _ _ is in
     let lt : position_or_len (bytes_eq name) begun < length begun = ltb-true _ _ found.0 in
     omega (arith, lt, found.1)
 
 -- a name that has a number is not the new one
 other_name : (begun : List (List ℕ)) (n name : List ℕ) (k : ℕ) → position_of begun n ≡ Some k → position_of begun name ≡ None → bytes_eq n name ≡ false
-other_name begun n name k at free = elim (which (bytes_eq n name)) [
+other_name begun n name k at free = elim (cases_Bool (bytes_eq n name)) [
   | inl t ↦ let same : n ≡ name = (bytes_eq-Decides n name).0 t in let both : Some k ≡ None = sym at ∙ (ap (position_of begun) same ∙ free) in cc
   | inr f ↦ f
 ]
-
-late : (n m : ℕ) → m ≤ n → nat_lt n m ≡ false
-late n m le = grind (arith, nat_tests)
-
-early : (n m : ℕ) → n < m → nat_lt n m ≡ true
-early n m lt = grind (arith, nat_tests)
 
 -- a call that begins a transaction
 module _ (calls : List Call) (call : Call) (since : ℕ) (places : List ℕ) (begun : List (List ℕ)) (name : List ℕ) (are : ArePlaces calls since places begun) (every : length places ≡ length begun) (low : since ≤ length begun) (named : new_name (command_of call) ≡ Some name) (free : position_of begun name ≡ None) where
@@ -135,7 +124,7 @@ module _ (calls : List Call) (call : Call) (since : ℕ) (places : List ℕ) (be
       ap (λ o. or_last o (bytes_eq n name) (length calls)) none ∙ fresh (bytes_eq n name)
     where
       fresh : (b : Bool) → cond b (Some (length calls)) None ≡ place_since since grown (cond b (Some (length begun)) None)
-      fresh true = sym (ap (λ b. if b then None else slice_get grown (length begun)) (late (length begun) since low) ∙ get_last places (length calls) (length begun) (sym every))
+      fresh true = sym (ap (λ b. if b then None else slice_get grown (length begun)) (le_ltb (length begun) since low) ∙ get_last places (length calls) (length begun) (sym every))
       fresh false = refl
 
   pub places_more : ArePlaces (calls ++ call ∷ []) since grown (begun ++ name ∷ [])
@@ -151,7 +140,7 @@ places_opened places begun since is name = sym (at (position_of begun name) refl
   where
     at : (o : Option ℕ) → position_of begun name ≡ o → place_since since places o ≡ None
     at None found = refl
-    at (Some k) found = ap (λ b. if b then None else slice_get places k) (early k since (omega (arith, is, within begun name k found)))
+    at (Some k) found = ap (λ b. if b then None else slice_get places k) (lt_ltb k since (omega (arith, is, within begun name k found)))
 
 -- ---- what the calls of a block name
 
@@ -160,19 +149,15 @@ resolved_none names i c lt = absurd (omega (arith, lt))
 
 -- one more call
 pub resolved_more : (names : List (List ℕ)) (calls : List Call) (call : Call) → AreResolved names calls → IsResolved names calls call → AreResolved names (calls ++ call ∷ [])
-resolved_more names calls call are is i c lt = elim (which (nat_lt i (length calls))) [
+resolved_more names calls call are is i c lt = elim (cases_Bool (nat_lt i (length calls))) [
   | inl t ↦
       let below : i < length calls = ltb-true _ _ t in
       subst (λ (l : List Call). IsResolved names l (get_or (calls ++ call ∷ []) i c)) (sym (take-append-le i calls (call ∷ []) (omega (arith, below))))
       (subst (λ (x : Call). IsResolved names (take i calls) x) (sym (get_or_append_left calls (call ∷ []) c i below)) (are i c below))
   | inr f ↦
-      let len : length (calls ++ call ∷ []) ≡ length calls + 1 = snoc calls in
+      let len : length (calls ++ call ∷ []) ≡ length calls + 1 = length_push calls call in
       let above : length calls ≤ i = ltb-false _ _ f in
       let at : length calls ≡ i = omega (arith, lt, len, above) in
       subst (λ (l : List Call). IsResolved names l (get_or (calls ++ call ∷ []) i c)) (sym (take-append-le i calls (call ∷ []) (omega (arith, at)) ∙ take_all i calls (omega (arith, at))))
       (subst (λ (x : Call). IsResolved names calls x) (sym (get_or_at calls call [] c i at)) is)
 ]
-  where
-    snoc : (cs : List Call) → length (cs ++ call ∷ []) ≡ length cs + 1
-    snoc [] = refl
-    snoc (x ∷ cs) = let rest = snoc cs in omega (arith, rest)

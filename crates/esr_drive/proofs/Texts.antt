@@ -1,6 +1,7 @@
 -- From the parts of a drive to its text.
-use Rattle.std.proofs.Common.{◌≡◌, ℕ, ℤ, zero, suc, All, arith, ◌+◌, Bool, true, false, ◌⊎◌, inl, inr, List, [], ◌∷◌, ◌++◌, length, map, Option, Some, None, Result, Ok, Err, Vec, Global, refl, ap, sym, subst, ◌∙◌, nat_eq, if◌then◌else◌}
+use Rattle.std.proofs.Common.{◌≡◌, ℕ, ℤ, zero, suc, All, arith, ◌+◌, Bool, true, false, ◌⊎◌, inl, inr, List, [], ◌∷◌, ◌++◌, length, map, Option, Some, None, Result, Ok, Err, Vec, Global, ap, sym, subst, ◌∙◌, nat_eq, if◌then◌else◌}
 use Rattle.std.specs.Prelude.{nat_lt}
+use mathlib.Core.List.{map-map}
 use Rattle.esr_items.specs.declared.store.Versions.{Versions}
 use Rattle.esr_history.specs.declared.event.Reply.{Reply}
 use Rattle.esr_history.specs.Machine.{Schedule}
@@ -17,10 +18,6 @@ use Rattle.esr_drive.specs.Sheets.{plan_in, IsSound}
 use Rattle.esr_drive.specs.Driven.{IsDriven, all_answers}
 use Rattle.esr_drive.specs.Drive.{IsDriveText, text_of}
 use Rattle.esr_drive.specs.Faults.{IsTextFault, is_engine_fault}
-
-map_twice : {X Y Z : Type 0} (f : Y → Z) (g : X → Y) (xs : List X) → map f (map g xs) ≡ map (λ x. f (g x)) xs
-map_twice f g [] = refl
-map_twice f g (x ∷ xs) = ap (λ l. f (g x) ∷ l) (map_twice f g xs)
 
 -- the machine's first history
 pub opened_as : (items : List Versions) (metric : List ℕ) (h : Schedule) → h.opening ≡ map (λ (w : Versions). w.committed) items → h.weights ≡ metric
@@ -50,7 +47,7 @@ drive_text bytes s h replies out planned sound d text = record {
     legal = d.legal;
     opening = d.opening_is;
     weights = d.weights_are;
-    commands = d.commands ∙ map_twice (map command_of) (λ (b : Vec Call Global). b.items) s.blocks.items;
+    commands = d.commands ∙ map-map (map command_of) (λ (b : Vec Call Global). b.items) s.blocks.items;
     runs = d.runs s.names (all_items (AreResolved s.names) s.blocks.items sound.resolved);
     matching = d.matching;
     text_is = text;
@@ -60,14 +57,10 @@ drive_text bytes s h replies out planned sound d text = record {
 -- ---- which faults a plan has
 
 abbrev IsPlanFault : DriveFault → Type 0
-IsPlanFault fault.Read = ⊥
-IsPlanFault fault.Write = ⊥
 IsPlanFault fault.LineTooLong = Unit {0}
-IsPlanFault fault.NoMemory = ⊥
-IsPlanFault fault.HistoryFull = ⊥
 IsPlanFault fault.TooManyLines = Unit {0}
 IsPlanFault (fault.BadScript line error) = Unit {0}
-IsPlanFault fault.Close = ⊥
+IsPlanFault _ = ⊥
 
 abbrev IsFine : {X : Type 0} → Result X DriveFault → Type 0
 IsFine (Ok p) = Unit {0}
@@ -104,12 +97,10 @@ plan_fine bytes = at (cut_fault 0 (lines bytes)) (cut_fine 0 (lines bytes))
 fault_is : (bytes : List ℕ) (e : DriveFault) → IsPlanFault e → plan_of bytes ≡ Err e → IsTextFault bytes e
 fault_is bytes fault.Read p is = p
 fault_is bytes fault.Write p is = p
-fault_is bytes fault.LineTooLong p is = is
 fault_is bytes fault.NoMemory p is = tt
 fault_is bytes fault.HistoryFull p is = absurd p
-fault_is bytes fault.TooManyLines p is = is
-fault_is bytes (fault.BadScript line error) p is = is
 fault_is bytes fault.Close p is = absurd p
+fault_is bytes _ p is = is
 
 pub text_fault : (bytes : List ℕ) (e : DriveFault) → (e ≡ fault.NoMemory) ⊎ (plan_of bytes ≡ Err e) → IsTextFault bytes e
 text_fault bytes e (inl is) = subst (λ (f : DriveFault). IsTextFault bytes f) (sym is) tt
@@ -117,14 +108,10 @@ text_fault bytes e (inr is) = fault_is bytes e (subst (λ (r : Result Plan Drive
 
 -- a fault of the engine, where the file has a plan
 pub engine_fault : (bytes : List ℕ) (p : Plan) (e : DriveFault) → plan_of bytes ≡ Ok p → is_engine_fault e ≡ true → IsTextFault bytes e
-engine_fault bytes p fault.Read planned is = cc
-engine_fault bytes p fault.Write planned is = cc
-engine_fault bytes p fault.LineTooLong planned is = cc
 engine_fault bytes p fault.NoMemory planned is = tt
 engine_fault bytes p fault.HistoryFull planned is = (p, planned)
-engine_fault bytes p fault.TooManyLines planned is = cc
-engine_fault bytes p (fault.BadScript line error) planned is = cc
 engine_fault bytes p fault.Close planned is = (p, planned)
+engine_fault bytes p _ planned is = cc
 
 -- four parts, one after another
 pub four_parts : (o0 o1 o2 o3 o4 a b c d : List ℕ) → o0 ≡ [] → o1 ≡ o0 ++ a → o2 ≡ o1 ++ b → o3 ≡ o2 ++ c → o4 ≡ o3 ++ d → o4 ≡ a ++ b ++ c ++ d

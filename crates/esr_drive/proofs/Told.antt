@@ -2,7 +2,7 @@
 use Rattle.std.proofs.Common.{◌≡◌, ℕ, ℤ, zero, suc, ◌+◌, ◌<◌, List, [], ◌∷◌, ◌++◌, length, take, map, get_or, Option, Result, OnOk, refl, sym, ap, subst, ◌∙◌, append_assoc, append-nil, length-take, arith, ◌≤◌}
 use Rattle.std.specs.List.{flat_map}
 use Rattle.std.proofs.lemmas.List.{take_more, take_all}
-use Rattle.std.proofs.lemmas.Grind.{flat_map-append}
+use Rattle.esr_script.proofs.Audited.{lines_more}
 use Rattle.esr_items.specs.Weights.{weighted}
 use Rattle.esr_history.specs.Machine.{Schedule, charges_in, import_in}
 use Rattle.esr_order.specs.Placements.{is_among}
@@ -15,7 +15,7 @@ use Rattle.esr_history.specs.declared.event.Reply.{Reply}
 use Rattle.esr_drive.specs.declared.call.Call.{Call}
 use Rattle.esr_drive.specs.Calls.{command_of, answers_of}
 use Rattle.esr_drive.specs.Tables.{answered}
-use Rattle.esr_drive.proofs.Calling.{same_at}
+use Rattle.std.proofs.lemmas.List.{get_or_default}
 use Rattle.esr_drive.proofs.Noting.{answer_at, length_answers}
 use Rattle.esr_report.specs.Names.{name_of_transaction}
 use Rattle.esr_drive.specs.Blocks.{Answered}
@@ -32,13 +32,6 @@ told h names name f found is =
     ∙ (ap (λ d. audit_line names (name_of_transaction names f.query.0) d f.import (before_of f)) (found.answer.distance_is ∙ law.1)
     ∙ (ap (λ i. audit_line names (name_of_transaction names f.query.0) (least_cost weighted h f.query.0) i (before_of f)) found.answer.import_is
     ∙ ap (audit_line names (name_of_transaction names f.query.0) (least_cost weighted h f.query.0) (import_in (charges_in weighted h) f.query.0)) (found.answer.in_order ∙ law.0)))
-
--- the text of one more
-pub more_text : {X : Type 0} (f : X → List ℕ) (xs : List X) (i : ℕ) (x : X) (old mid all : List ℕ)
-    → mid ≡ old ++ flat_map f (take i xs) → i < length xs → x ≡ get_or xs i x → all ≡ mid ++ f x → all ≡ old ++ flat_map f (take (i + 1) xs)
-more_text f xs i x old mid all so_far lt is more =
-    more ∙ (ap (λ l. l ++ f x) so_far ∙ (append_assoc old (flat_map f (take i xs)) (f x)
-    ∙ ap (λ l. old ++ l) (sym (ap (flat_map f) (take_more xs i x lt ∙ ap (λ y. take i xs ++ y ∷ []) (sym is)) ∙ (flat_map-append f (take i xs) (x ∷ []) ∙ ap (λ l. flat_map f (take i xs) ++ l) (append-nil (f x)))))))
 
 pub whole_text : {X : Type 0} (f : X → List ℕ) (xs : List X) (i : ℕ) (old all : List ℕ) → length xs ≤ i → all ≡ old ++ flat_map f (take i xs) → all ≡ old ++ flat_map f xs
 whole_text f xs i old all le is = is ∙ ap (λ l. old ++ flat_map f l) (take_all i xs le)
@@ -119,5 +112,5 @@ pub replies_more : (names : List (List ℕ)) (calls : List Call) (replies : List
 replies_more names calls replies i call reply old mid all is e lt so_far =
     let c = get_or calls i call in
     let r = get_or replies i reply in
-    more_text (λ a. reply_line names (subject_of a.command) a.reply) (answers_of calls replies) i (answered c r) old mid all so_far
-    (omega (arith, lt, length_answers calls replies e)) (answer_at calls replies i c r e lt (same_at calls i call c lt) (same_at replies i reply r (omega (arith, e, lt)))) is
+    lines_more (λ a. reply_line names (subject_of a.command) a.reply) (answers_of calls replies) i (answered c r) old mid all so_far
+    (omega (arith, lt, length_answers calls replies e)) (answer_at calls replies i c r e lt (get_or_default calls i call c lt) (get_or_default replies i reply r (omega (arith, e, lt)))) is

@@ -24,11 +24,7 @@ pub record Answered : Type 0 where
 -- the number that a reply gives a transaction
 abbrev pub number_in : Reply → Option ℕ
 number_in (Begun number) = Some number.0
-number_in (Value value) = None
-number_in Wrote = None
-number_in Committed = None
-number_in Aborted = None
-number_in (Refused why) = None
+number_in _ = None
 
 abbrev pub begins : List ℕ → Command → Bool
 begins name c = elim (new_name c) [ Some begun ↦ bytes_eq name begun | None ↦ false ]
@@ -57,10 +53,7 @@ event_of names earlier (write txn x value) =
     Some (event.Write (transaction_called earlier txn) (item_called names x) value)
 event_of names earlier (commit txn) = Some (event.Commit (transaction_called earlier txn))
 event_of names earlier (abort txn) = Some (event.Abort (transaction_called earlier txn))
-event_of names earlier (item name value) = None
-event_of names earlier (weighted_item name value weight) = None
-event_of names earlier (audit txn) = None
-event_of names earlier totals = None
+event_of names earlier _ = None
 
 -- The receipts of one command: its event was given again while it was blocked, at most 100 times in all.
 pub record IsRun (e : Event) (reply : Reply) (run : List Receipt) : Type 0 where

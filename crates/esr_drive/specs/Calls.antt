@@ -57,13 +57,11 @@ IsOperand names x = x.item ≡ item_called names x.name.now
 
 -- what the call names, after these calls of its block
 abbrev pub IsResolved : List (List ℕ) → List Call → Call → Type 0
-IsResolved names earlier (call.BeginUpdate name limit) = Unit {0}
-IsResolved names earlier (call.BeginQuery name limit) = Unit {0}
-IsResolved names earlier (call.BeginStrictQuery name limit) = Unit {0}
 IsResolved names earlier (call.Read txn x) = IsCaller earlier txn × IsOperand names x
 IsResolved names earlier (call.Write txn x value) = IsCaller earlier txn × IsOperand names x
 IsResolved names earlier (call.Commit txn) = IsCaller earlier txn
 IsResolved names earlier (call.Abort txn) = IsCaller earlier txn
+IsResolved names earlier _ = Unit {0}
 
 -- each call of a block, after those before it
 abbrev pub AreResolved : List (List ℕ) → List Call → Type 0

@@ -13,14 +13,10 @@ is_write_fault _ = false
 
 -- the faults of the engine, and of memory
 abbrev pub is_engine_fault : DriveFault → Bool
-is_engine_fault fault.Read = false
-is_engine_fault fault.Write = false
-is_engine_fault fault.LineTooLong = false
 is_engine_fault fault.NoMemory = true
 is_engine_fault fault.HistoryFull = true
-is_engine_fault fault.TooManyLines = false
-is_engine_fault (fault.BadScript line error) = false
 is_engine_fault fault.Close = true
+is_engine_fault _ = false
 
 -- the fault of a drive of these bytes, where neither reading nor writing failed
 abbrev pub IsTextFault : List ℕ → DriveFault → Type 0

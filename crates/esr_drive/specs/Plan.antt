@@ -35,17 +35,10 @@ max_blocks = 64
 
 -- the name of the transaction that a command begins
 abbrev pub new_name : Command → Option (List ℕ)
-new_name (item name value) = None
-new_name (weighted_item name value weight) = None
 new_name (begin_update name limit) = Some name
 new_name (begin_query name limit) = Some name
 new_name (begin_strict_query name limit) = Some name
-new_name (read txn x) = None
-new_name (write txn x value) = None
-new_name (commit txn) = None
-new_name (abort txn) = None
-new_name (audit txn) = None
-new_name totals = None
+new_name _ = None
 
 -- the names of the transactions that begin in the blocks
 abbrev pub new_names : List (List Command) → List (List ℕ)
@@ -94,12 +87,9 @@ with_command p (weighted_item name value weight) = with_item p name value (Some 
 with_command p (begin_update name limit) = with_begin p name (begin_update name limit)
 with_command p (begin_query name limit) = with_begin p name (begin_query name limit)
 with_command p (begin_strict_query name limit) = with_begin p name (begin_strict_query name limit)
-with_command p (read txn x) = with_operation p (read txn x)
-with_command p (write txn x value) = with_operation p (write txn x value)
-with_command p (commit txn) = with_operation p (commit txn)
-with_command p (abort txn) = with_operation p (abort txn)
 with_command p (audit txn) = Err 1
 with_command p totals = Err 1
+with_command p command = with_operation p command
 
 abbrev pub with_line : Plan → List ℕ → Result Plan ℕ
 with_line p line =

@@ -21,20 +21,12 @@ IsMark bytes m =
 abbrev pub IsLineFault : ℕ → ℕ → DriveFault → Type 0
 IsLineFault count len fault.TooManyLines = count ≡ 2000000
 IsLineFault count len fault.LineTooLong = (count ≡ 2000000 → ⊥) × (200 < len)
-IsLineFault count len fault.Read = ⊥
-IsLineFault count len fault.Write = ⊥
-IsLineFault count len fault.NoMemory = ⊥
-IsLineFault count len fault.HistoryFull = ⊥
-IsLineFault count len (fault.BadScript line error) = ⊥
-IsLineFault count len fault.Close = ⊥
+IsLineFault count len _ = ⊥
 
 -- how reading may end before the end, by all bytes that there are
 abbrev pub IsReadFault : Option (List ℕ) → DriveFault → Type 0
 IsReadFault known fault.Read = Unit {0}
-IsReadFault known fault.Write = ⊥
 IsReadFault known fault.LineTooLong = IfSome known (λ input. plan_of input ≡ Err fault.LineTooLong)
 IsReadFault known fault.NoMemory = Unit {0}
-IsReadFault known fault.HistoryFull = ⊥
 IsReadFault known fault.TooManyLines = IfSome known (λ input. plan_of input ≡ Err fault.TooManyLines)
-IsReadFault known (fault.BadScript line error) = ⊥
-IsReadFault known fault.Close = ⊥
+IsReadFault known _ = ⊥

@@ -24,6 +24,7 @@ fn find_line_feed(bytes: &[u8]) -> Option<usize>
 }
 
 /// The first line, and what stands after its line feed.
+#[tactic(auto, using(crate::proofs::Cuts::at_feed, crate::proofs::Cuts::shorter))]
 pub fn first_line(bytes: &[u8]) -> Option<(&[u8], &[u8])>
     ensures { MatchOption result (bytes.now ≡ []) (λ p. (lines bytes.now ≡ p.0.now ∷ lines p.1.now)
         × (length p.1.now < length bytes.now)) }

@@ -31,6 +31,7 @@ impl<'a> TransactionNames for BegunNames<'a> {
 
 impl<'a> BegunNames<'a> {
     /// Takes down the name of a line that began a transaction.
+    #[tactic(auto, using(crate::proofs::Noting::note_is, crate::proofs::Noting::unwrap_now))]
     fn note(&mut self, call: &Call<'a>, reply: Reply)
         ensures { names_in self.new ≡ with_begun (answered call.now reply) (names_in self.old) }
     {

@@ -54,6 +54,7 @@ fn push_item(
 }
 
 /// Appends the lines of the items.
+#[tactic(auto, using(crate::proofs::Told::items_text_all))]
 pub fn push_items(
     out: &mut Vec<u8>,
     names: &Names,
@@ -143,6 +144,7 @@ fn push_finding(
 }
 
 /// Appends the lines of what was found of queries.
+#[tactic(auto, using(crate::proofs::Told::whole_text))]
 fn push_each(
     out: &mut Vec<u8>,
     history: &History<Weighted>,

@@ -1,12 +1,10 @@
 -- A history that a machine makes again, entry by entry.
-use Rattle.std.proofs.Common.{◌≡◌, ◌≢◌, ℕ, ℤ, zero, suc, ◌+◌, false, if◌then◌else◌, map, List, [], ◌∷◌, ◌++◌, take, drop, flat_map, refl, sym, ◌∙◌, ap, subst, arith, Some, append-nil}
+use Rattle.std.proofs.Common.{◌≡◌, ◌≢◌, ℕ, zero, suc, ◌+◌, false, if◌then◌else◌, List, [], ◌∷◌, ◌++◌, take, drop, flat_map, refl, sym, ◌∙◌, ap, subst, arith, Some, append-nil}
 use Rattle.std.specs.Prelude.{◌-◌, IfOk, OnOk, Result, Ok, Err, is_err, slice_get}
 use Rattle.std.specs.List.{range_with_len}
 use Rattle.std.proofs.lemmas.Bool.{eq-eqb, ne_eqb}
 use Rattle.std.proofs.lemmas.Grind.{flat_map-append}
 use Rattle.std.proofs.lemmas.Option.{same_Some}
-use Rattle.esr_items.specs.Values.{opened}
-use Rattle.esr_items.specs.declared.store.Versions.{Versions}
 use Rattle.esr_history.specs.declared.event.Reply.{Reply}
 use Rattle.esr_history.specs.declared.event.Entry.{Entry}
 use Rattle.esr_history.specs.Events.{limit_of}
@@ -14,6 +12,7 @@ use Rattle.esr_items.specs.Weights.{weighted}
 use Rattle.esr_history.specs.Machine.{Distance, Schedule, IsLegal, IsLegalAfter, blank, done, extended, reply_to}
 use Rattle.esr_core.specs.declared.machine.StepError.{StepError}
 use Rattle.esr_history.proofs.Onward.{legal_parts}
+use Rattle.esr_history.proofs.Charges.{range-push}
 use Rattle.esr_explain.specs.declared.charges.Meeting.{Meeting}
 use Rattle.esr_explain.specs.Explain.{until, imported, exported, meeting, met_line, charge_at, charge_line, charge_of}
 
@@ -45,23 +44,12 @@ until_more d h i e r legal is reply =
 
 -- one number more
 range_more : (n : ℕ) → range_with_len 0 (n + 1) ≡ range_with_len 0 n ++ n ∷ []
-range_more n =
-    let e : n + 1 ≡ suc n = omega arith in let same : 0 + n ≡ n = omega arith in
-    ap (range_with_len 0) e ∙ (more 0 n ∙ ap (λ m. range_with_len 0 n ++ m ∷ []) same)
-  where
-    more : (a n : ℕ) → range_with_len a (suc n) ≡ range_with_len a n ++ (a + n) ∷ []
-    more a zero = let e : a ≡ a + 0 = omega arith in ap (λ m. m ∷ []) e
-    more a (suc n) = let e : (a + 1) + n ≡ a + suc n = omega arith in ap (λ xs. a ∷ xs) (more (a + 1) n ∙ ap (λ m. range_with_len (a + 1) n ++ m ∷ []) e)
+range_more n = let same : 0 + n ≡ n = omega arith in range-push 0 n ∙ ap (λ m. range_with_len 0 n ++ m ∷ []) same
 
 -- the text of one place more
 pub text_more : (f : ℕ → List ℕ) (n : ℕ) → flat_map f (range_with_len 0 (n + 1)) ≡ flat_map f (range_with_len 0 n) ++ f n
 text_more f n =
     ap (flat_map f) (range_more n) ∙ (flat_map-append f (range_with_len 0 n) (n ∷ []) ∙ ap (λ l. flat_map f (range_with_len 0 n) ++ l) (append-nil (f n)))
-
--- opening values, as a store has them
-pub opened_values : (vs : List ℤ) → map (λ (w : Versions). w.committed) (map opened vs) ≡ vs
-opened_values [] = refl
-opened_values (v ∷ vs) = ap (λ ws. v ∷ ws) (opened_values vs)
 
 -- ---- the line of an entry
 

@@ -8,13 +8,8 @@ use Rattle.std.proofs.lemmas.Cmp.{ranked}
 use Rattle.std.proofs.lemmas.Bool.{cases_Bool, cases_eq, cases_lt, eq-eqb, ne_eqb, or_left, or_right}
 use Rattle.std.proofs.lemmas.Bool.Decides.{nat_tests}
 use Rattle.std.proofs.lemmas.List.Elements.{All-from_recursion}
+use mathlib.Core.Bool.{or_comm}
 use Rattle.esr_history.specs.Ascending.{IsAscendingBy, placed, IsPlaceOf, IsGapFor}
-
-or_comm : (a b : Bool) → (a || b) ≡ (b || a)
-or_comm true true = refl
-or_comm true false = refl
-or_comm false true = refl
-or_comm false false = refl
 
 pub lt_ltb : (a b : ℕ) → a < b → nat_lt a b ≡ true
 lt_ltb a b l = grind (arith, nat_tests)

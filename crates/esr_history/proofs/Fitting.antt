@@ -32,10 +32,7 @@ item_below h x none = leb-false (length h.opening) x (when_none (nat_le (length 
 pub numbered : (d : Distance) (h : Schedule) (e : Event) (r : Reply) → r ≡ reply_to d h e → IsNumbered h.entries e r
 numbered d h (BeginUpdate l) r is = λ ok. ap begun_by (accepts d h (BeginUpdate l) r is ok).1
 numbered d h (BeginQuery l s) r is = λ ok. ap begun_by (accepts d h (BeginQuery l s) r is ok).1
-numbered d h (Read t x) r is = tt
-numbered d h (Write t x v) r is = tt
-numbered d h (Commit t) r is = tt
-numbered d h (Abort t) r is = tt
+numbered d h _ r is = tt
 
 -- which keys an accepted event has
 record Keys (h : Schedule) (e : Event) (r : Reply) : Type 0 where

@@ -4,7 +4,9 @@ use Rattle.std.specs.Prelude.{slice_index_or, unwrap_or, nat_lt}
 use Rattle.std.specs.List.{range_with_len, slice_get, cons_option, AllByRecursion}
 use Rattle.std.specs.Option.{option_map}
 use Rattle.std.proofs.lemmas.Bool.{ltb-false, cases_Bool, cases_lt}
-use Rattle.std.proofs.lemmas.List.{length-map}
+use Rattle.std.proofs.lemmas.List.{length-map, length_push}
+use Rattle.std.proofs.lemmas.Option.{slice_get_past}
+use Rattle.std.proofs.lemmas.List.FromFn.{length-range_with_len}
 use Rattle.esr_history.specs.declared.event.TxnId.{TxnId}
 use Rattle.esr_history.specs.declared.event.Event.{Event}
 use Rattle.esr_history.specs.declared.event.Event.TheVariants.{BeginUpdate, BeginQuery, Read, Write, Commit, Abort}
@@ -20,7 +22,7 @@ use Rattle.esr_history.proofs.Allowed.{NoneApplies}
 use Rattle.esr_history.proofs.Lawful.{when_none}
 use Rattle.esr_history.proofs.Membership.{Each-append}
 use Rattle.esr_history.proofs.Charges.{import-push, legal_within_limits}
-use Rattle.esr_history.proofs.Linking.{accepted_push, accepted_refused, count_refused, count_same, count_more, get_none, mapped_get, mapped_past}
+use Rattle.esr_history.proofs.Linking.{accepted_push, accepted_refused, count_refused, count_same, count_more, mapped_get, mapped_past}
 use Rattle.esr_history.proofs.Fitting.{accepts}
 
 -- a table by its values
@@ -30,10 +32,6 @@ table_is f a (x ∷ l) same =
     let z : a + 0 ≡ a = omega arith in
     ap (λ v. v ∷ l) (same 0 (omega arith) ∙ ap f z)
     ∙ ap (λ t. f a ∷ t) (table_is f (a + 1) l (λ k m. let e : a + suc k ≡ a + 1 + k = omega arith in same (suc k) (omega arith) ∙ ap f e))
-
-length_range : (a n : ℕ) → length (range_with_len a n) ≡ n
-length_range a zero = refl
-length_range a (suc n) = ap suc (length_range (a + 1) n)
 
 -- limits are at most 10^18
 abbrev AreLow : List Event → Type 0
@@ -55,10 +53,7 @@ low_next d h e r is low =
     last : (e : Event) → NoneApplies (reasons d h e) → AllByRecursion (λ (b : Beginning). b.limit ≤ 10 ^ 18) (cons_option (beginning_of e) [])
     last (BeginUpdate l) none = (low_limit l none.0, tt)
     last (BeginQuery l s) none = (low_limit l none.0, tt)
-    last (Read t x) none = tt
-    last (Write t x v) none = tt
-    last (Commit t) none = tt
-    last (Abort t) none = tt
+    last _ none = tt
 
 low_limits : (events : List Event) → AreLow events → (t : ℕ) → limit_of events t ≤ 10 ^ 18
 low_limits events low zero = omega arith
@@ -85,7 +80,7 @@ module _ (d : Distance) (h : Schedule) (legal : IsLegal d h) where
     where
       unbegun : (t : ℕ) → begun_count h.entries < t → limit_of (done h) t ≡ 0
       unbegun zero past = refl
-      unbegun (suc k) past = ap (λ (b : Option Beginning). unwrap_or (option_map (λ c. c.limit) b) 0) (get_none (beginnings (done h)) k (omega arith))
+      unbegun (suc k) past = ap (λ (b : Option Beginning). unwrap_or (option_map (λ c. c.limit) b) 0) (slice_get_past (beginnings (done h)) k (omega arith))
 
   pub import_at : (table : List ℕ) → AreImports d h table → (t : ℕ) → slice_index_or table t 0 ≡ import_in (charges_in d h) t
   import_at table are t =
@@ -123,7 +118,7 @@ module _ (d : Distance) (h : Schedule) (legal : IsLegal d h) (e : Event) (r : Re
       ∙ ap (λ n. map (λ t. import_in (charges_in d (extended h e r)) t) (range_with_len 0 n)) (len ∙ opened_length e refl)
     where
       is_table : length table ≡ begun_count h.entries + 1
-      is_table = ap length are ∙ (length-map (range_with_len 0 (begun_count h.entries + 1)) (λ t. import_in (charges_in d h) t) ∙ length_range 0 (begun_count h.entries + 1))
+      is_table = ap length are ∙ (length-map (range_with_len 0 (begun_count h.entries + 1)) (λ t. import_in (charges_in d h) t) ∙ length-range_with_len 0 (begun_count h.entries + 1))
 
       more_zero : (l : List ℕ) (k : ℕ) → slice_index_or (l ++ 0 ∷ []) k 0 ≡ slice_index_or l k 0
       more_zero [] zero = refl
@@ -134,28 +129,18 @@ module _ (d : Distance) (h : Schedule) (legal : IsLegal d h) (e : Event) (r : Re
       opened_zero : (f : Event) (k : ℕ) → slice_index_or (with_number table f) k 0 ≡ slice_index_or table k 0
       opened_zero (BeginUpdate l) k = more_zero table k
       opened_zero (BeginQuery l s) k = more_zero table k
-      opened_zero (Read t x) k = refl
-      opened_zero (Write t x v) k = refl
-      opened_zero (Commit t) k = refl
-      opened_zero (Abort t) k = refl
+      opened_zero _ k = refl
 
       opened_at : (k : ℕ) → slice_index_or (with_number table e) k 0 ≡ import_in (charges_in d h) k
       opened_at k = opened_zero e k ∙ import_at d h legal table are k
-
-      one_more : (l : List ℕ) → length (l ++ 0 ∷ []) ≡ length l + 1
-      one_more [] = refl
-      one_more (x ∷ l) = let c : length (l ++ 0 ∷ []) ≡ length l + 1 = one_more l in omega (arith, c)
 
       same_length : (f : Event) → e ≡ f → beginning_of f ≡ None → length table ≡ begun_count (extended h e r).entries + 1
       same_length f same none = is_table ∙ ap (λ n. n + 1) (sym (count_same h.entries (record { event = e; reply = r }) ok (ap beginning_of same ∙ none)))
 
       more_length : (f : Event) (b : Beginning) → e ≡ f → beginning_of f ≡ Some b → length (table ++ 0 ∷ []) ≡ begun_count (extended h e r).entries + 1
-      more_length f b same some = one_more table ∙ ap (λ n. n + 1) (is_table ∙ sym (count_more h.entries (record { event = e; reply = r }) b ok (ap beginning_of same ∙ some)))
+      more_length f b same some = length_push table 0 ∙ ap (λ n. n + 1) (is_table ∙ sym (count_more h.entries (record { event = e; reply = r }) b ok (ap beginning_of same ∙ some)))
 
       opened_length : (f : Event) → e ≡ f → length (with_number table f) ≡ begun_count (extended h e r).entries + 1
       opened_length (BeginUpdate l) same = more_length (BeginUpdate l) (record { query = false; strict = false; limit = l }) same refl
       opened_length (BeginQuery l s) same = more_length (BeginQuery l s) (record { query = true; strict = s; limit = l }) same refl
-      opened_length (Read t x) same = same_length (Read t x) same refl
-      opened_length (Write t x v) same = same_length (Write t x v) same refl
-      opened_length (Commit t) same = same_length (Commit t) same refl
-      opened_length (Abort t) same = same_length (Abort t) same refl
+      opened_length e same = same_length e same refl

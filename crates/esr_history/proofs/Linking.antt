@@ -7,6 +7,7 @@ use Rattle.std.proofs.Math.Seq.{take-append_seam}
 use Rattle.std.proofs.lemmas.Bool.{cases_lt, eq-eqb, ne_eqb}
 use Rattle.std.proofs.lemmas.List.{length-append, length-map, map-append, take-append-le}
 use Rattle.std.proofs.lemmas.List.Elements.{filter-append, filter_map-append}
+use Rattle.std.proofs.lemmas.Option.{slice_get_past}
 use Rattle.esr_history.specs.declared.event.Event.{Event}
 use Rattle.esr_history.specs.declared.event.Event.TheVariants.{BeginUpdate, BeginQuery, Read, Write, Commit, Abort}
 use Rattle.esr_history.specs.declared.event.Reply.{Reply}
@@ -18,14 +19,11 @@ use Rattle.esr_history.specs.Events.{Beginning, is_refusal, accepted, beginnings
 use Rattle.esr_history.specs.Links.{item_of, txn_of, ender, item_in, txn_in, accepted_item, accepted_txn, accepted_end, facts_by, facts_of, is_key, places_from, last_place, last_of_key, earlier, earlier_at, coded, decoded, key_at, links_by, lasts_by, begin_of, begun_count, AreLinks, IsFit, with_key, txns_after, ends_after, begins_after, IsNumbered}
 use Rattle.esr_history.proofs.Charges.{range-push}
 use Rattle.esr_history.proofs.Membership.{get_seam}
+use Rattle.esr_history.proofs.Lists.{last_or_push, slice_get_push}
 
 pub decoded_coded : (o : Option ℕ) → decoded (coded o) ≡ o
 decoded_coded None = refl
 decoded_coded (Some k) = ap decoded (add-one k)
-
-last_more : (o : Option ℕ) (xs : List ℕ) (x : ℕ) → last_or o (xs ++ x ∷ []) ≡ Some x
-last_more o [] x = refl
-last_more o (y ∷ xs) x = last_more (Some y) xs x
 
 pub places_push : (key : Entry → Option ℕ) (k n : ℕ) (es : List Entry) (e : Entry) → places_from key k n (es ++ e ∷ []) ≡ places_from key k n es ++ cond (is_key (key e) k) ((n + length es) ∷ []) []
 places_push key k n [] e = let z : n ≡ n + 0 = omega arith in ap (λ m. cond (is_key (key e) k) (m ∷ []) []) z
@@ -45,7 +43,7 @@ last_same key k es e no_key = ap (last_or None) (places_push key k 0 es e ∙ (a
 pub last_here : (key : Entry → Option ℕ) (k : ℕ) (es : List Entry) (e : Entry) → is_key (key e) k ≡ true → last_place key k (es ++ e ∷ []) ≡ Some (length es)
 last_here key k es e has_key =
     let z : 0 + length es ≡ length es = omega arith in
-    ap (last_or None) (places_push key k 0 es e ∙ ap (λ b. places_from key k 0 es ++ cond b ((0 + length es) ∷ []) []) has_key) ∙ (last_more None (places_from key k 0 es) (0 + length es) ∙ ap Some z)
+    ap (last_or None) (places_push key k 0 es e ∙ ap (λ b. places_from key k 0 es ++ cond b ((0 + length es) ∷ []) []) has_key) ∙ (last_or_push None (places_from key k 0 es) (0 + length es) ∙ ap Some z)
 
 -- ---- tables by key
 pub mapped_get : (f : ℕ → ℕ) (a n k : ℕ) → k < n → slice_index_or (map f (range_with_len a n)) k 0 ≡ f (a + k)
@@ -100,15 +98,6 @@ lasts_grow key es n =
     ap (map (λ k. coded (last_place key k es))) (range-push 0 n) ∙ (map-append (λ k. coded (last_place key k es)) (range_with_len 0 n) ((0 + n) ∷ []) ∙ ap (λ m. lasts_by key es n ++ coded (last_place key m es) ∷ []) z)
 
 -- ---- links by place
-get_left : {X : Type 0} (xs : List X) (x : X) (i : ℕ) → i < length xs → slice_get (xs ++ x ∷ []) i ≡ slice_get xs i
-get_left [] x i l = absurd (omega arith)
-get_left (y ∷ xs) x zero l = refl
-get_left (y ∷ xs) x (suc i) l = get_left xs x i (omega arith)
-
-pub get_none : {X : Type 0} (xs : List X) (i : ℕ) → length xs ≤ i → slice_get xs i ≡ None
-get_none [] i l = refl
-get_none (x ∷ xs) zero l = absurd (omega arith)
-get_none (x ∷ xs) (suc i) l = get_none xs i (omega arith)
 
 pub links_push : (key own : Entry → Option ℕ) (es : List Entry) (e : Entry) → links_by key own (es ++ e ∷ []) ≡ links_by key own es ++ coded (last_of_key key (own e) es) ∷ []
 links_push key own es e =
@@ -120,7 +109,7 @@ links_push key own es e =
     ∙ (ap (λ l. l ++ coded (earlier key own (es ++ e ∷ []) (0 + length es)) ∷ [])
     (mapped_agree (λ i. coded (earlier key own (es ++ e ∷ []) i)) (λ i. coded (earlier key own es i)) 0 (length es) (λ i l m.
     let inside : i < length es = omega arith in
-    ap (λ o. coded (earlier_at key (option_map own o) (take i (es ++ e ∷ [])))) (get_left es e i inside)
+    ap (λ o. coded (earlier_at key (option_map own o) (take i (es ++ e ∷ [])))) (slice_get_push es e i inside)
     ∙ ap (λ t. coded (earlier_at key (option_map own (slice_get es i)) t)) (take-append-le i es (e ∷ []) (omega arith))))
     ∙ ap (λ c. links_by key own es ++ c ∷ [])
     (ap (λ m. coded (earlier key own (es ++ e ∷ []) m)) z
@@ -131,7 +120,7 @@ pub link_at : (key own : Entry → Option ℕ) (es : List Entry) (i : ℕ) → d
 link_at key own es i =
     ⊎_elim
     (λ l. let z : 0 + i ≡ i = omega arith in ap decoded (mapped_get (λ i. coded (earlier key own es i)) 0 (length es) i l ∙ ap (λ m. coded (earlier key own es m)) z) ∙ decoded_coded (earlier key own es i))
-    (λ g. ap decoded (mapped_past (λ i. coded (earlier key own es i)) 0 (length es) i g) ∙ sym (ap (λ o. earlier_at key (option_map own o) (take i es)) (get_none es i g)))
+    (λ g. ap decoded (mapped_past (λ i. coded (earlier key own es i)) 0 (length es) i g) ∙ sym (ap (λ o. earlier_at key (option_map own o) (take i es)) (slice_get_past es i g)))
     (cases_lt i (length es))
 
 pub links_length : (key own : Entry → Option ℕ) (es : List Entry) → length (links_by key own es) ≡ length es

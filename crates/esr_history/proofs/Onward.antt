@@ -99,8 +99,6 @@ module _ (d : Distance) (g : Schedule) (q : ℕ) (h : Schedule) (after : IsAfter
       (same_with_begins q (trace g) (trace h) (beginning (done h ++ e ∷ [])) (begins_kept d h e) (known after.reached) after.same) (uncharged e r accepts free)
 
   accepted_after : (e : Event) → acceptance h e ≡ reply_to d h e → NoneApplies (reasons d h e) → IsAfter d g q (extended h e (acceptance h e))
-  accepted_after (BeginUpdate l) is none = begun_after (BeginUpdate l) (acceptance h (BeginUpdate l)) is refl refl refl refl refl
-  accepted_after (BeginQuery l s) is none = begun_after (BeginQuery l s) (acceptance h (BeginQuery l s)) is refl refl refl refl refl
   accepted_after (Read t x) is none =
       let act : is_active (done h) t.0 ≡ true = not_ended h t.0 (read_allowed d h t x none).active in
       let r : Reply = Value (current_value h.opening (done h) x.0) in
@@ -115,6 +113,7 @@ module _ (d : Distance) (g : Schedule) (q : ℕ) (h : Schedule) (after : IsAfter
       from (Commit t) Committed is (with_commit (trace h) t.0) (commit_trace d h t) (same_with_commit q (trace g) (trace h) t.0 after.same) (uncharged (Commit t) Committed refl refl)
   accepted_after (Abort t) is none =
       from (Abort t) Aborted is (with_abort (trace h) t.0) (abort_trace d h t) (same_with_abort q (trace g) (trace h) t.0 after.same) (uncharged (Abort t) Aborted refl refl)
+  accepted_after e is none = begun_after e (acceptance h e) is refl refl refl refl refl
 
   IsAfter-extended : (e : Event) (r : Reply) → r ≡ reply_to d h e → IsAfter d g q (extended h e r)
   IsAfter-extended e r is = at (refusal d h e) refl

@@ -9,15 +9,8 @@ use Rattle.esr_history.specs.Short.{entry_of, IsWithin, no_entry}
 
 -- the same entry with one more in the list
 entry_stays : (long : List Entry) (e : Entry) (s : Short) → IsWithin long s → entry_of (long ++ e ∷ []) s ≡ entry_of long s
-entry_stays long e (UpdateBegun t limit) w = refl
-entry_stays long e (QueryBegun strict t limit) w = refl
-entry_stays long e (WasRead t x value) w = refl
-entry_stays long e (WasWritten t x value) w = refl
-entry_stays long e (HasCommitted t) w = refl
-entry_stays long e (HasAborted t) w = refl
-entry_stays long e (ReadBlocked bar t x other) w = refl
-entry_stays long e (WriteBlocked bar t x other value) w = refl
 entry_stays long e (Long place) w = get_or_append_left long (e ∷ []) no_entry place w
+entry_stays long e _ w = refl
 
 pub entries_stay : (long : List Entry) (e : Entry) (shorts : List Short) → All (IsWithin long) shorts → map (entry_of (long ++ e ∷ [])) shorts ≡ map (entry_of long) shorts
 entries_stay long e [] all = refl

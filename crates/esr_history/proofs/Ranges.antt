@@ -30,15 +30,6 @@ module _ {X : Type 0} where
       ap (λ (o : Option X). cons_option o (filter_map f (range_with_len (a + 1) n))) (same a (omega arith) (omega arith))
       ∙ ap (λ (ys : List X). cons_option (g a) ys) (filter_map_same f g (a + 1) n (λ t l m. same t (omega arith) (omega arith)))
 
-  -- one more number in a row
-  pub filter_map_more : (f : ℕ → Option X) (a n : ℕ) → filter_map f (range_with_len a (suc n)) ≡ filter_map f (range_with_len a n) ++ cons_option (f (a + n)) []
-  filter_map_more f a zero = ap (λ (k : ℕ). cons_option (f k) []) (omega arith)
-  filter_map_more f a (suc n) = ap (λ (ys : List X). cons_option (f a) ys) (filter_map_more f (a + 1) n ∙ ap (λ (k : ℕ). filter_map f (range_with_len (a + 1) n) ++ cons_option (f k) []) (omega arith)) ∙ at (f a) (filter_map f (range_with_len (a + 1) n)) (cons_option (f (a + suc n)) [])
-    where
-      at : (o : Option X) (xs ys : List X) → cons_option o (xs ++ ys) ≡ cons_option o xs ++ ys
-      at None xs ys = refl
-      at (Some x) xs ys = refl
-
   module _ (key : X → ℕ) (f : ℕ → Option X) (own : (u : ℕ) (y : X) → f u ≡ Some y → key y ≡ u) where
     pub keys_above : (t a n : ℕ) → t < a → AllByRecursion (λ (y : X). t < key y) (filter_map f (range_with_len a n))
     keys_above t a zero l = tt

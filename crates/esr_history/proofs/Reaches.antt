@@ -2,7 +2,6 @@
 use Rattle.std.proofs.Common.{◌≡◌, ℕ, zero, suc, ℤ, ◌+◌, ◌*◌, ◌<◌, ◌≤◌, List, [], ◌∷◌, ◌++◌, length, Bool, true, false, cond, not, ◌&&◌, ◌||◌, ◌==◌, ◌⊎◌, refl, sym, ◌∙◌, ap, subst, arith, inl, inr, Option, None, Some, if◌then◌else◌, filter, eqb, count_by, append-nil, add-zero}
 use Rattle.std.specs.Prelude.{is_some, find}
 use Rattle.std.specs.List.{filter_map, list_any, cons_option, range_with_len}
-use Rattle.std.specs.Option.{option_map}
 use Rattle.std.proofs.Math.Path.{fun_ext}
 use Rattle.std.proofs.Math.Nat.{le_trans}
 use Rattle.std.proofs.lemmas.Bool.{cases_Bool, true≢false, cases_eq, eq-eqb, ne_eqb, and_from, or_parts}
@@ -22,7 +21,7 @@ use Rattle.esr_history.specs.Events.{Beginning, is_refusal, beginning, beginning
 use Rattle.esr_history.specs.Machine.{Distance, Schedule, Charge, done, extended, distance_in, charges, charges_in, due_in, charge_of_read, charge_of_write, import_in, writer, other_writer, other_holder, blocked_by, reply_to, reasons, refusal, acceptance, answered, IsLegal}
 use Rattle.esr_history.specs.Legal.{legal_induction}
 use Rattle.esr_history.specs.Operations.{Operation, operation_by, operation_of, operations, committer, commit_order}
-use Rattle.esr_history.proofs.Lists.{filter_map_push, find_none}
+use Rattle.esr_history.proofs.Lists.{filter_map_push, find_none, option_map_none}
 use Rattle.esr_history.proofs.Orderly.{beginning-push, beginning-kept, update_begun, active_parts}
 use Rattle.esr_history.proofs.Allowed.{NoneApplies, none_applies, read_allowed, write_allowed, end_allowed}
 use Rattle.esr_history.proofs.Lawful.{done-refused, done-accepted, not_ended, begun_number, update_from, when_none}
@@ -57,11 +56,7 @@ operations-accepted h e r is =
     one : filter (λ (n : Entry). not (is_refusal n.reply)) (entry e r ∷ []) ≡ entry e r ∷ []
     one = rw is refl
 
-mapped_none : {A B : Type 0} (f : A → B) (x : Option A) → option_map f x ≡ None → x ≡ None
-mapped_none f None none = refl
-mapped_none f (Some x) none = absurd (cc)
-
-count_none : {X : Type 0} (p : X → Bool) (xs : List X) → list_any p xs ≡ false → count_by p xs ≡ 0
+pub count_none : {X : Type 0} (p : X → Bool) (xs : List X) → list_any p xs ≡ false → count_by p xs ≡ 0
 count_none p [] h = refl
 count_none p (x ∷ xs) h =
     let r = or_parts (p x) (list_any p xs) h in
@@ -229,7 +224,7 @@ module _ (d : Distance) (h : Schedule) where
       (no_imports (Read t x) (Value (current_value h.opening (done h) x.0)) refl
       (λ q. ap (λ b. import_in (if b then charge_of_read (distance_in d h) h.opening (done h) t.0 x.0 (writer (done h) x.0) else []) q) not_query))
       (read_update reached t.0 x.0 (active_trace h t.0 act) (update_from (done h) t.0 (active_parts (done h) t.0 act).0 not_query)
-      (no_writer t.0 x.0 (unfound_other (λ u. holds_write (done h) u x.0) t.0 (mapped_none (λ u. BlockedByLock (record { 0 = u })) (other_writer (done h) t.0 x.0) free))))
+      (no_writer t.0 x.0 (unfound_other (λ u. holds_write (done h) u x.0) t.0 (option_map_none (λ u. BlockedByLock (record { 0 = u })) (other_writer (done h) t.0 x.0) free))))
 
   query_reads : (t : TxnId) (x : ItemId) → IsReached d h → is_active (done h) t.0 ≡ true → is_query (done h) t.0 ≡ true
       → IsReached d (extended h (Read t x) (Value (current_value h.opening (done h) x.0)))
@@ -258,7 +253,7 @@ module _ (d : Distance) (h : Schedule) where
       (operation_trace (Write t x v) Wrote (write_of t.0 x.0 v) refl refl refl refl refl)
       (fun_ext (with_imports (Write t x v) Wrote refl))
       (write reached t.0 x.0 v (import_in (due_in d h (Write t x v))) (active_trace h t.0 act) update
-      (no_user t.0 x.0 (unfound_other (λ u. holds_read (done h) u x.0 || holds_write (done h) u x.0) t.0 (mapped_none (λ u. BlockedByLock (record { 0 = u })) (other_holder (done h) t.0 x.0) free)))
+      (no_user t.0 x.0 (unfound_other (λ u. holds_read (done h) u x.0 || holds_write (done h) u x.0) t.0 (option_map_none (λ u. BlockedByLock (record { 0 = u })) (other_holder (done h) t.0 x.0) free)))
       paid)
     where
       update : is_update (done h) t.0 ≡ true
@@ -285,8 +280,6 @@ module _ (d : Distance) (h : Schedule) where
           ])
 
   accepted_step : (e : Event) → IsReached d h → NoneApplies (reasons d h e) → IsReached d (extended h e (acceptance h e))
-  accepted_step (BeginUpdate l) reached none = begin_step (BeginUpdate l) (acceptance h (BeginUpdate l)) refl refl refl refl (λ q. refl) reached
-  accepted_step (BeginQuery l s) reached none = begin_step (BeginQuery l s) (acceptance h (BeginQuery l s)) refl refl refl refl (λ q. refl) reached
   accepted_step (Read t x) reached none =
       let allowed = read_allowed d h t x none in
       let act : is_active (done h) t.0 ≡ true = not_ended h t.0 allowed.active in
@@ -299,6 +292,7 @@ module _ (d : Distance) (h : Schedule) where
       write_step t x v reached (not_ended h t.0 allowed.active) (when_none (is_query (done h) t.0) QueryMayNotWrite allowed.update) allowed.free
   accepted_step (Commit t) reached none = commit_step t reached (not_ended h t.0 (end_allowed h t none).active)
   accepted_step (Abort t) reached none = abort_step t reached (not_ended h t.0 (end_allowed h t none).active)
+  accepted_step e reached none = begin_step e (acceptance h e) refl refl refl refl (λ q. refl) reached
 
   pub reached_step : (e : Event) (r : Reply) → r ≡ reply_to d h e → IsReached d h → IsReached d (extended h e r)
   reached_step e r is reached = at (refusal d h e) refl

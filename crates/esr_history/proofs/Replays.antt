@@ -7,7 +7,7 @@ use Rattle.esr_history.specs.Operations.{Operation}
 use Rattle.esr_history.proofs.Membership.{In, In-of_filter, In-filter, filter_agree_in, filter_none_in, In-from_any, any-from_number}
 use Rattle.esr_history.proofs.Traces.{is_among, after_writes, writes_item, Setting, Trace, update_in, ended_in, Active, NoOtherWriter, with_operation, with_commit, with_abort, with_begins, read_of, write_of, current_in, committed_in, Reached, Reached.nothing, Reached.begin, Reached.read_update, Reached.read_query, Reached.write, Reached.commit, Reached.abort}
 use Rattle.esr_history.proofs.Locking.{known, locks, Locked, update_stays, among_push, among_new, among_other, committed_updates_in, ended_kept_commit, ended_kept_abort}
-use Rattle.esr_history.proofs.Versions.{writers, item_parts, wrote_by, wrote_parts, conflict_of, pairs_either, ended_agree, current_split, committed_after, committed_with, state_in, state_with, committed_version}
+use Rattle.esr_history.proofs.Versions.{writers, item_parts, wrote_by, wrote_parts, conflict_of, pairs_either, ended_agree, current_split, committed_after, committed_with, state_in, state_with, committed_version, commit_among}
 use Rattle.esr_history.proofs.Bounded.{before_first-kept, before_first-all, In-before_first}
 
 -- where the other writers of x have ended, without u's writes the current value is the committed one
@@ -102,9 +102,6 @@ abbrev pub ReadsAhead : (ℕ → ℤ) → Trace → Type 0
 ReadsAhead o t = (k : ℕ) (r : Operation) → slice_get t.operations k ≡ Some r → r.writes ≡ false → is_among (committed_updates_in t) r.txn ≡ true →
     r.value ≡ after_writes (state_in o t (before_first (λ u. eqb u r.txn) (committed_updates_in t)) r.item) (filter (wrote_by r.item r.txn) (take k t.operations))
 
-member_committed : (t : Trace) (u : ℕ) → In u (committed_updates_in t) → is_among t.commits u ≡ true
-member_committed t u i = any-from_number t.commits u (In-of_filter (update_in t) t.commits u i).0
-
 ahead_with : (o : ℕ → ℤ) (t : Trace) (w : Operation) → ended_in t w.txn ≡ false → ReadsAhead o t → ReadsAhead o (with_operation t w)
 ahead_with o t w open_w was k r g rd c =
     let oc : is_among t.commits w.txn ≡ false = (or_parts (is_among t.commits w.txn) (is_among t.aborts w.txn) open_w).0 in
@@ -113,8 +110,8 @@ ahead_with o t w open_w was k r g rd c =
     (λ p. was k r p.0 rd c
     ∙ (ap (λ l. after_writes (state_in o t us r.item) (filter (wrote_by r.item r.txn) l)) (sym p.1)
     ∙ ap (λ v. after_writes v (filter (wrote_by r.item r.txn) (take k (t.operations ++ w ∷ []))))
-    (sym (state_with o t w us r.item (λ u i e. true≢false (sym (member_committed t u (In-before_first (λ u. eqb u r.txn) (committed_updates_in t) u i)) ∙ (ap (is_among t.commits) (sym e) ∙ oc)))))))
-    (λ p. absurd (true≢false (sym (member_committed t r.txn (In-from_any (committed_updates_in t) r.txn c)) ∙ (ap (λ z. is_among t.commits z.txn) (sym p.0) ∙ oc))))
+    (sym (state_with o t w us r.item (λ u i e. true≢false (sym (commit_among t u (In-before_first (λ u. eqb u r.txn) (committed_updates_in t) u i)) ∙ (ap (is_among t.commits) (sym e) ∙ oc)))))))
+    (λ p. absurd (true≢false (sym (commit_among t r.txn (In-from_any (committed_updates_in t) r.txn c)) ∙ (ap (λ z. is_among t.commits z.txn) (sym p.0) ∙ oc))))
     (get_push t.operations w k r g)
 
 pub reads_ahead : {s : Setting} {t : Trace} {m : ℕ → ℕ} → Reached s t m → ReadsAhead s.opening t

@@ -1,9 +1,9 @@
 -- Who is charged: queries import, updates export.
-use Rattle.std.proofs.Common.{◌≡◌, ℕ, ℤ, ◌*◌, List, [], ◌∷◌, ◌++◌, Bool, true, false, ◌&&◌, ◌==◌, refl, sym, ◌∙◌, ap, subst, inl, inr, Option, None, Some, if◌then◌else◌, append_assoc, append-nil}
-use Rattle.std.specs.Prelude.{find, unwrap_or}
-use Rattle.std.specs.List.{filter_map, cons_option, AllByRecursion}
+use Rattle.std.proofs.Common.{◌≡◌, ℕ, ℤ, ◌*◌, List, [], ◌∷◌, ◌++◌, Bool, true, false, ◌&&◌, ◌==◌, refl, sym, ◌∙◌, ap, subst, Option, None, Some, if◌then◌else◌, append_assoc, append-nil}
+use Rattle.std.specs.Prelude.{unwrap_or}
+use Rattle.std.specs.List.{filter_map, AllByRecursion}
 use Rattle.std.specs.Option.{option_map}
-use Rattle.std.proofs.lemmas.Bool.{cases_Bool, false≢true, ne_eqb, and_parts}
+use Rattle.std.proofs.lemmas.Bool.{false≢true, ne_eqb, and_parts}
 use Rattle.std.proofs.lemmas.List.Sums.{sum_by-cons}
 use Rattle.std.proofs.lemmas.Option.{same_Some}
 use Rattle.esr_history.specs.declared.event.Event.{Event}
@@ -11,6 +11,8 @@ use Rattle.esr_history.specs.declared.event.Event.TheVariants.{BeginUpdate, Begi
 use Rattle.esr_history.specs.Events.{Beginning, beginning, numbers, is_query, is_update, reads_of, holds_read, holds_write, current_value}
 use Rattle.esr_history.specs.Machine.{Charge, due, charges, charges_after, charge_of_read, charge_of_write, writer, import_in, export_in}
 use Rattle.esr_history.proofs.Orderly.{beginning-push, is_update-push}
+use Rattle.esr_history.proofs.Lists.{find_some, Each-filter_map}
+use Rattle.esr_history.proofs.Membership.{Each-append}
 
 -- a charge is of an update to a query
 abbrev pub IsOfKinds : List Event → Charge → Type 0
@@ -23,18 +25,6 @@ is_query-push events e t is = at (beginning events t) refl is
     at None none no_query = absurd (false≢true no_query)
     at (Some b) some query = ap (λ o. unwrap_or (option_map (λ c. c.query) o) false) (beginning-push events e t b some) ∙ query
 
-find_passes : (p : ℕ → Bool) (us : List ℕ) (u : ℕ) → find p us ≡ Some u → p u ≡ true
-find_passes p [] u found = absurd (cc)
-find_passes p (v ∷ us) u found =
-    elim (cases_Bool (p v)) [
-      | inl passes ↦ let same : Some v ≡ Some u = rw passes at found in rw (← same_Some v u same) passes
-      | inr fails ↦ find_passes p us u (rw fails at found)
-    ]
-
-all_append : (P : Charge → Type 0) (xs ys : List Charge) → AllByRecursion P xs → AllByRecursion P ys → AllByRecursion P (xs ++ ys)
-all_append P [] ys a b = b
-all_append P (x ∷ xs) ys a b = (a.0, all_append P xs ys a.1 b)
-
 all_later : (before : List Event) (e : Event) (cs : List Charge) → AllByRecursion (IsOfKinds before) cs → AllByRecursion (IsOfKinds (before ++ e ∷ [])) cs
 all_later before e [] all = tt
 all_later before e (c ∷ cs) all = ((is_query-push before e c.query all.0.0, is_update-push before e c.update all.0.1), all_later before e cs all.1)
@@ -43,14 +33,6 @@ all_along : (before later : List Event) (cs : List Charge) → AllByRecursion (I
 all_along before [] cs all = subst (λ (es : List Event). AllByRecursion (IsOfKinds es) cs) (sym (append-nil before)) all
 all_along before (e ∷ later) cs all = subst (λ (es : List Event). AllByRecursion (IsOfKinds es) cs) (append_assoc before (e ∷ []) later) (all_along (before ++ e ∷ []) later cs (all_later before e cs all))
 
-all_given : (P : Charge → Type 0) (f : ℕ → Option Charge) → ((x : ℕ) (y : Charge) → f x ≡ Some y → P y) → (xs : List ℕ) → AllByRecursion P (filter_map f xs)
-all_given P f gives [] = tt
-all_given P f gives (x ∷ xs) = at (f x) refl (all_given P f gives xs)
-  where
-    at : (o : Option Charge) → f x ≡ o → AllByRecursion P (filter_map f xs) → AllByRecursion P (cons_option o (filter_map f xs))
-    at None is later = later
-    at (Some y) is later = (gives x y is, later)
-
 pub due_kinds : (d : ℕ → ℤ → ℤ → ℕ) (opening : List ℤ) (events : List Event) (e : Event) → AllByRecursion (IsOfKinds events) (due d opening events e)
 due_kinds d opening events (Read q x) = read (is_query events q.0) refl (writer events x.0) refl
   where
@@ -58,7 +40,7 @@ due_kinds d opening events (Read q x) = read (is_query events q.0) refl (writer 
     read false is u w = tt
     read true is None w = tt
     read true is (Some u) w =
-        let p : (is_update events u && holds_write events u x.0) ≡ true = find_passes (λ v. is_update events v && holds_write events v x.0) (numbers events) u w in
+        let p : (is_update events u && holds_write events u x.0) ≡ true = find_some (λ v. is_update events v && holds_write events v x.0) (numbers events) u w in
         ((is, (and_parts (is_update events u) (holds_write events u x.0) p).0), tt)
 due_kinds d opening events (Write u x v) = write (is_update events u.0) refl
   where
@@ -73,16 +55,13 @@ due_kinds d opening events (Write u x v) = write (is_update events u.0) refl
 
     write : (b : Bool) → is_update events u.0 ≡ b → AllByRecursion (IsOfKinds events) (if b then filter_map (charge_of_write d opening events u.0 x.0 v) (numbers events) else [])
     write false is = tt
-    write true is = all_given (IsOfKinds events) (charge_of_write d opening events u.0 x.0 v) (gives is) (numbers events)
-due_kinds d opening events (BeginUpdate l) = tt
-due_kinds d opening events (BeginQuery l s) = tt
-due_kinds d opening events (Commit t) = tt
-due_kinds d opening events (Abort t) = tt
+    write true is = Each-filter_map (IsOfKinds events) (charge_of_write d opening events u.0 x.0 v) (gives is) (numbers events)
+due_kinds d opening events _ = tt
 
 charges_kinds_after : (d : ℕ → ℤ → ℤ → ℕ) (opening : List ℤ) (before later : List Event) → AllByRecursion (IsOfKinds (before ++ later)) (charges_after d opening before later)
 charges_kinds_after d opening before [] = tt
 charges_kinds_after d opening before (e ∷ later) =
-    all_append (IsOfKinds (before ++ e ∷ later)) (due d opening before e) (charges_after d opening (before ++ e ∷ []) later)
+    Each-append (IsOfKinds (before ++ e ∷ later)) (due d opening before e) (charges_after d opening (before ++ e ∷ []) later)
     (all_along before (e ∷ later) (due d opening before e) (due_kinds d opening before e))
     (subst (λ (es : List Event). AllByRecursion (IsOfKinds es) (charges_after d opening (before ++ e ∷ []) later)) (append_assoc before (e ∷ []) later) (charges_kinds_after d opening (before ++ e ∷ []) later))
 

@@ -287,7 +287,7 @@ state_with o t w us x h =
     ap (after_writes (o x)) (flat_map_agree (λ u. filter (wrote_by x u) (t.operations ++ w ∷ [])) (λ u. filter (wrote_by x u) t.operations) us
     (λ u i. filter_push_false (wrote_by x u) t.operations w (and_right (writes_item x w) (eqb w.txn u) (ne_eqb w.txn u (h u i)))))
 
-commit_among : (t : Trace) (u : ℕ) → In u (committed_updates_in t) → is_among t.commits u ≡ true
+pub commit_among : (t : Trace) (u : ℕ) → In u (committed_updates_in t) → is_among t.commits u ≡ true
 commit_among t u i = any-from_number t.commits u (In-of_filter (update_in t) t.commits u i).0
 
 version_with : (o : ℕ → ℤ) (t : Trace) (w : Operation) (x : ℕ) → ended_in t w.txn ≡ false → state_in o t (committed_updates_in t) x ≡ committed_in o t x →

@@ -7,6 +7,7 @@ use Rattle.std.proofs.Math.Path.{fun_ext}
 use Rattle.std.proofs.lemmas.Bool.{or_parts, or_from}
 use Rattle.std.proofs.lemmas.List.{map-append}
 use Rattle.std.proofs.lemmas.List.Sums.{sum_by-cons}
+use mathlib.Core.Bool.{and_comm}
 use Rattle.esr_items.specs.Values.{value_at}
 use Rattle.esr_history.specs.declared.event.Event.{Event}
 use Rattle.esr_history.specs.declared.event.Event.TheVariants.{BeginUpdate, BeginQuery, Read, Write, Commit, Abort}
@@ -85,12 +86,6 @@ written_kept k x (e ∷ es) = at e.event (written_kept k x es)
     at (Commit t) same = same
     at (Abort t) same = same
 
-and_swap : (a b : Bool) → (a && b) ≡ (b && a)
-and_swap true true = refl
-and_swap true false = refl
-and_swap false true = refl
-and_swap false false = refl
-
 -- who used an item, and who read it how often
 any_kept : (p : Event → Bool) (q : Operation → Bool) → ((e : Event) (r : Reply) → p e ≡ any_of q (operation_by e r)) → (es : List Entry) → list_any p (map (λ e. e.event) es) ≡ list_any q (filter_map operation_of es)
 any_kept p q same es = over es ∙ any_given operation_of (λ e. p e.event) q (λ e. same e.event e.reply) es
@@ -113,7 +108,7 @@ read_kept t x (e ∷ es) =
     at (BeginUpdate l) r os = omega arith
     at (BeginQuery l s) r os = omega arith
     at (Read u y) r os =
-        ap (λ b. cond b 1 0 + count_by (λ o. reads_item x o && eqb o.txn t) os) (and_swap (u.0 == t) (y.0 == x))
+        ap (λ b. cond b 1 0 + count_by (λ o. reads_item x o && eqb o.txn t) os) (and_comm (u.0 == t) (y.0 == x))
         ∙ sym (sum_by-cons (λ o. cond (reads_item x o && eqb o.txn t) 1 0) (record { txn = u.0; item = y.0; writes = false; value = answer r }) os)
     at (Write u y v) r os = sym (sum_by-cons (λ o. cond (reads_item x o && eqb o.txn t) 1 0) (record { txn = u.0; item = y.0; writes = true; value = v }) os)
     at (Commit u) r os = omega arith
@@ -138,7 +133,7 @@ module _ (h : Schedule) where
       at (BeginUpdate l) r = refl
       at (BeginQuery l s) r = refl
       at (Read u y) r = refl
-      at (Write u y v) r = and_swap (u.0 == t) (y.0 == x)
+      at (Write u y v) r = and_comm (u.0 == t) (y.0 == x)
       at (Commit u) r = refl
       at (Abort u) r = refl
 
@@ -148,7 +143,7 @@ module _ (h : Schedule) where
       at : (e : Event) (r : Reply) → reads t x e ≡ any_of (read_item_by x t) (operation_by e r)
       at (BeginUpdate l) r = refl
       at (BeginQuery l s) r = refl
-      at (Read u y) r = and_swap (u.0 == t) (y.0 == x)
+      at (Read u y) r = and_comm (u.0 == t) (y.0 == x)
       at (Write u y v) r = refl
       at (Commit u) r = refl
       at (Abort u) r = refl

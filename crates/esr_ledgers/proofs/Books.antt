@@ -12,7 +12,7 @@ use Rattle.esr_history.proofs.Ascending.{place_tail, placed_ascends, all_placed}
 use Rattle.esr_ledgers.specs.declared.account.Account.{Account}
 use Rattle.esr_ledgers.specs.Books.{number, account_of, is_open, is_open_query, is_open_update, limit_at, amount_at, total_of, would_pass, raised, imported, charged, imports, exports, IsWithinLimit, AreBooks, AreCharges, opened, quoted, quote_of}
 use Rattle.esr_ledgers.specs.declared.ledgers.Quote.TheVariants.{Fits}
-use Rattle.esr_ledgers.proofs.Finds.{find_none_all}
+use Rattle.esr_history.proofs.Lists.{find_none_all}
 
 abbrev more : ℕ → Account → Account
 more n a = record a { amount = a.amount + n }

@@ -1,7 +1,6 @@
 -- A search through a list from its front.
 use Rattle.std.proofs.Common.{◌≡◌, ℕ, zero, suc, ◌+◌, ◌-◌, ◌<◌, ap, sym, ◌∙◌, List, [], ◌∷◌, length, Bool, true, false, refl, arith, inl, inr, None, Some, get_or, take, add-one}
 use Rattle.std.specs.Prelude.{find}
-use Rattle.std.specs.List.{AllByRecursion}
 use Rattle.std.proofs.lemmas.Bool.{cases_Bool, cases_lt}
 use Rattle.std.proofs.lemmas.List.{get_or_default}
 use Rattle.esr_history.specs.Ascending.{IsAscendingBy, IsGapFor}
@@ -28,15 +27,6 @@ find_none_suc p (x ∷ xs) (suc i) d l none is =
 
 pub find_none_more : {X : Type 0} (p : X → Bool) (xs : List X) (i : ℕ) (d : X) → i < length xs → find p (take i xs) ≡ None → p (get_or xs i d) ≡ false → find p (take (i + 1) xs) ≡ None
 find_none_more p xs i d l none is = rw (add-one i) (find_none_suc p xs i d l none is)
-
--- where none is found, each fails
-pub find_none_all : {X : Type 0} (p : X → Bool) (xs : List X) → find p xs ≡ None → AllByRecursion (λ x. p x ≡ false) xs
-find_none_all p [] none = tt
-find_none_all p (x ∷ xs) none =
-    elim (cases_Bool (p x)) [
-      | inl passes ↦ let bad : Some x ≡ None = rw passes at none in absurd (cc)
-      | inr fails ↦ (fails, find_none_all p xs (rw fails at none))
-    ]
 
 -- a number above the last one of a list that ascends goes at its end
 pub gap_last : {X : Type 0} (key : X → ℕ) (xs : List X) → IsAscendingBy key xs → (t : ℕ) (x : X) → x ≡ get_or xs (length xs - 1) x → key x < t → IsGapFor key xs t (length xs)

@@ -5,14 +5,14 @@ use Rattle.std.specs.Prelude.{All, unwrap_or, filter, slice_index}
 use Rattle.std.specs.List.{list_any, range_with_len}
 use Rattle.std.specs.Option.{option_map}
 use Rattle.std.proofs.lemmas.Bool.{cases_Bool, cases_eq, eq-eqb, eqb-true, ne_eqb, false≢true, or_cases, or_left, or_right, or_parts}
-use Rattle.std.proofs.lemmas.List.{map-set, map-append, get_or-map, ext_get_or, length-map, take_more}
+use Rattle.std.proofs.lemmas.List.{map-set, map-append, get_or-map, ext_get_or, length-map, take_more, get_or_default}
 use Rattle.std.proofs.lemmas.List.Elements.{All-nil, All-push}
 use Rattle.std.proofs.lemmas.List.FromFn.{length-range_with_len, get_or-map-range_with_len, map-range_with_len_more}
 use Rattle.esr_items.specs.declared.metric.ItemId.{ItemId}
 use Rattle.esr_history.specs.declared.event.TxnId.{TxnId}
 use Rattle.esr_history.specs.ItemLocks.{ItemLocks}
 use Rattle.esr_history.proofs.Ascending.{any_placed}
-use Rattle.esr_history.proofs.Lists.{any_push}
+use Rattle.esr_history.proofs.Lists.{any_push, or_false}
 use Rattle.esr_locks.specs.Rows.{RowOf, HeldOf, nothing_held, empty_row, row_at, held_at, IsTable}
 use Rattle.esr_locks.specs.Tables.{no_locks, locks_at, is_writer, is_reader, is_update, is_query, has_lock, with_reader, with_query_read, released, lists_item}
 
@@ -62,24 +62,15 @@ pub wrote : (w : Option TxnId) (t : ℕ) → unwrap_or (option_map (λ u. u.0 ==
 wrote None t = refl
 wrote (Some u) t = refl
 
-pub not_not : (b : Bool) → not (not b) ≡ b
-not_not true = refl
-not_not false = refl
-
 pub query_has : (t : ℕ) (l : ItemLocks) → is_query l t ≡ true → has_lock l t ≡ true
 query_has t l is = or_right (is_writer l t) (is_reader l t || is_query l t) (or_right (is_reader l t) (is_query l t) is)
 
-pub get_or_any : {X : Type 0} (xs : List X) (k : ℕ) (d e : X) → k < length xs → get_or xs k d ≡ get_or xs k e
-get_or_any [] k d e l = absurd (omega arith)
-get_or_any (x ∷ xs) zero d e l = refl
-get_or_any (x ∷ xs) (suc k) d e l = get_or_any xs k d e (omega arith)
-
 -- the row that was read is that at the place
 pub read_row : (rows : List RowOf) (x : ℕ) (row : RowOf) → x < length rows → row ≡ get_or rows x row → row ≡ row_at rows x
-read_row rows x row l is = is ∙ get_or_any rows x row empty_row l
+read_row rows x row l is = is ∙ get_or_default rows x row empty_row l
 
 pub read_list : (held : List HeldOf) (t : ℕ) (list : HeldOf) → t < length held → list ≡ get_or held t list → list ≡ held_at held t
-read_list held t list l is = is ∙ get_or_any held t list nothing_held l
+read_list held t list l is = is ∙ get_or_default held t list nothing_held l
 
 module _ (rows : List RowOf) (held : List HeldOf) (tab : IsTable rows held) (t x : ℕ) (inside : x < length rows) (row new : RowOf) (is : row ≡ get_or rows x row) where
   lock_there : (more : (u : ℕ) → has_lock new.locks u ≡ true → (has_lock row.locks u ≡ true) ⊎ (t ≡ u)) → (u y : ℕ) → y < length (set rows x new) → has_lock (row_at (set rows x new) y).locks u ≡ true → (lists_item (held_at held u).items y ≡ true) ⊎ ((t ≡ u) × (x ≡ y))
@@ -310,13 +301,9 @@ release_more rows before items k t id row new in_items id_is in_rows row_is new_
           ∙ ap (λ b. if b then released t (row_at before y).locks else (row_at before y).locks) (sym (longer y ∙ or_right (lists_item (take k items) y) (id.0 == y) (eq-eqb id.0 y (sym e))))))))))
       | inr ne ↦
           ap (λ (r : RowOf). r.locks) (get_or-set_other rows id.0 y new empty_row ne)
-          ∙ (so_far y l ∙ ap (λ b. if b then released t (row_at before y).locks else (row_at before y).locks) (sym (longer y ∙ (ap (λ b. lists_item (take k items) y || b) (ne_eqb id.0 y (λ (f : id.0 ≡ y). ne (sym f))) ∙ or_none (lists_item (take k items) y)))))
+          ∙ (so_far y l ∙ ap (λ b. if b then released t (row_at before y).locks else (row_at before y).locks) (sym (longer y ∙ (ap (λ b. lists_item (take k items) y || b) (ne_eqb id.0 y (λ (f : id.0 ≡ y). ne (sym f))) ∙ or_false (lists_item (take k items) y)))))
     ]
   where
-    or_none : (b : Bool) → (b || false) ≡ b
-    or_none true = refl
-    or_none false = refl
-
     longer : (z : ℕ) → lists_item (take (k + 1) items) z ≡ (lists_item (take k items) z || (id.0 == z))
     longer z = ap (λ is. lists_item is z) (take_more items k id in_items ∙ ap (λ i. take k items ++ i ∷ []) (sym id_is)) ∙ any_push (λ (i : ItemId). i.0 == z) (take k items) id
 

@@ -1,27 +1,21 @@
 -- Words between blanks, and names.
-use Rattle.std.proofs.Common.{◌≡◌, ℕ, suc, ◌+◌, ◌-◌, ◌<◌, ◌≤◌, List, [], ◌∷◌, ◌⊎◌, inl, inr, Bool, true, false, cond, ◌&&◌, ◌||◌, length, take, drop, refl, sym, ◌∙◌, ap, arith, nat_eq, nat_le, Some, None, ltb-false, ltb-true, length-drop, IsUtf8, get_or, zero, eqb-true, leb-true}
+use Rattle.std.proofs.Common.{◌≡◌, ℕ, suc, ◌+◌, ◌-◌, ◌<◌, ◌≤◌, List, [], ◌∷◌, inl, inr, Bool, true, false, cond, length, take, drop, refl, sym, ◌∙◌, ap, arith, nat_eq, nat_le, Some, None, ltb-false, ltb-true, length-drop, IsUtf8, get_or, zero, eqb-true, leb-true}
 use Rattle.std.proofs.Math.Seq.{take-length}
 use Rattle.std.proofs.lemmas.List.Splits.{slice_split_first}
 use Rattle.std.proofs.lemmas.Str.{IsUtf8-from_ascii}
+use Rattle.std.proofs.lemmas.Bool.{cases_Bool, or_cases, and_parts}
+use Rattle.std.proofs.lemmas.Option.{cond_some}
 use Rattle.std.specs.List.{position, position_or_len, before_first, after_first, onto_first, list_all}
 use Rattle.esr_script.specs.Command.{is_letter, is_name_byte, is_name, is_between}
 use Rattle.esr_script.specs.Reading.{words_of, is_blank, one_of, totals_of}
 
-pub which : (v : Bool) → (v ≡ true) ⊎ (v ≡ false)
-which true = inl refl
-which false = inr refl
-
-chosen_none : (v : Bool) (n : ℕ) → cond v (Some n) None ≡ None → v ≡ false
+pub chosen_none : (v : Bool) (n : ℕ) → cond v (Some n) None ≡ None → v ≡ false
 chosen_none true n e = cc
 chosen_none false n e = refl
 
-chosen_some : (v : Bool) (n m : ℕ) → cond v (Some n) None ≡ Some m → (v ≡ true) × (n ≡ m)
-chosen_some true n m e = (refl, cc)
-chosen_some false n m e = cc
-
 one_word : (bytes : List ℕ) → length bytes ≤ position_or_len is_blank bytes → words_of bytes ≡ bytes ∷ []
 one_word [] h = refl
-one_word (b ∷ bs) h = elim (which (nat_eq b 32)) [
+one_word (b ∷ bs) h = elim (cases_Bool (nat_eq b 32)) [
   | inl e ↦ let none : position_or_len is_blank (b ∷ bs) ≡ 0 = rw e refl in absurd (omega (arith, h, none))
   | inr e ↦
       let more : position_or_len is_blank (b ∷ bs) ≡ 1 + position_or_len is_blank bs = rw e refl in
@@ -35,7 +29,7 @@ no_blank bytes e = one_word bytes (ltb-false _ _ (chosen_none _ _ e))
 pub at_blank : (bytes : List ℕ) (place : ℕ) → position is_blank bytes ≡ Some place
     → words_of bytes ≡ take place bytes ∷ words_of (take (length bytes - (place + 1)) (drop (place + 1) bytes))
 at_blank bytes place e =
-    let found = chosen_some _ _ _ e in
+    let found = cond_some _ _ _ e in
     let all : take (length bytes - (place + 1)) (drop (place + 1) bytes) ≡ drop (place + 1) bytes =
     ap (λ n. take n (drop (place + 1) bytes)) (sym (length-drop (place + 1) bytes)) ∙ take-length (drop (place + 1) bytes) in
     let split : words_of bytes ≡ before_first is_blank bytes ∷ words_of (after_first is_blank bytes) = slice_split_first is_blank bytes 0 (ltb-true _ _ found.0) in
@@ -43,39 +37,27 @@ at_blank bytes place e =
 
 -- ---- text
 
-and_left : (a b : Bool) → (a && b) ≡ true → a ≡ true
-and_left true b e = refl
-and_left false b e = cc
-
-and_right : (a b : Bool) → (a && b) ≡ true → b ≡ true
-and_right true b e = e
-and_right false b e = cc
-
-or_either : (a b : Bool) → (a || b) ≡ true → (a ≡ true) ⊎ (b ≡ true)
-or_either true b e = inl refl
-or_either false b e = inr e
-
 between_small : (low high b : ℕ) → high < 128 → is_between low high b ≡ true → b < 128
-between_small low high b h e = omega (arith, h, leb-true b high (and_right (nat_le low b) (nat_le b high) e))
+between_small low high b h e = omega (arith, h, leb-true b high (and_parts (nat_le low b) (nat_le b high) e).1)
 
 letter_small : (b : ℕ) → is_letter b ≡ true → b < 128
-letter_small b e = elim (or_either _ _ e) [ inl l ↦ between_small 97 122 b (omega arith) l | inr l ↦ between_small 65 90 b (omega arith) l ]
+letter_small b e = elim (or_cases _ _ e) [ inl l ↦ between_small 97 122 b (omega arith) l | inr l ↦ between_small 65 90 b (omega arith) l ]
 
 name_byte_small : (b : ℕ) → is_name_byte b ≡ true → b < 128
-name_byte_small b e = elim (or_either _ _ e) [
+name_byte_small b e = elim (or_cases _ _ e) [
   | inl l ↦ letter_small b l
-  | inr r ↦ elim (or_either _ _ r) [ inl l ↦ between_small 48 57 b (omega arith) l | inr l ↦ omega (arith, eqb-true b 95 l) ]
+  | inr r ↦ elim (or_cases _ _ r) [ inl l ↦ between_small 48 57 b (omega arith) l | inr l ↦ omega (arith, eqb-true b 95 l) ]
 ]
 
 all_small : (bs : List ℕ) → list_all is_name_byte bs ≡ true → (i : ℕ) → get_or bs i 0 < 128
 all_small [] e i = omega arith
-all_small (b ∷ bs) e zero = name_byte_small b (and_left _ _ e)
-all_small (b ∷ bs) e (suc i) = all_small bs (and_right _ _ e) i
+all_small (b ∷ bs) e zero = name_byte_small b (and_parts _ _ e).0
+all_small (b ∷ bs) e (suc i) = all_small bs (and_parts _ _ e).1 i
 
 name_ascii : (word : List ℕ) → is_name word ≡ true → (i : ℕ) → get_or word i 0 < 128
 name_ascii [] e i = omega arith
-name_ascii (b ∷ bs) e zero = letter_small b (and_left _ _ e)
-name_ascii (b ∷ bs) e (suc i) = all_small bs (and_right _ _ (and_right _ _ e)) i
+name_ascii (b ∷ bs) e zero = letter_small b (and_parts _ _ e).0
+name_ascii (b ∷ bs) e (suc i) = all_small bs (and_parts _ _ (and_parts _ _ e).1).1 i
 
 pub name_utf8 : (word : List ℕ) → is_name word ≡ true → IsUtf8 word
 name_utf8 word e = IsUtf8-from_ascii word (name_ascii word e)
@@ -84,7 +66,7 @@ name_utf8 word e = IsUtf8-from_ascii word (name_ascii word e)
 
 some_word : (bytes : List ℕ) → (w : List ℕ) × (ws : List (List ℕ)) × (words_of bytes ≡ w ∷ ws)
 some_word [] = ([], [], refl)
-some_word (b ∷ bs) = elim (which (nat_eq b 32)) [
+some_word (b ∷ bs) = elim (cases_Bool (nat_eq b 32)) [
   | inl e ↦ let is : words_of (b ∷ bs) ≡ [] ∷ words_of bs = rw e refl in ([], words_of bs, is)
   | inr e ↦
       let more = some_word bs in

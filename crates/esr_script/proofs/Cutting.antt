@@ -1,12 +1,9 @@
 -- What the first line feed in the bytes ahead says of the lines.
-use Rattle.std.proofs.Common.{◌≡◌, ℕ, suc, ◌+◌, ◌<◌, ◌≤◌, List, [], ◌∷◌, ◌++◌, ◌⊎◌, inl, inr, Bool, true, false, length, take, drop, refl, sym, ◌∙◌, ap, arith, nat_eq, one-add, add-one, eqb-true}
+use Rattle.std.proofs.Common.{◌≡◌, ℕ, suc, ◌+◌, ◌<◌, ◌≤◌, List, [], ◌∷◌, ◌++◌, inl, inr, true, false, length, take, drop, refl, sym, ◌∙◌, ap, arith, nat_eq, one-add, add-one, eqb-true}
 use Rattle.std.specs.List.{onto_first}
+use Rattle.std.proofs.lemmas.Bool.{cases_Bool}
 use Rattle.esr_script.specs.Lines.{lines, whole_lines, onto_first_whole}
 use Rattle.esr_script.specs.Parts.{line_len}
-
-pub which : (v : Bool) → (v ≡ true) ⊎ (v ≡ false)
-which true = inl refl
-which false = inr refl
 
 len-feed : (b : ℕ) (bs : List ℕ) → nat_eq b 10 ≡ true → line_len (b ∷ bs) ≡ 0
 len-feed b bs e = rw e refl
@@ -26,7 +23,7 @@ whole-other b bs e = rw e refl
 -- bytes with no line feed, and then one, are a line
 pub lines-line : (l rest : List ℕ) → line_len l ≡ length l → lines (l ++ 10 ∷ rest) ≡ l ∷ lines rest
 lines-line [] rest h = refl
-lines-line (b ∷ bs) rest h = elim (which (nat_eq b 10)) [
+lines-line (b ∷ bs) rest h = elim (cases_Bool (nat_eq b 10)) [
   | inl e ↦ absurd (omega (arith, h, len-feed b bs e))
   | inr e ↦
       let inside : line_len bs ≡ length bs = omega (arith, h, len-other b bs e) in
@@ -35,7 +32,7 @@ lines-line (b ∷ bs) rest h = elim (which (nat_eq b 10)) [
 
 pub whole-line : (l rest : List ℕ) → line_len l ≡ length l → whole_lines (l ++ 10 ∷ rest) ≡ l ∷ whole_lines rest
 whole-line [] rest h = refl
-whole-line (b ∷ bs) rest h = elim (which (nat_eq b 10)) [
+whole-line (b ∷ bs) rest h = elim (cases_Bool (nat_eq b 10)) [
   | inl e ↦ absurd (omega (arith, h, len-feed b bs e))
   | inr e ↦
       let inside : line_len bs ≡ length bs = omega (arith, h, len-other b bs e) in
@@ -64,7 +61,7 @@ front-feed b bs e = rw (len-feed b bs e) refl
 -- no line feed stands before the first one
 pub plain-front : (bytes : List ℕ) → line_len (front bytes) ≡ length (front bytes)
 plain-front [] = refl
-plain-front (b ∷ bs) = elim (which (nat_eq b 10)) [
+plain-front (b ∷ bs) = elim (cases_Bool (nat_eq b 10)) [
   | inl e ↦ rw (front-feed b bs e) refl
   | inr e ↦ rw (front-other b bs e) (len-other b (front bs) e ∙ ap suc (plain-front bs))
 ]
@@ -72,7 +69,7 @@ plain-front (b ∷ bs) = elim (which (nat_eq b 10)) [
 -- the bytes up to the first line feed, that and the rest
 pub split-front : (bytes : List ℕ) → line_len bytes < length bytes → bytes ≡ front bytes ++ 10 ∷ behind_front bytes
 split-front [] h = absurd (omega (arith, h))
-split-front (b ∷ bs) h = elim (which (nat_eq b 10)) [
+split-front (b ∷ bs) h = elim (cases_Bool (nat_eq b 10)) [
   | inl e ↦ ap (λ n. n ∷ bs) (eqb-true b 10 e) ∙ sym (ap (λ l. l ++ 10 ∷ bs) (front-feed b bs e)) ∙ ap (λ l. front (b ∷ bs) ++ 10 ∷ l) (sym (behind-feed b bs e))
   | inr e ↦
       let shorter : line_len bs < length bs = omega (arith, h, len-other b bs e) in
@@ -83,11 +80,11 @@ split-front (b ∷ bs) h = elim (which (nat_eq b 10)) [
 -- bytes with no line feed are one line
 pub lines-last : (bytes : List ℕ) → line_len bytes ≡ length bytes → 0 < length bytes → lines bytes ≡ bytes ∷ []
 lines-last [] h some = absurd (omega (arith, some))
-lines-last (b ∷ []) h some = elim (which (nat_eq b 10)) [
+lines-last (b ∷ []) h some = elim (cases_Bool (nat_eq b 10)) [
   | inl e ↦ absurd (omega (arith, h, len-feed b [] e))
   | inr e ↦ lines-other b [] e
 ]
-lines-last (b ∷ c ∷ bs) h some = elim (which (nat_eq b 10)) [
+lines-last (b ∷ c ∷ bs) h some = elim (cases_Bool (nat_eq b 10)) [
   | inl e ↦ absurd (omega (arith, h, len-feed b (c ∷ bs) e))
   | inr e ↦ lines-other b (c ∷ bs) e ∙ ap (onto_first b) (lines-last (c ∷ bs) (omega (arith, h, len-other b (c ∷ bs) e)) (omega arith))
 ]
@@ -95,7 +92,7 @@ lines-last (b ∷ c ∷ bs) h some = elim (which (nat_eq b 10)) [
 -- no line of them is ended
 pub whole-none : (bytes : List ℕ) → line_len bytes ≡ length bytes → whole_lines bytes ≡ []
 whole-none [] h = refl
-whole-none (b ∷ bs) h = elim (which (nat_eq b 10)) [
+whole-none (b ∷ bs) h = elim (cases_Bool (nat_eq b 10)) [
   | inl e ↦ absurd (omega (arith, h, len-feed b bs e))
   | inr e ↦ whole-other b bs e ∙ ap (onto_first_whole b) (whole-none bs (omega (arith, h, len-other b bs e)))
 ]
@@ -113,11 +110,11 @@ onto b bytes rest (l ∷ ls) e is none = record { line = b ∷ l; more = ls; is 
 -- bytes that aren't empty begin a line, which has at least those before the first line feed
 pub begins : (bytes rest : List ℕ) → 0 < length bytes → Begins bytes rest
 begins [] rest some = absurd (omega (arith, some))
-begins (b ∷ []) rest some = elim (which (nat_eq b 10)) [
+begins (b ∷ []) rest some = elim (cases_Bool (nat_eq b 10)) [
   | inl e ↦ record { line = []; more = lines rest; is = lines-feed b rest e; long = omega (arith, len-feed b [] e) }
   | inr e ↦ onto b [] rest (lines rest) e refl refl
 ]
-begins (b ∷ c ∷ bs) rest some = elim (which (nat_eq b 10)) [
+begins (b ∷ c ∷ bs) rest some = elim (cases_Bool (nat_eq b 10)) [
   | inl e ↦ record { line = []; more = lines (c ∷ bs ++ rest); is = lines-feed b (c ∷ bs ++ rest) e; long = omega (arith, len-feed b (c ∷ bs) e) }
   | inr e ↦
       let next : Begins (c ∷ bs) rest = begins (c ∷ bs) rest (omega arith) in

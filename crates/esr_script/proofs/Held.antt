@@ -1,5 +1,5 @@
 -- Each end of a run, with the output that is not yet sent.
-use Rattle.std.proofs.Common.{◌≡◌, ◌≢◌, ℕ, ◌<◌, ◌≤◌, List, [], ◌∷◌, ◌++◌, ◌⊎◌, inl, inr, Bool, true, false, length, take, refl, sym, ◌∙◌, ap, arith, Option, Some, None, Result, Ok, Err, OnOk, OnErr, IfErr, IfSome, append_assoc, append-nil, ◌==◌, eq-eqb, IsErrOf, ◌||◌}
+use Rattle.std.proofs.Common.{◌≡◌, ◌≢◌, ℕ, ◌<◌, ◌≤◌, List, [], ◌∷◌, ◌++◌, ◌⊎◌, inl, inr, Bool, true, false, length, take, refl, sym, ◌∙◌, ap, arith, Option, Some, None, Result, Ok, Err, OnOk, OnErr, IfErr, append_assoc, append-nil, ◌==◌, eq-eqb, IsErrOf, ◌||◌}
 use Rattle.std.specs.Io.KnownBytes.{IsAtEnd, Consumes, Keeps}
 use Rattle.esr_history.specs.Watch.{BeginsWith}
 use Rattle.esr_script.specs.declared.fault.RunFault.{RunFault}
@@ -105,34 +105,19 @@ module _ (input : List ℕ) (left : Option (List ℕ)) (bytes : List ℕ) (n : �
 -- a run that no write has ended
 pub held_kept : (input : List ℕ) (left : Option (List ℕ)) (out : List ℕ) (r : Result (Unit {0}) RunFault) (sent : List ℕ) → is_write_fault r ≡ false
     → IsHeldRun input left out r sent → BeginsWith (outcome input).text (sent ++ out) × IsRunBy input left r (sent ++ out)
-held_kept input left out (Ok done) sent other h = h
-held_kept input left out (Err fault.Read) sent other h = h
 held_kept input left out (Err fault.Write) sent other h = cc
-held_kept input left out (Err fault.LineTooLong) sent other h = h
-held_kept input left out (Err fault.NoMemory) sent other h = h
-held_kept input left out (Err fault.HistoryFull) sent other h = h
-held_kept input left out (Err fault.TooManyLines) sent other h = h
-held_kept input left out (Err fault.NotACommittedQuery) sent other h = h
+held_kept input left out _ sent other h = h
 
 -- a run that a read or a write has ended
 pub held_lost : (input : List ℕ) (left : Option (List ℕ)) (out : List ℕ) (r : Result (Unit {0}) RunFault) (sent : List ℕ) → (is_read_fault r || is_write_fault r) ≡ true
     → (IsErrOf r fault.Read → out ≡ []) → IsHeldRun input left out r sent → IsRunBy input left r sent
-held_lost input left out (Ok done) sent lost none h = cc
 held_lost input left out (Err fault.Read) sent lost none h = rw (none refl, append-nil) at h.1
 held_lost input left out (Err fault.Write) sent lost none h = h
-held_lost input left out (Err fault.LineTooLong) sent lost none h = cc
-held_lost input left out (Err fault.NoMemory) sent lost none h = cc
-held_lost input left out (Err fault.HistoryFull) sent lost none h = cc
-held_lost input left out (Err fault.TooManyLines) sent lost none h = cc
-held_lost input left out (Err fault.NotACommittedQuery) sent lost none h = cc
+held_lost input left out _ sent lost none h = cc
 
 -- a front of what begins a text begins it
 pub begins_part : (text sent out part : List ℕ) → BeginsWith text (sent ++ out) → BeginsWith out part → BeginsWith text (sent ++ part)
 begins_part text sent out part whole front = (front.0 ++ whole.0, whole.1 ∙ ap (λ o. (sent ++ o) ++ whole.0) front.1 ∙ simp append_assoc)
-
-pub if_known : (o : Option (List ℕ)) (P : List ℕ → Type 0) → ((input : List ℕ) → o ≡ Some input → P input) → IfSome o P
-if_known None P h = tt
-if_known (Some x) P h = h x refl
 
 pub not_written : (a b : Bool) → (a || b) ≡ false → b ≡ false
 not_written true b e = cc

@@ -1,19 +1,20 @@
 -- Numbers and words, and what is read from them.
-use Rattle.std.proofs.Common.{◌≡◌, ℕ, zero, suc, ◌<◌, ◌≤◌, ◌^◌, ℤ, pos, negsuc, nat_abs, List, [], ◌∷◌, ◌++◌, ◌+◌, ◌*◌, ◌-◌, inl, inr, IfSome, IfNone, Bool, true, false, cond, ◌&&◌, length, take, get_or, refl, sym, ◌∙◌, ap, arith, rules, nat_lt, nat_eq, Some, None, Option, option_map, option_and_then, decimal, lt-ltb, ltb-true, eqb-true}
+use Rattle.std.proofs.Common.{◌≡◌, ℕ, zero, suc, ◌<◌, ◌≤◌, ◌^◌, ℤ, pos, negsuc, nat_abs, List, [], ◌∷◌, ◌++◌, ◌+◌, ◌*◌, ◌-◌, inl, inr, IfSome, IfNone, true, false, length, take, get_or, refl, sym, ◌∙◌, ap, arith, rules, nat_lt, nat_eq, Some, None, Option, option_map, option_and_then, decimal, lt-ltb, ltb-true, eqb-true}
 use Rattle.std.specs.List.{AllByRecursion, join_with_byte}
 use Rattle.std.specs.Str.{bytes_eq, all_ascii_digits}
 use Rattle.std.specs.Char.{is_ascii_digit}
 use Rattle.std.specs.Fmt.{signed_decimal}
-use Rattle.std.proofs.lemmas.Bool.{ne_eqb}
+use Rattle.std.proofs.lemmas.Bool.{ne_eqb, and_parts}
 use Rattle.std.proofs.lemmas.List.Splits.{slice_split_at, slice_split_none}
 use Rattle.std.proofs.lemmas.Slice.Eq.{bytes_eq-Decides}
 use Rattle.std.proofs.lemmas.Str.Parse.{IsNumeralModel, numerals_by_fold}
 use Rattle.std.proofs.lemmas.Fmt.{digits_value-decimal, digits_decimal, decimal_nonempty, decimal-digits_value, first_decimal, length-decimal-le}
 use Rattle.std.proofs.lemmas.List.{take_more, take_all}
+use Rattle.std.proofs.lemmas.Option.{cond_some}
 use Rattle.std.proofs.Math.Nat.{pow-succ', pow-le-pow_right}
 use Rattle.esr_script.specs.Command.{IsPlainWord, IsInt, IsLimit}
 use Rattle.esr_script.specs.Reading.{words_of, is_blank, number_below, value_from, int_of, limit_of, minus}
-use Rattle.esr_script.proofs.Cutting.{which}
+use Rattle.std.proofs.lemmas.Bool.{cases_Bool}
 
 -- ---- options
 
@@ -35,10 +36,6 @@ split_join w (v ∷ vs) plain rest =
 
 -- ---- tests of two parts
 
-pub left : (a b : Bool) → (a && b) ≡ true → (a ≡ true) × (b ≡ true)
-left true b e = (refl, e)
-left false b e = cc
-
 -- ---- numbers
 
 own : IsNumeralModel (λ ds. all_ascii_digits ds ≡ true) (value_from 0)
@@ -51,13 +48,13 @@ value-push n (x ∷ xs) c = value-push (10 * n + (x - 48)) xs c
 digits-push : (cs : List ℕ) (c : ℕ) → all_ascii_digits cs ≡ true → is_ascii_digit c ≡ true → all_ascii_digits (cs ++ c ∷ []) ≡ true
 digits-push [] c h e = rw e refl
 digits-push (x ∷ xs) c h e =
-    let parts = left (is_ascii_digit x) (all_ascii_digits xs) h in
+    let parts = and_parts (is_ascii_digit x) (all_ascii_digits xs) h in
     rw parts.0 (digits-push xs c parts.1 e)
 
 digit_at : (cs : List ℕ) (i d : ℕ) → all_ascii_digits cs ≡ true → i < length cs → is_ascii_digit (get_or cs i d) ≡ true
 digit_at [] i d h within = absurd (omega (arith, within))
-digit_at (c ∷ cs) zero d h within = (left (is_ascii_digit c) (all_ascii_digits cs) h).0
-digit_at (c ∷ cs) (suc i) d h within = digit_at cs i d (left (is_ascii_digit c) (all_ascii_digits cs) h).1 (omega (arith, within))
+digit_at (c ∷ cs) zero d h within = (and_parts (is_ascii_digit c) (all_ascii_digits cs) h).0
+digit_at (c ∷ cs) (suc i) d h within = digit_at cs i d (and_parts (is_ascii_digit c) (all_ascii_digits cs) h).1 (omega (arith, within))
 
 ten_times : (i : ℕ) → 10 ^ (i + 1) ≡ 10 * 10 ^ i
 ten_times i = ap (λ k. 10 ^ k) (omega arith) ∙ pow-succ' 10 i
@@ -80,7 +77,7 @@ one_digit cs i d value c so_far within is digit high =
 
 -- a byte that is no digit
 pub no_digit : (cs : List ℕ) (i d : ℕ) → i < length cs → is_ascii_digit (get_or cs i d) ≡ false → all_ascii_digits cs ≡ false
-no_digit cs i d within other = elim (which (all_ascii_digits cs)) [
+no_digit cs i d within other = elim (cases_Bool (all_ascii_digits cs)) [
   | inl t ↦ let digit = digit_at cs i d t within in cc
   | inr f ↦ f
 ]
@@ -93,15 +90,11 @@ number_again bound n fits small =
     let same : bytes_eq (decimal n) (decimal n) ≡ true = (bytes_eq-Decides (decimal n) (decimal n)).1 refl in
     rw (value, below, same) refl
 
-chosen : (v : Bool) (n m : ℕ) → cond v (Some n) None ≡ Some m → (v ≡ true) × (n ≡ m)
-chosen true n m e = (refl, cc)
-chosen false n m e = cc
-
 -- what is read as a number is its spelling
 pub number_found : (bound : ℕ) (text : List ℕ) (n : ℕ) → number_below bound text ≡ Some n → (n < bound) × (text ≡ decimal n)
 number_found bound text n e =
-    let test = chosen _ (value_from 0 text) n e in
-    let parts = left _ _ test.0 in
+    let test = cond_some _ (value_from 0 text) n e in
+    let parts = and_parts _ _ test.0 in
     let below : value_from 0 text < bound = ltb-true _ _ parts.0 in
     (omega (arith, below, test.1), (bytes_eq-Decides text (decimal (value_from 0 text))).0 parts.1 ∙ ap decimal test.1)
 
@@ -110,10 +103,10 @@ all_digits n small = digits_decimal own n (omega arith)
 
 unsigned : (text : List ℕ) (n : ℕ) → all_ascii_digits text ≡ true → 0 < length text → number_below (10 ^ 18) text ≡ Some n → int_of text ≡ Some (pos n)
 unsigned [] n digits some e = absurd (omega (arith, some))
-unsigned (c ∷ cs) n digits some e = elim (which (nat_eq c 45)) [
+unsigned (c ∷ cs) n digits some e = elim (cases_Bool (nat_eq c 45)) [
   | inl t ↦
       let same : c ≡ 45 = eqb-true c 45 t in
-      let digit : is_ascii_digit 45 ≡ true = rw same at (left (is_ascii_digit c) (all_ascii_digits cs) digits).0 in
+      let digit : is_ascii_digit 45 ≡ true = rw same at (and_parts (is_ascii_digit c) (all_ascii_digits cs) digits).0 in
       cc
   | inr f ↦ rw (f, e) refl
 ]
@@ -133,7 +126,7 @@ signed (suc m) v small e = let given : Some (negsuc m) ≡ Some v = rw (nonzero 
 -- what is read as a whole number is its spelling
 pub int_found : (text : List ℕ) (v : ℤ) → int_of text ≡ Some v → IsInt v × (text ≡ signed_decimal v)
 int_found [] v e = cc
-int_found (c ∷ cs) v e = elim (which (nat_eq c 45)) [
+int_found (c ∷ cs) v e = elim (cases_Bool (nat_eq c 45)) [
   | inl t ↦
       let read : option_and_then minus (number_below (10 ^ 18) cs) ≡ Some v = rw t at e in
       let found = and_then_some minus (number_below (10 ^ 18) cs) v read in
@@ -180,9 +173,8 @@ pub empty_word : (word : List ℕ) → length word ≡ 0 → None ≡ limit_of w
 empty_word word none = limit_none word (λ n small is. omega (arith, none, ap length is, decimal_nonempty n (omega arith)))
 
 pub zero_alone : (word : List ℕ) → length word ≡ 1 → get_or word 0 0 ≡ 48 → Some 0 ≡ limit_of word
-zero_alone [] one first = absurd (omega (arith, one))
 zero_alone (c ∷ []) one first = limit_some (c ∷ []) 0 (omega arith) (ap (λ b. b ∷ []) first ∙ sym (decimal-digits_value own (48 ∷ []) refl (omega arith) (λ e. refl) (omega arith)))
-zero_alone (c ∷ d ∷ cs) one first = absurd (omega (arith, one))
+zero_alone _ one first = absurd (omega (arith, one))
 
 pub zero_in_front : (word : List ℕ) → 1 < length word → get_or word 0 0 ≡ 48 → None ≡ limit_of word
 zero_in_front word long first = limit_none word (λ n small is. refuted n small is)

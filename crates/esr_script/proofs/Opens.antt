@@ -1,5 +1,6 @@
 -- The machine that is made of the items' values.
-use Rattle.std.proofs.Common.{◌≡◌, ℕ, ℤ, List, [], ◌∷◌, map, refl, ◌∙◌, ap, Vec, Global}
+use Rattle.std.proofs.Common.{◌≡◌, ℕ, ℤ, List, [], map, refl, ◌∙◌, ap, Vec, Global}
+use Rattle.esr_core.proofs.Replayed.{opened_values}
 use Rattle.esr_items.specs.declared.store.Versions.{Versions}
 use Rattle.esr_items.specs.Values.{opened}
 use Rattle.esr_history.specs.Machine.{Schedule}
@@ -7,17 +8,13 @@ use Rattle.esr_script.specs.declared.stage.Stage.{Stage}
 use Rattle.esr_script.specs.declared.stage.Stage.TheVariants.{Open}
 use Rattle.esr_script.specs.Stages.{history_of}
 
-kept : (values : List ℤ) → map (λ (w : Versions). w.committed) (map opened values) ≡ values
-kept [] = refl
-kept (v ∷ vs) = ap (λ l. v ∷ l) (kept vs)
-
 -- it opens with them, under the weights
 pub opens : (stage : Stage) (values taken : Vec ℤ Global) (weights held : Vec ℕ Global) (store : List Versions) (metric : List ℕ) (machine : Schedule)
     → stage ≡ Open values weights → taken ≡ values → held ≡ weights → store ≡ map opened taken.items → metric ≡ held.items
     → machine ≡ record { opening = map (λ (w : Versions). w.committed) store; weights = metric; entries = [] } → machine ≡ history_of stage
 opens stage values taken weights held store metric machine is same same_weights made measured new =
     let opening : map (λ (w : Versions). w.committed) store ≡ values.items =
-    ap (map (λ (w : Versions). w.committed)) made ∙ kept taken.items ∙ ap (λ (v : Vec ℤ Global). v.items) same in
+    ap (map (λ (w : Versions). w.committed)) made ∙ opened_values taken.items ∙ ap (λ (v : Vec ℤ Global). v.items) same in
     let by : metric ≡ weights.items = measured ∙ ap (λ (v : Vec ℕ Global). v.items) same_weights in
     new ∙ ap (λ (l : List ℤ). let h : Schedule = record { opening = l; weights = metric; entries = [] } in h) opening
     ∙ ap (λ (l : List ℕ). let h : Schedule = record { opening = values.items; weights = l; entries = [] } in h) by ∙ rw is refl

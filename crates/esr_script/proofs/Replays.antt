@@ -17,7 +17,7 @@ use Rattle.esr_script.specs.Certify.{IsFound, IsBundleOf, IsBundleLine}
 use Rattle.esr_script.specs.Ends.{EndsBy}
 use Rattle.esr_script.specs.Replays.{IsReplay, told}
 use Rattle.esr_script.specs.Parts.{line_len, IsNext, Standing}
-use Rattle.esr_script.proofs.Steps.{all_read, step_line, at_long, at_many, at_done, at_last, at_fault_line, at_fault_last, state_at_done, state_at_last}
+use Rattle.esr_script.proofs.Steps.{all_read, step_line, at_long, at_many, at_last, at_fault_line, at_fault_last, state_at_last}
 
 abbrev fault_of : Outcome → Option RunFault
 fault_of o = o.fault
@@ -39,9 +39,6 @@ module _ (input : List ℕ) (left : Option (List ℕ)) (bytes : List ℕ) (n : �
       let found : Standing input left (drop (line_len bytes + 1) bytes) (n + 1) s' (w ++ t) =
       step_line input left bytes n s w here s' t few (omega (arith, is.0, is.1)) (omega (arith, is.0, is.2)) (ap (λ j. answer s (take j bytes)) (sym is.0) ∙ ok) in
       rw is.0 found
-
-  pub replay_done : IsAtEnd left → bytes ≡ [] → IsReplay input left (Ok tt) s
-  replay_done end none = (all_read input left bytes n s w here end, ap fault_of (at_done input left bytes n s w here end none), state_at_done input left bytes n s w here end none)
 
   pub replay_ended : IsAtEnd left → line_len bytes ≡ length bytes → length bytes ≤ max_line_bytes → 0 < length bytes → n ≢ max_lines
       → (r : Result (Unit {0}) RunFault) (s' : State) (out grown : List ℕ) → OnOk r ((t : List ℕ) × (answer s bytes ≡ Ok (s', t)) × (grown ≡ out ++ t))

@@ -8,15 +8,15 @@ use Rattle.std.specs.Fmt.{signed_decimal}
 use Rattle.std.proofs.lemmas.List.Elements.{All-nil, All-cons}
 use Rattle.std.proofs.lemmas.List.Splits.{join_with_byte-slice_split}
 use Rattle.std.proofs.lemmas.Slice.Eq.{bytes_eq-Decides}
-use Rattle.esr_script.specs.Command.{Command, item, weighted_item, begin_update, begin_query, begin_strict_query, read, write, commit, abort, audit, totals, words, is_letter, is_name_byte, is_name, IsName, IsLimit, IsCommand, is_skipped, Spells, IsPlainWord}
+use Rattle.esr_script.specs.Command.{Command, item, weighted_item, begin_update, begin_query, begin_strict_query, read, write, commit, abort, audit, totals, words, is_letter, is_name_byte, is_name, IsName, IsLimit, IsCommand, Spells, IsPlainWord}
 use Rattle.esr_script.specs.Reading.{words_of, name_of, limit_of, int_of, one_of, two_of, three_of, four_of, both, plain_item_of, weighted_item_of, item_of, plain_begin_of, strict_query_of, begin_of, read_of, write_of, one_name_of, totals_of, command_of, command_by, reading}
-use Rattle.esr_script.proofs.Cutting.{which}
-use Rattle.esr_script.proofs.Laws.{and_then_some, map_some, split_join, number_again, number_found, all_digits, int_again, int_found, left}
+use Rattle.std.proofs.lemmas.Bool.{cases_Bool, and_parts}
+use Rattle.esr_script.proofs.Laws.{and_then_some, map_some, split_join, number_again, number_found, all_digits, int_again, int_found}
 
 -- ---- words without blanks
 
 unlike : (p : ℕ → Bool) → p 32 ≡ false → (b : ℕ) → p b ≡ true → nat_eq b 32 ≡ false
-unlike p not_blank b holds = elim (which (nat_eq b 32)) [
+unlike p not_blank b holds = elim (cases_Bool (nat_eq b 32)) [
   | inl e ↦ let blank : p 32 ≡ true = rw (eqb-true b 32 e) at holds in cc
   | inr e ↦ e
 ]
@@ -24,7 +24,7 @@ unlike p not_blank b holds = elim (which (nat_eq b 32)) [
 plain_list : (p : ℕ → Bool) → p 32 ≡ false → (bs : List ℕ) → list_all p bs ≡ true → IsPlainWord bs
 plain_list p not_blank [] h = All-nil (λ b. nat_eq b 32 ≡ false)
 plain_list p not_blank (b ∷ bs) h =
-    let parts = left (p b) (list_all p bs) h in
+    let parts = and_parts (p b) (list_all p bs) h in
     All-cons (λ b. nat_eq b 32 ≡ false) b bs (unlike p not_blank b parts.0) (plain_list p not_blank bs parts.1)
 
 plain_text : (bs : List ℕ) → list_all (λ b. not (nat_eq b 32)) bs ≡ true → IsPlainWord bs
@@ -33,14 +33,14 @@ plain_text bs h = plain_list (λ b. not (nat_eq b 32)) refl bs h
 plain_digits : (bs : List ℕ) → all_ascii_digits bs ≡ true → IsPlainWord bs
 plain_digits [] h = All-nil (λ b. nat_eq b 32 ≡ false)
 plain_digits (b ∷ bs) h =
-    let parts = left (is_ascii_digit b) (all_ascii_digits bs) h in
+    let parts = and_parts (is_ascii_digit b) (all_ascii_digits bs) h in
     All-cons (λ b. nat_eq b 32 ≡ false) b bs (unlike is_ascii_digit refl b parts.0) (plain_digits bs parts.1)
 
 plain_name : (name : List ℕ) → is_name name ≡ true → IsPlainWord name
 plain_name [] h = All-nil (λ b. nat_eq b 32 ≡ false)
 plain_name (b ∷ bs) h =
-    let parts = left _ _ h in
-    let more = left _ _ parts.1 in
+    let parts = and_parts _ _ h in
+    let more = and_parts _ _ parts.1 in
     All-cons (λ b. nat_eq b 32 ≡ false) b bs (unlike is_letter refl b parts.0) (plain_list is_name_byte refl bs more.1)
 
 plain_number : (n : ℕ) → n < 10 ^ 19 → IsPlainWord (decimal n)
@@ -93,7 +93,7 @@ spelled line totals h = found line (codes "totals") [] totals h.1 (plain_text (c
 -- ---- what is read is spelled
 
 name_found : (text name : List ℕ) → name_of text ≡ Some name → IsName name × (text ≡ name)
-name_found text name e = elim (which (is_name text)) [
+name_found text name e = elim (cases_Bool (is_name text)) [
   | inl t ↦ let same : text ≡ name = let given : Some text ≡ Some name = rw t at e in cc in (rw (← same) t, same)
   | inr f ↦ let none : None ≡ Some name = rw f at e in cc
 ]
@@ -105,32 +105,22 @@ both_found f a b c e =
     (first.0, second.0, first.1, second.1, second.2)
 
 one_found : (ws : List (List ℕ)) (w : List ℕ) → one_of ws ≡ Some w → ws ≡ w ∷ []
-one_found [] w e = cc
 one_found (a ∷ []) w e = let same : a ≡ w = cc in rw same refl
-one_found (a ∷ b ∷ ws) w e = cc
+one_found _ w e = cc
 
 two_found : (ws : List (List ℕ)) (p : List ℕ × List ℕ) → two_of ws ≡ Some p → ws ≡ p.0 ∷ p.1 ∷ []
-two_found [] p e = cc
-two_found (a ∷ []) p e = cc
 two_found (a ∷ b ∷ []) p e = let given : List ℕ × List ℕ = (a, b) in let same : given ≡ p = cc in ap (λ (q : List ℕ × List ℕ). q.0 ∷ q.1 ∷ []) same
-two_found (a ∷ b ∷ c ∷ ws) p e = cc
+two_found _ p e = cc
 
 three_found : (ws : List (List ℕ)) (p : List ℕ × List ℕ × List ℕ) → three_of ws ≡ Some p → ws ≡ p.0 ∷ p.1 ∷ p.2 ∷ []
-three_found [] p e = cc
-three_found (a ∷ []) p e = cc
-three_found (a ∷ b ∷ []) p e = cc
 three_found (a ∷ b ∷ c ∷ []) p e = let given : List ℕ × List ℕ × List ℕ = (a, b, c) in let same : given ≡ p = cc in ap (λ (q : List ℕ × List ℕ × List ℕ). q.0 ∷ q.1 ∷ q.2 ∷ []) same
-three_found (a ∷ b ∷ c ∷ d ∷ ws) p e = cc
+three_found _ p e = cc
 
 four_found : (ws : List (List ℕ)) (p : List ℕ × List ℕ × List ℕ × List ℕ) → four_of ws ≡ Some p → ws ≡ p.0 ∷ p.1 ∷ p.2 ∷ p.3 ∷ []
-four_found [] p e = cc
-four_found (a ∷ []) p e = cc
-four_found (a ∷ b ∷ []) p e = cc
-four_found (a ∷ b ∷ c ∷ []) p e = cc
 four_found (a ∷ b ∷ c ∷ d ∷ []) p e =
     let given : List ℕ × List ℕ × List ℕ × List ℕ = (a, b, c, d) in let same : given ≡ p = cc in
     ap (λ (q : List ℕ × List ℕ × List ℕ × List ℕ). q.0 ∷ q.1 ∷ q.2 ∷ q.3 ∷ []) same
-four_found (a ∷ b ∷ c ∷ d ∷ e ∷ ws) p is = cc
+four_found _ p e = cc
 
 or_found : {A : Type 0} (a b : Option A) (c : A) → option_or a b ≡ Some c → (a ≡ Some c) ⊎ (b ≡ Some c)
 or_found None b c e = inr e
@@ -161,7 +151,7 @@ weighted_item_found : (ws : List (List ℕ)) (c : Command) → weighted_item_of 
 weighted_item_found ws c e =
     let p = and_then_some (λ (q : List ℕ × List ℕ × List ℕ × List ℕ). cond (bytes_eq q.2 (codes "weight"))
     (option_and_then (λ n. both (weighted_item n) (int_of q.1) (limit_of q.3)) (name_of q.0)) None) (four_of ws) c e in
-    elim (which (bytes_eq p.0.2 (codes "weight"))) [
+    elim (cases_Bool (bytes_eq p.0.2 (codes "weight"))) [
       | inl t ↦
           let rest : option_and_then (λ n. both (weighted_item n) (int_of p.0.1) (limit_of p.0.3)) (name_of p.0.0) ≡ Some c = rw t at p.2 in
           let a = and_then_some (λ n. both (weighted_item n) (int_of p.0.1) (limit_of p.0.3)) (name_of p.0.0) c rest in
@@ -214,11 +204,11 @@ plain_begin_found ws c e =
     let p = and_then_some (λ (q : List ℕ × List ℕ × List ℕ). cond (bytes_eq q.1 (codes "update")) (both begin_update (name_of q.0) (limit_of q.2))
     (cond (bytes_eq q.1 (codes "query")) (both begin_query (name_of q.0) (limit_of q.2)) None)) (three_of ws) c e in
     let three = three_found ws p.0 p.1 in
-    elim (which (bytes_eq p.0.1 (codes "update"))) [
+    elim (cases_Bool (bytes_eq p.0.1 (codes "update"))) [
       | inl t ↦ begin_by (codes "update") begin_update ws p.0 c three t (rw t at p.2) (λ n l name limit is. ((name, limit), is))
       | inr f ↦
           let other : cond (bytes_eq p.0.1 (codes "query")) (both begin_query (name_of p.0.0) (limit_of p.0.2)) None ≡ Some c = rw f at p.2 in
-          elim (which (bytes_eq p.0.1 (codes "query"))) [
+          elim (cases_Bool (bytes_eq p.0.1 (codes "query"))) [
             | inl t ↦ begin_by (codes "query") begin_query ws p.0 c three t (rw t at other) (λ n l name limit is. ((name, limit), is))
             | inr g ↦ let none : None ≡ Some c = rw g at other in cc
           ]
@@ -228,9 +218,9 @@ strict_query_found : (ws : List (List ℕ)) (c : Command) → strict_query_of ws
 strict_query_found ws c e =
     let p = and_then_some (λ (q : List ℕ × List ℕ × List ℕ × List ℕ). cond (bytes_eq q.1 (codes "query") && bytes_eq q.3 (codes "strict"))
     (both begin_strict_query (name_of q.0) (limit_of q.2)) None) (four_of ws) c e in
-    elim (which (bytes_eq p.0.1 (codes "query") && bytes_eq p.0.3 (codes "strict"))) [
+    elim (cases_Bool (bytes_eq p.0.1 (codes "query") && bytes_eq p.0.3 (codes "strict"))) [
       | inl t ↦
-          let tests = left (bytes_eq p.0.1 (codes "query")) (bytes_eq p.0.3 (codes "strict")) t in
+          let tests = and_parts (bytes_eq p.0.1 (codes "query")) (bytes_eq p.0.3 (codes "strict")) t in
           let rest : both begin_strict_query (name_of p.0.0) (limit_of p.0.2) ≡ Some c = rw t at p.2 in
           let b = both_found begin_strict_query (name_of p.0.0) (limit_of p.0.2) c rest in
           let n = name_found p.0.0 b.0 b.2 in
@@ -280,7 +270,7 @@ audit_found ws c e =
 -- one of two, by the first word
 choose : (k word : List ℕ) (ws : List (List ℕ)) (a b : Option Command) (c : Command) → cond (bytes_eq k word) a b ≡ Some c
     → (a ≡ Some c → Behind word ws c) → (b ≡ Some c → Behind k ws c) → Behind k ws c
-choose k word ws a b c e here there = elim (which (bytes_eq k word)) [
+choose k word ws a b c e here there = elim (cases_Bool (bytes_eq k word)) [
   | inl t ↦ let first : a ≡ Some c = rw t at e in rw ((bytes_eq-Decides k word).0 t) (here first)
   | inr f ↦ let second : b ≡ Some c = rw f at e in there second
 ]
@@ -304,17 +294,3 @@ pub read_back : (line : List ℕ) (c : Command) → reading line ≡ Some c → 
 read_back line c e =
     let h = by_words (words_of line) c e in
     (h.0, sym (join_with_byte-slice_split 32 line) ∙ ap (join_with_byte 32) h.1)
-
--- a line that spells a command is not skipped
-pub not_skipped : (line : List ℕ) (c : Command) → Spells line c → is_skipped line ≡ false
-not_skipped line (item n v) h = ap is_skipped h.1
-not_skipped line (weighted_item n v w) h = ap is_skipped h.1
-not_skipped line (begin_update n l) h = ap is_skipped h.1
-not_skipped line (begin_query n l) h = ap is_skipped h.1
-not_skipped line (begin_strict_query n l) h = ap is_skipped h.1
-not_skipped line (read t x) h = ap is_skipped h.1
-not_skipped line (write t x v) h = ap is_skipped h.1
-not_skipped line (commit t) h = ap is_skipped h.1
-not_skipped line (abort t) h = ap is_skipped h.1
-not_skipped line (audit t) h = ap is_skipped h.1
-not_skipped line totals h = ap is_skipped h.1

@@ -19,7 +19,4 @@ history_of (stage.Running machine) = machine
 abbrev pub IsBegin : Event → Type 0
 IsBegin (event.BeginUpdate limit) = ⊤
 IsBegin (event.BeginQuery limit strict) = ⊤
-IsBegin (event.Read txn x) = ⊥
-IsBegin (event.Write txn x value) = ⊥
-IsBegin (event.Commit txn) = ⊥
-IsBegin (event.Abort txn) = ⊥
+IsBegin _ = ⊥

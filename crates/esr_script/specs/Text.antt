@@ -66,11 +66,7 @@ item_called s name = record { 0 = unwrap_or (position_of s.items name) max_items
 -- the names of the transactions after a reply: an accepted begin binds its name
 abbrev pub bound : List (List ℕ) → List ℕ → Reply → List (List ℕ)
 bound names name (reply.Begun number) = names ++ name ∷ []
-bound names name (reply.Value value) = names
-bound names name reply.Wrote = names
-bound names name reply.Committed = names
-bound names name reply.Aborted = names
-bound names name (reply.Refused why) = names
+bound names name _ = names
 
 -- an event is given to the machine, whose reply is an entry of the history
 abbrev pub ask : State → Named → Event → Result (State × List ℕ) RunFault

@@ -26,6 +26,7 @@ fn push_finding(out: &mut Vec<u8>, names: &Names, finding: &Finding) -> Result<(
 }
 
 /// Appends the lines of what was found of queries.
+#[tactic(auto, using(crate::proofs::Audited::lines_more))]
 fn push_findings(out: &mut Vec<u8>, names: &Names, findings: &[Finding]) -> Result<(), AllocError>
     ensures { OnOk result (out.new.items ≡ out.old.items ++ flat_map (told_line names.now) (map told findings.now)) }
 {

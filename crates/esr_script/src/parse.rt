@@ -183,6 +183,7 @@ fn one_name(words: &[u8]) -> Option<&str>
     name(one_word(words)?)
 }
 
+#[tactic(auto, using(crate::proofs::Blanks::totals_of_more))]
 fn totals(words: Option<&[u8]>) -> Option<Line<'static>>
     ensures { option_map view result ≡ totals_of (words_after words.entry) }
 {

@@ -56,6 +56,7 @@ impl Pending {
         &self.buffer[self.start..self.end]
     }
 
+    #[tactic(auto, using(crate::proofs::Buffers::skipped))]
     pub fn skip(&mut self, count: usize)
         requires { count ≤ length self.old }
         ensures { self.new ≡ drop count self.old }
@@ -103,6 +104,7 @@ fn find_line_feed(bytes: &[u8]) -> Option<usize>
 }
 
 /// The count of bytes before the first line feed.
+#[tactic(auto, using(crate::proofs::Prefix::none_is_length))]
 fn line_len(bytes: &[u8]) -> usize
     ensures { result ≡ line_len bytes.now }
 {

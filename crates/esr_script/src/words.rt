@@ -18,6 +18,7 @@ fn find_blank(bytes: &[u8]) -> Option<usize>
 }
 
 /// The first word, and what stands after the blank behind it.
+#[tactic(auto, using(crate::proofs::Blanks::no_blank, crate::proofs::Blanks::at_blank))]
 pub fn cut_word(bytes: &[u8]) -> (&[u8], Option<&[u8]>)
     ensures { words_of bytes.now ≡ result.0.now ∷ words_after result.1 }
 {
@@ -105,6 +106,7 @@ pub fn name(word: &[u8]) -> Option<&str>
 }
 
 /// The value of up to 19 digits.
+#[tactic(auto, using(crate::proofs::Laws::no_digit))]
 fn digits_value(digits: &[u8]) -> Option<u64>
     requires { length digits.now ≤ 19 }
     ensures found { IfSome result (λ n. (n ≡ value_from 0 digits.now) × (n < 10 ^ 19)
@@ -122,6 +124,7 @@ fn digits_value(digits: &[u8]) -> Option<u64>
 }
 
 /// The limit of which the word is the decimal form: digits with no zero in front of others.
+#[tactic(auto, using(crate::proofs::Laws::too_long, crate::proofs::Laws::empty_word, crate::proofs::Laws::zero_alone, crate::proofs::Laws::zero_in_front))]
 pub fn limit(word: &[u8]) -> Option<u64>
     ensures { result ≡ limit_of word.now }
 {

@@ -25,22 +25,14 @@ unreachable-requires c =
     let found = found_by_program _ words c.in_ok-matches.matches c.in_ok-program.ensures c.in_ok-matches.ensures.matches in
     job_found None words c.in_ok-matches.matches c.in-None.ensures found none
 
-pub returns-clause-job : goal.returns-clause-job
-returns-clause-job c =
+pub returns : goal.returns
+returns c =
     let words = texts c.args.words.now in
     let none = of_program (λ kinds. kinds ≡ []) _ words c.in_ok-program.ensures c.in_ok-matches.ensures.kinds in
     let found = found_by_program _ words c.in_ok-matches.matches c.in_ok-program.ensures c.in_ok-matches.ensures.matches in
-    (job_found (Some c.in-Some.job) words c.in_ok-matches.matches c.in-Some.ensures found none).0
-
-pub returns-clause-workers : goal.returns-clause-workers
-returns-clause-workers c =
-    let words = texts c.args.words.now in
-    let none = of_program (λ kinds. kinds ≡ []) _ words c.in_ok-program.ensures c.in_ok-matches.ensures.kinds in
-    let found = found_by_program _ words c.in_ok-matches.matches c.in_ok-program.ensures c.in_ok-matches.ensures.matches in
-    (job_found (Some c.in-Some.job) words c.in_ok-matches.matches c.in-Some.ensures found none).1
-
-pub returns-clause-errors : goal.returns-clause-errors
-returns-clause-errors c = of_program (λ kinds. kinds ≡ []) _ (texts c.args.words.now) c.in_ok-program.ensures c.in_ok-matches.ensures.kinds
-
-pub returns-clause-asked : goal.returns-clause-asked
-returns-clause-asked c wanted spells = spelled (Ok c.in-Some.job) _ wanted spells (returns-clause-errors c) (returns-clause-job c)
+    let known = job_found (Some c.in-Some.job) words c.in_ok-matches.matches c.in-Some.ensures found none in record {
+      job = known.0;
+      workers = known.1;
+      errors = none;
+      asked = λ wanted spells. spelled (Ok c.in-Some.job) _ wanted spells none known.0;
+    }

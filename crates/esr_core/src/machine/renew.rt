@@ -64,6 +64,7 @@ impl<M: Metric> Machine<M> {
     }
 
     /// Whether a transaction is active.
+    #[tactic(auto, using(crate::proofs::Renewed::active_rows))]
     pub fn has_active(&self) -> bool
         ensures { result ≡ has_active self.now }
     {

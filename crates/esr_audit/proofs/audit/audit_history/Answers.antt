@@ -1,19 +1,11 @@
 use Rattle.std.proofs.Common.{◌≡◌, map, All, Result, Ok, Err, IfOk}
 use Rattle.esr_history.specs.Machine.{Distance, Schedule}
-use Rattle.esr_history.proofs.Charges.{legal_within_limits}
-use Rattle.esr_history.proofs.Laws.{legal_serializable}
 use Rattle.esr_audit.specs.declared.finding.Book.{Book}
 use Rattle.esr_audit.specs.declared.finding.AuditError.{AuditError}
 use Rattle.esr_audit.specs.Findings.{IsFinding, committed_queries, told, told_of}
 use Rattle.esr_audit.proofs.Stays.{findings_stay}
 use Rattle.esr_audit.proofs.Told.{all_told}
 use Rattle.esr_audit.proofs.audit.audit_history.Goals as goal
-
-pub returns-clause-serializable : goal.returns-clause-serializable
-returns-clause-serializable g c = legal_serializable g.M.Metric.distance_by c.args.history.now.schedule c.log-legal.ensures.legal
-
-pub returns-clause-limits : goal.returns-clause-limits
-returns-clause-limits g c = legal_within_limits g.M.Metric.distance_by c.args.history.now.schedule c.log-legal.ensures.legal
 
 book_told : (d : Distance) (h : Schedule) (r : Result Book AuditError) → IfOk r (λ b. map (λ f. f.query.0) b.findings.items ≡ committed_queries h) → IfOk r (λ b. All (IsFinding d h) b.findings.items)
     → IfOk r (λ b. map told b.findings.items ≡ map (told_of d h) (committed_queries h))

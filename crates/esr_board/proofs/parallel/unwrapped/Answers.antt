@@ -1,17 +1,17 @@
 use Rattle.std.proofs.Common.{rules, arith, ◌≡◌, ◌++◌, [], ◌∷◌, List, map, take, get_or, get_or-set_other, None, Some, sym, ap, ◌∙◌, subst, Option, IfSome}
-use Rattle.std.proofs.lemmas.List.{map-append, take_more, take_all}
+use Rattle.std.proofs.lemmas.List.{map-append, take_more, take_all, get_or_default}
 use Rattle.esr_history.specs.declared.event.TxnId.{TxnId}
 use Rattle.esr_audit.specs.declared.finding.Finding.{Finding}
 use Rattle.esr_audit.specs.Findings.{IsFinding}
 use Rattle.esr_board.specs.Shares.{IsFindingOf}
-use Rattle.esr_board.proofs.Whole.{all_pushed, any_default}
+use Rattle.esr_board.proofs.Whole.{all_pushed}
 use Rattle.esr_board.proofs.parallel.unwrapped.Goals as goal
 
 pub loop-k-preserved : goal.loop-k-preserved
 loop-k-preserved g c = let was = c.loop-k.invariant in let k = c.loop-k.k in let f = c.in-Some.finding in
     let d = g.M.Metric.distance_by in let h = c.args.history.now.schedule in let q = c.args.jobs.now in
     let same : get_or c.loop-k.slots.items k None ≡ get_or c.args.slots.items k None = was.rest k (omega arith) in
-    let there : get_or c.loop-k.slots.items k None ≡ Some f = any_default c.loop-k.slots.items k None c.index_mut.result.now (search rules) ∙ sym c.index_mut.ensures.value ∙ sym c.in-Some.ensures.value in
+    let there : get_or c.loop-k.slots.items k None ≡ Some f = get_or_default c.loop-k.slots.items k None c.index_mut.result.now (search rules) ∙ sym c.index_mut.ensures.value ∙ sym c.in-Some.ensures.value in
     let here : get_or c.args.slots.items k None ≡ Some f = sym same ∙ there in
     let more : c.push.new.self.items ≡ c.loop-k.found.items ++ f ∷ [] = search rules in
     let is : IsFindingOf d h q k f = subst (λ (o : Option Finding). IfSome o (IsFindingOf d h q k)) here (c.requires.right k (search rules)) in record {

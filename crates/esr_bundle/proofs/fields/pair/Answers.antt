@@ -1,19 +1,16 @@
-use Rattle.std.proofs.Common.{◌≡◌, ◌≤◌, ◌<◌, None, List, [], ◌∷◌, length, refl, sym, ap, ◌∙◌, arith, option_and_then}
+use Rattle.std.proofs.Common.{◌≡◌, ◌≤◌, ◌<◌, None, List, ◌∷◌, length, refl, sym, arith}
 use Rattle.serde_json.specs.declared.value.Value.{Value}
-use Rattle.serde_json.specs.View.{view, items_view}
-use Rattle.esr_bundle.specs.Fields.{two_of, pair_of}
+use Rattle.serde_json.specs.View.{items_view}
+use Rattle.esr_bundle.specs.Fields.{two_of}
 use Rattle.esr_bundle.proofs.fields.pair.Goals as goal
 
 two_of_short : (vs : List Value) → length vs < 2 → two_of (items_view vs) ≡ None
-two_of_short [] h = refl
-two_of_short (a ∷ []) h = refl
 two_of_short (a ∷ b ∷ vs) h = absurd (omega arith)
+two_of_short _ h = refl
 
 two_of_long : (vs : List Value) → 3 ≤ length vs → two_of (items_view vs) ≡ None
-two_of_long [] h = absurd (omega arith)
-two_of_long (a ∷ []) h = absurd (omega arith)
-two_of_long (a ∷ b ∷ []) h = absurd (omega arith)
 two_of_long (a ∷ b ∷ d ∷ vs) h = refl
+two_of_long _ h = absurd (omega arith)
 
 pub returns-in_default : goal.returns-in_default
 returns-in_default c = rw (← c.in_ok-items.ensures) (sym (two_of_short c.in_ok-items.items.now.items (omega (arith, c.as_slice.ensures.value, c.in_default.len_below))))

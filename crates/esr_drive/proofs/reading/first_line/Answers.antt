@@ -1,11 +1,8 @@
 use Rattle.std.proofs.Common.{sym, ◌∙◌, length, ◌<◌}
-use Rattle.esr_drive.proofs.Cuts.{no_feed, at_feed, some, shorter}
+use Rattle.esr_drive.proofs.Cuts.{no_feed, some}
 use Rattle.esr_drive.proofs.reading.first_line.Goals as goal
 
 pub returns-in-None : goal.returns-in-None
 returns-in-None c =
     let more : 0 < length c.args.bytes.now = some _ (sym c.is_empty.ensures ∙ c.if-is_empty.false) in
     (no_feed c.args.bytes.now (sym c.in-None.ensures) more, more)
-
-pub returns-in-Some : goal.returns-in-Some
-returns-in-Some c = (at_feed c.args.bytes.now c.in-Some.place (sym c.in-Some.ensures), shorter c.args.bytes.now c.in-Some.place (sym c.in-Some.ensures))

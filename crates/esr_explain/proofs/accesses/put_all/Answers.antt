@@ -1,10 +1,9 @@
 use Rattle.std.proofs.Common.{◌≡◌, ◌∙◌, ap, arith, get_or, length, pos, false, set, sym, w64}
 use Rattle.std.proofs.lemmas.Int.{to_z-of_z}
 use Rattle.std.proofs.lemmas.Bool.{true≢false}
-use Rattle.esr_order.proofs.Tied.{take_whole}
 use Rattle.esr_audit.proofs.Gathered.{value_fits}
 use Rattle.esr_order.specs.declared.accesses.Access.{Access}
-use Rattle.esr_explain.specs.Accesses.{put, put_all}
+use Rattle.esr_explain.specs.Accesses.{put}
 use Rattle.esr_explain.proofs.Accessed.{put_more, put_none, put_one}
 use Rattle.esr_explain.proofs.accesses.put_all.Goals as goal
 use Rattle.esr_explain.proofs.accesses.put_all.Goals.{then-access+then-x-len, else-access, else-access-via-then-access+else-x-len, else-access-via-else-access}
@@ -23,6 +22,3 @@ loop-access-preserved c =
         | else-access-via-else-access w2 ↦ ap (λ v. v.items) w.values-is ∙ (put_none vs (get_or xs k d) (λ is. absurd (true≢false (sym is ∙ w2.if-access.false))) ∙ next)
       ]
     ]
-
-pub returns : goal.returns
-returns c = c.loop-access.invariant ∙ ap (put_all c.args.values.now.items) (take_whole c.args.accesses.now c.loop-access.access-index c.loop-access-test.false)

@@ -2,7 +2,7 @@ use Rattle.std.proofs.Common.{◌≡◌, ◌∙◌, ℕ, ℤ, List, [], ap, ap�
 use Rattle.std.proofs.lemmas.Result.{IfOk-weaker}
 use Rattle.esr_items.specs.declared.store.Versions.{Versions}
 use Rattle.esr_history.specs.Machine.{Schedule}
-use Rattle.esr_explain.proofs.Replaying.{opened_values}
+use Rattle.esr_core.proofs.Replayed.{opened_values}
 use Rattle.esr_explain.proofs.charges.blank.Goals as goal
 
 pub returns : goal.returns

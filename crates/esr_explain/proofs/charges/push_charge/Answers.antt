@@ -13,37 +13,24 @@ returns-in_default-met-clause-machine c =
     stepped h i c.in-Some.entry c.args.machine.now c.step.new.self c.step.result c.log.ensures.legal is c.requires.machine
     (sym c.is_err.ensures.value ∙ c.if-is_err.false) c.step.ensures.reply c.step.ensures.added
 
-pub returns-then-import-before-clause-machine : goal.returns-then-import-before-clause-machine
-returns-then-import-before-clause-machine c =
-    let h = c.args.history.now.schedule in let i = c.args.i in
-    let is : slice_get h.entries i ≡ Some c.in-Some.entry = sym (c.in-Some.ensures ∙ ap (λ es. slice_get es i) c.log.ensures.entries) in
-    stepped h i c.in-Some.entry c.args.machine.now c.step.new.self c.step.result c.log.ensures.legal is c.requires.machine
-    (sym c.is_err.ensures.value ∙ c.if-is_err.false) c.step.ensures.reply c.step.ensures.added
-
-pub returns-then-import-before-clause-out : goal.returns-then-import-before-clause-out
-returns-then-import-before-clause-out c =
+pub returns-then-import-before : goal.returns-then-import-before
+returns-then-import-before c =
     let h = c.args.history.now.schedule in let i = c.args.i in let q = c.args.q.0 in
     let items = c.args.items.now in let names = c.args.transactions.now in
     let is : slice_get h.entries i ≡ Some c.in-Some.entry = sym (c.in-Some.ensures ∙ ap (λ es. slice_get es i) c.log.ensures.entries) in
-    let machine : c.step.new.self ≡ until (i + 1) h = returns-then-import-before-clause-machine c in
+    let machine : c.step.new.self ≡ until (i + 1) h =
+    stepped h i c.in-Some.entry c.args.machine.now c.step.new.self c.step.result c.log.ensures.legal is c.requires.machine
+    (sym c.is_err.ensures.value ∙ c.if-is_err.false) c.step.ensures.reply c.step.ensures.added in
     let after : c.import-import.result ≡ imported weighted h q (i + 1) =
     c.import-import.ensures ∙ ap (λ (s : Schedule). import_in (charges_in weighted s) q) (c.history-2.ensures.schedule ∙ machine) in
     let before : c.import-before.result ≡ imported weighted h q i =
     c.import-before.ensures ∙ ap (λ (s : Schedule). import_in (charges_in weighted s) q) (c.history.ensures.schedule ∙ c.requires.machine) in
     let none : charge_at weighted h items names q i (slice_get h.entries i) ≡ [] =
     ap (charge_at weighted h items names q i) is ∙ line_none weighted h items names q i c.in-Some.entry (sym after ∙ (c.if-import-before.true ∙ before)) in
-    sym (ap (λ l. c.args.out.now.items ++ l) none ∙ append-nil c.args.out.now.items)
+    record { machine = machine; out = sym (ap (λ l. c.args.out.now.items ++ l) none ∙ append-nil c.args.out.now.items) }
 
-pub returns-clause-machine : goal.returns-clause-machine
-returns-clause-machine c =
-    let h = c.args.history.now.schedule in let i = c.args.i in
-    let is : slice_get h.entries i ≡ Some c.in-Some.entry = sym (c.in-Some.ensures ∙ ap (λ es. slice_get es i) c.log.ensures.entries) in
-    always c.charge_line.result _
-    (stepped h i c.in-Some.entry c.args.machine.now c.step.new.self c.step.result c.log.ensures.legal is c.requires.machine
-    (sym c.is_err.ensures.value ∙ c.if-is_err.false) c.step.ensures.reply c.step.ensures.added)
-
-pub returns-clause-out : goal.returns-clause-out
-returns-clause-out c =
+pub returns : goal.returns
+returns c =
     let h = c.args.history.now.schedule in let i = c.args.i in let q = c.args.q.0 in
     let items = c.args.items.now in let names = c.args.transactions.now in let m = c.in-Some-met.meeting in
     let is : slice_get h.entries i ≡ Some c.in-Some.entry = sym (c.in-Some.ensures ∙ ap (λ es. slice_get es i) c.log.ensures.entries) in
@@ -61,4 +48,7 @@ returns-clause-out c =
     (c.saturating_sub.ensures ∙ ap₂ (λ x y. x - y) after before) (c.saturating_sub-2.ensures ∙ ap₂ (λ x y. x - y) c.limit-import_limit.ensures after) c.limit-import_limit.ensures
     (c.saturating_sub-3.ensures ∙ ap₂ (λ x y. x - y) c.limit-export_limit.ensures spent) c.limit-export_limit.ensures in
     let line = ap (charge_at weighted h items names q i) is ∙ (line_met weighted h items names q i c.in-Some.entry m some other ∙ ap (charge_line items names) same) in
-    subst (λ l. OnOk c.charge_line.result (c.charge_line.new.out.items ≡ c.args.out.now.items ++ l)) (sym line) c.charge_line.ensures
+    record {
+      machine = always c.charge_line.result _ machine;
+      out = subst (λ l. OnOk c.charge_line.result (c.charge_line.new.out.items ≡ c.args.out.now.items ++ l)) (sym line) c.charge_line.ensures;
+    }

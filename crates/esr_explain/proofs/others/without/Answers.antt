@@ -1,7 +1,6 @@
-use Rattle.std.proofs.Common.{◌∙◌, ◌++◌, ◌∷◌, [], Bool, ap, filter, get_or, not, sym}
+use Rattle.std.proofs.Common.{◌∙◌, ◌++◌, ◌∷◌, [], Bool, ap, get_or, not, sym}
 use Rattle.esr_history.specs.declared.event.TxnId.{TxnId}
 use Rattle.esr_order.specs.Placements.{is_among}
-use Rattle.esr_order.proofs.Tied.{take_whole}
 use Rattle.esr_explain.proofs.Amongst.{filter_fails, filter_passes}
 use Rattle.esr_explain.proofs.others.without.Goals as goal
 use Rattle.esr_explain.proofs.others.without.Goals.{then-not-is_among+in_ok-push, else-not-is_among}
@@ -17,6 +16,3 @@ loop-t-preserved c =
       | else-not-is_among w ↦
           ap (λ v. v.items) w.kept-is ∙ (c.loop-t.invariant ∙ sym (filter_fails p us k d c.loop-t-test.true (ap not (sym c.is_among.ensures ∙ w.if-not-is_among.false))))
     ]
-
-pub returns : goal.returns
-returns c = c.loop-t.invariant ∙ ap (filter (λ (t : TxnId). not (is_among c.args.numbers.now t.0))) (take_whole c.args.updates.now c.loop-t.t-index c.loop-t-test.false)

@@ -1,13 +1,9 @@
 use Rattle.std.proofs.Common.{◌≡◌, length, sym, subst, ap, ◌∙◌, arith}
 use Rattle.esr_history.specs.Imports.{AreImports, with_number}
 use Rattle.esr_history.specs.Machine.{extended}
-use Rattle.esr_history.proofs.Importing.{imports_refused, imports_accepted}
+use Rattle.esr_history.proofs.Importing.{imports_accepted}
 use Rattle.esr_history.proofs.Lists.{whole_slice}
 use Rattle.esr_history.proofs.imports.note.Goals as goal
-
-pub returns-then-is_refused-clause-imports : goal.returns-then-is_refused-clause-imports
-returns-then-is_refused-clause-imports c = λ d h legal is due are.
-    imports_refused d h legal c.args.entry.event c.args.entry.reply is (sym c.is_refused.ensures ∙ c.if-is_refused.true) c.args.imports.now.items are
 
 pub returns-clause-imports : goal.returns-clause-imports
 returns-clause-imports c = λ d h legal is due are.

@@ -4,12 +4,8 @@ use Rattle.esr_history.proofs.Ascending.{searched}
 use Rattle.esr_locks.proofs.lists.reader_place.Goals as goal
 
 -- the closure gives the number
-pub returns-clause-found : goal.returns-clause-found
-returns-clause-found c =
+pub returns : goal.returns
+returns c =
     let by_number = c.binary_search_by_key.ensures.position (λ r. r.update.0) (answers_always _ _ _ (λ f a r g called. search rules)) in
-    (searched (λ r. r.update.0) c.args.readers.now c.requires c.args.t.0 c.binary_search_by_key.result c.binary_search_by_key.ensures.bound by_number).0
-
-pub returns-clause-absent : goal.returns-clause-absent
-returns-clause-absent c =
-    let by_number = c.binary_search_by_key.ensures.position (λ r. r.update.0) (answers_always _ _ _ (λ f a r g called. search rules)) in
-    (searched (λ r. r.update.0) c.args.readers.now c.requires c.args.t.0 c.binary_search_by_key.result c.binary_search_by_key.ensures.bound by_number).1
+    let place = searched (λ r. r.update.0) c.args.readers.now c.requires c.args.t.0 c.binary_search_by_key.result c.binary_search_by_key.ensures.bound by_number in
+    record { found = place.0; absent = place.1 }

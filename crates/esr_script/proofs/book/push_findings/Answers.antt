@@ -3,12 +3,8 @@ use Rattle.std.specs.List.{flat_map}
 use Rattle.std.proofs.lemmas.List.{take_all}
 use Rattle.esr_audit.specs.Findings.{told}
 use Rattle.esr_script.specs.Audit.{told_line}
-use Rattle.esr_script.proofs.Audited.{lines_more, lines_of_map}
+use Rattle.esr_script.proofs.Audited.{lines_of_map}
 use Rattle.esr_script.proofs.book.push_findings.Goals as goal
-
-pub loop-finding-preserved : goal.loop-finding-preserved
-loop-finding-preserved c =
-    lines_more (λ f. told_line c.args.names.now (told f)) c.args.findings.now c.loop-finding.finding-index c.finding-item.result _ _ _ c.loop-finding.invariant c.loop-finding-test.true c.finding-item.is (search rules)
 
 pub returns : goal.returns
 returns c =

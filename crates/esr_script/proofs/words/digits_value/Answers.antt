@@ -1,9 +1,6 @@
 use Rattle.std.proofs.Common.{refl, sym, arith}
-use Rattle.esr_script.proofs.Laws.{no_digit, one_digit, fits, all_read}
+use Rattle.esr_script.proofs.Laws.{one_digit, fits, all_read}
 use Rattle.esr_script.proofs.words.digits_value.Goals as goal
-
-pub returns-then-not-is_ascii_digit-clause-none : goal.returns-then-not-is_ascii_digit-clause-none
-returns-then-not-is_ascii_digit-clause-none c = no_digit c.args.digits.now _ _ c.loop-digit-test.true (sym c.if-not-is_ascii_digit.ensures.value)
 
 pub overflow_mul-value : goal.overflow_mul-value
 overflow_mul-value c =

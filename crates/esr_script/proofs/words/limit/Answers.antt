@@ -1,21 +1,7 @@
 use Rattle.std.proofs.Common.{sym, ◌∙◌, arith}
 use Rattle.std.proofs.lemmas.Option.{get_or_from_slice_get}
-use Rattle.esr_script.proofs.Laws.{too_long, empty_word, zero_alone, zero_in_front, by_digits}
+use Rattle.esr_script.proofs.Laws.{by_digits}
 use Rattle.esr_script.proofs.words.limit.Goals as goal
-
-pub returns-then-word-gt19 : goal.returns-then-word-gt19
-returns-then-word-gt19 c = too_long c.args.word.now c.if-word-gt19.true
-
-pub returns-in-None : goal.returns-in-None
-returns-in-None c = empty_word c.args.word.now (omega (arith, c.in-None.ensures.item.3))
-
-pub returns-then-word-eq1 : goal.returns-then-word-eq1
-returns-then-word-eq1 c =
-    zero_alone c.args.word.now c.if-word-eq1.true (get_or_from_slice_get c.args.word.now 0 _ 0 (sym c.in-Some-eq48.ensures.value) ∙ c.in-Some-eq48.field-0-test)
-
-pub returns-else-word-eq1 : goal.returns-else-word-eq1
-returns-else-word-eq1 c =
-    zero_in_front c.args.word.now (omega (arith, c.if-word-eq1.false, c.in-Some-eq48.ensures.item.3)) (get_or_from_slice_get c.args.word.now 0 _ 0 (sym c.in-Some-eq48.ensures.value) ∙ c.in-Some-eq48.field-0-test)
 
 pub returns-in-Some : goal.returns-in-Some
 returns-in-Some c =

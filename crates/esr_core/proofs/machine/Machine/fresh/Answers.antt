@@ -1,6 +1,6 @@
 use Rattle.std.proofs.Common.{ap, sym, ◌∙◌, map}
 use Rattle.esr_items.specs.declared.store.Versions.{Versions}
-use Rattle.esr_core.proofs.Renewed.{opened_values}
+use Rattle.esr_core.proofs.Replayed.{opened_values}
 use Rattle.esr_core.proofs.machine.Machine.fresh.Goals as goal
 
 pub returns-clause-state : goal.returns-clause-state

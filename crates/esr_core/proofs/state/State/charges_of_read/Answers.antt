@@ -1,4 +1,4 @@
-use Rattle.std.proofs.Common.{◌≡◌, suc, ◌-◌, ◌<◌, ◌≤◌, ◌∙◌, sym, ap, arith, length, true, false}
+use Rattle.std.proofs.Common.{◌≡◌, ◌∙◌, sym, ap, true, false}
 use Rattle.esr_items.specs.Values.{versions_at}
 use Rattle.esr_history.specs.Events.{is_query}
 use Rattle.esr_history.specs.Imports.{imported}
@@ -13,10 +13,7 @@ pub returns-then-transaction : goal.returns-then-transaction
 returns-then-transaction g c = λ h same tie q.
     let d = g.M.Metric.distance_by in
     let s = c.args.self.now in
-    let known : (0 < c.args.t.0) × (c.args.t.0 ≤ length s.transactions.items) = c.requires.known in
-    let number : c.args.t.0 ≡ suc (c.args.t.0 - 1) = omega arith in
-    let in_table : c.args.t.0 - 1 < length s.transactions.items = omega arith in
-    let query : is_query (done h) c.args.t.0 ≡ true = sym (row_query d h s.items s.transactions.items s.locks.locks s.ledgers tie c.args.t.0 (c.args.t.0 - 1) c.transaction.result number in_table (c.transaction.ensures (c.args.t.0 - 1) (omega arith))) ∙ c.if-transaction.true in
+    let query : is_query (done h) c.args.t.0 ≡ true = sym (row_query d h s.items s.transactions.items s.locks.locks s.ledgers tie c.args.t.0 c.transaction.result c.requires.known c.transaction.ensures) ∙ c.if-transaction.true in
     let is : c.charges_of_query.new.charges.items ≡ charges_for c.args.t (read_charge (d h.weights c.args.x.0) (versions_at s.items c.args.x.0) (locks_at s.locks.locks c.args.x.0).writer) = rw same c.in_ok-charges_of_query.ensures in
     ap (λ cs. imported cs q) is ∙ read_imports d h s.items s.transactions.items s.locks.locks s.ledgers tie c.args.t c.args.x query c.requires.item q
 
@@ -24,8 +21,5 @@ pub returns : goal.returns
 returns g c = λ h same tie q.
     let d = g.M.Metric.distance_by in
     let s = c.args.self.now in
-    let known : (0 < c.args.t.0) × (c.args.t.0 ≤ length s.transactions.items) = c.requires.known in
-    let number : c.args.t.0 ≡ suc (c.args.t.0 - 1) = omega arith in
-    let in_table : c.args.t.0 - 1 < length s.transactions.items = omega arith in
-    let update : is_query (done h) c.args.t.0 ≡ false = sym (row_query d h s.items s.transactions.items s.locks.locks s.ledgers tie c.args.t.0 (c.args.t.0 - 1) c.transaction.result number in_table (c.transaction.ensures (c.args.t.0 - 1) (omega arith))) ∙ c.if-transaction.false in
+    let update : is_query (done h) c.args.t.0 ≡ false = sym (row_query d h s.items s.transactions.items s.locks.locks s.ledgers tie c.args.t.0 c.transaction.result c.requires.known c.transaction.ensures) ∙ c.if-transaction.false in
     ap (λ cs. imported cs q) c.clear.ensures.items ∙ update_imports d h s.items s.transactions.items s.locks.locks s.ledgers tie c.args.t c.args.x update q

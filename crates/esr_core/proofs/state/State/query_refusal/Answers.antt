@@ -1,27 +1,19 @@
-use Rattle.std.proofs.Common.{◌≡◌, suc, ◌-◌, ◌<◌, ◌≤◌, ◌∙◌, sym, ap, arith, None, Some, length}
+use Rattle.std.proofs.Common.{◌≡◌, ◌<◌, ◌≤◌, ◌∙◌, sym, ap, None, Some}
 use Rattle.esr_items.specs.Values.{versions_at}
 use Rattle.esr_history.specs.Events.{all_reads_of}
 use Rattle.esr_history.specs.Machine.{done}
 use Rattle.esr_locks.specs.Tables.{locks_at}
 use Rattle.esr_core.specs.States.{read_charge, reason_of}
-use Rattle.esr_core.proofs.Reasons.{locks_count, row_reads, due_some, due_none, are_charges-read, query_many, query_none, query_some}
+use Rattle.esr_core.proofs.Reasons.{row_reads, due_some, due_none, are_charges-read, query_many, query_none, query_some}
 use Rattle.esr_core.proofs.state.State.query_refusal.Goals as goal
 
 pub returns-then-transaction-ge-MOST_READS : goal.returns-then-transaction-ge-MOST_READS
 returns-then-transaction-ge-MOST_READS g c = λ h same tie query.
     let d = g.M.Metric.distance_by in
     let s = c.args.self.now in
-    let known : (0 < c.args.q.0) × (c.args.q.0 ≤ length s.transactions.items) = c.requires.known in
-    let number : c.args.q.0 ≡ suc (c.args.q.0 - 1) = omega arith in
-    let in_table : c.args.q.0 - 1 < length s.transactions.items = omega arith in
-    let reads : c.transaction.result.reads ≡ all_reads_of (done h) c.args.q.0 = row_reads d h s.items s.transactions.items s.locks.locks s.ledgers tie c.args.q.0 (c.args.q.0 - 1) c.transaction.result number in_table (c.transaction.ensures (c.args.q.0 - 1) (omega arith)) query in
+    let reads : c.transaction.result.reads ≡ all_reads_of (done h) c.args.q.0 = row_reads d h s.items s.transactions.items s.locks.locks s.ledgers tie c.args.q.0 c.transaction.result c.requires.known c.transaction.ensures query in
     let many : 1000 ≤ all_reads_of (done h) c.args.q.0 = rw (← reads) c.if-transaction-ge-MOST_READS.true in
     query_many d h s.items s.transactions.items s.locks.locks s.ledgers tie c.args.q c.args.x query many
-
-pub charge_of_read-requires-clause-locked : goal.charge_of_read-requires-clause-locked
-charge_of_read-requires-clause-locked g c =
-    let s = c.args.self.now in
-    locks_count g.M.Metric.distance_by c.requires.reached.0 s.items s.transactions.items s.locks.locks s.ledgers c.requires.reached.2
 
 pub quote-requires : goal.quote-requires
 quote-requires g c =
@@ -38,10 +30,7 @@ returns-in-Some g c = λ h same tie query.
     let s = c.args.self.now in
     let is : read_charge (d h.weights c.args.x.0) (versions_at s.items c.args.x.0) (locks_at s.locks.locks c.args.x.0).writer ≡ Some (c.in-Some.u, c.in-Some.amount) = rw same (sym c.in-Some.ensures) in
     let owed = due_some d h s.items s.transactions.items s.locks.locks s.ledgers tie c.args.q c.args.x (c.in-Some.u, c.in-Some.amount) query c.requires.item is in
-    let known : (0 < c.args.q.0) × (c.args.q.0 ≤ length s.transactions.items) = c.requires.known in
-    let number : c.args.q.0 ≡ suc (c.args.q.0 - 1) = omega arith in
-    let in_table : c.args.q.0 - 1 < length s.transactions.items = omega arith in
-    let reads : c.transaction.result.reads ≡ all_reads_of (done h) c.args.q.0 = row_reads d h s.items s.transactions.items s.locks.locks s.ledgers tie c.args.q.0 (c.args.q.0 - 1) c.transaction.result number in_table (c.transaction.ensures (c.args.q.0 - 1) (omega arith)) query in
+    let reads : c.transaction.result.reads ≡ all_reads_of (done h) c.args.q.0 = row_reads d h s.items s.transactions.items s.locks.locks s.ledgers tie c.args.q.0 c.transaction.result c.requires.known c.transaction.ensures query in
     let few : all_reads_of (done h) c.args.q.0 < 1000 = rw (← reads) c.if-transaction-ge-MOST_READS.false in
     c.refused_by.ensures ∙ (ap reason_of c.quote.ensures ∙ query_some d h s.items s.transactions.items s.locks.locks s.ledgers tie c.args.q c.in-Some.u c.args.x c.in-Some.amount query owed.1 few owed.0)
 
@@ -50,9 +39,6 @@ returns-in-None g c = λ h same tie query.
     let d = g.M.Metric.distance_by in
     let s = c.args.self.now in
     let is : read_charge (d h.weights c.args.x.0) (versions_at s.items c.args.x.0) (locks_at s.locks.locks c.args.x.0).writer ≡ None = rw same (sym c.in-None.ensures) in
-    let known : (0 < c.args.q.0) × (c.args.q.0 ≤ length s.transactions.items) = c.requires.known in
-    let number : c.args.q.0 ≡ suc (c.args.q.0 - 1) = omega arith in
-    let in_table : c.args.q.0 - 1 < length s.transactions.items = omega arith in
-    let reads : c.transaction.result.reads ≡ all_reads_of (done h) c.args.q.0 = row_reads d h s.items s.transactions.items s.locks.locks s.ledgers tie c.args.q.0 (c.args.q.0 - 1) c.transaction.result number in_table (c.transaction.ensures (c.args.q.0 - 1) (omega arith)) query in
+    let reads : c.transaction.result.reads ≡ all_reads_of (done h) c.args.q.0 = row_reads d h s.items s.transactions.items s.locks.locks s.ledgers tie c.args.q.0 c.transaction.result c.requires.known c.transaction.ensures query in
     let few : all_reads_of (done h) c.args.q.0 < 1000 = rw (← reads) c.if-transaction-ge-MOST_READS.false in
     query_none d h s.items s.transactions.items s.locks.locks s.ledgers tie c.args.q c.args.x few (due_none d h s.items s.transactions.items s.locks.locks s.ledgers tie c.args.q c.args.x c.requires.item is)

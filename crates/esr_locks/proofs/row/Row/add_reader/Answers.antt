@@ -5,7 +5,8 @@ use Rattle.esr_history.specs.Ascending.{placed}
 use Rattle.esr_history.proofs.Ascending.{placed_ascends, map-placed, any-map}
 use Rattle.esr_locks.specs.Rows.{RowOf, reader, reads_of}
 use Rattle.esr_locks.specs.Tables.{with_reader, is_update}
-use Rattle.esr_locks.proofs.Tables.{wrote, not_not}
+use mathlib.Core.Bool.{not-not}
+use Rattle.esr_locks.proofs.Tables.{wrote}
 use Rattle.esr_locks.proofs.row.Row.add_reader.Goals as goal
 
 pub invariant_of-self : goal.invariant_of-self
@@ -23,7 +24,7 @@ pub returns-clause-fresh : goal.returns-clause-fresh
 returns-clause-fresh c =
     let readers = c.self.inside.readers.items in
     let read = any-map (λ r. r.update.0) (λ u. u) (λ r. r.update.0) (λ r. refl) c.args.t.0 readers in
-    let has_read = ap not c.add_reader-has_read.ensures.fresh ∙ (not_not (list_any (λ r. r.update.0 == c.args.t.0) readers) ∙ sym read) in
+    let has_read = ap not c.add_reader-has_read.ensures.fresh ∙ (not-not (list_any (λ r. r.update.0 == c.args.t.0) readers) ∙ sym read) in
     let has_written = c.is_it-has_written.ensures ∙ wrote c.self.inside.writer c.args.t.0 in
     subst (λ (v : RowOf). not (c.is_it-has_written.result || not c.add_reader-has_read.result) ≡ not (is_update v.locks c.args.t.0)) c.self.view_is
     (rw has_written (rw has_read refl))
