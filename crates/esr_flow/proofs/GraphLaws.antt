@@ -7,9 +7,10 @@ use Rattle.esr_cert.proofs.Sound.{IsProblem}
 use Rattle.esr_cert.proofs.Least.{is_network}
 use Rattle.esr_flow.specs.declared.graph.Graph.{Graph}
 use Rattle.esr_flow.specs.Graph.{net_of, IsGraph}
-use Rattle.esr_cert.specs.Steps.{HasSteps}
+use Rattle.std.specs.List.Sorted.{IsNonDecreasingBy}
+use Rattle.esr_cert.specs.Steps.{order_of, HasSteps}
 use Rattle.esr_cert.specs.Rows.{AreLaid}
-use Rattle.esr_cert.proofs.StepsLaws.{has_steps}
+use Rattle.esr_cert.proofs.StepsLaws.{has_steps, row_ascends}
 
 pub net_is : (p : Problem) (g : Graph) → g.nodes ≡ size p + 2 → g.arcs.items ≡ (network p).arcs → g.source ≡ size p → g.sink ≡ size p + 1 → net_of g ≡ network p
 net_is p g a b c d =
@@ -28,7 +29,8 @@ graph_is p ok g e given few =
       ordered = laid.rows.ordered;
       inside = laid.rows.inside;
       lists = λ v l. subst (HasSteps g.arcs.items v) (sym (laid.rows.row v l)) (has_steps g.arcs.items v);
-      places = laid.places;
+      ascend = λ v l. subst (IsNonDecreasingBy order_of) (sym (laid.rows.row v l)) (row_ascends g.arcs.items v);
+      steps = laid.steps;
       sink_is_node = omega (arith, ap (λ n. n.sink) e, ap (λ n. n.nodes) e);
       few = few;
     }

@@ -1,14 +1,15 @@
 -- A network with the steps that start at each node, which lie together, and entries of the steps that tell which of
 -- them have room.
 use Rattle.std.specs.Prelude.{◌≡◌, ℕ, ◌<◌, ◌≤◌, false, List, length, get_or, map, Contains, ◌^◌}
+use Rattle.std.specs.List.Sorted.{IsNonDecreasingBy}
 use Rattle.esr_cert.specs.declared.network.Arc.{Arc}
 use Rattle.esr_cert.specs.Network.{Network, IsNetwork}
 use Rattle.esr_cert.specs.declared.step.Step.{Step}
 use Rattle.esr_flow.specs.declared.entry.Entry.{Entry}
 use Rattle.esr_flow.specs.declared.graph.Graph.{Graph}
 use Rattle.esr_cert.specs.Flow.{within}
-use Rattle.esr_cert.specs.Steps.{arc_of, start, opposite, step_at, HasSteps}
-use Rattle.esr_cert.specs.Rows.{span_at, row_in, ArePlaces}
+use Rattle.esr_cert.specs.Steps.{arc_of, order_of, start, opposite, step_at, HasSteps}
+use Rattle.esr_cert.specs.Rows.{span_at, row_in, AreSteps}
 use Rattle.esr_flow.specs.Residual.{finish, room}
 
 abbrev pub net_of : Graph → Network
@@ -21,7 +22,8 @@ pub record IsGraph (g : Graph) : Type 0 where
   pub inside : (v : ℕ) → v < g.nodes → (span_at g.rows.now.spans.items v).end ≤ length g.rows.now.steps.items
   pub lists : (v : ℕ) → v < g.nodes
       → HasSteps g.arcs.items v (row_in g.rows.now.steps.items (span_at g.rows.now.spans.items v))
-  pub places : ArePlaces g.arcs.items g.rows.now.steps.items g.rows.now.places.items
+  pub ascend : (v : ℕ) → v < g.nodes → IsNonDecreasingBy order_of (row_in g.rows.now.steps.items (span_at g.rows.now.spans.items v))
+  pub steps : AreSteps g.arcs.items g.rows.now.steps.items
   pub sink_is_node : g.sink < g.nodes
   pub few : g.nodes < 2 ^ 30
 

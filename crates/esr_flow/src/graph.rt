@@ -2,9 +2,10 @@
 ghost use Rattle.std.specs.Prelude.{◌≡◌, ◌<◌, true, length, set, IfOk, Vec};
 ghost use Rattle.std.specs.declared.alloc.Global.{Global};
 ghost use Rattle.esr_cert.specs.declared.step.Step.{Step};
+ghost use Rattle.esr_cert.specs.declared.step.Step.TheVariants.{Along, Against};
 ghost use Rattle.esr_cert.specs.Flow.{within};
 ghost use Rattle.esr_flow.specs.Residual.{room, finish};
-ghost use Rattle.esr_cert.specs.Steps.{arc_of};
+ghost use Rattle.esr_cert.specs.Steps.{arc_of, step_at};
 ghost use Rattle.esr_flow.specs.Graph.{entry_of};
 
 use crate::entry::{Entry, ShortEntry};
@@ -67,7 +68,18 @@ impl<'a> Graph<'a> {
         Ok(entries)
     }
 
-    /// Sets the amount on an arc, and with it the residual amounts of the arc's two steps.
+    /// Where the entry of a step lies.
+    fn place_of(&self, step: Step) -> usize
+        requires graph { IsGraph self.now }
+        requires arc { arc_of step < length self.now.arcs.items }
+        ensures inside { result < length self.now.rows.now.steps.items }
+        ensures place { step_at self.now.rows.now.steps.items result ≡ step }
+    {
+        let node = finish_of(&self.arcs, step.opposite());
+        self.rows.place_of(node as usize, step)
+    }
+
+    /// Sets the amount on an arc, and where another of the arc's two steps has room then, the entries of both.
     pub fn set_amount(&self, flow: &mut [u64], entries: &mut [ShortEntry], arc: u32, amount: u64)
         requires graph { IsGraph self.now }
         requires arc { arc < length self.now.arcs.items }
@@ -76,10 +88,16 @@ impl<'a> Graph<'a> {
         ensures flow { flow.new ≡ set flow.old arc amount }
         ensures entries { AreEntries self.now flow.new entries.new }
     {
+        let (ahead, back) = rooms_of(&self.arcs, flow, arc);
         flow[arc as usize] = amount;
-        let places = self.rows.places[arc as usize];
-        entries[places.along as usize] = entry_of(&self.arcs, flow, Step::Along(arc));
-        entries[places.against as usize] = entry_of(&self.arcs, flow, Step::Against(arc));
+        let (ahead_now, back_now) = rooms_of(&self.arcs, flow, arc);
+        if ahead_now == ahead && back_now == back {
+            return;
+        }
+        let along = self.place_of(Step::Along(arc));
+        entries[along] = entry_of(&self.arcs, flow, Step::Along(arc));
+        let against = self.place_of(Step::Against(arc));
+        entries[against] = entry_of(&self.arcs, flow, Step::Against(arc));
     }
 }
 
@@ -96,6 +114,18 @@ pub fn room_of(arcs: &[ShortArc], flow: &[u64], step: Step) -> Option<u64>
         },
         Step::Against(i) => Some(flow[i as usize]),
     }
+}
+
+/// Whether the step along an arc has room, and the step against it.
+fn rooms_of(arcs: &[ShortArc], flow: &[u64], arc: u32) -> (bool, bool)
+    requires arc { arc < length arcs.now }
+    requires flow { length flow.now ≡ length arcs.now }
+    ensures ahead { result.0 ≡ within 1 (room arcs.now flow.now (Along arc)) }
+    ensures back { result.1 ≡ within 1 (room arcs.now flow.now (Against arc)) }
+{
+    let ahead = has_one(room_of(arcs, flow, Step::Along(arc)));
+    let back = has_one(room_of(arcs, flow, Step::Against(arc)));
+    (ahead, back)
 }
 
 /// The entry of a step.
