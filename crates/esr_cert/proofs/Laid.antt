@@ -78,7 +78,7 @@ laid_rows {arcs} {nodes} {i} {spans} {steps} e laid =
 
 -- a step lies in the row of the node where it starts, and there once
 pub laid_steps : {arcs : List Arc} {nodes i : ℕ} {spans : List Span} {steps : List Step} → i ≡ length arcs → Laid arcs nodes i spans steps → AreSteps arcs steps
-laid_steps {arcs} {nodes} {i} {spans} {steps} e laid = record { in_arcs = in_arcs; once = once }
+laid_steps {arcs} {nodes} {i} {spans} {steps} e laid = record { count = laid_long laid; in_arcs = in_arcs; once = once }
   where
     h : Laid arcs nodes (length arcs) spans steps
     h = subst (λ n. Laid arcs nodes n spans steps) e laid

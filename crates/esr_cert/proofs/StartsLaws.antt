@@ -7,7 +7,7 @@ use Rattle.std.specs.List.Sorted.{IsNonDecreasingBy, IsPartitionPoint}
 use Rattle.std.proofs.lemmas.List.Sorted.{IsNonDecreasingBy-from_default}
 use Rattle.esr_cert.specs.Problem.{Chain, Problem}
 use Rattle.esr_cert.specs.Certificate.{Certificate, are_rows_matched}
-use Rattle.esr_cert.specs.Starts.{starts_from, AreStarts}
+use Rattle.esr_cert.specs.Starts.{starts_from, joined, AreStarts}
 use Rattle.esr_cert.proofs.Sound.{here, there, IsProblem}
 use Rattle.esr_cert.proofs.Matched.{IsMatched, AreWhole, are_whole}
 
@@ -26,7 +26,7 @@ starts_count n [] (row ∷ rows) m = absurd (true≢false (sym m))
 starts_count n (chain ∷ chains) [] m = absurd (true≢false (sym m))
 starts_count n (chain ∷ chains) (row ∷ rows) m = ap suc (starts_count (n + length chain.costs) chains rows (first chain chains row rows m).others)
 
-starts_at : (n : ℕ) (chains : List Chain) (rows : List (List ℕ)) → are_rows_matched chains rows ≡ true → (k : ℕ) → k ≤ length rows → get_or (starts_from n chains) k 0 ≡ n + length (concat (take k rows))
+starts_at : (n : ℕ) (chains : List Chain) (rows : List (List ℕ)) → are_rows_matched chains rows ≡ true → (k : ℕ) → k ≤ length rows → get_or (starts_from n chains) k 0 ≡ n + length (joined (take k rows))
 starts_at n [] [] m zero l = omega arith
 starts_at n [] [] m (suc k) l = absurd (omega arith)
 starts_at n [] (row ∷ rows) m k l = absurd (true≢false (sym m))
@@ -34,7 +34,7 @@ starts_at n (chain ∷ chains) [] m k l = absurd (true≢false (sym m))
 starts_at n (chain ∷ chains) (row ∷ rows) m zero l = omega arith
 starts_at n (chain ∷ chains) (row ∷ rows) m (suc k) l =
     let one : MatchesFirst chain chains row rows = first chain chains row rows m in
-    omega (arith, one.long, starts_at (n + length chain.costs) chains rows one.others k (omega arith), length-append row (concat (take k rows)))
+    omega (arith, one.long, starts_at (n + length chain.costs) chains rows one.others k (omega arith), length-append row (joined (take k rows)))
 
 rows_filled : (chains : List Chain) (rows : List (List ℕ)) → AreWhole chains → are_rows_matched chains rows ≡ true → (k : ℕ) → k < length rows → 0 < length (get_or rows k [])
 rows_filled [] [] whole m k l = absurd (omega arith)
@@ -50,64 +50,72 @@ are_starts p ok c m = record {
   filled = rows_filled p.chains c.chain_flow (are_whole p ok c m) m.rows;
 }
 
--- ---- an amount by its place among all rows
+-- ---- what a list has at a place of rows that are joined
 
-read_row : (rows : List (List ℕ)) (k j : ℕ) → k < length rows → j < length (get_or rows k []) → get_or (concat rows) (length (concat (take k rows)) + j) 0 ≡ get_or (get_or rows k []) j 0
-read_row [] k j l m = absurd (omega arith)
-read_row (row ∷ rows) zero j l m =
-    let here_is : length (concat (take zero (row ∷ rows))) + j ≡ j = omega arith in
-    ap (λ i. get_or (row ++ concat rows) i 0) here_is ∙ get_or_append_left row (concat rows) 0 j m
-read_row (row ∷ rows) (suc k) j l m =
-    let far : length (row ++ concat (take k rows)) + j ≡ length row + (length (concat (take k rows)) + j) = omega (arith, length-append row (concat (take k rows))) in
-    let back : length row + (length (concat (take k rows)) + j) - length row ≡ length (concat (take k rows)) + j = omega arith in
-    ap (λ i. get_or (row ++ concat rows) i 0) far
-    ∙ get_or-append_right row (concat rows) (length row) (length row + (length (concat (take k rows)) + j)) 0 refl (omega arith)
-    ∙ ap (λ i. get_or (concat rows) i 0) back
-    ∙ read_row rows k j (omega arith) m
+read_row : {X : Type 0} (d : X) (rows : List (List X)) (k j : ℕ) → k < length rows → j < length (get_or rows k []) → get_or (joined rows) (length (joined (take k rows)) + j) d ≡ get_or (get_or rows k []) j d
+read_row d [] k j l m = absurd (omega arith)
+read_row d (row ∷ rows) zero j l m =
+    let here_is : length (joined (take zero (row ∷ rows))) + j ≡ j = omega arith in
+    ap (λ i. get_or (row ++ joined rows) i d) here_is ∙ get_or_append_left row (joined rows) d j m
+read_row d (row ∷ rows) (suc k) j l m =
+    let far : length (row ++ joined (take k rows)) + j ≡ length row + (length (joined (take k rows)) + j) = omega (arith, length-append row (joined (take k rows))) in
+    let back : length row + (length (joined (take k rows)) + j) - length row ≡ length (joined (take k rows)) + j = omega arith in
+    ap (λ i. get_or (row ++ joined rows) i d) far
+    ∙ get_or-append_right row (joined rows) (length row) (length row + (length (joined (take k rows)) + j)) d refl (omega arith)
+    ∙ ap (λ i. get_or (joined rows) i d) back
+    ∙ read_row d rows k j (omega arith) m
 
-longer : (rows : List (List ℕ)) (k : ℕ) → k < length rows → length (concat (take (suc k) rows)) ≡ length (concat (take k rows)) + length (get_or rows k [])
+longer : {X : Type 0} (rows : List (List X)) (k : ℕ) → k < length rows → length (joined (take (suc k) rows)) ≡ length (joined (take k rows)) + length (get_or rows k [])
 longer [] k l = absurd (omega arith)
 longer (row ∷ rows) zero l = omega (arith, length-append row [])
 longer (row ∷ rows) (suc k) l =
-    omega (arith, length-append row (concat (take (suc k) rows)), length-append row (concat (take k rows)), longer rows k (omega arith))
+    omega (arith, length-append row (joined (take (suc k) rows)), length-append row (joined (take k rows)), longer rows k (omega arith))
 
-rising : (rows : List (List ℕ)) (i j : ℕ) → i ≤ j → length (concat (take i rows)) ≤ length (concat (take j rows))
+rising : {X : Type 0} (rows : List (List X)) (i j : ℕ) → i ≤ j → length (joined (take i rows)) ≤ length (joined (take j rows))
 rising rows zero j l = omega arith
 rising [] (suc i) j l = omega arith
 rising (row ∷ rows) (suc i) zero l = absurd (omega arith)
 rising (row ∷ rows) (suc i) (suc j) l =
-    omega (arith, length-append row (concat (take i rows)), length-append row (concat (take j rows)), rising rows i j (omega arith))
+    omega (arith, length-append row (joined (take i rows)), length-append row (joined (take j rows)), rising rows i j (omega arith))
 
-module _ (starts : List ℕ) (rows : List (List ℕ)) (are : AreStarts starts rows) where
+module _ {X : Type 0} (starts : List ℕ) (rows : List (List X)) (are : AreStarts starts rows) where
   pub starts_rise : IsNonDecreasingBy (λ n. n) starts
   starts_rise = IsNonDecreasingBy-from_default (λ n. n) starts 0 (λ i j l m. omega (arith, are.count, are.at i (omega (arith, are.count)), are.at j (omega (arith, are.count)), rising rows i j l))
 
-  -- an amount of a row, of two lists that follow the rows
-  pub in_row : (backs musts : List ℕ) (k arc : ℕ) → k < length rows → get_or starts k 0 ≤ arc → arc < get_or starts (suc k) 0 → get_or (concat rows ++ backs ++ musts) arc 0 ≡ get_or (get_or rows k []) (arc - get_or starts k 0) 0
-  in_row backs musts k arc l m n =
-      let begun : get_or starts k 0 ≡ length (concat (take k rows)) = are.at k (omega arith) in
-      let ended : get_or starts (suc k) 0 ≡ length (concat (take k rows)) + length (get_or rows k []) = are.at (suc k) (omega arith) ∙ longer rows k l in
-      let all : concat (take (length rows) rows) ≡ concat rows = ap concat (take_all (length rows) rows (omega arith)) in
-      let inside : arc < length (concat rows) = omega (arith, are.at (suc k) (omega arith), rising rows (suc k) (length rows) (omega arith), ap length all) in
-      let there_is : length (concat (take k rows)) + (arc - get_or starts k 0) ≡ arc = omega arith in
-      get_or_append_left (concat rows ++ backs) musts 0 arc (omega (arith, length-append (concat rows) backs))
-      ∙ get_or_append_left (concat rows) backs 0 arc inside
-      ∙ ap (λ i. get_or (concat rows) i 0) (sym there_is)
-      ∙ read_row rows k (arc - get_or starts k 0) l (omega arith)
+  -- a row ends where the next begins
+  pub row_ends : (k : ℕ) → k < length rows → get_or starts (suc k) 0 ≡ get_or starts k 0 + length (get_or rows k [])
+  row_ends k l = omega (arith, are.at k (omega arith), are.at (suc k) (omega arith), longer rows k l)
 
-  rows_end : get_or starts (length rows) 0 ≡ length (concat rows)
-  rows_end = are.at (length rows) (omega arith) ∙ ap (λ xs. length (concat xs)) (take_all (length rows) rows (omega arith))
+  -- what a row has, and two lists that follow the rows
+  pub in_row : (d : X) (backs musts : List X) (k arc : ℕ) → k < length rows → get_or starts k 0 ≤ arc → arc < get_or starts (suc k) 0 → get_or (joined rows ++ backs ++ musts) arc d ≡ get_or (get_or rows k []) (arc - get_or starts k 0) d
+  in_row d backs musts k arc l m n =
+      let begun : get_or starts k 0 ≡ length (joined (take k rows)) = are.at k (omega arith) in
+      let ended : get_or starts (suc k) 0 ≡ length (joined (take k rows)) + length (get_or rows k []) = are.at (suc k) (omega arith) ∙ longer rows k l in
+      let all : joined (take (length rows) rows) ≡ joined rows = ap joined (take_all (length rows) rows (omega arith)) in
+      let inside : arc < length (joined rows) = omega (arith, are.at (suc k) (omega arith), rising rows (suc k) (length rows) (omega arith), ap length all) in
+      let there_is : length (joined (take k rows)) + (arc - get_or starts k 0) ≡ arc = omega arith in
+      get_or_append_left (joined rows ++ backs) musts d arc (omega (arith, length-append (joined rows) backs))
+      ∙ get_or_append_left (joined rows) backs d arc inside
+      ∙ ap (λ i. get_or (joined rows) i d) (sym there_is)
+      ∙ read_row d rows k (arc - get_or starts k 0) l (omega arith)
 
-  pub in_backs : (backs musts : List ℕ) (arc : ℕ) → get_or starts (length rows) 0 ≤ arc → arc - get_or starts (length rows) 0 < length backs → get_or (concat rows ++ backs ++ musts) arc 0 ≡ get_or backs (arc - get_or starts (length rows) 0) 0
-  in_backs backs musts arc l m =
-      get_or_append_left (concat rows ++ backs) musts 0 arc (omega (arith, rows_end, length-append (concat rows) backs))
-      ∙ get_or-append_right (concat rows) backs (get_or starts (length rows) 0) arc 0 (sym rows_end) l
+  pub rows_end : get_or starts (length rows) 0 ≡ length (joined rows)
+  rows_end = are.at (length rows) (omega arith) ∙ ap (λ xs. length (joined xs)) (take_all (length rows) rows (omega arith))
 
-  pub in_musts : (backs musts : List ℕ) (arc : ℕ) → get_or starts (length rows) 0 ≤ arc → length backs ≤ arc - get_or starts (length rows) 0 → get_or (concat rows ++ backs ++ musts) arc 0 ≡ get_or musts (arc - get_or starts (length rows) 0 - length backs) 0
-  in_musts backs musts arc l m =
+  pub in_backs : (d : X) (backs musts : List X) (arc : ℕ) → get_or starts (length rows) 0 ≤ arc → arc - get_or starts (length rows) 0 < length backs → get_or (joined rows ++ backs ++ musts) arc d ≡ get_or backs (arc - get_or starts (length rows) 0) d
+  in_backs d backs musts arc l m =
+      get_or_append_left (joined rows ++ backs) musts d arc (omega (arith, rows_end, length-append (joined rows) backs))
+      ∙ get_or-append_right (joined rows) backs (get_or starts (length rows) 0) arc d (sym rows_end) l
+
+  pub in_musts : (d : X) (backs musts : List X) (arc : ℕ) → get_or starts (length rows) 0 ≤ arc → length backs ≤ arc - get_or starts (length rows) 0 → get_or (joined rows ++ backs ++ musts) arc d ≡ get_or musts (arc - get_or starts (length rows) 0 - length backs) d
+  in_musts d backs musts arc l m =
       let back : arc - (get_or starts (length rows) 0 + length backs) ≡ arc - get_or starts (length rows) 0 - length backs = omega arith in
-      get_or-append_right (concat rows ++ backs) musts (get_or starts (length rows) 0 + length backs) arc 0 (omega (arith, rows_end, length-append (concat rows) backs)) (omega arith)
-      ∙ ap (λ i. get_or musts i 0) back
+      get_or-append_right (joined rows ++ backs) musts (get_or starts (length rows) 0 + length backs) arc d (omega (arith, rows_end, length-append (joined rows) backs)) (omega arith)
+      ∙ ap (λ i. get_or musts i d) back
+
+pub joined_amounts : (rows : List (List ℕ)) → concat rows ≡ joined rows
+joined_amounts [] = refl
+joined_amounts (row ∷ rows) = ap (λ xs. row ++ xs) (joined_amounts rows)
 
 -- what a search for the last row that begins at or before a number finds
 pub record IsFound (starts : List ℕ) (number begun : ℕ) : Type 0 where

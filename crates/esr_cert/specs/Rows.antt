@@ -47,8 +47,9 @@ pub record AreRows (arcs : List Arc) (n : ℕ) (spans : List Span) (steps : List
   pub inside : (v : ℕ) → v < n → (span_at spans v).end ≤ length steps
   pub row : (v : ℕ) → v < n → row_in steps (span_at spans v) ≡ row_of arcs v
 
--- steps of some arcs, each once
+-- the two steps of each of some arcs, each once
 pub record AreSteps (arcs : List Arc) (steps : List Step) : Type 0 where
+  pub count : length steps ≡ 2 * length arcs
   pub in_arcs : (k : ℕ) → k < length steps → arc_of (step_at steps k) < length arcs
   pub once : AreOnce steps
 

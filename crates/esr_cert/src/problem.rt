@@ -1,16 +1,16 @@
-ghost use Rattle.std.specs.Prelude.{◌≡◌, ◌≢◌, ◌≤◌, map, true, IsOk, IfOk, IfErr, Some, None};
+ghost use Rattle.std.specs.Prelude.{◌≡◌, ◌≢◌, ◌<◌, ◌≤◌, length, map, true, IsOk, IfOk, IfErr, Some, None};
 ghost use Rattle.esr_cert.specs.Problem.{size, has_shape, is_sound};
 ghost use Rattle.esr_cert.specs.Faults.{problem_fault, bundle_fault_number};
-ghost use Rattle.esr_cert.specs.Network.{network};
+ghost use Rattle.esr_cert.specs.Network.{arc_at, network};
 ghost use Rattle.esr_cert.specs.Rows.{AreLaid};
 ghost use Rattle.esr_cert.specs.Starts.{starts_from};
 ghost use Rattle.esr_cert.specs.Views.{chain_of, problem_of};
 
-use crate::arcs::arcs_of;
+use crate::arcs::{arc_of, arcs_of};
+use crate::network::Arc;
 use crate::parts::have_shape;
 use crate::range::is_in_range;
 use crate::rows::{Rows, rows_of};
-use crate::short_arc::ShortArc;
 use crate::starts::starts_of;
 use esr_history::TxnId;
 use esr_items::ItemId;
@@ -212,21 +212,23 @@ impl Problem {
         &self.starts
     }
 
-    /// The arcs of the network.
+    /// An arc of the network, by its number.
     ///
     /// A read item gives a chain of arcs from the source through its writers to the sink, each with the cost of a
     /// version as its capacity; each pair of updates an unlimited arc from the later back to the earlier; and each
-    /// update that a set must hold an unlimited arc from the source. Updates are nodes by their positions, and the
-    /// source and the sink come after them.
-    pub fn arcs(&self, alloc: Global) -> Result<Vec<ShortArc>, AllocError>
-        ensures { IfOk result (λ arcs. arcs.items ≡ (network self.now).arcs) }
+    /// update that a set must hold an unlimited arc from the source. They are numbered in this order. Updates are nodes
+    /// by their positions, and the source and the sink come after them.
+    pub fn arc(&self, number: u32) -> Arc
+        requires { number < length (network self.now).arcs }
+        ensures { result ≡ arc_at (network self.now).arcs number }
     {
-        arcs_of(
-            alloc,
+        arc_of(
             self.updates(),
             self.before(),
             self.chains(),
             self.must(),
+            self.starts(),
+            number,
         )
     }
 

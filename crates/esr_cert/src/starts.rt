@@ -1,5 +1,6 @@
 //! Where the arcs of each chain begin.
-ghost use Rattle.std.specs.Prelude.{◌≡◌, ◌≤◌, length, map, sum_by, IfOk};
+ghost use Rattle.std.specs.Prelude.{◌≡◌, ◌+◌, ◌<◌, ◌≤◌, length, get_or, map, sum_by, IfOk};
+ghost use Rattle.std.specs.List.Sorted.{IsNonDecreasingBy};
 ghost use Rattle.esr_cert.specs.Starts.{starts_from};
 ghost use Rattle.esr_cert.specs.Views.{chain_of};
 
@@ -19,4 +20,16 @@ pub fn starts_of(alloc: Global, chains: &[Chain]) -> Result<Vec<u32>, AllocError
     }
     starts.push(next)?;
     Ok(starts)
+}
+
+/// The last of some rows to begin at or before a number.
+pub fn row_at(starts: &[u32], number: u32) -> usize
+    requires some { 0 < length starts.now }
+    requires zero { get_or starts.now 0 0 ≡ 0 }
+    requires rising { IsNonDecreasingBy (λ n. n) starts.now }
+    ensures bound { result < length starts.now }
+    ensures begun { get_or starts.now result 0 ≤ number }
+    ensures last { result + 1 < length starts.now → number < get_or starts.now (result + 1) 0 }
+{
+    starts.partition_point(|start| *start <= number) - 1
 }

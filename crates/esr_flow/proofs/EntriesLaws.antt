@@ -9,10 +9,10 @@ use Rattle.esr_cert.specs.declared.step.Step.TheVariants.{Along, Against}
 use Rattle.esr_flow.specs.declared.entry.Entry.{Entry}
 use Rattle.esr_cert.specs.declared.rows.Span.{Span}
 use Rattle.esr_flow.specs.declared.graph.Graph.{Graph}
-use Rattle.esr_cert.specs.Flow.{within}
+use Rattle.esr_cert.specs.Flow.{within, amount_at}
 use Rattle.esr_cert.specs.Steps.{arc_of, start}
 use Rattle.esr_flow.specs.Residual.{room, left_of}
-use Rattle.esr_flow.specs.Graph.{net_of, IsGraph, entry_of, entry_at, AreEntries, IsEntry, Lists}
+use Rattle.esr_flow.specs.Graph.{arcs_of, net_of, IsGraph, entry_of, entry_at, AreEntries, IsEntry, Lists}
 use Rattle.esr_cert.specs.Steps.{step_at, same_step, has_step, HasSteps}
 use Rattle.esr_cert.specs.Rows.{span_at, row_in}
 use Rattle.esr_flow.proofs.WalkLaws.{start_in}
@@ -87,23 +87,23 @@ map_same f h e (s ∷ steps) = ap (λ x. x ∷ map f steps) (e s) ∙ ap (λ xs.
 
 module _ (g : Graph) (ok : IsGraph g) where
   -- the row of the node where a step starts has it
-  pub in_row : (s : Step) → arc_of s < length g.arcs.items → Contains (row_in g.rows.now.steps.items (span_at g.rows.now.spans.items (start g.arcs.items s))) s
+  pub in_row : (s : Step) → arc_of s < length (arcs_of g) → Contains (row_in g.rows.now.steps.items (span_at g.rows.now.spans.items (start (arcs_of g) s))) s
   in_row s l =
-      contains_from (row_in g.rows.now.steps.items (span_at g.rows.now.spans.items (start g.arcs.items s))) s
-      ((ok.lists (start g.arcs.items s) (start_in (net_of g) ok.is_network s l)).all s l refl)
+      contains_from (row_in g.rows.now.steps.items (span_at g.rows.now.spans.items (start (arcs_of g) s))) s
+      ((ok.lists (start (arcs_of g) s) (start_in (net_of g) ok.is_network s l)).all s l refl)
 
-  row_lists : (flow : List ℕ) (entries : List Entry) → AreEntries g flow entries → (v : ℕ) → v < g.nodes → Lists g.arcs.items flow v (row_in g.rows.now.steps.items (span_at g.rows.now.spans.items v)) (row_in entries (span_at g.rows.now.spans.items v))
+  row_lists : (flow : List ℕ) (entries : List Entry) → AreEntries g flow entries → (v : ℕ) → v < g.nodes → Lists (arcs_of g) flow v (row_in g.rows.now.steps.items (span_at g.rows.now.spans.items v)) (row_in entries (span_at g.rows.now.spans.items v))
   row_lists flow entries are v l =
       let span : Span = span_at g.rows.now.spans.items v in
-      let same : row_in entries span ≡ map (entry_of g.arcs.items flow) (row_in g.rows.now.steps.items span) =
-      ap (λ es. row_in es span) are ∙ ap (take (span.end - span.begin)) (drop-map (entry_of g.arcs.items flow) span.begin g.rows.now.steps.items) ∙ take-map (entry_of g.arcs.items flow) (span.end - span.begin) (drop span.begin g.rows.now.steps.items) in
-      subst (Lists g.arcs.items flow v (row_in g.rows.now.steps.items span)) (sym same) (lists_from g.arcs.items flow v (row_in g.rows.now.steps.items span) (ok.lists v l))
+      let same : row_in entries span ≡ map (entry_of (arcs_of g) flow) (row_in g.rows.now.steps.items span) =
+      ap (λ es. row_in es span) are ∙ ap (take (span.end - span.begin)) (drop-map (entry_of (arcs_of g) flow) span.begin g.rows.now.steps.items) ∙ take-map (entry_of (arcs_of g) flow) (span.end - span.begin) (drop span.begin g.rows.now.steps.items) in
+      subst (Lists (arcs_of g) flow v (row_in g.rows.now.steps.items span)) (sym same) (lists_from (arcs_of g) flow v (row_in g.rows.now.steps.items span) (ok.lists v l))
 
   -- the steps and the entries of a node as they were read
-  pub lists_read : (flow : List ℕ) (entries : List Entry) → AreEntries g flow entries → (v : ℕ) → v < g.nodes → (steps : List Step) (row : List Entry) → steps ≡ row_in g.rows.now.steps.items (span_at g.rows.now.spans.items v) → row ≡ row_in entries (span_at g.rows.now.spans.items v) → Lists g.arcs.items flow v steps row
+  pub lists_read : (flow : List ℕ) (entries : List Entry) → AreEntries g flow entries → (v : ℕ) → v < g.nodes → (steps : List Step) (row : List Entry) → steps ≡ row_in g.rows.now.steps.items (span_at g.rows.now.spans.items v) → row ≡ row_in entries (span_at g.rows.now.spans.items v) → Lists (arcs_of g) flow v steps row
   lists_read flow entries are v l steps row steps_are row_is =
-      subst (λ list. Lists g.arcs.items flow v list row) (sym steps_are)
-      (subst (Lists g.arcs.items flow v (row_in g.rows.now.steps.items (span_at g.rows.now.spans.items v))) (sym row_is) (row_lists flow entries are v l))
+      subst (λ list. Lists (arcs_of g) flow v list row) (sym steps_are)
+      (subst (Lists (arcs_of g) flow v (row_in g.rows.now.steps.items (span_at g.rows.now.spans.items v))) (sym row_is) (row_lists flow entries are v l))
 
   -- a step that lies at no place of an arc's two steps is of another arc
   other_arc : (i k p q : ℕ) → k < length g.rows.now.steps.items → p < length g.rows.now.steps.items → q < length g.rows.now.steps.items → step_at g.rows.now.steps.items p ≡ Along i → step_at g.rows.now.steps.items q ≡ Against i → k ≢ p → k ≢ q
@@ -113,24 +113,34 @@ module _ (g : Graph) (ok : IsGraph g) where
 
   pub renewed : (flow : List ℕ) (entries : List Entry) (i x p q : ℕ) (a b : Entry) → AreEntries g flow entries
       → p < length g.rows.now.steps.items → step_at g.rows.now.steps.items p ≡ Along i → q < length g.rows.now.steps.items → step_at g.rows.now.steps.items q ≡ Against i
-      → a ≡ entry_of g.arcs.items (set flow i x) (Along i) → b ≡ entry_of g.arcs.items (set flow i x) (Against i) → AreEntries g (set flow i x) (set (set entries p a) q b)
+      → a ≡ entry_of (arcs_of g) (set flow i x) (Along i) → b ≡ entry_of (arcs_of g) (set flow i x) (Against i) → AreEntries g (set flow i x) (set (set entries p a) q b)
   renewed flow entries i x p q a b are lp at_p lq at_q along against =
-      let f : Step → Entry = entry_of g.arcs.items flow in
-      let h : Step → Entry = entry_of g.arcs.items (set flow i x) in
+      let f : Step → Entry = entry_of (arcs_of g) flow in
+      let h : Step → Entry = entry_of (arcs_of g) (set flow i x) in
       ap (λ e. set (set entries p e) q b) along ∙ ap (λ e. set (set entries p (h (Along i))) q e) against
       ∙ written f h g.rows.now.steps.items entries p q (Along i) (Against i) (Along 0) (entry_at [] 0) are lp lq at_p at_q
-      (λ k l np nq. same_entry g.arcs.items flow i x (step_at g.rows.now.steps.items k) (other_arc i k p q l lp lq at_p at_q np nq (step_at g.rows.now.steps.items k) refl))
+      (λ k l np nq. same_entry (arcs_of g) flow i x (step_at g.rows.now.steps.items k) (other_arc i k p q l lp lq at_p at_q np nq (step_at g.rows.now.steps.items k) refl))
 
   -- where an arc's two steps have room as before, so do all steps
-  pub unchanged : (flow : List ℕ) (entries : List Entry) (i x : ℕ) → AreEntries g flow entries
-      → within 1 (room g.arcs.items flow (Along i)) ≡ within 1 (room g.arcs.items (set flow i x) (Along i)) → within 1 (room g.arcs.items flow (Against i)) ≡ within 1 (room g.arcs.items (set flow i x) (Against i))
-      → AreEntries g (set flow i x) entries
-  unchanged flow entries i x are ahead back =
-      are ∙ map_same (entry_of g.arcs.items flow) (entry_of g.arcs.items (set flow i x)) (λ s. elim (cases_eq (arc_of s) i) [
+  pub unchanged : (flow : List ℕ) (entries : List Entry) (i x : ℕ) (arc : Arc) → i < length flow → arc ≡ arc_at (arcs_of g) i → AreEntries g flow entries
+      → within 1 (left_of arc.capacity (amount_at flow i)) ≡ within 1 (left_of arc.capacity x) → within 1 (Some (amount_at flow i)) ≡ within 1 (Some x) → AreEntries g (set flow i x) entries
+  unchanged flow entries i x arc l is are same_ahead same_back =
+      are ∙ map_same (entry_of (arcs_of g) flow) (entry_of (arcs_of g) (set flow i x)) (λ s. elim (cases_eq (arc_of s) i) [
         | inl e ↦ here s e
-        | inr ne ↦ sym (same_entry g.arcs.items flow i x s ne)
+        | inr ne ↦ sym (same_entry (arcs_of g) flow i x s ne)
       ]) g.rows.now.steps.items
     where
-      here : (s : Step) → arc_of s ≡ i → entry_of g.arcs.items flow s ≡ entry_of g.arcs.items (set flow i x) s
-      here (Along j) e = subst (λ n. entry_of g.arcs.items flow (Along n) ≡ entry_of g.arcs.items (set flow i x) (Along n)) (sym e) (same_rooms (arc_at g.arcs.items i).to ahead back)
-      here (Against j) e = subst (λ n. entry_of g.arcs.items flow (Against n) ≡ entry_of g.arcs.items (set flow i x) (Against n)) (sym e) (same_rooms (arc_at g.arcs.items i).from back ahead)
+      now : x ≡ amount_at (set flow i x) i
+      now = sym (get_or-set_same flow i x 0 l)
+
+      ahead : within 1 (room (arcs_of g) flow (Along i)) ≡ within 1 (room (arcs_of g) (set flow i x) (Along i))
+      ahead =
+          subst (λ (a : Arc). within 1 (left_of a.capacity (amount_at flow i)) ≡ within 1 (left_of a.capacity x)) is same_ahead
+          ∙ ap (λ n. within 1 (left_of (arc_at (arcs_of g) i).capacity n)) now
+
+      back : within 1 (room (arcs_of g) flow (Against i)) ≡ within 1 (room (arcs_of g) (set flow i x) (Against i))
+      back = same_back ∙ ap (λ n. within 1 (Some n)) now
+
+      here : (s : Step) → arc_of s ≡ i → entry_of (arcs_of g) flow s ≡ entry_of (arcs_of g) (set flow i x) s
+      here (Along j) e = subst (λ n. entry_of (arcs_of g) flow (Along n) ≡ entry_of (arcs_of g) (set flow i x) (Along n)) (sym e) (same_rooms (arc_at (arcs_of g) i).to ahead back)
+      here (Against j) e = subst (λ n. entry_of (arcs_of g) flow (Against n) ≡ entry_of (arcs_of g) (set flow i x) (Against n)) (sym e) (same_rooms (arc_at (arcs_of g) i).from back ahead)
