@@ -14,7 +14,7 @@ use Rattle.esr_history.specs.declared.event.TxnId.{TxnId}
 use Rattle.esr_cert.specs.Views.{chain_of, problem_of}
 use Rattle.esr_cert.proofs.Sound.{here, there, facts, few, are_few, IsProblem}
 use Rattle.esr_cert.proofs.Matched.{AreWhole, links_length}
-use Rattle.esr_cert.proofs.StartsLaws.{starts_rise, row_ends, in_row, in_backs, in_musts, rows_end}
+use Rattle.esr_cert.proofs.StartsLaws.{starts_long, starts_rise, row_ends, in_row, in_backs, in_musts, rows_end}
 use Rattle.esr_cert.proofs.Least.{is_network}
 
 -- each chain has one cost more than writers
@@ -83,10 +83,6 @@ links_start n m (chain ∷ chains) whole (suc k) l =
       links_start n (m + length chain.costs) chains (λ d at. whole d (there chain d chains at)) k (omega arith),
       length-append (chain_links n chain) (joined (take k (map (chain_links n) chains))),
     )
-
-starts_long : (m : ℕ) (chains : List Chain) → length (starts_from m chains) ≡ suc (length chains)
-starts_long m [] = refl
-starts_long m (chain ∷ chains) = ap suc (starts_long (m + length chain.costs) chains)
 
 pub links_starts : (p : Problem) → IsProblem p → AreStarts (starts_from 0 p.chains) (map (chain_links (size p)) p.chains)
 links_starts p ok = record {

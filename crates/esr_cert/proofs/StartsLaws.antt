@@ -1,13 +1,15 @@
 -- Amounts found by where the rows of their chains begin.
-use Rattle.std.proofs.Common.{◌≡◌, ℕ, zero, suc, ◌+◌, ◌-◌, ◌<◌, ◌≤◌, List, [], ◌∷◌, ◌++◌, true, refl, sym, ap, ◌∙◌, arith, length, get_or, take, true≢false, eqb, leb, false, inl, inr, length-append}
+use Rattle.std.proofs.Common.{◌≡◌, ℕ, zero, suc, ◌+◌, ◌-◌, ◌<◌, ◌≤◌, List, [], ◌∷◌, ◌++◌, true, refl, sym, ap, ◌∙◌, arith, length, get_or, map, take, replicate, true≢false, eqb, leb, false, inl, inr, length-append}
 use Rattle.std.specs.List.{concat}
 use Rattle.std.proofs.lemmas.Bool.{and_parts, eqb-true, cases_lt, leb-true, leb-false, le-leb}
-use Rattle.std.proofs.lemmas.List.{get_or_append_left, get_or-append_right, take_all}
+use Rattle.std.proofs.lemmas.List.{get_or_append_left, get_or-append_right, get_or-replicate, length-replicate, length-map, take_all}
 use Rattle.std.specs.List.Sorted.{IsNonDecreasingBy, IsPartitionPoint}
 use Rattle.std.proofs.lemmas.List.Sorted.{IsNonDecreasingBy-from_default}
+use Rattle.esr_cert.specs.declared.problem.Chain as code
 use Rattle.esr_cert.specs.Problem.{Chain, Problem}
+use Rattle.esr_cert.specs.Views.{chain_of}
 use Rattle.esr_cert.specs.Certificate.{Certificate, are_rows_matched}
-use Rattle.esr_cert.specs.Starts.{starts_from, joined, AreStarts}
+use Rattle.esr_cert.specs.Starts.{starts_from, owners_from, joined, AreStarts}
 use Rattle.esr_cert.proofs.Sound.{here, there, IsProblem}
 use Rattle.esr_cert.proofs.Matched.{IsMatched, AreWhole, are_whole}
 
@@ -135,3 +137,82 @@ found starts number begun filled first_is l (before, after) =
       at = leb-true _ _ (before (begun - 1) 0 (omega arith) (omega arith));
       past = λ m. leb-false _ _ (after begun 0 (omega arith) m);
     }
+
+-- ---- the chain of an arc
+
+first_start : (m : ℕ) (chains : List Chain) → get_or (starts_from m chains) 0 0 ≡ m
+first_start m [] = refl
+first_start m (chain ∷ chains) = refl
+
+owners_end : (k m : ℕ) (chains : List Chain) → get_or (starts_from m chains) (length chains) 0 ≡ m + length (owners_from k chains)
+owners_end k m [] = omega arith
+owners_end k m (chain ∷ chains) =
+    omega (arith, owners_end (k + 1) (m + length chain.costs) chains, length-append (replicate (length chain.costs) k) (owners_from (k + 1) chains), length-replicate (length chain.costs) k)
+
+-- the chain with a number has an arc
+pub record IsOwner (k m : ℕ) (chains : List Chain) (i : ℕ) : Type 0 where
+  pub chain : ℕ
+  pub inside : chain < length chains
+  pub is : get_or (owners_from k chains) i 0 ≡ k + chain
+  pub begun : get_or (starts_from m chains) chain 0 ≤ m + i
+  pub before : m + i < get_or (starts_from m chains) (suc chain) 0
+
+owner : (k m : ℕ) (chains : List Chain) (i : ℕ) → i < length (owners_from k chains) → IsOwner k m chains i
+owner k m [] i l = absurd (omega arith)
+owner k m (chain ∷ chains) i l =
+    let n : ℕ = length chain.costs in
+    let long : length (replicate n k) ≡ n = length-replicate n k in
+    let all : length (owners_from k (chain ∷ chains)) ≡ length (replicate n k) + length (owners_from (k + 1) chains) = length-append (replicate n k) (owners_from (k + 1) chains) in
+    let rest : i - n < length (owners_from (k + 1) chains) → IsOwner (k + 1) (m + n) chains (i - n) = owner (k + 1) (m + n) chains (i - n) in
+    elim (cases_lt i n) [
+      | inl here_is ↦ record {
+        chain = 0;
+        inside = omega arith;
+        is = omega (arith, get_or_append_left (replicate n k) (owners_from (k + 1) chains) 0 i (omega (arith, long)), get_or-replicate n i k 0 here_is);
+        begun = omega arith;
+        before = omega (arith, first_start (m + n) chains);
+      }
+      | inr after ↦
+          let r : IsOwner (k + 1) (m + n) chains (i - n) = rest (omega (arith, all, long)) in
+          record {
+            chain = suc r.chain;
+            inside = omega (arith, r.inside);
+            is = omega (arith, get_or-append_right (replicate n k) (owners_from (k + 1) chains) n i 0 long after, r.is);
+            begun = omega (arith, r.begun);
+            before = omega (arith, r.before);
+          }
+    ]
+
+-- what holds of the chain that is read, as of one that is searched for
+pub record IsRow (starts : List ℕ) (number k : ℕ) : Type 0 where
+  pub bound : k < length starts
+  pub begun : get_or starts k 0 ≤ number
+  pub last : k + 1 < length starts → number < get_or starts (k + 1) 0
+
+pub starts_long : (m : ℕ) (chains : List Chain) → length (starts_from m chains) ≡ suc (length chains)
+starts_long m [] = refl
+starts_long m (chain ∷ chains) = ap suc (starts_long (m + length chain.costs) chains)
+
+module _ (chains : List code.Chain) (starts owners : List ℕ) (number : ℕ) (s : starts ≡ starts_from 0 (map chain_of chains)) (o : owners ≡ owners_from 0 (map chain_of chains)) (early : number < get_or starts (length chains) 0) where
+  abbrev all : List Chain
+  all = map chain_of chains
+
+  same_count : length all ≡ length chains
+  same_count = length-map chains chain_of
+
+  in_all : number < length (owners_from 0 all)
+  in_all = omega (arith, owners_end 0 0 all, ap (λ list. get_or list (length chains) 0) s, ap (λ n. get_or (starts_from 0 all) n 0) same_count, early)
+
+  pub has_owner : number < length owners
+  has_owner = omega (arith, in_all, ap length o)
+
+  pub owner_row : (k : ℕ) → k ≡ get_or owners number 0 → IsRow starts number k
+  owner_row k is =
+      let r : IsOwner 0 0 all number = owner 0 0 all number in_all in
+      let at : k ≡ r.chain = omega (arith, is, ap (λ list. get_or list number 0) o, r.is) in
+      let next : k + 1 ≡ suc r.chain = omega (arith, at) in
+      record {
+        bound = omega (arith, at, r.inside, ap length s, starts_long 0 all);
+        begun = omega (arith, r.begun, ap (λ list. get_or list k 0) s, ap (λ i. get_or (starts_from 0 all) i 0) at);
+        last = λ l. omega (arith, r.before, ap (λ list. get_or list (k + 1) 0) s, ap (λ i. get_or (starts_from 0 all) i 0) next);
+      }

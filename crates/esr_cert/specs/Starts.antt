@@ -1,11 +1,16 @@
 -- Where the arcs of each chain begin, which come first among the arcs of a network.
-use Rattle.std.specs.Prelude.{◌≡◌, ℕ, suc, ◌+◌, ◌<◌, ◌≤◌, List, [], ◌∷◌, ◌++◌, length, get_or, take}
+use Rattle.std.specs.Prelude.{◌≡◌, ℕ, suc, ◌+◌, ◌<◌, ◌≤◌, List, [], ◌∷◌, ◌++◌, length, get_or, take, replicate}
 use Rattle.esr_cert.specs.Problem.{Chain}
 
 -- from n on, the number of the first arc of each chain, and of the first arc after them all
 abbrev pub starts_from : ℕ → List Chain → List ℕ
 starts_from n [] = n ∷ []
 starts_from n (chain ∷ chains) = n ∷ starts_from (n + length chain.costs) chains
+
+-- from the k-th chain on, for each arc of the chains the number of its chain
+abbrev pub owners_from : ℕ → List Chain → List ℕ
+owners_from k [] = []
+owners_from k (chain ∷ chains) = replicate (length chain.costs) k ++ owners_from (k + 1) chains
 
 -- some rows, one after another
 abbrev pub joined : {X : Type 0} → List (List X) → List X

@@ -2,14 +2,14 @@
 ghost use Rattle.std.specs.Prelude.{◌≡◌, ℕ, ◌+◌, ◌<◌, ◌≤◌, ◌++◌, length, get_or, map, flat_map, true, All, IfOk};
 ghost use Rattle.esr_cert.specs.declared.problem.Chain.{Chain};
 ghost use Rattle.esr_cert.specs.Problem.{is_sound};
-ghost use Rattle.esr_cert.specs.Starts.{starts_from};
+ghost use Rattle.esr_cert.specs.Starts.{starts_from, owners_from};
 ghost use Rattle.esr_cert.specs.Views.{chain_of, problem_of};
 ghost use Rattle.esr_cert.specs.Network.{arc_at, links, chain_links, back_arc, must_arc, network};
 
 use crate::network::Arc;
 use crate::problem::Chain;
 use crate::short_arc::ShortArc;
-use crate::starts::row_at;
+use crate::starts::owner_at;
 use esr_history::TxnId;
 use std::alloc::{AllocError, Global};
 
@@ -33,24 +33,27 @@ fn link_at(chain: &Chain, source: u32, j: usize) -> Arc
     }
 }
 
-/// The arc with a number of the network of a problem of these parts, whose chains' arcs start at these numbers.
+/// The arc with a number of the network of a problem of these parts: where the arcs of each chain start, and the chain
+/// of each, are given.
 pub fn arc_of(
     updates: &[TxnId],
     before: &[(u32, u32)],
     chains: &[Chain],
     must: &[u32],
     starts: &[u32],
+    owners: &[u16],
     number: u32,
 ) -> Arc
     requires sound { is_sound (problem_of updates.now before.now chains.now must.now) ≡ true }
     requires starts { starts.now ≡ starts_from 0 (map chain_of chains.now) }
+    requires owners { owners.now ≡ owners_from 0 (map chain_of chains.now) }
     requires inside { number < length (network (problem_of updates.now before.now chains.now must.now)).arcs }
     ensures { result ≡ arc_at (network (problem_of updates.now before.now chains.now must.now)).arcs number }
 {
     let source = updates.len() as u32;
     let links = starts[chains.len()];
     if number < links {
-        let chain = row_at(starts, number);
+        let chain = owner_at(chains, starts, owners, number);
         let place = number - starts[chain];
         return link_at(&chains[chain], source, place as usize);
     }

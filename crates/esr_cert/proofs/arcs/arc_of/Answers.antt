@@ -1,5 +1,5 @@
 use Rattle.std.proofs.Common.{arith, ◌∙◌}
-use Rattle.esr_cert.proofs.ArcsLaws.{updates_few, count_is, starts_at_zero, starts_ascend, chains_few, row_in_chains, chain_whole, place_in_chain, link_of, pair_is, must_inside, must_is}
+use Rattle.esr_cert.proofs.ArcsLaws.{updates_few, count_is, chains_few, row_in_chains, chain_whole, place_in_chain, link_of, pair_is, must_inside, must_is}
 use Rattle.esr_cert.proofs.arcs.arc_of.Goals as goal
 
 pub overflow_cast-source : goal.overflow_cast-source
@@ -8,31 +8,25 @@ overflow_cast-source c = omega (arith, updates_few c.args.updates.now c.args.bef
 pub bounds-starts-chains : goal.bounds-starts-chains
 bounds-starts-chains c = omega (arith, count_is c.args.updates.now c.args.before.now c.args.chains.now c.args.must.now c.requires.sound c.args.starts.now c.requires.starts)
 
-pub row_at-chain-requires-clause-zero : goal.row_at-chain-requires-clause-zero
-row_at-chain-requires-clause-zero c = starts_at_zero c.args.updates.now c.args.before.now c.args.chains.now c.args.must.now c.requires.sound c.args.starts.now c.requires.starts
-
-pub row_at-chain-requires-clause-rising : goal.row_at-chain-requires-clause-rising
-row_at-chain-requires-clause-rising c = starts_ascend c.args.updates.now c.args.before.now c.args.chains.now c.args.must.now c.requires.sound c.args.starts.now c.requires.starts
-
 pub offset_bounds-chains-chain : goal.offset_bounds-chains-chain
 offset_bounds-chains-chain c =
     omega (
       arith,
-      row_in_chains c.args.updates.now c.args.before.now c.args.chains.now c.args.must.now c.requires.sound c.args.starts.now c.requires.starts c.args.number c.row_at-chain.result c.if-number-links.true c.row_at-chain.ensures.bound c.row_at-chain.ensures.begun c.row_at-chain.ensures.last,
+      row_in_chains c.args.updates.now c.args.before.now c.args.chains.now c.args.must.now c.requires.sound c.args.starts.now c.requires.starts c.args.number c.owner_at-chain.result c.if-number-links.true c.owner_at-chain.ensures.bound c.owner_at-chain.ensures.begun c.owner_at-chain.ensures.last,
       chains_few c.args.updates.now c.args.before.now c.args.chains.now c.args.must.now c.requires.sound c.args.starts.now c.requires.starts,
     )
 
 pub bounds-chains-chain : goal.bounds-chains-chain
 bounds-chains-chain c =
-    row_in_chains c.args.updates.now c.args.before.now c.args.chains.now c.args.must.now c.requires.sound c.args.starts.now c.requires.starts c.args.number c.row_at-chain.result c.if-number-links.true c.row_at-chain.ensures.bound c.row_at-chain.ensures.begun c.row_at-chain.ensures.last
+    row_in_chains c.args.updates.now c.args.before.now c.args.chains.now c.args.must.now c.requires.sound c.args.starts.now c.requires.starts c.args.number c.owner_at-chain.result c.if-number-links.true c.owner_at-chain.ensures.bound c.owner_at-chain.ensures.begun c.owner_at-chain.ensures.last
 
 pub link_at-requires-clause-count : goal.link_at-requires-clause-count
 link_at-requires-clause-count c =
-    chain_whole c.args.updates.now c.args.before.now c.args.chains.now c.args.must.now c.requires.sound c.args.starts.now c.requires.starts c.args.number c.row_at-chain.result c.if-number-links.true c.row_at-chain.ensures.bound c.row_at-chain.ensures.begun c.row_at-chain.ensures.last c.index-chains-chain.result c.index-chains-chain.is
+    chain_whole c.args.updates.now c.args.before.now c.args.chains.now c.args.must.now c.requires.sound c.args.starts.now c.requires.starts c.args.number c.owner_at-chain.result c.if-number-links.true c.owner_at-chain.ensures.bound c.owner_at-chain.ensures.begun c.owner_at-chain.ensures.last c.index-chains-chain.result c.index-chains-chain.is
 
 pub link_at-requires-clause-place : goal.link_at-requires-clause-place
 link_at-requires-clause-place c =
-    place_in_chain c.args.updates.now c.args.before.now c.args.chains.now c.args.must.now c.requires.sound c.args.starts.now c.requires.starts c.args.number c.row_at-chain.result c.if-number-links.true c.row_at-chain.ensures.bound c.row_at-chain.ensures.begun c.row_at-chain.ensures.last c.index-chains-chain.result c.index-chains-chain.is
+    place_in_chain c.args.updates.now c.args.before.now c.args.chains.now c.args.must.now c.requires.sound c.args.starts.now c.requires.starts c.args.number c.owner_at-chain.result c.if-number-links.true c.owner_at-chain.ensures.bound c.owner_at-chain.ensures.begun c.owner_at-chain.ensures.last c.index-chains-chain.result c.index-chains-chain.is
 
 pub link_at-requires-clause-source : goal.link_at-requires-clause-source
 link_at-requires-clause-source c = updates_few c.args.updates.now c.args.before.now c.args.chains.now c.args.must.now c.requires.sound c.args.starts.now c.requires.starts
@@ -40,7 +34,7 @@ link_at-requires-clause-source c = updates_few c.args.updates.now c.args.before.
 pub returns-then-number-links : goal.returns-then-number-links
 returns-then-number-links c =
     c.link_at.ensures
-    ∙ link_of c.args.updates.now c.args.before.now c.args.chains.now c.args.must.now c.requires.sound c.args.starts.now c.requires.starts c.args.number c.row_at-chain.result c.if-number-links.true c.row_at-chain.ensures.bound c.row_at-chain.ensures.begun c.row_at-chain.ensures.last c.index-chains-chain.result c.index-chains-chain.is
+    ∙ link_of c.args.updates.now c.args.before.now c.args.chains.now c.args.must.now c.requires.sound c.args.starts.now c.requires.starts c.args.number c.owner_at-chain.result c.if-number-links.true c.owner_at-chain.ensures.bound c.owner_at-chain.ensures.begun c.owner_at-chain.ensures.last c.index-chains-chain.result c.index-chains-chain.is
 
 pub bounds-must-i : goal.bounds-must-i
 bounds-must-i c = must_inside c.args.updates.now c.args.before.now c.args.chains.now c.args.must.now c.requires.sound c.args.starts.now c.requires.starts c.args.number c.if-number-links.false c.requires.inside c.if-i-before.false
