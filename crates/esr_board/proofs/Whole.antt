@@ -13,7 +13,6 @@ use Rattle.esr_board.specs.Shares.{IsFilled}
 use Rattle.esr_board.proofs.Closes.{sum_flat}
 
 module _ {X : Type 0} where
-
   pub all_pushed : (P : X → Type 0) (old new : List X) (x : X) → new ≡ old ++ x ∷ [] → All P old → P x → All P new
   all_pushed P old new x e a p = subst (All P) (sym e) (All-append P old (x ∷ []) a one)
     where

@@ -10,7 +10,7 @@ pub mod Search
 pub mod Distinct
 pub mod StepsLaws
 pub mod RowsLaws
-pub mod PlacesLaws
+pub mod Laid
 pub mod ArcsLaws
 mod StartsLaws
 mod Balance

@@ -1,13 +1,15 @@
 -- The steps that start at a node, among those of the first arcs.
-use Rattle.std.proofs.Common.{zero, suc, ◌≡◌, ℕ, ◌+◌, ◌<◌, ◌≤◌, true, cond, ◌⊎◌, eqb, List, [], ◌∷◌, ◌++◌, length, get_or, Contains, refl, sym, ap, ◌∙◌, subst, inl, inr, arith, eq-eqb, ne_eqb, append_assoc, append-nil, add-one, length-append}
+use Rattle.std.proofs.Common.{zero, suc, ◌≡◌, ℕ, ◌+◌, ◌-◌, ◌<◌, ◌≤◌, true, cond, ◌⊎◌, eqb, List, [], ◌∷◌, ◌++◌, length, get_or, Contains, refl, sym, ap, ◌∙◌, subst, inl, inr, arith, eq-eqb, ne_eqb, append_assoc, append-nil, add-one, length-append}
 use Rattle.std.proofs.lemmas.Bool.{cases_eq, or_left, or_right}
-use Rattle.std.proofs.lemmas.List.{get_or_append_left, get_or_push, length_push}
+use Rattle.std.specs.List.Sorted.{IsNonDecreasingBy}
+use Rattle.std.proofs.lemmas.List.{get_or_append_left, get_or_push, get_or_default, length_push}
+use Rattle.std.proofs.lemmas.List.Kept.{IsNonDecreasingBy-filter}
+use Rattle.std.proofs.lemmas.List.Sorted.{IsNonDecreasingBy-short, IsNonDecreasingBy-push}
 use Rattle.std.proofs.lemmas.List.Elements.{filter-append, Contains-append_left, Contains-push, Contains-push_cases}
 use Rattle.esr_cert.specs.declared.network.Arc.{Arc}
 use Rattle.esr_cert.specs.declared.step.Step.{Step}
 use Rattle.esr_cert.specs.declared.step.Step.TheVariants.{Along, Against}
-use Rattle.esr_cert.specs.Steps.{arc_of, start}
-use Rattle.esr_cert.specs.Steps.{HasSteps, AreOnce, step_at, same_step, has_step}
+use Rattle.esr_cert.specs.Steps.{arc_of, order_of, start, HasSteps, AreOnce, step_at, same_step, has_step}
 use Rattle.esr_cert.specs.Rows.{first_steps, steps_from, row_of}
 
 -- a step more, at the node where it starts and at another
@@ -181,3 +183,25 @@ has_steps arcs v =
       once = row.once;
       all = λ step a e. has_from (row_of arcs v) step (row.all step (first_all (length arcs) step a) e);
     }
+
+below : (n : ℕ) (s : Step) → arc_of s < n → order_of s ≤ order_of (Along n)
+below n (Along i) l = omega arith
+below n (Against i) l = omega arith
+
+first_ascend : (n : ℕ) → IsNonDecreasingBy order_of (first_steps n)
+first_ascend zero = IsNonDecreasingBy-short order_of [] (omega arith)
+first_ascend (suc n) =
+    subst (IsNonDecreasingBy order_of) (first_more n)
+    (IsNonDecreasingBy-push order_of (first_steps n ++ Along n ∷ []) (Against n) (IsNonDecreasingBy-push order_of (first_steps n) (Along n) (first_ascend n) (λ d l. low d l)) (λ d l. last d l))
+  where
+    low : (d : Step) → 0 < length (first_steps n) → order_of (get_or (first_steps n) (length (first_steps n) - 1) d) ≤ order_of (Along n)
+    low d l =
+        let s : Step = get_or (first_steps n) (length (first_steps n) - 1) d in
+        below n s (first_known n s (length (first_steps n) - 1, omega arith, get_or_default (first_steps n) (length (first_steps n) - 1) s d (omega arith)))
+
+    last : (d : Step) → 0 < length (first_steps n ++ Along n ∷ []) → order_of (get_or (first_steps n ++ Along n ∷ []) (length (first_steps n ++ Along n ∷ []) - 1) d) ≤ order_of (Against n)
+    last d l = omega (arith, ap order_of (get_or_push (first_steps n) (Along n) d (length (first_steps n ++ Along n ∷ []) - 1) (omega (arith, length_push (first_steps n) (Along n)))))
+
+-- the steps of a row ascend
+pub row_ascends : (arcs : List Arc) (v : ℕ) → IsNonDecreasingBy order_of (row_of arcs v)
+row_ascends arcs v = IsNonDecreasingBy-filter order_of (λ step. eqb (start arcs step) v) (first_steps (length arcs)) (first_ascend (length arcs))

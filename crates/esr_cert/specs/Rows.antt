@@ -4,10 +4,9 @@ use Rattle.esr_cert.specs.declared.network.Arc.{Arc}
 use Rattle.esr_cert.specs.declared.step.Step.{Step}
 use Rattle.esr_cert.specs.declared.step.Step.TheVariants.{Along, Against}
 use Rattle.esr_cert.specs.declared.rows.Span.{Span}
-use Rattle.esr_cert.specs.declared.rows.Places.{Places}
 use Rattle.esr_cert.specs.declared.rows.Rows.{Rows}
 use Rattle.esr_cert.specs.Network.{Network}
-use Rattle.esr_cert.specs.Steps.{arc_of, start, step_at}
+use Rattle.esr_cert.specs.Steps.{arc_of, start, step_at, AreOnce}
 
 abbrev pub span_at : List Span → ℕ → Span
 span_at spans v = get_or spans v (record { begin = 0; end = 0 })
@@ -15,17 +14,6 @@ span_at spans v = get_or spans v (record { begin = 0; end = 0 })
 -- what lies in a span
 abbrev pub row_in : {X : Type 0} → List X → Span → List X
 row_in list span = take (span.end - span.begin) (drop span.begin list)
-
--- the place of a step
-abbrev pub place_of : List Places → Step → ℕ
-place_of places (Along i) = (get_or places i (record { along = 0; against = 0 })).along
-place_of places (Against i) = (get_or places i (record { along = 0; against = 0 })).against
-
--- each step of a list lies at its place
-pub record ArePlaces (arcs : List Arc) (steps : List Step) (places : List Places) : Type 0 where
-  pub count : length places ≡ length arcs
-  pub in_arcs : (k : ℕ) → k < length steps → arc_of (step_at steps k) < length arcs
-  pub place : (k : ℕ) → k < length steps → place_of places (step_at steps k) ≡ k
 
 -- both steps of each of the first n arcs
 abbrev pub first_steps : ℕ → List Step
@@ -59,10 +47,16 @@ pub record AreRows (arcs : List Arc) (n : ℕ) (spans : List Span) (steps : List
   pub inside : (v : ℕ) → v < n → (span_at spans v).end ≤ length steps
   pub row : (v : ℕ) → v < n → row_in steps (span_at spans v) ≡ row_of arcs v
 
--- the rows of a network, and the places of the steps of its arcs
+-- the two steps of each of some arcs, each once
+pub record AreSteps (arcs : List Arc) (steps : List Step) : Type 0 where
+  pub count : length steps ≡ 2 * length arcs
+  pub in_arcs : (k : ℕ) → k < length steps → arc_of (step_at steps k) < length arcs
+  pub once : AreOnce steps
+
+-- the rows of a network, in which no step lies twice
 pub record AreLaid (net : Network) (r : Rows) : Type 0 where
   pub rows : AreRows net.arcs net.nodes r.spans.items r.steps.items
-  pub places : ArePlaces net.arcs r.steps.items r.places.items
+  pub steps : AreSteps net.arcs r.steps.items
 
 -- the span of a row with one more
 abbrev pub longer : Span → Span

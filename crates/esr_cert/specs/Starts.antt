@@ -1,6 +1,5 @@
 -- Where the arcs of each chain begin, which come first among the arcs of a network.
-use Rattle.std.specs.Prelude.{◌≡◌, ℕ, suc, ◌+◌, ◌<◌, ◌≤◌, List, [], ◌∷◌, length, get_or, take}
-use Rattle.std.specs.List.{concat}
+use Rattle.std.specs.Prelude.{◌≡◌, ℕ, suc, ◌+◌, ◌<◌, ◌≤◌, List, [], ◌∷◌, ◌++◌, length, get_or, take, replicate}
 use Rattle.esr_cert.specs.Problem.{Chain}
 
 -- from n on, the number of the first arc of each chain, and of the first arc after them all
@@ -8,8 +7,18 @@ abbrev pub starts_from : ℕ → List Chain → List ℕ
 starts_from n [] = n ∷ []
 starts_from n (chain ∷ chains) = n ∷ starts_from (n + length chain.costs) chains
 
+-- from the k-th chain on, for each arc of the chains the number of its chain
+abbrev pub owners_from : ℕ → List Chain → List ℕ
+owners_from k [] = []
+owners_from k (chain ∷ chains) = replicate (length chain.costs) k ++ owners_from (k + 1) chains
+
+-- some rows, one after another
+abbrev pub joined : {X : Type 0} → List (List X) → List X
+joined [] = []
+joined (row ∷ rows) = row ++ joined rows
+
 -- where each of some rows begins when they are joined, none of them empty, and where the last ends
-pub record AreStarts (starts : List ℕ) (rows : List (List ℕ)) : Type 0 where
+pub record AreStarts {X : Type 0} (starts : List ℕ) (rows : List (List X)) : Type 0 where
   pub count : length starts ≡ suc (length rows)
-  pub at : (k : ℕ) → k ≤ length rows → get_or starts k 0 ≡ length (concat (take k rows))
+  pub at : (k : ℕ) → k ≤ length rows → get_or starts k 0 ≡ length (joined (take k rows))
   pub filled : (k : ℕ) → k < length rows → 0 < length (get_or rows k [])

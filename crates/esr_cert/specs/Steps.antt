@@ -1,5 +1,5 @@
 -- Steps over the arcs of a network: along an arc, or back against it.
-use Rattle.std.specs.Prelude.{◌≡◌, ℕ, ◌<◌, ◌||◌, ◌==◌, Bool, true, false, List, [], ◌∷◌, length, get_or}
+use Rattle.std.specs.Prelude.{◌≡◌, ℕ, ◌+◌, ◌*◌, ◌<◌, ◌||◌, ◌==◌, Bool, true, false, List, [], ◌∷◌, length, get_or}
 use Rattle.esr_cert.specs.declared.network.Arc.{Arc}
 use Rattle.esr_cert.specs.declared.step.Step.{Step}
 use Rattle.esr_cert.specs.declared.step.Step.TheVariants.{Along, Against}
@@ -8,6 +8,11 @@ use Rattle.esr_cert.specs.Network.{arc_at}
 abbrev pub arc_of : Step → ℕ
 arc_of (Along i) = i
 arc_of (Against i) = i
+
+-- the place of a step among all: by its arc, and along an arc before against it
+abbrev pub order_of : Step → ℕ
+order_of (Along i) = 2 * i
+order_of (Against i) = 2 * i + 1
 
 -- the node at which a step starts
 abbrev pub start : List Arc → Step → ℕ

@@ -2,14 +2,73 @@
 ghost use Rattle.std.specs.Prelude.{◌≡◌, ℕ, ◌+◌, ◌<◌, ◌≤◌, ◌++◌, length, get_or, map, flat_map, true, All, IfOk};
 ghost use Rattle.esr_cert.specs.declared.problem.Chain.{Chain};
 ghost use Rattle.esr_cert.specs.Problem.{is_sound};
+ghost use Rattle.esr_cert.specs.Starts.{starts_from, owners_from};
 ghost use Rattle.esr_cert.specs.Views.{chain_of, problem_of};
-ghost use Rattle.esr_cert.specs.Network.{links, chain_links, back_arc, must_arc, network};
+ghost use Rattle.esr_cert.specs.Network.{arc_at, links, chain_links, back_arc, must_arc, network};
 
 use crate::network::Arc;
 use crate::problem::Chain;
 use crate::short_arc::ShortArc;
+use crate::starts::owner_at;
 use esr_history::TxnId;
 use std::alloc::{AllocError, Global};
+
+/// An arc of a chain, by its place there: from the source or a writer to the next writer, or to the sink.
+fn link_at(chain: &Chain, source: u32, j: usize) -> Arc
+    requires count { length chain.now.costs.items ≡ length chain.now.writers.items + 1 }
+    requires place { j < length chain.now.costs.items }
+    requires source { source ≤ 65535 }
+    ensures { result ≡ arc_at (chain_links source (chain_of chain.now)) j }
+{
+    let from = if j == 0 { source } else { chain.writers[j - 1] };
+    let to = if j < chain.writers.len() {
+        chain.writers[j]
+    } else {
+        source + 1
+    };
+    Arc {
+        from,
+        to,
+        capacity: Some(chain.costs[j]),
+    }
+}
+
+/// The arc with a number of the network of a problem of these parts: where the arcs of each chain start, and the chain
+/// of each, are given.
+pub fn arc_of(
+    updates: &[TxnId],
+    before: &[(u32, u32)],
+    chains: &[Chain],
+    must: &[u32],
+    starts: &[u32],
+    owners: &[u16],
+    number: u32,
+) -> Arc
+    requires sound { is_sound (problem_of updates.now before.now chains.now must.now) ≡ true }
+    requires starts { starts.now ≡ starts_from 0 (map chain_of chains.now) }
+    requires owners { owners.now ≡ owners_from 0 (map chain_of chains.now) }
+    requires inside { number < length (network (problem_of updates.now before.now chains.now must.now)).arcs }
+    ensures { result ≡ arc_at (network (problem_of updates.now before.now chains.now must.now)).arcs number }
+{
+    let source = updates.len() as u32;
+    let links = starts[chains.len()];
+    if number < links {
+        let chain = owner_at(chains, starts, owners, number);
+        let place = number - starts[chain];
+        return link_at(&chains[chain], source, place as usize);
+    }
+    let i = (number - links) as usize;
+    let (from, to) = if i < before.len() {
+        (before[i].1, before[i].0)
+    } else {
+        (source, must[i - before.len()])
+    };
+    Arc {
+        from,
+        to,
+        capacity: None,
+    }
+}
 
 /// Adds the arcs of a chain.
 fn push_links(

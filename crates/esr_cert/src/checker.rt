@@ -2,7 +2,6 @@
 //! are found by binary search.
 ghost use Rattle.std.specs.Prelude.{◌≡◌, ℕ, ◌+◌, ◌*◌, ◌<◌, ◌≤◌, ◌^◌, ◌||◌, not, length, get_or, map, Bool, true, IsOk};
 ghost use Rattle.std.specs.List.{list_all, sum, sum_by};
-ghost use Rattle.std.specs.List.Sorted.{IsNonDecreasingBy};
 ghost use Rattle.esr_cert.specs.Problem.{size, in_set, is_ascending, is_closed, version, chain_cost, cost};
 ghost use Rattle.esr_cert.specs.Network.{network};
 ghost use Rattle.esr_cert.specs.Flow.{amount_at, is_conserved_at, is_conserved};
@@ -15,6 +14,7 @@ ghost use Rattle.esr_cert.specs.Views.{chain_of, rows_of, certificate_of};
 use crate::certificate::{Certificate, Fault};
 use crate::lists::{are_below, contains, is_ascending};
 use crate::problem::{Chain, Problem};
+use crate::starts::row_at;
 use crate::step::{ShortStep, Step};
 
 fn keeps_before(before: &[(u32, u32)], set: &[u32]) -> bool
@@ -91,18 +91,6 @@ fn amount_or_zero(amounts: &[u64], i: usize) -> u64
         Some(amount) => *amount,
         None => 0,
     }
-}
-
-/// The last of some rows to begin at or before a number.
-fn row_at(starts: &[u32], number: u32) -> usize
-    requires some { 0 < length starts.now }
-    requires zero { get_or starts.now 0 0 ≡ 0 }
-    requires rising { IsNonDecreasingBy (λ n. n) starts.now }
-    ensures bound { result < length starts.now }
-    ensures begun { get_or starts.now result 0 ≤ number }
-    ensures last { result + 1 < length starts.now → number < get_or starts.now (result + 1) 0 }
-{
-    starts.partition_point(|start| *start <= number) - 1
 }
 
 /// The amount on an arc, by its number: the arcs of the chains come first, then those of the pairs, then those into

@@ -25,7 +25,7 @@ pub use checker::check;
 pub use draft::{ChainDraft, ProblemDraft};
 pub use network::Arc;
 pub use problem::{BundleFault, Chain, Problem};
-pub use rows::{Places, Rows, Span};
+pub use rows::{Rows, Span};
 pub use shape::has_shape;
 pub use short_arc::ShortArc;
 pub use step::{ShortStep, Step};

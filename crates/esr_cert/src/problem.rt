@@ -1,17 +1,17 @@
-ghost use Rattle.std.specs.Prelude.{◌≡◌, ◌≢◌, ◌≤◌, map, true, IsOk, IfOk, IfErr, Some, None};
+ghost use Rattle.std.specs.Prelude.{◌≡◌, ◌≢◌, ◌<◌, ◌≤◌, length, map, true, IsOk, IfOk, IfErr, Some, None};
 ghost use Rattle.esr_cert.specs.Problem.{size, has_shape, is_sound};
 ghost use Rattle.esr_cert.specs.Faults.{problem_fault, bundle_fault_number};
-ghost use Rattle.esr_cert.specs.Network.{network};
+ghost use Rattle.esr_cert.specs.Network.{arc_at, network};
 ghost use Rattle.esr_cert.specs.Rows.{AreLaid};
-ghost use Rattle.esr_cert.specs.Starts.{starts_from};
+ghost use Rattle.esr_cert.specs.Starts.{starts_from, owners_from};
 ghost use Rattle.esr_cert.specs.Views.{chain_of, problem_of};
 
-use crate::arcs::arcs_of;
+use crate::arcs::{arc_of, arcs_of};
+use crate::network::Arc;
 use crate::parts::have_shape;
 use crate::range::is_in_range;
 use crate::rows::{Rows, rows_of};
-use crate::short_arc::ShortArc;
-use crate::starts::starts_of;
+use crate::starts::{owners_of, starts_of};
 use esr_history::TxnId;
 use esr_items::ItemId;
 use std::alloc::{AllocError, Global};
@@ -79,6 +79,7 @@ pub struct Problem {
     chains: Vec<Chain>,
     must: Vec<u32>,
     starts: Vec<u32>,
+    owners: Vec<u16>,
     rows: Rows,
 }
 
@@ -90,13 +91,14 @@ impl Model for Problem {
 
     ghost use Rattle.esr_cert.specs.Network.{network};
     ghost use Rattle.esr_cert.specs.Rows.{AreLaid};
-    ghost use Rattle.esr_cert.specs.Starts.{starts_from};
+    ghost use Rattle.esr_cert.specs.Starts.{starts_from, owners_from};
     ghost use Rattle.esr_cert.specs.Views.{chain_of, problem_of};
 
     ghost view = { λ p. problem_of p.updates.items p.before.items p.chains.items p.must.items };
 
     ghost invariant = { λ p. (spec.is_sound (problem_of p.updates.items p.before.items p.chains.items p.must.items)
         ≡ true) × (p.starts.items ≡ starts_from 0 (map chain_of p.chains.items))
+        × (p.owners.items ≡ owners_from 0 (map chain_of p.chains.items))
         × AreLaid (network (problem_of p.updates.items p.before.items p.chains.items p.must.items)) p.rows };
 }
 
@@ -162,12 +164,14 @@ impl Problem {
         let arcs = arcs_of(alloc, &updates, &before, &chains, &must)?;
         let rows = rows_of(alloc, updates.len() + 2, &arcs)?;
         let starts = starts_of(alloc, &chains)?;
+        let owners = owners_of(alloc, &chains, arcs.len().saturating_sub(before.len()))?;
         Ok(Problem {
             updates,
             before,
             chains,
             must,
             starts,
+            owners,
             rows,
         })
     }
@@ -212,21 +216,31 @@ impl Problem {
         &self.starts
     }
 
-    /// The arcs of the network.
+    /// The chain of each arc of the chains.
+    fn owners(&self) -> &[u16]
+        ensures list { result.now ≡ owners_from 0 self.now.chains }
+    {
+        &self.owners
+    }
+
+    /// An arc of the network, by its number.
     ///
     /// A read item gives a chain of arcs from the source through its writers to the sink, each with the cost of a
     /// version as its capacity; each pair of updates an unlimited arc from the later back to the earlier; and each
-    /// update that a set must hold an unlimited arc from the source. Updates are nodes by their positions, and the
-    /// source and the sink come after them.
-    pub fn arcs(&self, alloc: Global) -> Result<Vec<ShortArc>, AllocError>
-        ensures { IfOk result (λ arcs. arcs.items ≡ (network self.now).arcs) }
+    /// update that a set must hold an unlimited arc from the source. They are numbered in this order. Updates are nodes
+    /// by their positions, and the source and the sink come after them.
+    pub fn arc(&self, number: u32) -> Arc
+        requires { number < length (network self.now).arcs }
+        ensures { result ≡ arc_at (network self.now).arcs number }
     {
-        arcs_of(
-            alloc,
+        arc_of(
             self.updates(),
             self.before(),
             self.chains(),
             self.must(),
+            self.starts(),
+            self.owners(),
+            number,
         )
     }
 

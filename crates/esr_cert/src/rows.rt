@@ -1,8 +1,8 @@
 //! The steps that start at each node, in rows that lie one after another.
-ghost use Rattle.std.specs.Prelude.{◌≡◌, ◌<◌, ◌≤◌, length, set, sum, All, IsOk, IfOk};
-ghost use Rattle.esr_cert.specs.Steps.{arc_of};
-ghost use Rattle.esr_cert.specs.Rows.{ArePlaces, row_in, span_at};
-ghost use Rattle.esr_cert.specs.Rows.{lengthen, AreDegrees, AreBegun, AreRows};
+ghost use Rattle.std.specs.Prelude.{◌≡◌, ◌<◌, ◌≤◌, length, set, sum, All, Contains, IsOk, IfOk};
+ghost use Rattle.std.specs.List.Sorted.{IsNonDecreasingBy};
+ghost use Rattle.esr_cert.specs.Steps.{arc_of, order_of, step_at};
+ghost use Rattle.esr_cert.specs.Rows.{row_in, span_at, lengthen, AreDegrees, AreBegun, AreRows, AreSteps};
 
 use crate::short_arc::ShortArc;
 use crate::step::{ShortStep, Step};
@@ -13,13 +13,6 @@ use std::alloc::{AllocError, Global};
 pub struct Span {
     pub begin: usize,
     pub end: usize,
-}
-
-/// Where the two steps of an arc lie.
-#[derive(Clone, Copy, Debug)]
-pub struct Places {
-    pub along: u32,
-    pub against: u32,
 }
 
 /// The most arcs whose steps numbers of 32 bits count.
@@ -56,12 +49,11 @@ fn begin_rows(alloc: Global, lengths: &[usize]) -> Result<Vec<Span>, AllocError>
     Ok(spans)
 }
 
-/// The steps of all nodes, where those of each lie, and where the two of each arc.
+/// The steps of all nodes, and where those of each lie.
 #[derive(Debug, Drop)]
 pub struct Rows {
     pub spans: Vec<Span>,
     pub steps: Vec<ShortStep>,
-    pub places: Vec<Places>,
 }
 
 impl Rows {
@@ -76,20 +68,32 @@ impl Rows {
         &list[span.begin..span.end]
     }
 
-    /// Adds a step to a node's row, and answers where it lies.
-    fn add_step(&mut self, node: usize, step: Step) -> usize
+    /// Where a step lies that starts at a node.
+    pub fn place_of(&self, v: usize, step: Step) -> usize
+        requires node { v < length self.now.spans.items }
+        requires ordered { (span_at self.now.spans.items v).begin ≤ (span_at self.now.spans.items v).end }
+        requires inside { (span_at self.now.spans.items v).end ≤ length self.now.steps.items }
+        requires ascending { IsNonDecreasingBy order_of (row_in self.now.steps.items (span_at self.now.spans.items v)) }
+        requires starts { Contains (row_in self.now.steps.items (span_at self.now.spans.items v)) step }
+        ensures inside { result < length self.now.steps.items }
+        ensures place { step_at self.now.steps.items result ≡ step }
+    {
+        let order = step.order();
+        let row = self.row(&self.steps, v);
+        self.spans[v].begin + row.partition_point(|short| short.step().order() < order)
+    }
+
+    /// Adds a step to a node's row.
+    fn add_step(&mut self, node: usize, step: Step)
         requires node { node < length self.old.spans.items }
         requires arc { arc_of step < 2147483648 }
         requires room { (span_at self.old.spans.items node).end < length self.old.steps.items }
-        ensures place { result ≡ (span_at self.old.spans.items node).end }
         ensures spans { self.new.spans.items ≡ lengthen self.old.spans.items node }
         ensures steps { self.new.steps.items ≡ set self.old.steps.items (span_at self.old.spans.items node).end step }
-        ensures places { self.new.places.items ≡ self.old.places.items }
     {
         let place = self.spans[node].end;
         self.steps[place] = ShortStep::of(step);
         self.spans[node].end = place + 1;
-        place
     }
 }
 
@@ -97,28 +101,19 @@ impl Rows {
 pub fn rows_of(alloc: Global, nodes: usize, arcs: &[ShortArc]) -> Result<Rows, AllocError>
     requires { All (λ arc. (arc.from < nodes) × (arc.to < nodes)) arcs.now }
     ensures rows { IfOk result (λ rows. AreRows arcs.now nodes rows.spans.items rows.steps.items) }
+    ensures steps { IfOk result (λ rows. AreSteps arcs.now rows.steps.items) }
     ensures few { IsOk result → length arcs.now ≤ 2147483647 }
-    ensures places { IfOk result (λ rows. ArePlaces arcs.now rows.steps.items rows.places.items) }
 {
     if arcs.len() > MOST {
         return Err(AllocError);
     }
     let spans = begin_rows(alloc, &degrees_of(alloc, nodes, arcs)?)?;
     let steps = vec![in alloc; ShortStep::of(Step::Along(0)); 2 * arcs.len()]?;
-    let places = Vec::with_capacity(alloc, arcs.len())?;
-    let mut rows = Rows {
-        spans,
-        steps,
-        places,
-    };
+    let mut rows = Rows { spans, steps };
     for (i, arc) in arcs.iter().enumerate() {
         let arc = arc.arc();
-        let along = rows.add_step(arc.from as usize, Step::Along(i as u32));
-        let against = rows.add_step(arc.to as usize, Step::Against(i as u32));
-        rows.places.push(Places {
-            along: along as u32,
-            against: against as u32,
-        })?;
+        rows.add_step(arc.from as usize, Step::Along(i as u32));
+        rows.add_step(arc.to as usize, Step::Against(i as u32));
     }
     Ok(rows)
 }

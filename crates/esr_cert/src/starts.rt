@@ -1,6 +1,7 @@
 //! Where the arcs of each chain begin.
-ghost use Rattle.std.specs.Prelude.{◌≡◌, ◌≤◌, length, map, sum_by, IfOk};
-ghost use Rattle.esr_cert.specs.Starts.{starts_from};
+ghost use Rattle.std.specs.Prelude.{◌≡◌, ◌+◌, ◌<◌, ◌≤◌, ◌++◌, length, get_or, map, replicate, sum_by, IfOk};
+ghost use Rattle.std.specs.List.Sorted.{IsNonDecreasingBy};
+ghost use Rattle.esr_cert.specs.Starts.{starts_from, owners_from};
 ghost use Rattle.esr_cert.specs.Views.{chain_of};
 
 use crate::problem::Chain;
@@ -19,4 +20,49 @@ pub fn starts_of(alloc: Global, chains: &[Chain]) -> Result<Vec<u32>, AllocError
     }
     starts.push(next)?;
     Ok(starts)
+}
+
+/// The last of some rows to begin at or before a number.
+pub fn row_at(starts: &[u32], number: u32) -> usize
+    requires some { 0 < length starts.now }
+    requires zero { get_or starts.now 0 0 ≡ 0 }
+    requires rising { IsNonDecreasingBy (λ n. n) starts.now }
+    ensures bound { result < length starts.now }
+    ensures begun { get_or starts.now result 0 ≤ number }
+    ensures last { result + 1 < length starts.now → number < get_or starts.now (result + 1) 0 }
+{
+    starts.partition_point(|start| *start <= number) - 1
+}
+
+fn push_owner(owners: &mut Vec<u16>, chain: u16, count: usize) -> Result<(), AllocError>
+    ensures { IfOk result (λ _. owners.new.items ≡ owners.old.items ++ replicate count chain) }
+{
+    for _ in 0..count {
+        owners.push(chain)?;
+    }
+    Ok(())
+}
+
+/// The chain of each arc of the chains, which are about so many.
+pub fn owners_of(alloc: Global, chains: &[Chain], count: usize) -> Result<Vec<u16>, AllocError>
+    requires { length chains.now ≤ 4096 }
+    ensures { IfOk result (λ owners. owners.items ≡ owners_from 0 (map chain_of chains.now)) }
+{
+    let mut owners = Vec::with_capacity(alloc, count)?;
+    for (k, chain) in chains.iter().enumerate() {
+        push_owner(&mut owners, k as u16, chain.costs.len())?;
+    }
+    Ok(owners)
+}
+
+/// The chain of an arc of the chains, by the arc's number: the last to begin at or before the number.
+pub fn owner_at(_chains: &[Chain], _starts: &[u32], owners: &[u16], number: u32) -> usize
+    requires starts { _starts.now ≡ starts_from 0 (map chain_of _chains.now) }
+    requires owners { owners.now ≡ owners_from 0 (map chain_of _chains.now) }
+    requires early { number < get_or _starts.now (length _chains.now) 0 }
+    ensures bound { result < length _starts.now }
+    ensures begun { get_or _starts.now result 0 ≤ number }
+    ensures last { result + 1 < length _starts.now → number < get_or _starts.now (result + 1) 0 }
+{
+    usize::from(owners[number as usize])
 }

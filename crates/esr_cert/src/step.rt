@@ -11,7 +11,7 @@ pub enum Step {
 
 impl Step {
     ghost use Rattle.std.specs.Prelude.{◌≡◌};
-    ghost use Rattle.esr_cert.specs.Steps.{arc_of, opposite};
+    ghost use Rattle.esr_cert.specs.Steps.{arc_of, order_of, opposite};
 
     /// The number of the step's arc.
     pub fn arc(self) -> u32
@@ -20,6 +20,16 @@ impl Step {
         match self {
             Step::Along(i) => i,
             Step::Against(i) => i,
+        }
+    }
+
+    /// The place of the step among all: by its arc, and along an arc before against it.
+    pub fn order(self) -> u64
+        ensures { result ≡ order_of self }
+    {
+        match self {
+            Step::Along(i) => 2 * u64::from(i),
+            Step::Against(i) => 2 * u64::from(i) + 1,
         }
     }
 

@@ -1,22 +1,20 @@
 -- The entries of a graph's steps: the row of a node, and what an arc's new amount changes.
-use Rattle.std.proofs.Common.{◌≡◌, ◌≢◌, ℕ, suc, true, Contains, ◌+◌, ◌-◌, ◌<◌, List, [], ◌∷◌, length, get_or, set, take, drop, map, refl, sym, ap, ◌∙◌, subst, inl, inr, arith, Some, length-set, get_or-set_other, get_or-set_same}
+use Rattle.std.proofs.Common.{◌≡◌, ◌≢◌, ℕ, suc, Bool, true, Contains, ◌-◌, ◌<◌, List, [], ◌∷◌, length, get_or, set, take, drop, map, refl, sym, ap, ◌∙◌, subst, inl, inr, arith, Some, length-set, get_or-set_other, get_or-set_same}
 use Rattle.std.proofs.lemmas.Bool.{cases_eq, eqb-true, or_cases}
-use Rattle.std.proofs.lemmas.List.{ext_get_or, get_or_default, get_or_read, get_or-map, length-map, take-map, drop-map}
+use Rattle.std.proofs.lemmas.List.{ext_get_or, get_or-map, length-map, take-map, drop-map}
 use Rattle.esr_cert.specs.declared.network.Arc.{Arc}
 use Rattle.esr_cert.specs.Network.{arc_at}
 use Rattle.esr_cert.specs.declared.step.Step.{Step}
 use Rattle.esr_cert.specs.declared.step.Step.TheVariants.{Along, Against}
 use Rattle.esr_flow.specs.declared.entry.Entry.{Entry}
 use Rattle.esr_cert.specs.declared.rows.Span.{Span}
-use Rattle.esr_cert.specs.declared.rows.Places.{Places}
 use Rattle.esr_flow.specs.declared.graph.Graph.{Graph}
-use Rattle.esr_cert.specs.Flow.{within}
+use Rattle.esr_cert.specs.Flow.{within, amount_at}
 use Rattle.esr_cert.specs.Steps.{arc_of, start}
-use Rattle.esr_flow.specs.Residual.{left_of}
-use Rattle.esr_flow.specs.Graph.{net_of, IsGraph, entry_of, entry_at, AreEntries, IsEntry, Lists}
+use Rattle.esr_flow.specs.Residual.{room, left_of}
+use Rattle.esr_flow.specs.Graph.{arcs_of, net_of, IsGraph, entry_of, entry_at, AreEntries, IsEntry, Lists}
 use Rattle.esr_cert.specs.Steps.{step_at, same_step, has_step, HasSteps}
-use Rattle.esr_cert.specs.Rows.{span_at, row_in, place_of}
-use Rattle.esr_cert.proofs.RowsLaws.{row_length, at_row}
+use Rattle.esr_cert.specs.Rows.{span_at, row_in}
 use Rattle.esr_flow.proofs.WalkLaws.{start_in}
 
 same_is : (t s : Step) → same_step t s ≡ true → t ≡ s
@@ -77,58 +75,72 @@ same_entry arcs flow i x (Against j) ne =
     let by : ℕ → Entry = λ n. record { to = (arc_at arcs j).from; ahead = within 1 (Some n); back = within 1 (left_of (arc_at arcs j).capacity n) } in
     ap by (get_or-set_other flow i j x 0 ne)
 
-module _ (g : Graph) (ok : IsGraph g) where
-  -- a step lies at its place
-  pub at_place : (s : Step) → arc_of s < length g.arcs.items → (place_of g.rows.now.places.items s < length g.rows.now.steps.items) × (step_at g.rows.now.steps.items (place_of g.rows.now.places.items s) ≡ s)
-  at_place s l =
-      let span : Span = span_at g.rows.now.spans.items (start g.arcs.items s) in
-      let node : start g.arcs.items s < g.nodes = start_in (net_of g) ok.is_network s l in
-      let (k, m, e) = contains_from (row_in g.rows.now.steps.items span) s ((ok.lists (start g.arcs.items s) node).all s l refl) in
-      let short : k < span.end - span.begin = omega (arith, row_length g.rows.now.steps.items span (ok.inside (start g.arcs.items s) node)) in
-      let is : step_at g.rows.now.steps.items (span.begin + k) ≡ s = sym (at_row g.rows.now.steps.items span k (Along 0) short) ∙ get_or_default (row_in g.rows.now.steps.items span) k (Along 0) s m ∙ e in
-      let inside : span.begin + k < length g.rows.now.steps.items = omega (arith, ok.inside (start g.arcs.items s) node) in
-      let place : place_of g.rows.now.places.items s ≡ span.begin + k = ap (place_of g.rows.now.places.items) (sym is) ∙ ok.places.place (span.begin + k) inside in
-      (omega arith, ap (step_at g.rows.now.steps.items) place ∙ is)
+abbrev entry : ℕ → Bool → Bool → Entry
+entry n ahead back = record { to = n; ahead = ahead; back = back }
 
-  row_lists : (flow : List ℕ) (entries : List Entry) → AreEntries g flow entries → (v : ℕ) → v < g.nodes → Lists g.arcs.items flow v (row_in g.rows.now.steps.items (span_at g.rows.now.spans.items v)) (row_in entries (span_at g.rows.now.spans.items v))
+same_rooms : (n : ℕ) {a b c d : Bool} → a ≡ b → c ≡ d → entry n a c ≡ entry n b d
+same_rooms n {a} {b} {c} {d} p q = ap (λ x. entry n x c) p ∙ ap (entry n b) q
+
+map_same : {S E : Type 0} (f h : S → E) → ((s : S) → f s ≡ h s) → (steps : List S) → map f steps ≡ map h steps
+map_same f h e [] = refl
+map_same f h e (s ∷ steps) = ap (λ x. x ∷ map f steps) (e s) ∙ ap (λ xs. h s ∷ xs) (map_same f h e steps)
+
+module _ (g : Graph) (ok : IsGraph g) where
+  -- the row of the node where a step starts has it
+  pub in_row : (s : Step) → arc_of s < length (arcs_of g) → Contains (row_in g.rows.now.steps.items (span_at g.rows.now.spans.items (start (arcs_of g) s))) s
+  in_row s l =
+      contains_from (row_in g.rows.now.steps.items (span_at g.rows.now.spans.items (start (arcs_of g) s))) s
+      ((ok.lists (start (arcs_of g) s) (start_in (net_of g) ok.is_network s l)).all s l refl)
+
+  row_lists : (flow : List ℕ) (entries : List Entry) → AreEntries g flow entries → (v : ℕ) → v < g.nodes → Lists (arcs_of g) flow v (row_in g.rows.now.steps.items (span_at g.rows.now.spans.items v)) (row_in entries (span_at g.rows.now.spans.items v))
   row_lists flow entries are v l =
       let span : Span = span_at g.rows.now.spans.items v in
-      let same : row_in entries span ≡ map (entry_of g.arcs.items flow) (row_in g.rows.now.steps.items span) =
-      ap (λ es. row_in es span) are ∙ ap (take (span.end - span.begin)) (drop-map (entry_of g.arcs.items flow) span.begin g.rows.now.steps.items) ∙ take-map (entry_of g.arcs.items flow) (span.end - span.begin) (drop span.begin g.rows.now.steps.items) in
-      subst (Lists g.arcs.items flow v (row_in g.rows.now.steps.items span)) (sym same) (lists_from g.arcs.items flow v (row_in g.rows.now.steps.items span) (ok.lists v l))
+      let same : row_in entries span ≡ map (entry_of (arcs_of g) flow) (row_in g.rows.now.steps.items span) =
+      ap (λ es. row_in es span) are ∙ ap (take (span.end - span.begin)) (drop-map (entry_of (arcs_of g) flow) span.begin g.rows.now.steps.items) ∙ take-map (entry_of (arcs_of g) flow) (span.end - span.begin) (drop span.begin g.rows.now.steps.items) in
+      subst (Lists (arcs_of g) flow v (row_in g.rows.now.steps.items span)) (sym same) (lists_from (arcs_of g) flow v (row_in g.rows.now.steps.items span) (ok.lists v l))
 
   -- the steps and the entries of a node as they were read
-  pub lists_read : (flow : List ℕ) (entries : List Entry) → AreEntries g flow entries → (v : ℕ) → v < g.nodes → (steps : List Step) (row : List Entry) → steps ≡ row_in g.rows.now.steps.items (span_at g.rows.now.spans.items v) → row ≡ row_in entries (span_at g.rows.now.spans.items v) → Lists g.arcs.items flow v steps row
+  pub lists_read : (flow : List ℕ) (entries : List Entry) → AreEntries g flow entries → (v : ℕ) → v < g.nodes → (steps : List Step) (row : List Entry) → steps ≡ row_in g.rows.now.steps.items (span_at g.rows.now.spans.items v) → row ≡ row_in entries (span_at g.rows.now.spans.items v) → Lists (arcs_of g) flow v steps row
   lists_read flow entries are v l steps row steps_are row_is =
-      subst (λ list. Lists g.arcs.items flow v list row) (sym steps_are)
-      (subst (Lists g.arcs.items flow v (row_in g.rows.now.steps.items (span_at g.rows.now.spans.items v))) (sym row_is) (row_lists flow entries are v l))
+      subst (λ list. Lists (arcs_of g) flow v list row) (sym steps_are)
+      (subst (Lists (arcs_of g) flow v (row_in g.rows.now.steps.items (span_at g.rows.now.spans.items v))) (sym row_is) (row_lists flow entries are v l))
 
-  -- a step that does not lie at the places of an arc's two steps is of another arc
-  other_arc : (i k : ℕ) (t : Step) → place_of g.rows.now.places.items t ≡ k → k ≢ place_of g.rows.now.places.items (Along i) → k ≢ place_of g.rows.now.places.items (Against i) → arc_of t ≢ i
-  other_arc i k (Along j) p a b e = a (sym p ∙ ap (λ n. place_of g.rows.now.places.items (Along n)) e)
-  other_arc i k (Against j) p a b e = b (sym p ∙ ap (λ n. place_of g.rows.now.places.items (Against n)) e)
+  -- a step that lies at no place of an arc's two steps is of another arc
+  other_arc : (i k p q : ℕ) → k < length g.rows.now.steps.items → p < length g.rows.now.steps.items → q < length g.rows.now.steps.items → step_at g.rows.now.steps.items p ≡ Along i → step_at g.rows.now.steps.items q ≡ Against i → k ≢ p → k ≢ q
+      → (t : Step) → step_at g.rows.now.steps.items k ≡ t → arc_of t ≢ i
+  other_arc i k p q l lp lq at_p at_q np nq (Along j) is e = np (ok.steps.once k p l lp (is ∙ ap (λ n. Along n) e ∙ sym at_p))
+  other_arc i k p q l lp lq at_p at_q np nq (Against j) is e = nq (ok.steps.once k q l lq (is ∙ ap (λ n. Against n) e ∙ sym at_q))
 
-  pub renewed : (flow : List ℕ) (entries : List Entry) (i x : ℕ) → i < length g.arcs.items → AreEntries g flow entries
-      → AreEntries g (set flow i x) (set (set entries (place_of g.rows.now.places.items (Along i)) (entry_of g.arcs.items (set flow i x) (Along i))) (place_of g.rows.now.places.items (Against i)) (entry_of g.arcs.items (set flow i x) (Against i)))
-  renewed flow entries i x l are =
-      let (p, at_p) = at_place (Along i) l in
-      let (q, at_q) = at_place (Against i) l in
-      written (entry_of g.arcs.items flow) (entry_of g.arcs.items (set flow i x)) g.rows.now.steps.items entries (place_of g.rows.now.places.items (Along i)) (place_of g.rows.now.places.items (Against i)) (Along i) (Against i) (Along 0) (entry_at [] 0)
-      are p q at_p at_q
-      (λ k m np nq. same_entry g.arcs.items flow i x (step_at g.rows.now.steps.items k) (other_arc i k (step_at g.rows.now.steps.items k) (ok.places.place k m) np nq))
+  pub renewed : (flow : List ℕ) (entries : List Entry) (i x p q : ℕ) (a b : Entry) → AreEntries g flow entries
+      → p < length g.rows.now.steps.items → step_at g.rows.now.steps.items p ≡ Along i → q < length g.rows.now.steps.items → step_at g.rows.now.steps.items q ≡ Against i
+      → a ≡ entry_of (arcs_of g) (set flow i x) (Along i) → b ≡ entry_of (arcs_of g) (set flow i x) (Against i) → AreEntries g (set flow i x) (set (set entries p a) q b)
+  renewed flow entries i x p q a b are lp at_p lq at_q along against =
+      let f : Step → Entry = entry_of (arcs_of g) flow in
+      let h : Step → Entry = entry_of (arcs_of g) (set flow i x) in
+      ap (λ e. set (set entries p e) q b) along ∙ ap (λ e. set (set entries p (h (Along i))) q e) against
+      ∙ written f h g.rows.now.steps.items entries p q (Along i) (Against i) (Along 0) (entry_at [] 0) are lp lq at_p at_q
+      (λ k l np nq. same_entry (arcs_of g) flow i x (step_at g.rows.now.steps.items k) (other_arc i k p q l lp lq at_p at_q np nq (step_at g.rows.now.steps.items k) refl))
 
-  -- the places of an arc as they were read
-  pub read_places : (flow : List ℕ) (entries : List Entry) (i : ℕ) (p : Places) → i < length g.arcs.items → AreEntries g flow entries → p ≡ get_or g.rows.now.places.items i p → (p.along < length entries) × (p.against < length entries) × (p ≡ get_or g.rows.now.places.items i (record { along = 0; against = 0 }))
-  read_places flow entries i p l are e =
-      let is : p ≡ get_or g.rows.now.places.items i (record { along = 0; against = 0 }) = get_or_read g.rows.now.places.items i p (omega (arith, ok.places.count)) e (record { along = 0; against = 0 }) in
-      let long : length entries ≡ length g.rows.now.steps.items = ap (λ (es : List Entry). length es) are ∙ length-map g.rows.now.steps.items (entry_of g.arcs.items flow) in (
-        omega (arith, (at_place (Along i) l).0, ap (λ (q : Places). q.along) is),
-        omega (arith, (at_place (Against i) l).0, ap (λ (q : Places). q.against) is),
-        is,
-      )
+  -- where an arc's two steps have room as before, so do all steps
+  pub unchanged : (flow : List ℕ) (entries : List Entry) (i x : ℕ) (arc : Arc) → i < length flow → arc ≡ arc_at (arcs_of g) i → AreEntries g flow entries
+      → within 1 (left_of arc.capacity (amount_at flow i)) ≡ within 1 (left_of arc.capacity x) → within 1 (Some (amount_at flow i)) ≡ within 1 (Some x) → AreEntries g (set flow i x) entries
+  unchanged flow entries i x arc l is are same_ahead same_back =
+      are ∙ map_same (entry_of (arcs_of g) flow) (entry_of (arcs_of g) (set flow i x)) (λ s. elim (cases_eq (arc_of s) i) [
+        | inl e ↦ here s e
+        | inr ne ↦ sym (same_entry (arcs_of g) flow i x s ne)
+      ]) g.rows.now.steps.items
+    where
+      now : x ≡ amount_at (set flow i x) i
+      now = sym (get_or-set_same flow i x 0 l)
 
-  pub renewed_read : (flow : List ℕ) (entries : List Entry) (i x : ℕ) (p : Places) (a b : Entry) → i < length g.arcs.items → AreEntries g flow entries → p ≡ get_or g.rows.now.places.items i p → a ≡ entry_of g.arcs.items (set flow i x) (Along i) → b ≡ entry_of g.arcs.items (set flow i x) (Against i) → AreEntries g (set flow i x) (set (set entries p.along a) p.against b)
-  renewed_read flow entries i x p a b l are e at_along at_against =
-      subst (λ q. AreEntries g (set flow i x) (set (set entries q.along a) q.against b)) (sym (read_places flow entries i p l are e).2)
-      (subst (λ n. AreEntries g (set flow i x) (set (set entries (place_of g.rows.now.places.items (Along i)) n) (place_of g.rows.now.places.items (Against i)) b)) (sym at_along)
-      (subst (λ n. AreEntries g (set flow i x) (set (set entries (place_of g.rows.now.places.items (Along i)) (entry_of g.arcs.items (set flow i x) (Along i))) (place_of g.rows.now.places.items (Against i)) n)) (sym at_against) (renewed flow entries i x l are)))
+      ahead : within 1 (room (arcs_of g) flow (Along i)) ≡ within 1 (room (arcs_of g) (set flow i x) (Along i))
+      ahead =
+          subst (λ (a : Arc). within 1 (left_of a.capacity (amount_at flow i)) ≡ within 1 (left_of a.capacity x)) is same_ahead
+          ∙ ap (λ n. within 1 (left_of (arc_at (arcs_of g) i).capacity n)) now
+
+      back : within 1 (room (arcs_of g) flow (Against i)) ≡ within 1 (room (arcs_of g) (set flow i x) (Against i))
+      back = same_back ∙ ap (λ n. within 1 (Some n)) now
+
+      here : (s : Step) → arc_of s ≡ i → entry_of (arcs_of g) flow s ≡ entry_of (arcs_of g) (set flow i x) s
+      here (Along j) e = subst (λ n. entry_of (arcs_of g) flow (Along n) ≡ entry_of (arcs_of g) (set flow i x) (Along n)) (sym e) (same_rooms (arc_at (arcs_of g) i).to ahead back)
+      here (Against j) e = subst (λ n. entry_of (arcs_of g) flow (Against n) ≡ entry_of (arcs_of g) (set flow i x) (Against n)) (sym e) (same_rooms (arc_at (arcs_of g) i).from back ahead)

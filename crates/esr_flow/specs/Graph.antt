@@ -1,18 +1,22 @@
 -- A network with the steps that start at each node, which lie together, and entries of the steps that tell which of
 -- them have room.
 use Rattle.std.specs.Prelude.{◌≡◌, ℕ, ◌<◌, ◌≤◌, false, List, length, get_or, map, Contains, ◌^◌}
+use Rattle.std.specs.List.Sorted.{IsNonDecreasingBy}
 use Rattle.esr_cert.specs.declared.network.Arc.{Arc}
-use Rattle.esr_cert.specs.Network.{Network, IsNetwork}
+use Rattle.esr_cert.specs.Network.{Network, IsNetwork, network}
 use Rattle.esr_cert.specs.declared.step.Step.{Step}
 use Rattle.esr_flow.specs.declared.entry.Entry.{Entry}
 use Rattle.esr_flow.specs.declared.graph.Graph.{Graph}
 use Rattle.esr_cert.specs.Flow.{within}
-use Rattle.esr_cert.specs.Steps.{arc_of, start, opposite, step_at, HasSteps}
-use Rattle.esr_cert.specs.Rows.{span_at, row_in, ArePlaces}
+use Rattle.esr_cert.specs.Steps.{arc_of, order_of, start, opposite, step_at, HasSteps}
+use Rattle.esr_cert.specs.Rows.{span_at, row_in, AreSteps}
 use Rattle.esr_flow.specs.Residual.{finish, room}
 
+abbrev pub arcs_of : Graph → List Arc
+arcs_of g = (network g.problem.now).arcs
+
 abbrev pub net_of : Graph → Network
-net_of g = record { nodes = g.nodes; arcs = g.arcs.items; source = g.source; sink = g.sink }
+net_of g = record { nodes = g.nodes; arcs = arcs_of g; source = g.source; sink = g.sink }
 
 pub record IsGraph (g : Graph) : Type 0 where
   pub is_network : IsNetwork (net_of g)
@@ -20,8 +24,9 @@ pub record IsGraph (g : Graph) : Type 0 where
   pub ordered : (v : ℕ) → v < g.nodes → (span_at g.rows.now.spans.items v).begin ≤ (span_at g.rows.now.spans.items v).end
   pub inside : (v : ℕ) → v < g.nodes → (span_at g.rows.now.spans.items v).end ≤ length g.rows.now.steps.items
   pub lists : (v : ℕ) → v < g.nodes
-      → HasSteps g.arcs.items v (row_in g.rows.now.steps.items (span_at g.rows.now.spans.items v))
-  pub places : ArePlaces g.arcs.items g.rows.now.steps.items g.rows.now.places.items
+      → HasSteps (arcs_of g) v (row_in g.rows.now.steps.items (span_at g.rows.now.spans.items v))
+  pub ascend : (v : ℕ) → v < g.nodes → IsNonDecreasingBy order_of (row_in g.rows.now.steps.items (span_at g.rows.now.spans.items v))
+  pub steps : AreSteps (arcs_of g) g.rows.now.steps.items
   pub sink_is_node : g.sink < g.nodes
   pub few : g.nodes < 2 ^ 30
 
@@ -38,7 +43,7 @@ entry_at entries k = get_or entries k (record { to = 0; ahead = false; back = fa
 
 -- the entries of a graph's steps, with the residual amounts of a flow
 abbrev pub AreEntries : Graph → List ℕ → List Entry → Type 0
-AreEntries g flow entries = entries ≡ map (entry_of g.arcs.items flow) g.rows.now.steps.items
+AreEntries g flow entries = entries ≡ map (entry_of (arcs_of g) flow) g.rows.now.steps.items
 
 -- a step that starts at a node and its entry: where the step leads, and what has room
 pub record IsEntry (arcs : List Arc) (flow : List ℕ) (v : ℕ) (step : Step) (e : Entry) : Type 0 where

@@ -1,38 +1,29 @@
-//! The arcs of a network, the steps that start at each node, and for each step an entry of what has room.
-ghost use Rattle.std.specs.Prelude.{◌≡◌, ◌<◌, true, length, set, IfOk, Vec};
+//! A problem's network, the steps that start at each node, and for each step an entry of what has room.
+ghost use Rattle.std.specs.Prelude.{◌≡◌, ◌<◌, true, length, set, IfOk, Some, Vec};
 ghost use Rattle.std.specs.declared.alloc.Global.{Global};
 ghost use Rattle.esr_cert.specs.declared.step.Step.{Step};
 ghost use Rattle.esr_cert.specs.Flow.{within};
-ghost use Rattle.esr_flow.specs.Residual.{room, finish};
-ghost use Rattle.esr_cert.specs.Steps.{arc_of};
+ghost use Rattle.esr_cert.specs.Network.{network};
+ghost use Rattle.esr_flow.specs.Residual.{left_of, room, finish};
+ghost use Rattle.esr_cert.specs.Steps.{arc_of, step_at};
 ghost use Rattle.esr_flow.specs.Graph.{entry_of};
 
 use crate::entry::{Entry, ShortEntry};
-use esr_cert::{Rows, ShortArc, ShortStep, Step};
+use esr_cert::{Problem, Rows, ShortStep, Step};
 use std::alloc::{AllocError, Global};
 
-/// Whether a residual amount has room for one more.
-fn has_one(room: Option<u64>) -> bool
-    ensures { result ≡ within 1 room }
-{
-    match room {
-        None => true,
-        Some(limit) => 1 <= limit,
-    }
-}
-
-/// The arcs of a network, and for each node the steps that start at it.
+/// The network of a problem, and for each node the steps that start at it.
 #[derive(Drop)]
 pub struct Graph<'a> {
-    pub nodes: usize,
-    pub arcs: Vec<ShortArc>,
+    pub problem: &'a Problem,
     pub rows: &'a Rows,
+    pub nodes: usize,
     pub source: usize,
     pub sink: usize,
 }
 
 impl<'a> Graph<'a> {
-    ghost use Rattle.esr_flow.specs.Graph.{IsGraph, AreEntries};
+    ghost use Rattle.esr_flow.specs.Graph.{IsGraph, AreEntries, arcs_of};
     ghost use Rattle.esr_cert.specs.Rows.{row_in, span_at};
 
     /// The steps that start at a node.
@@ -57,40 +48,71 @@ impl<'a> Graph<'a> {
     /// The entries of all steps, with the residual amounts of a flow.
     pub fn entries(&self, alloc: Global, flow: &[u64]) -> Result<Vec<ShortEntry>, AllocError>
         requires graph { IsGraph self.now }
-        requires flow { length flow.now ≡ length self.now.arcs.items }
+        requires flow { length flow.now ≡ length (arcs_of self.now) }
         ensures { IfOk result (λ entries. AreEntries self.now flow.now entries.items) }
     {
         let mut entries = Vec::with_capacity(alloc, self.rows.steps.len())?;
         for step in &self.rows.steps {
-            entries.push(entry_of(&self.arcs, flow, step.step()))?;
+            entries.push(entry_of(self.problem, flow, step.step()))?;
         }
         Ok(entries)
     }
 
-    /// Sets the amount on an arc, and with it the residual amounts of the arc's two steps.
+    /// Where the entry of a step lies.
+    fn place_of(&self, step: Step) -> usize
+        requires graph { IsGraph self.now }
+        requires arc { arc_of step < length (arcs_of self.now) }
+        ensures inside { result < length self.now.rows.now.steps.items }
+        ensures place { step_at self.now.rows.now.steps.items result ≡ step }
+    {
+        let node = finish_of(self.problem, step.opposite());
+        self.rows.place_of(node as usize, step)
+    }
+
+    /// Sets the amount on an arc, and where another of the arc's two steps has room then, the entries of both.
     pub fn set_amount(&self, flow: &mut [u64], entries: &mut [ShortEntry], arc: u32, amount: u64)
         requires graph { IsGraph self.now }
-        requires arc { arc < length self.now.arcs.items }
-        requires flow { length flow.old ≡ length self.now.arcs.items }
+        requires arc { arc < length (arcs_of self.now) }
+        requires flow { length flow.old ≡ length (arcs_of self.now) }
         requires entries { AreEntries self.now flow.old entries.old }
         ensures flow { flow.new ≡ set flow.old arc amount }
         ensures entries { AreEntries self.now flow.new entries.new }
     {
+        let capacity = self.problem.arc(arc).capacity;
+        let (ahead, back) = rooms_of(capacity, flow[arc as usize]);
+        let (ahead_now, back_now) = rooms_of(capacity, amount);
         flow[arc as usize] = amount;
-        let places = self.rows.places[arc as usize];
-        entries[places.along as usize] = entry_of(&self.arcs, flow, Step::Along(arc));
-        entries[places.against as usize] = entry_of(&self.arcs, flow, Step::Against(arc));
+        if ahead_now == ahead && back_now == back {
+            return;
+        }
+        let along = self.place_of(Step::Along(arc));
+        entries[along] = entry_of(self.problem, flow, Step::Along(arc));
+        let against = self.place_of(Step::Against(arc));
+        entries[against] = entry_of(self.problem, flow, Step::Against(arc));
     }
 }
 
+/// Whether the step along an arc of a capacity has room for one more, and the step against it, where it carries an
+/// amount.
+fn rooms_of(capacity: Option<u64>, amount: u64) -> (bool, bool)
+    ensures ahead { result.0 ≡ within 1 (left_of capacity amount) }
+    ensures back { result.1 ≡ within 1 (Some amount) }
+{
+    let ahead = match capacity {
+        None => true,
+        Some(limit) => amount < limit,
+    };
+    (ahead, 1 <= amount)
+}
+
 /// The residual amount of a step.
-pub fn room_of(arcs: &[ShortArc], flow: &[u64], step: Step) -> Option<u64>
-    requires arc { arc_of step < length arcs.now }
-    requires flow { length flow.now ≡ length arcs.now }
-    ensures { result ≡ room arcs.now flow.now step }
+pub fn room_of(problem: &Problem, flow: &[u64], step: Step) -> Option<u64>
+    requires arc { arc_of step < length (network problem.now).arcs }
+    requires flow { length flow.now ≡ length (network problem.now).arcs }
+    ensures { result ≡ room (network problem.now).arcs flow.now step }
 {
     match step {
-        Step::Along(i) => match arcs[i as usize].arc().capacity {
+        Step::Along(i) => match problem.arc(i).capacity {
             None => None,
             Some(limit) => Some(limit.saturating_sub(flow[i as usize])),
         },
@@ -99,26 +121,35 @@ pub fn room_of(arcs: &[ShortArc], flow: &[u64], step: Step) -> Option<u64>
 }
 
 /// The entry of a step.
-pub fn entry_of(arcs: &[ShortArc], flow: &[u64], step: Step) -> ShortEntry
-    requires arc { arc_of step < length arcs.now }
-    requires flow { length flow.now ≡ length arcs.now }
-    requires node { finish arcs.now step < 1073741824 }
-    ensures { result ≡ entry_of arcs.now flow.now step }
+pub fn entry_of(problem: &Problem, flow: &[u64], step: Step) -> ShortEntry
+    requires arc { arc_of step < length (network problem.now).arcs }
+    requires flow { length flow.now ≡ length (network problem.now).arcs }
+    requires node { finish (network problem.now).arcs step < 1073741824 }
+    ensures { result ≡ entry_of (network problem.now).arcs flow.now step }
 {
-    ShortEntry::of(Entry {
-        to: finish_of(arcs, step),
-        ahead: has_one(room_of(arcs, flow, step)),
-        back: has_one(room_of(arcs, flow, step.opposite())),
+    let arc = problem.arc(step.arc());
+    let (along, against) = rooms_of(arc.capacity, flow[step.arc() as usize]);
+    ShortEntry::of(match step {
+        Step::Along(_) => Entry {
+            to: arc.to,
+            ahead: along,
+            back: against,
+        },
+        Step::Against(_) => Entry {
+            to: arc.from,
+            ahead: against,
+            back: along,
+        },
     })
 }
 
 /// The node that a step leads to.
-pub fn finish_of(arcs: &[ShortArc], step: Step) -> u32
-    requires { arc_of step < length arcs.now }
-    ensures { result ≡ finish arcs.now step }
+pub fn finish_of(problem: &Problem, step: Step) -> u32
+    requires { arc_of step < length (network problem.now).arcs }
+    ensures { result ≡ finish (network problem.now).arcs step }
 {
     match step {
-        Step::Along(i) => arcs[i as usize].arc().to,
-        Step::Against(i) => arcs[i as usize].arc().from,
+        Step::Along(i) => problem.arc(i).to,
+        Step::Against(i) => problem.arc(i).from,
     }
 }

@@ -1,11 +1,12 @@
 //! A greatest flow, by shortest augmenting paths.
 ghost use Rattle.std.specs.Prelude.{◌≡◌, ℕ, ◌+◌, ◌*◌, ◌^◌, ◌<◌, ◌≤◌, false, length, set, take, IfOk, List, None};
 ghost use Rattle.esr_cert.specs.declared.step.Step.{Step};
+ghost use Rattle.esr_cert.specs.Network.{network};
 ghost use Rattle.esr_cert.specs.Steps.{arc_of};
 ghost use Rattle.esr_flow.specs.Residual.{lesser, least_room, shift, raise};
 ghost use Rattle.esr_cert.specs.Flow.{amount_at, IsFlow, worth};
 ghost use Rattle.esr_flow.specs.Augmentation.{IsReach, Augments, Takes};
-ghost use Rattle.esr_flow.specs.Graph.{net_of, IsGraph, AreEntries};
+ghost use Rattle.esr_flow.specs.Graph.{arcs_of, net_of, IsGraph, AreEntries};
 ghost use Rattle.esr_flow.specs.Search.{IsShortestPath, Guides, IsGuided, is_marked};
 ghost use Rattle.esr_flow.specs.Maximum.{InArcs, HasLimit, LIMIT};
 
@@ -13,7 +14,7 @@ use crate::entry::ShortEntry;
 use crate::graph::{Graph, room_of};
 use crate::search::{Found, search};
 use crate::walk::{rewind, walk};
-use esr_cert::{ShortArc, Step};
+use esr_cert::{Problem, Step};
 use std::alloc::{AllocError, Global};
 
 fn lesser_of(a: Option<u64>, b: Option<u64>) -> Option<u64>
@@ -29,14 +30,14 @@ fn lesser_of(a: Option<u64>, b: Option<u64>) -> Option<u64>
 }
 
 /// The least residual amount on a path.
-fn least_room_of(arcs: &[ShortArc], flow: &[u64], path: &[Step]) -> Option<u64>
-    requires flow { length flow.now ≡ length arcs.now }
-    requires path { InArcs arcs.now path.now }
-    ensures { result ≡ least_room arcs.now flow.now path.now }
+fn least_room_of(problem: &Problem, flow: &[u64], path: &[Step]) -> Option<u64>
+    requires flow { length flow.now ≡ length (network problem.now).arcs }
+    requires path { InArcs (network problem.now).arcs path.now }
+    ensures { result ≡ least_room (network problem.now).arcs flow.now path.now }
 {
     let mut least = None;
     for step in path {
-        least = lesser_of(least, room_of(arcs, flow, *step));
+        least = lesser_of(least, room_of(problem, flow, *step));
     }
     least
 }
@@ -62,8 +63,8 @@ fn raise_along(
     path: &[Step],
 )
     requires graph { IsGraph graph.now }
-    requires in_arcs { InArcs graph.now.arcs.items path.now }
-    requires flow { length flow.old ≡ length graph.now.arcs.items }
+    requires in_arcs { InArcs (arcs_of graph.now) path.now }
+    requires flow { length flow.old ≡ length (arcs_of graph.now) }
     requires entries { AreEntries graph.now flow.old entries.old }
     requires fits { (k i : ℕ) → amount_at (raise flow.old amount (take k path.now)) i + amount < 2 ^ 64 }
     ensures flow { flow.new ≡ raise flow.old amount path.now }
@@ -88,7 +89,7 @@ fn augment(graph: &Graph, flow: &mut [u64], entries: &mut [ShortEntry], path: &[
     ensures entries { AreEntries graph.now flow.new entries.new }
     ensures worth { worth (net_of graph.now) flow.new ≡ worth (net_of graph.now) flow.old + result }
 {
-    match least_room_of(&graph.arcs, flow, path) {
+    match least_room_of(graph.problem, flow, path) {
         None => unreachable!(),
         Some(amount) => {
             raise_along(graph, flow, entries, amount, path);
@@ -165,7 +166,7 @@ pub fn find_maximum(alloc: Global, graph: &Graph) -> Result<MaximumFlow, AllocEr
     requires small { (f : List ℕ) → IsFlow (net_of graph.now) f → worth (net_of graph.now) f ≤ LIMIT }
     requires limited { HasLimit (net_of graph.now) }
     ensures takes { IfOk result (λ m. Takes (net_of graph.now) m.augmentations m.flow.items) }
-    ensures few { IfOk result (λ m. m.augmentations ≤ graph.now.nodes * length graph.now.arcs.items) }
+    ensures few { IfOk result (λ m. m.augmentations ≤ graph.now.nodes * length (arcs_of graph.now)) }
     ensures flow { IfOk result (λ m. IsFlow (net_of graph.now) m.flow.items) }
     ensures worth_is { IfOk result (λ m. m.worth ≡ worth (net_of graph.now) m.flow.items) }
     ensures worth { IfOk result (λ m. m.augmentations ≤ worth (net_of graph.now) m.flow.items) }
@@ -175,7 +176,7 @@ pub fn find_maximum(alloc: Global, graph: &Graph) -> Result<MaximumFlow, AllocEr
     ensures end { IfOk result (λ m. (is_marked m.marks.items graph.now.sink ≡ false)
         × (length m.marks.items ≡ graph.now.nodes)) }
 {
-    let mut flow = vec![in alloc; 0u64; graph.arcs.len()]?;
+    let mut flow = vec![in alloc; 0u64; graph.rows.steps.len() / 2]?;
     let mut entries = graph.entries(alloc, &flow)?;
     let mut progress = Progress {
         augmentations: 0,

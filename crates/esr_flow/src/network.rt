@@ -7,25 +7,24 @@ ghost use Rattle.esr_flow.specs.Graph.{net_of, IsGraph};
 use crate::graph::Graph;
 use esr_cert::Problem;
 use esr_history::NoMemory;
-use std::alloc::{AllocError, Global};
+use std::alloc::Global;
 
 /// The graph of a problem's network.
-fn graph_of<'a>(alloc: Global, problem: &'a Problem) -> Result<Graph<'a>, AllocError>
-    ensures graph { IfOk result IsGraph }
-    ensures network { IfOk result (λ graph. net_of graph ≡ networks.network problem.now) }
+fn graph_of<'a>(problem: &'a Problem) -> Graph<'a>
+    ensures graph { IsGraph result }
+    ensures network { net_of result ≡ networks.network problem.now }
 {
     let source = problem.updates().len();
-    let arcs = problem.arcs(alloc)?;
-    Ok(Graph {
-        nodes: source + 2,
-        arcs,
+    Graph {
+        problem,
         rows: problem.rows(),
+        nodes: source + 2,
         source,
         sink: source + 1,
-    })
+    }
 }
 
-/// The network of a problem: its arcs beside the rows of steps that the problem keeps.
+/// The network of a problem, whose rows of steps the problem keeps.
 ///
 /// Its cuts without unlimited arcs are the closed sets, and their capacities are the costs.
 #[derive(Drop)]
@@ -38,11 +37,11 @@ pub struct Network<'a> {
 }
 
 impl<'a> Network<'a> {
-    /// The network of the problem, in time that grows with its arcs.
-    pub fn build(alloc: Global, problem: &'a Problem) -> Result<Network<'a>, NoMemory>
+    /// The network of the problem, which takes no memory of its own.
+    pub fn build(_alloc: Global, problem: &'a Problem) -> Result<Network<'a>, NoMemory>
         ensures { IfOk result (λ n. n.problem.now ≡ problem.now) }
     {
-        let graph = graph_of(alloc, problem)?;
+        let graph = graph_of(problem);
         let _sound = problem.updates();
         Ok(Network { problem, graph })
     }

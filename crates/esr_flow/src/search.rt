@@ -1,7 +1,7 @@
 //! Breadth-first search of the residual network.
 ghost use Rattle.std.specs.Prelude.{◌≡◌, ◌+◌, ◌-◌, ◌<◌, ◌≤◌, true, false, length, IfOk};
 ghost use Rattle.esr_cert.specs.declared.step.Step.{Step};
-ghost use Rattle.esr_flow.specs.Graph.{net_of, IsGraph, AreEntries, Lists};
+ghost use Rattle.esr_flow.specs.Graph.{arcs_of, net_of, IsGraph, AreEntries, Lists};
 ghost use Rattle.esr_flow.specs.Search.{Searched, visit_at, is_marked, IsShortestPath, AfterScan, FoundSink, IsFound, Guides, label_at};
 
 use crate::entry::ShortEntry;
@@ -29,7 +29,7 @@ fn scan(
     head: usize,
 ) -> Result<bool, AllocError>
     requires graph { IsGraph graph.now }
-    requires row { Lists graph.now.arcs.items _flow.now (visit_at visits.old.items head).node steps.now row.now }
+    requires row { Lists (arcs_of graph.now) _flow.now (visit_at visits.old.items head).node steps.now row.now }
     requires head { head < length visits.old.items }
     requires searched { Searched (net_of graph.now) _flow.now visits.old.items marks.old.items head }
     requires sink { is_marked marks.old.items graph.now.sink ≡ false }

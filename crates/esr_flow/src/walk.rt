@@ -4,7 +4,7 @@ ghost use Rattle.esr_cert.specs.declared.step.Step.{Step};
 ghost use Rattle.esr_cert.specs.Flow.{within};
 ghost use Rattle.esr_flow.specs.Residual.{room};
 ghost use Rattle.esr_cert.specs.Steps.{opposite};
-ghost use Rattle.esr_flow.specs.Graph.{net_of, IsGraph, AreEntries, Lists, entry_at};
+ghost use Rattle.esr_flow.specs.Graph.{arcs_of, net_of, IsGraph, AreEntries, Lists, entry_at};
 ghost use Rattle.esr_cert.specs.Steps.{step_at};
 ghost use Rattle.esr_flow.specs.Search.{Guides, IsGuided, label_at};
 ghost use Rattle.esr_flow.specs.Maximum.{InArcs};
@@ -27,12 +27,12 @@ fn next_back(
 ) -> usize
     requires graph { IsGraph graph.now }
     requires node { at < graph.now.nodes }
-    requires row { Lists graph.now.arcs.items flow.now at _steps.now row.now }
-    requires flow { length flow.now ≡ length graph.now.arcs.items }
+    requires row { Lists (arcs_of graph.now) flow.now at _steps.now row.now }
+    requires flow { length flow.now ≡ length (arcs_of graph.now) }
     requires labels { length labels.now ≡ graph.now.nodes }
     ensures later { from ≤ result }
     ensures room { result < length row.now → within 1
-        (room graph.now.arcs.items flow.now (opposite (step_at _steps.now result))) ≡ true }
+        (room (arcs_of graph.now) flow.now (opposite (step_at _steps.now result))) ≡ true }
     ensures up { result < length row.now → label_at labels.now at < label_at labels.now (entry_at row.now result).to }
 {
     let label = labels[at];
@@ -57,7 +57,7 @@ pub fn walk(
     next: &mut [usize],
 ) -> Result<Option<Vec<Step>>, AllocError>
     requires graph { IsGraph graph.now }
-    requires flow { length flow.now ≡ length graph.now.arcs.items }
+    requires flow { length flow.now ≡ length (arcs_of graph.now) }
     requires entries { AreEntries graph.now flow.now entries.now }
     requires guides { Guides (net_of graph.now) flow.now labels.now }
     requires next { length next.old ≡ graph.now.nodes }
@@ -77,7 +77,7 @@ pub fn walk(
             next[at] = i;
             match path.pop() {
                 None => return Ok(None),
-                Some(step) => at = finish_of(&graph.arcs, step) as usize,
+                Some(step) => at = finish_of(graph.problem, step) as usize,
             }
         }
     }
@@ -88,12 +88,12 @@ pub fn walk(
 /// Puts the pointers back to the steps of a path, which may have room left.
 pub fn rewind(graph: &Graph, next: &mut [usize], path: &[Step])
     requires graph { IsGraph graph.now }
-    requires path { InArcs graph.now.arcs.items path.now }
+    requires path { InArcs (arcs_of graph.now) path.now }
     requires next { length next.old ≡ graph.now.nodes }
     ensures { length next.new ≡ length next.old }
 {
     for step in path {
-        let node = finish_of(&graph.arcs, *step) as usize;
+        let node = finish_of(graph.problem, *step) as usize;
         next[node] = next[node].saturating_sub(1);
     }
 }

@@ -1,6 +1,6 @@
 use Rattle.std.proofs.Common.{arith, ◌≡◌, ◌*◌, ◌≤◌, length, replicate, sym, ◌∙◌, ap, subst}
 use Rattle.esr_cert.specs.Flow.{worth}
-use Rattle.esr_flow.specs.Graph.{net_of, AreEntries}
+use Rattle.esr_flow.specs.Graph.{arcs_of, net_of, AreEntries}
 use Rattle.esr_flow.proofs.FlowLaws.{Taken, taken, zero_worth}
 use Rattle.esr_flow.proofs.Phases.{few_augmentations}
 use Rattle.esr_flow.proofs.maximum.find_maximum.Goals as goal
@@ -25,12 +25,12 @@ returns-in-Reach-clause-amounts c i =
 
 pub loop-entries-init : goal.loop-entries-init
 loop-entries-init c =
-    let e : c.in_ok-flow.flow.items ≡ replicate (length c.args.graph.now.arcs.items) 0 =
-    c.in_ok-flow.ensures.items_if_clones_equal (λ y e. e) ∙ ap (λ n. replicate n 0) (omega (arith, c.len.ensures, c.args.graph.now.arcs.ok.0)) in
+    let e : c.in_ok-flow.flow.items ≡ replicate (length (arcs_of c.args.graph.now)) 0 =
+    c.in_ok-flow.ensures.items_if_clones_equal (λ y e. e) ∙ ap (λ n. replicate n 0) (omega (arith, c.len.ensures, c.args.graph.now.rows.now.steps.ok.0, c.requires.graph.steps.count)) in
     (e, sym (ap (worth (net_of c.args.graph.now)) e ∙ zero_worth (net_of c.args.graph.now)), omega arith, subst (λ flow. AreEntries c.args.graph.now flow c.in_ok-entries.entries.items) c.deref.ensures.value c.in_ok-entries.ensures)
 
 pub loop-entries-smaller : goal.loop-entries-smaller
 loop-entries-smaller c =
-    let few : c.in_ok-progress-in-Path.progress.augmentations ≤ c.args.graph.now.nodes * length c.args.graph.now.arcs.items =
+    let few : c.in_ok-progress-in-Path.progress.augmentations ≤ c.args.graph.now.nodes * length (arcs_of c.args.graph.now) =
     few_augmentations (net_of c.args.graph.now) c.requires.graph.is_network c.in_ok-progress-in-Path.progress.augmentations c.run_phase.new.flow c.in_ok-progress-in-Path.ensures.takes in
     omega (arith, few, c.in_ok-progress-in-Path.ensures.more)

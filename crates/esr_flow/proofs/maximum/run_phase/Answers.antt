@@ -1,6 +1,6 @@
 use Rattle.std.proofs.Common.{arith, ◌+◌, ◌*◌, ◌≤◌, length, sym, subst}
 use Rattle.std.specs.Option.{IfSome}
-use Rattle.esr_flow.specs.Graph.{net_of}
+use Rattle.esr_flow.specs.Graph.{arcs_of, net_of}
 use Rattle.esr_flow.specs.Search.{IsGuided}
 use Rattle.esr_flow.specs.Maximum.{InArcs}
 use Rattle.esr_flow.proofs.FlowLaws.{Taken}
@@ -36,8 +36,8 @@ overflow_add-result c =
 
 pub rewind-requires-clause-path : goal.rewind-requires-clause-path
 rewind-requires-clause-path c =
-    subst (λ path. InArcs c.args.graph.now.arcs.items path) (sym c.deref-in-loop-path.ensures.value)
-    (path_in_arcs c.args.graph.now.arcs.items c.loop-path.flow c.loop-path.path.items c.args.graph.now.source c.args.graph.now.sink c.loop-path.invariant.1.is_shortest_path.is_path)
+    subst (λ path. InArcs (arcs_of c.args.graph.now) path) (sym c.deref-in-loop-path.ensures.value)
+    (path_in_arcs (arcs_of c.args.graph.now) c.loop-path.flow c.loop-path.path.items c.args.graph.now.source c.args.graph.now.sink c.loop-path.invariant.1.is_shortest_path.is_path)
 
 pub walk-requires-clause-flow : goal.walk-requires-clause-flow
 walk-requires-clause-flow c =
@@ -53,7 +53,7 @@ walk-requires-clause-guides c =
 pub loop-path-smaller : goal.loop-path-smaller
 loop-path-smaller c =
     let r : Running (net_of c.args.graph.now) c.augment-worth.new.flow c.args.labels.now (c.loop-path.augmentations + 1) (c.loop-path.worth + c.augment-worth.result) = run_more (net_of c.args.graph.now) c.loop-path.flow c.augment-worth.new.flow c.args.labels.now c.loop-path.path.items c.loop-path.augmentations c.loop-path.worth c.augment-worth.result c.loop-path.invariant.0 c.loop-path.invariant.1 c.augment-worth.ensures.augments c.augment-worth.ensures.worth in
-    let few : c.loop-path.augmentations + 1 ≤ c.args.graph.now.nodes * length c.args.graph.now.arcs.items = running_few (net_of c.args.graph.now) c.requires.graph.is_network c.augment-worth.new.flow c.args.labels.now (c.loop-path.augmentations + 1) (c.loop-path.worth + c.augment-worth.result) r in
+    let few : c.loop-path.augmentations + 1 ≤ c.args.graph.now.nodes * length (arcs_of c.args.graph.now) = running_few (net_of c.args.graph.now) c.requires.graph.is_network c.augment-worth.new.flow c.args.labels.now (c.loop-path.augmentations + 1) (c.loop-path.worth + c.augment-worth.result) r in
     omega arith
 
 pub loop-path-preserved : goal.loop-path-preserved

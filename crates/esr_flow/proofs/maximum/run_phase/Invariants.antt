@@ -1,5 +1,5 @@
 use Rattle.std.proofs.Common.{vec_len, ◌≡◌, ◌≤◌, ◌-◌, ◌*◌, length}
-use Rattle.esr_flow.specs.Graph.{net_of, AreEntries}
+use Rattle.esr_flow.specs.Graph.{arcs_of, net_of, AreEntries}
 use Rattle.esr_flow.specs.Search.{IsGuided}
 use Rattle.esr_flow.proofs.PhaseLaws.{Running}
 use Rattle.esr_flow.proofs.maximum.run_phase.Given as goal
@@ -9,4 +9,4 @@ invariant-loop-path l =
     Running (net_of l.graph) l.flow l.labels l.augmentations l.worth × IsGuided (net_of l.graph) l.flow l.labels l.path.items × (vec_len l.next ≡ l.graph.nodes) × (l.fn.before.augmentations ≤ l.augmentations) × AreEntries l.graph l.flow l.entries
 
 abbrev pub decreases-loop-path : goal.decreases-loop-path
-decreases-loop-path l = l.graph.nodes * length l.graph.arcs.items - l.augmentations
+decreases-loop-path l = l.graph.nodes * length (arcs_of l.graph) - l.augmentations

@@ -8,7 +8,7 @@ use Rattle.esr_cert.specs.declared.step.Step.TheVariants.{Along}
 use Rattle.esr_flow.specs.declared.entry.Entry.{Entry}
 use Rattle.esr_flow.specs.Residual.{room, finish}
 use Rattle.esr_cert.specs.Steps.{arc_of, start, opposite}
-use Rattle.esr_flow.specs.Graph.{net_of, Lists, IsEntry, entry_at}
+use Rattle.esr_flow.specs.Graph.{arcs_of, net_of, Lists, IsEntry, entry_at}
 use Rattle.esr_cert.specs.Steps.{step_at}
 use Rattle.esr_cert.specs.Rows.{span_at}
 use Rattle.esr_flow.specs.Search.{label_at, IsGuided}
@@ -31,7 +31,7 @@ loop-at-smaller-then-i-row c =
 pub loop-at-preserved-then-i-row : goal.loop-at-preserved-then-i-row
 loop-at-preserved-then-i-row c =
     let net : Network = net_of c.args.graph.now in
-    let arcs : List Arc = c.args.graph.now.arcs.items in
+    let arcs : List Arc = arcs_of c.args.graph.now in
     let flow : List ℕ = c.args.flow.now in
     let labels : List ℕ = c.args.labels.now in
     let e : Entry = entry_at c.row-row.result.now c.next_back-i.result in
@@ -55,8 +55,7 @@ loop-at-preserved-then-i-row c =
 pub finish_of-at-requires : goal.finish_of-at-requires
 finish_of-at-requires c =
     let w : Walk (net_of c.args.graph.now) c.args.flow.now c.args.labels.now (c.pop.new.self.items ++ c.in-Some.step ∷ []) c.loop-at.at = subst (λ p. Walk (net_of c.args.graph.now) c.args.flow.now c.args.labels.now p c.loop-at.at) c.in-Some.ensures.items c.loop-at.invariant.0 in
-    subst (λ arcs. arc_of c.in-Some.step < length arcs) (sym c.deref.ensures.value)
-    (popped_in (net_of c.args.graph.now) c.requires.graph.is_network c.args.flow.now c.args.labels.now c.pop.new.self.items c.loop-at.at c.in-Some.step w)
+    popped_in (net_of c.args.graph.now) c.requires.graph.is_network c.args.flow.now c.args.labels.now c.pop.new.self.items c.loop-at.at c.in-Some.step w
 
 pub loop-at-smaller : goal.loop-at-smaller
 loop-at-smaller c =
@@ -67,7 +66,7 @@ loop-at-smaller c =
 pub loop-at-preserved : goal.loop-at-preserved
 loop-at-preserved c =
     let w : Walk (net_of c.args.graph.now) c.args.flow.now c.args.labels.now (c.pop.new.self.items ++ c.in-Some.step ∷ []) c.loop-at.at = subst (λ p. Walk (net_of c.args.graph.now) c.args.flow.now c.args.labels.now p c.loop-at.at) c.in-Some.ensures.items c.loop-at.invariant.0 in
-    let finish_is : c.finish_of-at.result ≡ finish c.args.graph.now.arcs.items c.in-Some.step = cc (c.finish_of-at.ensures, c.deref.ensures.value) in (
+    let finish_is : c.finish_of-at.result ≡ finish (arcs_of c.args.graph.now) c.in-Some.step = c.finish_of-at.ensures in (
       subst (λ n. Walk (net_of c.args.graph.now) c.args.flow.now c.args.labels.now c.pop.new.self.items n) (sym finish_is)
           (walk_pop (net_of c.args.graph.now) c.requires.graph.is_network c.args.flow.now c.args.labels.now c.pop.new.self.items c.loop-at.at c.in-Some.step c.requires.guides w),
       length-set c.loop-at.next c.loop-at.at c.next_back-i.result ∙ c.loop-at.invariant.1,

@@ -2,8 +2,8 @@ use Rattle.std.proofs.Common.{arith, ◌≡◌, ◌∙◌, ap, refl, length, sum
 use Rattle.std.proofs.lemmas.List.{length-map}
 use Rattle.esr_cert.specs.Problem.{Problem}
 use Rattle.esr_cert.specs.Network.{network}
-use Rattle.esr_cert.specs.Views.{problem_of}
-use Rattle.esr_cert.proofs.Sound.{facts}
+use Rattle.esr_cert.specs.Views.{chain_of, problem_of}
+use Rattle.esr_cert.proofs.Sound.{facts, are_few}
 use Rattle.esr_cert.proofs.Steps.{same_parts}
 use Rattle.esr_cert.proofs.Worth.{arc_count}
 use Rattle.esr_cert.proofs.ArcsLaws.{ends_of, costs_count}
@@ -29,3 +29,8 @@ starts_of-requires c =
       costs_count c.args.chains.items,
       ap (sum_by (λ chain. length chain.costs.items)) c.deref-6.ensures.value,
     )
+
+pub owners_of-requires : goal.owners_of-requires
+owners_of-requires c =
+    let p : Problem = problem_of c.args.updates.items c.args.before.items c.args.chains.items c.args.must.items in
+    omega (arith, (are_few p c.requires.sound).chains, length-map c.args.chains.items chain_of, ap length c.deref-7.ensures.value)

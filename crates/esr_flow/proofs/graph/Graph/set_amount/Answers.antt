@@ -1,30 +1,15 @@
-use Rattle.std.proofs.Common.{set, arith, ap, ◌∙◌, length-set}
-use Rattle.esr_cert.specs.declared.step.Step.TheVariants.{Along, Against}
-use Rattle.esr_flow.specs.Graph.{entry_of}
-use Rattle.esr_flow.proofs.EntriesLaws.{read_places, renewed_read}
+use Rattle.std.proofs.Common.{arith, sym, ◌∙◌}
+use Rattle.std.specs.Cmp.{booleans_Decides}
+use Rattle.esr_flow.proofs.EntriesLaws.{renewed, unchanged}
 use Rattle.esr_flow.proofs.graph.Graph.set_amount.Goals as goal
 
-pub offset_bounds-entries-places : goal.offset_bounds-entries-places
-offset_bounds-entries-places c =
-    let (along, against, is) = read_places c.args.self.now c.requires.graph c.args.flow.now c.args.entries.now c.args.arc c.index-places.result.now c.requires.arc c.requires.entries c.index-places.ensures in
-    omega arith
-
-pub bounds-entries-places : goal.bounds-entries-places
-bounds-entries-places c =
-    (read_places c.args.self.now c.requires.graph c.args.flow.now c.args.entries.now c.args.arc c.index-places.result.now c.requires.arc c.requires.entries c.index-places.ensures).0
-
-pub offset_bounds-entries-places-2 : goal.offset_bounds-entries-places-2
-offset_bounds-entries-places-2 c =
-    let (along, against, is) = read_places c.args.self.now c.requires.graph c.args.flow.now c.args.entries.now c.args.arc c.index-places.result.now c.requires.arc c.requires.entries c.index-places.ensures in
-    omega arith
-
-pub bounds-entries-places-2 : goal.bounds-entries-places-2
-bounds-entries-places-2 c =
-    let (along, against, is) = read_places c.args.self.now c.requires.graph c.args.flow.now c.args.entries.now c.args.arc c.index-places.result.now c.requires.arc c.requires.entries c.index-places.ensures in
-    omega (arith, length-set c.args.entries.now c.index-places.result.now.along c.entry_of.result)
+pub returns-then-back_now-back-clause-entries : goal.returns-then-back_now-back-clause-entries
+returns-then-back_now-back-clause-entries c =
+    unchanged c.args.self.now c.requires.graph c.args.flow.now c.args.entries.now c.args.arc c.args.amount c.arc-capacity.result (omega (arith, c.requires.arc, c.requires.flow)) c.arc-capacity.ensures c.requires.entries
+    (sym c.rooms_of-ahead.ensures.ahead ∙ sym ((booleans_Decides c.rooms_of-ahead_now.result.0 c.rooms_of-ahead.result.0).0 c.if-ahead_now-ahead.true) ∙ c.rooms_of-ahead_now.ensures.ahead)
+    (sym c.rooms_of-ahead.ensures.back ∙ sym ((booleans_Decides c.rooms_of-ahead_now.result.1 c.rooms_of-ahead.result.1).0 c.if-back_now-back.true) ∙ c.rooms_of-ahead_now.ensures.back)
 
 pub returns-clause-entries : goal.returns-clause-entries
 returns-clause-entries c =
-    renewed_read c.args.self.now c.requires.graph c.args.flow.now c.args.entries.now c.args.arc c.args.amount c.index-places.result.now c.entry_of.result c.entry_of-2.result c.requires.arc c.requires.entries c.index-places.ensures
-    (c.entry_of.ensures ∙ ap (λ arcs. entry_of arcs (set c.args.flow.now c.args.arc c.args.amount) (Along c.args.arc)) c.deref.ensures.value)
-    (c.entry_of-2.ensures ∙ ap (λ arcs. entry_of arcs (set c.args.flow.now c.args.arc c.args.amount) (Against c.args.arc)) c.deref-2.ensures.value)
+    renewed c.args.self.now c.requires.graph c.args.flow.now c.args.entries.now c.args.arc c.args.amount c.place_of-along.result c.place_of-against.result c.entry_of.result c.entry_of-2.result c.requires.entries
+    c.place_of-along.ensures.inside c.place_of-along.ensures.place c.place_of-against.ensures.inside c.place_of-against.ensures.place c.entry_of.ensures c.entry_of-2.ensures

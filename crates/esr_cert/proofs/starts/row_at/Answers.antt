@@ -1,7 +1,7 @@
 use Rattle.std.proofs.Common.{arith, rules, ◌-◌, ◌+◌, ◌≡◌, get_or, ap, leb}
 use Rattle.std.proofs.lemmas.List.Sorted.{IsPartitionedBy-leb, IsPartitionPoint-from_clause}
 use Rattle.esr_cert.proofs.StartsLaws.{IsFound, found}
-use Rattle.esr_cert.proofs.checker.row_at.Goals as goal
+use Rattle.esr_cert.proofs.starts.row_at.Goals as goal
 
 pub overflow_sub-result : goal.overflow_sub-result
 overflow_sub-result c =
