@@ -39,7 +39,7 @@ fn commit(t: u32) -> Event {
     Event::Commit { txn: TxnId(t) }
 }
 
-/// A machine over items that open with 0, or None for want of memory.
+/// A machine over items that open with 0, or None where memory is refused.
 fn opened(alloc: Global, items: usize) -> Option<Machine<Plain>> {
     let values = vec![in alloc; 0i64; items].ok()?;
     let store = Store::new(alloc, values).ok()?;

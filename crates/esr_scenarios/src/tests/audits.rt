@@ -10,7 +10,7 @@ use esr_history::{Event, Refusal, Reply, TxnId};
 use esr_items::{Plain, Store};
 use std::alloc::Global;
 
-/// A machine over items that open with these values, or None for want of memory.
+/// A machine over items that open with these values, or None where memory is refused.
 fn opened_with(alloc: Global, opening: &[i64]) -> Option<Machine<Plain>> {
     let values = opening.to_vec(alloc).ok()?;
     let store = Store::new(alloc, values).ok()?;

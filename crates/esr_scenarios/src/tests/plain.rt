@@ -541,12 +541,12 @@ fn chains_agree(alloc: Global, history: &History<Plain>, order: &Order) -> Optio
     Some((0..history.items()).all(|x| chain_agrees(order, &operations, x)))
 }
 
-/// The order of a query among its near updates, or None for want of memory.
+/// The order of a query among its near updates, or None where memory is refused.
 fn near_order(alloc: Global, m: &Machine<Plain>, q: u32) -> Option<Order> {
     Order::near(alloc, m.history(), TxnId(q)).ok()
 }
 
-/// The order of a query, where it is a committed one; or None for want of memory.
+/// The order of a query, where it is a committed one; or None where memory is refused.
 fn order_if(alloc: Global, m: &Machine<Plain>, q: u32) -> Option<Option<Order>> {
     match order_of(alloc, m, q) {
         Ok(order) => Some(Some(order)),
