@@ -1,7 +1,8 @@
 -- A search back in commit order finds the near updates.
-use Rattle.std.proofs.Common.{◌≡◌, ◌≢◌, ◌↔◌, ◌⊎◌, ℕ, zero, suc, ◌<◌, ◌≤◌, Bool, true, false, not, ◌&&◌, ◌||◌, List, [], ◌∷◌, length, drop, get_or, refl, sym, ◌∙◌, ap, subst, arith, inl, inr, ⊎_elim, AllPairs, Contains, filter, map, cond, eqb}
+use Rattle.std.proofs.Common.{◌≡◌, ◌≢◌, ◌↔◌, ◌⊎◌, ℕ, zero, suc, ◌<◌, ◌≤◌, Bool, true, false, not, ◌&&◌, ◌||◌, List, [], ◌∷◌, ◌++◌, reverse, length, drop, get_or, refl, sym, ◌∙◌, ap, subst, arith, inl, inr, ⊎_elim, AllPairs, Contains, filter, map, cond, eqb}
 use Rattle.std.specs.Prelude.{if◌then◌else◌, IsTrue}
 use Rattle.std.specs.List.{list_any}
+use Rattle.std.proofs.lemmas.List.{reverse-append}
 use Rattle.std.proofs.lemmas.Bool.{true≢false, and_parts, and_from, or_cases, or_left, or_right, eqb-true, eq-eqb, ne_eqb, false_from_ne_true}
 use Rattle.esr_history.specs.declared.event.TxnId.{TxnId}
 use Rattle.esr_history.specs.Machine.{Distance, Schedule, IsLegal}
@@ -13,16 +14,18 @@ use Rattle.esr_history.proofs.Traces.{writes_item}
 use Rattle.esr_history.proofs.Versions.{wrote_by, wrote_parts}
 use Rattle.esr_history.proofs.Words.{wrote_trace}
 use Rattle.esr_order.specs.declared.accesses.Access.{Access}
+use Rattle.esr_order.specs.declared.search.Items.{Items}
 use Rattle.esr_order.specs.Placements.{is_among}
 use Rattle.esr_order.specs.Scans.{access_of, accesses_in}
 use Rattle.esr_order.specs.Chains.{update_at, nth}
 use Rattle.esr_order.specs.Near.{has_written, has_written_read, IsRowTo, IsNear, AreNear}
-use Rattle.esr_order.specs.Seeking.{marked, is_access, Seen, conflicts_with}
+use Rattle.esr_order.specs.Seeking.{marked, is_access, Seen, seen_items, conflicts_with}
 use Rattle.esr_order.proofs.Ordered.{in_order}
 use Rattle.esr_order.proofs.Early.{must_positions, must_below}
 use Rattle.esr_order.proofs.Complete.{range_below}
 use Rattle.esr_order.proofs.NearLaws.{near_back}
-use Rattle.esr_order.proofs.NearFound.{there}
+use Rattle.esr_order.proofs.NearFound.{there, low_must}
+use Rattle.esr_order.proofs.Divided.{no_txn}
 use Rattle.esr_order.proofs.Turns.{up, ahead, conflict_parts}
 use Rattle.esr_order.proofs.Lists.{in_map, of_map, at_place}
 
@@ -274,3 +277,60 @@ module _ (d : Distance) (h : Schedule) (q : ℕ) (legal : IsLegal d h) where
               ⊎_elim (λ e. omega (arith, e, l))
               (λ o. ⊎_elim (λ lt. absurd (once k.0 i 0 lt inside k.2)) (λ gt. omega (arith, gt, l)) o)
               (Rattle.std.proofs.lemmas.Bool.cases_order k.0 i)
+
+-- ---- what the search holds, and one step of it
+
+pub record IsSought (h : Schedule) (q i : ℕ) (items : Items) (near : List TxnId) : Type 0 where
+  pub read_len : length items.read.items ≡ length h.opening
+  pub written_len : length items.written.items ≡ length h.opening
+  pub seen : AreSeen h q (map (λ t. t.0) (reverse near)) (seen_items items)
+  pub near_from : IsNearFrom h q i (map (λ t. t.0) (reverse near))
+
+module _ (d : Distance) (h : Schedule) (q : ℕ) (legal : IsLegal d h) (updates : List TxnId) (same : map (λ t. t.0) updates ≡ updates_of h q) (k i : ℕ) (next : k ≡ suc i) (inside : i < length (updates_of h q)) (here : i < length updates)
+    (items : Items) (near : List TxnId) (so_far : IsSought h q k items near) (list : List Access) (did_by : list ≡ accesses_in h.entries (get_or updates i no_txn).0) where
+  abbrev us : List ℕ
+  us = map (λ (t : TxnId). t.0) (reverse near)
+
+  abbrev own : ℕ
+  own = update_at h q i
+
+  from_next : IsNearFrom h q (suc i) us
+  from_next = subst (λ m. IsNearFrom h q m us) next so_far.near_from
+
+  number : (get_or updates i no_txn).0 ≡ own
+  number = number_at updates (updates_of h q) i no_txn same here
+
+  accesses : list ≡ accesses_in h.entries own
+  accesses = did_by ∙ ap (accesses_in h.entries) number
+
+  pub sought_near : (first : ℕ) → first ≡ length (must h q) → (i < first) ⊎ (list_any (conflicts_with (seen_items items)) list ≡ true) → IsNear h q own
+  sought_near first firsts why = ⊎_elim
+      (λ l. inr (inr (low_must d h q legal i (omega (arith, l, firsts)))))
+      (λ is. near_by d h q legal i inside us from_next (seen_items items) so_far.seen (sym (ap (list_any (conflicts_with (seen_items items))) accesses) ∙ is))
+      why
+
+  pub sought_keep : (first : ℕ) → first ≡ length (must h q) → first ≤ i → list_any (conflicts_with (seen_items items)) list ≡ false → IsSought h q i items near
+  sought_keep first firsts low none = record {
+    read_len = so_far.read_len;
+    written_len = so_far.written_len;
+    seen = so_far.seen;
+    near_from = miss d h q legal i inside us from_next (λ n. ⊎_elim
+        (λ l. absurd (omega (arith, l, low, firsts)))
+        (λ is. true≢false (sym (ap (list_any (conflicts_with (seen_items items))) accesses ∙ is) ∙ none))
+        (is_near_by d h q legal i inside us from_next (seen_items items) so_far.seen n));
+  }
+
+  pub sought_add : IsNear h q own → (more : Items) (nearer : List TxnId) → nearer ≡ near ++ get_or updates i no_txn ∷ [] → length more.read.items ≡ length items.read.items → length more.written.items ≡ length items.written.items
+      → ((x : ℕ) → marked more.read.items x ≡ (marked items.read.items x || list_any (is_access false x) list))
+      → ((x : ℕ) → marked more.written.items x ≡ (marked items.written.items x || list_any (is_access true x) list)) → IsSought h q i more nearer
+  sought_add is_near more nearer pushed read_len written_len read written =
+      let numbers : own ∷ us ≡ map (λ t. t.0) (reverse nearer) =
+      sym (ap (λ l. map (λ t. t.0) (reverse l)) pushed ∙ (ap (map (λ t. t.0)) (reverse-append near (get_or updates i no_txn ∷ [])) ∙ ap (λ n. n ∷ us) number)) in
+      record {
+        read_len = read_len ∙ so_far.read_len;
+        written_len = written_len ∙ so_far.written_len;
+        seen = subst (λ vs. AreSeen h q vs (seen_items more)) numbers (seen_more h q own us (seen_items items) (seen_items more) so_far.seen
+            (λ x. read x ∙ ap (λ l. marked items.read.items x || list_any (is_access false x) l) accesses)
+            (λ x. written x ∙ ap (λ l. marked items.written.items x || list_any (is_access true x) l) accesses));
+        near_from = subst (IsNearFrom h q i) numbers (hit d h q legal i inside us from_next is_near);
+      }

@@ -1,5 +1,5 @@
 //! What transactions read and wrote.
-ghost use Rattle.std.specs.Prelude.{◌≡◌, IfOk};
+ghost use Rattle.std.specs.Prelude.{◌≡◌, IfOk, OnOk};
 ghost use Rattle.esr_history.specs.Operations.{answer};
 ghost use Rattle.esr_order.specs.Scans.{access_in, access_at, accesses_in};
 
@@ -58,16 +58,17 @@ fn access_at(log: &Log, i: u64) -> Option<Access>
     log.get(i as usize).and_then(access_in)
 }
 
-/// What a transaction read and wrote, in order. It goes along the links of the transaction.
-pub fn accesses_of<M: Metric>(
-    alloc: Global,
+/// Lists what a transaction read and wrote, in order, in place of what the list had. It goes along the links of the
+/// transaction.
+pub fn list_accesses<M: Metric>(
     history: &History<M>,
     t: TxnId,
-) -> Result<Vec<Access>, AllocError>
-    ensures { IfOk result (λ v. v.items ≡ accesses_in history.now.schedule.entries t.0) }
+    accesses: &mut Vec<Access>,
+) -> Result<(), AllocError>
+    ensures { OnOk result (accesses.new.items ≡ accesses_in history.now.schedule.entries t.0) }
 {
     let log = history.log();
-    let mut accesses = Vec::new(alloc);
+    accesses.clear();
     let mut next = history.last_of_txn(t);
     while let Some(i) = next {
         if let Some(access) = access_at(log, i) {
@@ -76,5 +77,18 @@ pub fn accesses_of<M: Metric>(
         next = history.earlier_of_txn(i);
     }
     accesses.reverse();
+    Ok(())
+}
+
+/// What a transaction read and wrote, in order.
+pub fn accesses_of<M: Metric>(
+    alloc: Global,
+    history: &History<M>,
+    t: TxnId,
+) -> Result<Vec<Access>, AllocError>
+    ensures { IfOk result (λ v. v.items ≡ accesses_in history.now.schedule.entries t.0) }
+{
+    let mut accesses = Vec::new(alloc);
+    list_accesses(history, t, &mut accesses)?;
     Ok(accesses)
 }

@@ -7,7 +7,7 @@ ghost use Rattle.esr_order.specs.Near.{AreNear};
 ghost use Rattle.esr_order.specs.Scans.{accesses_in};
 ghost use Rattle.esr_order.specs.Seeking.{marked, is_access, seen_items, conflicts_with};
 
-use crate::accesses::{Access, accesses_of};
+use crate::accesses::{Access, accesses_of, list_accesses};
 use esr_history::{History, TxnId};
 use esr_items::Metric;
 use std::alloc::{AllocError, Global};
@@ -103,8 +103,9 @@ pub fn near_of<M: Metric>(
     let _legal = history.log(); // brings the invariant into the proof
     let mut items = Items::of_query(alloc, history, q)?;
     let mut near = Vec::new(alloc);
+    let mut accesses = Vec::new(alloc);
     for i in (0..updates.len()).rev() {
-        let accesses = accesses_of(alloc, history, updates[i])?;
+        list_accesses(history, updates[i], &mut accesses)?;
         if i < first || items.conflict(&accesses) {
             items.add(&accesses);
             near.push(updates[i])?;

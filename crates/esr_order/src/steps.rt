@@ -6,7 +6,7 @@ ghost use Rattle.esr_order.specs.declared.steps.Step.{Step};
 ghost use Rattle.esr_order.specs.Ties.{on_item};
 ghost use Rattle.esr_order.specs.Turns.{step_at, turns, AreRowsOf};
 
-use crate::accesses::{Access, accesses_of};
+use crate::accesses::{Access, list_accesses};
 use esr_history::{History, TxnId};
 use esr_items::Metric;
 use std::alloc::{AllocError, Global};
@@ -71,8 +71,9 @@ pub fn rows_of<M: Metric>(
 {
     let _legal = history.log(); // brings the invariant into the proof
     let mut rows = empty_rows(alloc, history.items())?;
+    let mut accesses = Vec::new(alloc);
     for (i, t) in updates.iter().enumerate() {
-        let accesses = accesses_of(alloc, history, *t)?;
+        list_accesses(history, *t, &mut accesses)?;
         add_turn(&mut rows, &accesses, i as u32)?;
     }
     Ok(rows)

@@ -9,7 +9,7 @@ use Rattle.esr_order.proofs.steps.rows_of.Goals as goal
 
 pub add_turn-requires : goal.add_turn-requires
 add_turn-requires g c = record {
-  items = subst (λ l. All (λ (a : Access). a.item.0 < length c.deref_mut.result.now) l) (sym (c.deref.ensures.value ∙ c.in_ok-accesses.ensures))
+  items = subst (λ l. All (λ (a : Access). a.item.0 < length c.deref_mut.result.now) l) (sym (c.deref.ensures.value ∙ c.in_ok-list_accesses.ensures))
       (accesses_inside g.M.Metric.distance_by c.args.history.now.schedule c.log-legal.ensures.legal _ (length c.deref_mut.result.now) (ap length c.deref_mut.ensures.value ∙ c.loop-i.invariant.0));
 }
 
@@ -25,5 +25,5 @@ loop-i-preserved g c =
     c.in_ok-add_turn.ensures.rows steps (subst (λ l. AreRowsOf (map (λ r. r.items) l) steps) (sym value) c.loop-i.invariant.1) in (
       ap length back ∙ (len ∙ c.loop-i.invariant.0),
       subst (λ l. AreRowsOf (map (λ r. r.items) l) (turns (operations h) 0 (map (λ t. t.0) (take (c.loop-i.i + 1) c.args.updates.now)))) (sym back)
-          (subst (AreRowsOf (map (λ r. r.items) c.add_turn.new.rows)) (ap (λ l. steps ++ map (step_at c.loop-i.i) l) (c.deref.ensures.value ∙ c.in_ok-accesses.ensures) ∙ turns_more h c.args.updates.now c.loop-i.i c.loop-i-test.true) now),
+          (subst (AreRowsOf (map (λ r. r.items) c.add_turn.new.rows)) (ap (λ l. steps ++ map (step_at c.loop-i.i) l) (c.deref.ensures.value ∙ c.in_ok-list_accesses.ensures) ∙ turns_more h c.args.updates.now c.loop-i.i c.loop-i-test.true) now),
     )

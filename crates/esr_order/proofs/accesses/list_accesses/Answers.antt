@@ -4,13 +4,14 @@ use Rattle.std.proofs.lemmas.List.{reverse-append}
 use Rattle.esr_order.specs.declared.accesses.Access.{Access}
 use Rattle.esr_order.specs.Scans.{access_at}
 use Rattle.esr_order.proofs.Accessed.{IsBackTo, back_none, back_more, back_smaller, back_done}
-use Rattle.esr_order.proofs.accesses.accesses_of.Goals as goal
-use Rattle.esr_order.proofs.accesses.accesses_of.Goals.{in-Some-access_at+in_ok-push, in_default-access_at}
+use Rattle.esr_order.proofs.accesses.list_accesses.Goals as goal
+use Rattle.esr_order.proofs.accesses.list_accesses.Goals.{in-Some-access_at+in_ok-push, in_default-access_at}
 
 pub loop-next-init : goal.loop-next-init
 loop-next-init g c =
     let es = c.args.history.now.schedule.entries in
-    subst (λ l. IsBackTo es c.args.t.0 l c.last_of_txn-next.result) (sym c.new-accesses.ensures.items) (back_none es c.args.t.0 c.last_of_txn-next.result c.last_of_txn-next.ensures)
+    let empty : c.clear.new.self.items ≡ [] = c.clear.ensures.items in
+    subst (λ l. IsBackTo es c.args.t.0 l c.last_of_txn-next.result) (sym empty) (back_none es c.args.t.0 c.last_of_txn-next.result c.last_of_txn-next.ensures)
 
 pub loop-next-smaller : goal.loop-next-smaller
 loop-next-smaller g c = back_smaller c.args.history.now.schedule.entries c.args.t.0 c.loop-next.accesses.items c.loop-next.next c.loop-next.invariant c.in-Some.i c.in-Some.is c.earlier_of_txn-next.result c.earlier_of_txn-next.ensures

@@ -1,6 +1,6 @@
 use Rattle.esr_history.specs.Links.{coded}
 use Rattle.esr_order.proofs.Accessed.{IsBackTo}
-use Rattle.esr_order.proofs.accesses.accesses_of.Given as goal
+use Rattle.esr_order.proofs.accesses.list_accesses.Given as goal
 
 -- what the entries after the next gave
 abbrev pub invariant-loop-next : goal.invariant-loop-next
