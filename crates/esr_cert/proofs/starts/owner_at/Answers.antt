@@ -1,4 +1,3 @@
-use Rattle.std.proofs.Common.{arith}
 use Rattle.esr_cert.proofs.StartsLaws.{has_owner, owner_row}
 use Rattle.esr_cert.proofs.starts.owner_at.Goals as goal
 
