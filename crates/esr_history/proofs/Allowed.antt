@@ -1,5 +1,5 @@
 -- What holds of a read, a write and an end that are not refused, each reason by its name.
-use Rattle.std.proofs.Common.{◌≡◌, ℤ, List, [], ◌∷◌, Option, None, Some, refl}
+use Rattle.std.proofs.Common.{◌≡◌, ℤ, List, [], ◌∷◌, Option, None, Some, refl, arith}
 use Rattle.esr_items.specs.declared.metric.ItemId.{ItemId}
 use Rattle.esr_history.specs.declared.event.TxnId.{TxnId}
 use Rattle.esr_history.specs.declared.event.Event.TheVariants.{Read, Write}
@@ -67,10 +67,7 @@ write_open h t x v none = record {
 }
 
 pub write_allowed : (d : Distance) (h : Schedule) (t : TxnId) (x : ItemId) (v : ℤ) → NoneApplies (reasons d h (Write t x v)) → WriteAllowed d h t x v
-write_allowed d h t x v none =
-    let first : NoneApplies (not_begun h t.0 ∷ ended h t.0 ∷ no_item h x.0 ∷ query_writes h t.0 ∷ out_of_range v ∷ write_blocked h t.0 x.0 ∷ []) =
-    (none.0, (none.1.0, (none.1.1.0, (none.1.1.1.0, (none.1.1.1.1.0, (none.1.1.1.1.1.0, tt)))))) in
-    record { uncharged = write_open h t x v first; imports = none.1.1.1.1.1.1.0; exports = none.1.1.1.1.1.1.1.0 }
+write_allowed d h t x v none = grind (arith, write_open)
 
 pub end_allowed : (h : Schedule) (t : TxnId) → NoneApplies (not_begun h t.0 ∷ ended h t.0 ∷ []) → EndAllowed h t
 end_allowed h t none = record { begun = none.0; active = none.1.0 }

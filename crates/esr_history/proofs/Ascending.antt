@@ -1,5 +1,5 @@
 -- What a search finds in a list that ascends, and what an edit there does.
-use Rattle.std.proofs.Common.{◌≡◌, ℕ, zero, suc, ◌<◌, ◌≤◌, List, [], ◌∷◌, length, Bool, true, false, not, ◌==◌, refl, sym, ◌∙◌, ap, subst, arith, inl, inr, if◌then◌else◌, get_or, set, map, Result, Ok, Err, IfOk, IfErr, ◌||◌, Some}
+use Rattle.std.proofs.Common.{◌≡◌, ℕ, zero, suc, ◌<◌, ◌≤◌, List, [], ◌∷◌, length, Bool, true, false, not, ◌==◌, refl, sym, ap, subst, arith, inl, inr, get_or, set, map, Result, Ok, Err, IfOk, IfErr, ◌||◌, Some}
 use Rattle.std.specs.Prelude.{filter, find, nat_lt}
 use Rattle.std.specs.List.{AllByRecursion, insert, remove, list_any}
 use Rattle.std.specs.List.Sorted.{IsSearchInRange, IsBinarySearchResult, IsNonDecreasingBy}
@@ -27,21 +27,12 @@ module _ {X : Type 0} (key : X → ℕ) where
   rises (x ∷ xs) asc (suc i) (suc j) d l m = rises xs asc.1 i j d (omega arith) (omega arith)
 
   comparisons_rise : (xs : List X) → IsAscendingBy key xs → (t : ℕ) → IsNonDecreasingBy (λ y. ordering_index (nat_cmp (key y) t)) xs
-  comparisons_rise xs asc t i j d le in_range =
-      let keys_rise : key (get_or xs i d) ≤ key (get_or xs j d) = grind (arith, rises xs asc i j d, λ (same : i ≡ j). ap (λ k. key (get_or xs k d)) same) in
-      grind (arith, nat_tests)
+  comparisons_rise xs asc t i j d le in_range = grind (arith, rises, nat_tests)
 
   -- a binary search by number ends at the number, or at the gap for it
   pub searched : (xs : List X) → IsAscendingBy key xs → (t : ℕ) (r : Result ℕ ℕ) → IsSearchInRange r (length xs) → IsBinarySearchResult (λ y. nat_cmp (key y) t) xs r → IfOk r (IsPlaceOf key xs t) × IfErr r (IsGapFor key xs t)
   searched xs asc t (Ok at) in_range equal = (record { in_range = in_range; has_number = λ d. ranked _ t _ (sym (equal d)) }, tt)
-  searched xs asc t (Err at) in_range parted = (
-    tt,
-    record {
-      in_range = in_range;
-      smaller_before = λ j d lt. ranked _ t _ (sym ((parted (comparisons_rise xs asc t)).0 j d (omega arith) lt));
-      greater_after = λ j d le lt. ranked _ t _ (sym ((parted (comparisons_rise xs asc t)).1 j d le lt));
-    },
-  )
+  searched xs asc t (Err at) in_range parted = grind (arith, ranked, comparisons_rise xs asc t)
 
   gap_tail : (x : X) (xs : List X) (t i : ℕ) → IsGapFor key (x ∷ xs) t (suc i) → IsGapFor key xs t i
   gap_tail x xs t i gap = record {
@@ -84,13 +75,7 @@ module _ {X : Type 0} (key : X → ℕ) where
     placed_above : key new ≡ t → ((y : X) → key (change y) ≡ key y) → (a : ℕ) → a < t → (xs : List X) → AllByRecursion (λ y. a < key y) xs → AllByRecursion (λ y. a < key y) (placed key t new change xs)
     placed_above is same a l [] all = (omega (arith, is), tt)
     placed_above is same a l (x ∷ xs) all =
-        elim (cases_eq (key x) t) [
-          | inl e ↦ rw (eq-eqb (key x) t e) ((let s : key (change x) ≡ key x = same x in omega arith), all.1)
-          | inr ne ↦ rw (ne_eqb (key x) t ne) (elim (cases_lt t (key x)) [
-            | inl below ↦ rw (lt_ltb t (key x) below) (omega (arith, is), (all.0, all.1))
-            | inr above ↦ rw (le_ltb t (key x) above) (all.0, placed_above is same a l xs all.1)
-          ])
-        ]
+        grind (arith, cases_eq (key x) t, eq-eqb, ne_eqb, cases_lt t (key x), lt_ltb, le_ltb, placed_above is same a l xs all.1)
 
     -- the list still ascends
     pub placed_ascends : key new ≡ t → ((y : X) → key (change y) ≡ key y) → (xs : List X) → IsAscendingBy key xs → IsAscendingBy key (placed key t new change xs)
@@ -110,19 +95,11 @@ module _ {X : Type 0} (key : X → ℕ) where
 
   pub all_filter : (p : X → Bool) (P : X → Type 0) (xs : List X) → AllByRecursion P xs → AllByRecursion P (filter p xs)
   all_filter p P [] all = tt
-  all_filter p P (x ∷ xs) all =
-      elim (cases_Bool (p x)) [
-        | inl passes ↦ rw passes (all.0, all_filter p P xs all.1)
-        | inr fails ↦ rw fails (all_filter p P xs all.1)
-      ]
+  all_filter p P (x ∷ xs) all = grind (arith, cases_Bool (p x), all_filter p P xs all.1)
 
   pub filter_ascends : (p : X → Bool) (xs : List X) → IsAscendingBy key xs → IsAscendingBy key (filter p xs)
   filter_ascends p [] asc = tt
-  filter_ascends p (x ∷ xs) asc =
-      elim (cases_Bool (p x)) [
-        | inl passes ↦ rw passes (all_filter p (λ y. key x < key y) xs asc.0, filter_ascends p xs asc.1)
-        | inr fails ↦ rw fails (filter_ascends p xs asc.1)
-      ]
+  filter_ascends p (x ∷ xs) asc = grind (arith, cases_Bool (p x), all_filter, filter_ascends p xs asc.1)
 
   -- who have another number than t
   abbrev pub others : ℕ → List X → List X
@@ -192,56 +169,26 @@ module _ {X : Type 0} (key : X → ℕ) where
   pub all_placed : (P : X → Type 0) (t : ℕ) (new : X) (change : X → X) → P new → ((y : X) → P y → P (change y)) → (xs : List X) → AllByRecursion P xs → AllByRecursion P (placed key t new change xs)
   all_placed P t new change p keeps [] all = (p, tt)
   all_placed P t new change p keeps (x ∷ xs) all =
-      elim (cases_eq (key x) t) [
-        | inl e ↦ rw (eq-eqb (key x) t e) (keeps x all.0, all.1)
-        | inr ne ↦ rw (ne_eqb (key x) t ne) (elim (cases_lt t (key x)) [
-          | inl below ↦ rw (lt_ltb t (key x) below) (p, (all.0, all.1))
-          | inr above ↦ rw (le_ltb t (key x) above) (all.0, all_placed P t new change p keeps xs all.1)
-        ])
-      ]
+      grind (arith, cases_eq (key x) t, eq-eqb, ne_eqb, cases_lt t (key x), lt_ltb, le_ltb, all_placed P t new change p keeps xs all.1)
 
   -- who stands there after one more is placed stood there before, or is the one placed
   pub any_placed : (t : ℕ) (new : X) (change : X → X) → key new ≡ t → ((y : X) → key (change y) ≡ key y) → (u : ℕ) (xs : List X)
       → list_any (λ y. key y == u) (placed key t new change xs) ≡ (list_any (λ y. key y == u) xs || (t == u))
   any_placed t new change is same u [] = rw is (or_comm (t == u) false)
   any_placed t new change is same u (x ∷ xs) =
-      elim (cases_eq (key x) t) [
-        | inl e ↦ rw (eq-eqb (key x) t e, same x) (rw e (absorbed (t == u) (list_any (λ y. key y == u) xs)))
-        | inr ne ↦ rw (ne_eqb (key x) t ne) (elim (cases_lt t (key x)) [
-          | inl below ↦ rw (lt_ltb t (key x) below, is) (or_comm (t == u) (key x == u || list_any (λ y. key y == u) xs))
-          | inr above ↦ rw (le_ltb t (key x) above) (ap (λ b. key x == u || b) (any_placed t new change is same u xs) ∙ or_assoc (key x == u) (list_any (λ y. key y == u) xs) (t == u))
-        ])
-      ]
-    where
-      absorbed : (a b : Bool) → (a || b) ≡ ((a || b) || a)
-      absorbed true b = refl
-      absorbed false true = refl
-      absorbed false false = refl
-
-      or_assoc : (a b e : Bool) → (a || (b || e)) ≡ ((a || b) || e)
-      or_assoc true b e = refl
-      or_assoc false b e = refl
+      grind (arith, cases_eq (key x) t, eq-eqb, ne_eqb, cases_lt t (key x), lt_ltb, le_ltb, any_placed t new change is same u xs)
 
 -- a view of the elements that keeps their numbers
 module _ {X Y : Type 0} (key : X → ℕ) (key_of : Y → ℕ) (f : X → Y) (same : (x : X) → key_of (f x) ≡ key x) where
   pub map-placed : (t : ℕ) (new : X) (change : X → X) (change_of : Y → Y) → ((x : X) → f (change x) ≡ change_of (f x)) → (xs : List X)
       → map f (placed key t new change xs) ≡ placed key_of t (f new) change_of (map f xs)
   map-placed t new change change_of is [] = refl
-  map-placed t new change change_of is (x ∷ xs) = rw (same x) (at (map-placed t new change change_of is xs) (key x == t) (nat_lt t (key x)))
-    where
-      at : map f (placed key t new change xs) ≡ placed key_of t (f new) change_of (map f xs) → (e l : Bool) → map f (if e then change x ∷ xs else (if l then new ∷ x ∷ xs else x ∷ placed key t new change xs))
-          ≡ (if e then change_of (f x) ∷ map f xs else (if l then f new ∷ f x ∷ map f xs else f x ∷ placed key_of t (f new) change_of (map f xs)))
-      at later true l = ap (λ y. y ∷ map f xs) (is x)
-      at later false true = refl
-      at later false false = ap (λ ys. f x ∷ ys) later
+  map-placed t new change change_of is (x ∷ xs) =
+      grind (arith, map-placed t new change change_of is xs, map f (placed key t new change xs), map f xs, map)
 
   pub map-others : (t : ℕ) (xs : List X) → map f (filter (λ x. not (key x == t)) xs) ≡ filter (λ y. not (key_of y == t)) (map f xs)
   map-others t [] = refl
-  map-others t (x ∷ xs) = rw (same x) (at (map-others t xs) (key x == t))
-    where
-      at : map f (filter (λ z. not (key z == t)) xs) ≡ filter (λ y. not (key_of y == t)) (map f xs) → (e : Bool) → map f (if not e then x ∷ filter (λ z. not (key z == t)) xs else filter (λ z. not (key z == t)) xs) ≡ (if not e then f x ∷ filter (λ y. not (key_of y == t)) (map f xs) else filter (λ y. not (key_of y == t)) (map f xs))
-      at later true = later
-      at later false = ap (λ ys. f x ∷ ys) later
+  map-others t (x ∷ xs) = grind (arith, map-others t xs, map, map f xs)
 
   pub any-map : (t : ℕ) (xs : List X) → list_any (λ y. key_of y == t) (map f xs) ≡ list_any (λ x. key x == t) xs
   any-map t [] = refl

@@ -1,5 +1,5 @@
 -- The distance of a committed query from the version at its commit is at most what it was charged.
-use Rattle.std.proofs.Common.{◌≡◌, ℕ, suc, ◌+◌, ◌≤◌, ℤ, Bool, true, false, cond, not, List, [], ◌∷◌, ◌++◌, take, drop, refl, sym, ◌∙◌, ap, subst, inl, ⊎_elim, arith, filter, eqb, sum_by}
+use Rattle.std.proofs.Common.{◌≡◌, ℕ, ◌+◌, ◌≤◌, ℤ, Bool, true, false, cond, not, List, [], ◌∷◌, ◌++◌, take, drop, refl, sym, ◌∙◌, ap, subst, inl, ⊎_elim, arith, filter, eqb, sum_by}
 use Rattle.std.specs.List.{list_any, before_first, position_or_len}
 use Rattle.std.proofs.Math.Path.{fun_ext}
 use Rattle.std.proofs.lemmas.List.{take-append-drop}
@@ -15,10 +15,7 @@ pub before_first-here : {X : Type 0} (p : X → Bool) (x : X) (xs : List X) → 
 before_first-here p x xs h = ap (λ b. take (cond (not b) (1 + position_or_len p xs) 0) (x ∷ xs)) h
 
 pub before_first-later : {X : Type 0} (p : X → Bool) (x : X) (xs : List X) → p x ≡ false → before_first p (x ∷ xs) ≡ x ∷ before_first p xs
-before_first-later p x xs h =
-    let n : ℕ = position_or_len p xs in
-    let e : 1 + n ≡ suc n = omega arith in
-    ap (λ b. take (cond (not b) (1 + n) 0) (x ∷ xs)) h ∙ ap (λ k. take k (x ∷ xs)) e
+before_first-later p x xs h = grind (arith, cond)
 
 pub before_first-kept : {X : Type 0} (p : X → Bool) (xs ys : List X) → list_any p xs ≡ true → before_first p (xs ++ ys) ≡ before_first p xs
 before_first-kept p [] ys h = absurd (true≢false (sym h))
@@ -72,8 +69,7 @@ bounded {s = s} d (read_query {t = t} {m = m} r u x n ac up paid) q c nu =
     subst (λ k. k ≤ m q + n q) (sym (distance_with s.distance s.opening t (read_of u x (current_in s.opening t x)) q ac.open_ended c))
     (let h = bounded d r q c nu in omega arith)
 bounded {s = s} d (write {t = t} {m = m} r u x v k ac up free paid) q c nu =
-    subst (λ n. n ≤ m q + k q) (sym (distance_with s.distance s.opening t (write_of u x v) q ac.open_ended c))
-    (let h = bounded d r q c nu in omega arith)
+    grind (arith, distance_with s.distance s.opening t (write_of u x v) q ac.open_ended c, write_of u x v, bounded d r q c nu)
 bounded {s = s} d (commit {t = t} {m = m} r u a) q c nu =
     ⊎_elim
     (λ old.

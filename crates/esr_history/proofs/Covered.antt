@@ -65,8 +65,7 @@ sums_within p c f g k (x ∷ xs) h =
 
 -- a transaction that was not begun has read nothing
 unbegun : {s : Setting} {t : Trace} {m : ℕ → ℕ} → Reached s t m → (q : ℕ) → begun_in t q ≡ false → filter (read_by q) t.operations ≡ []
-unbegun {t = t} r q h = filter_none_in (read_by q) t.operations
-    (λ o i. false_from_ne_true (read_by q o) (λ e. true≢false (sym ((known r).of_operations o i) ∙ (ap (begun_in t) (read_parts q o e).1 ∙ h))))
+unbegun {t = t} r q h = grind (arith, filter_none_in, false_from_ne_true, true≢false, known r, begun_in t, read_parts)
 
 query_from : (o : Option Beginning) → is_some o ≡ true → says (λ s. not s.query) o ≡ false → says (λ s. s.query) o ≡ true
 query_from None b h = absurd (true≢false (sym b))
@@ -96,8 +95,7 @@ write_covered {s = s} {t = t} {m = m} d r was u x v c ac up paid = λ q eq uq w 
         ((w y ≡ committed_in s.opening (with_operation t (write_of u x v)) y) ⊎ (w y ≡ current_in s.opening (with_operation t (write_of u x v)) y)) →
         (w y ≡ committed_in s.opening t y) ⊎ (w y ≡ current_in s.opening t y)
     elsewhere w y nyx mx =
-        ⊎_elim (λ e. inl (e ∙ committed_with s.opening t (write_of u x v) y ac.open_ended))
-        (λ e. inr (e ∙ current_with_other s.opening t (write_of u x v) y (ne_eqb x y (λ q. nyx (sym q))))) mx
+        grind (arith, ⊎_elim, committed_with s.opening t (write_of u x v) y ac.open_ended, write_of u x v, current_with_other, ne_eqb)
 
     chain : (a b e n k : ℕ) → a ≤ b + e → b ≤ n → e ≤ k → a ≤ n + k
     chain a b e n k h1 h2 h3 = omega arith
@@ -193,18 +191,7 @@ covered {s = s} d (read_query {t = t} {m = m} r u x c ac nup paid) = λ q eq uq 
     more_le a b c h = omega arith
 
     read_paid : (w : ℕ → ℤ) → ((w x ≡ committed_in s.opening t x) ⊎ (w x ≡ current_in s.opening t x)) → s.distance x (current_in s.opening t x) (w x) ≤ c u
-    read_paid w mx =
-        ⊎_elim
-        (λ e. ⊎_elim
-        (λ free. let z : s.distance x (current_in s.opening t x) (w x) ≡ 0 =
-        ap (s.distance x (current_in s.opening t x)) (e ∙ sym (settled r s.opening x
-        (λ o i h. let p = item_parts x o h in free.none o i p.0 p.1 (λ q. true≢false (sym (writers r o i p.0) ∙ (ap (update_in t) q ∙ nup))) (writers r o i p.0))))
-        ∙ d.same x (current_in s.opening t x) in
-        omega arith)
-        (λ le. subst (λ z. s.distance x (current_in s.opening t x) z ≤ c u) (sym e) le)
-        paid)
-        (λ e. let z : s.distance x (current_in s.opening t x) (w x) ≡ 0 = ap (s.distance x (current_in s.opening t x)) e ∙ d.same x (current_in s.opening t x) in omega arith)
-        mx
+    read_paid w mx = grind (arith, ⊎_elim, current_in s.opening t x, settled, item_parts, true≢false, writers, update_in t)
 covered d (write r u x v c ac up free paid) = write_covered d r (covered d r) u x v c ac up paid
 covered {s = s} d (commit {t = t} r u a) = λ q eq uq w mix.
     covered d r q (false_from_ne_true (ended_in t q) (λ h. true≢false (sym (ended_kept_commit t u q h) ∙ eq))) uq w

@@ -10,7 +10,7 @@ use Rattle.esr_history.specs.declared.event.Refusal.TheVariants.{NoSuchTransacti
 use Rattle.esr_history.specs.Events.{is_refusal, beginnings, is_begun}
 use Rattle.esr_history.specs.Machine.{Distance, Schedule, done, reply_to, reasons, refusal, acceptance, answered, not_begun, no_item, IsLegal}
 use Rattle.esr_history.specs.Legal.{legal_induction}
-use Rattle.esr_history.specs.Links.{item_of, txn_of, ender, begun_by, begun_count, accepted_item, accepted_txn, accepted_end, is_key, IsFit, IsNumbered}
+use Rattle.esr_history.specs.Links.{item_of, txn_of, ender, begun_by, begun_count, is_key, IsFit, IsNumbered}
 use Rattle.esr_history.proofs.Allowed.{NoneApplies, none_applies}
 use Rattle.esr_history.proofs.Lawful.{when_none, begun_number}
 use Rattle.esr_history.proofs.Linking.{last_same, count_refused, count_same, count_more}
@@ -104,22 +104,10 @@ fit_next d h e r is fit = elim (cases_Bool (is_refusal r)) [ inl refused ↦ at_
     some_at key k ok not_it = ap (λ b. is_key (if b then None else key) k) ok ∙ not_it
 
     at_refusal : is_refusal r ≡ true → IsFit (length h.opening) (h.entries ++ record { event = e; reply = r } ∷ [])
-    at_refusal refused =
-        let same : begun_count (h.entries ++ record { event = e; reply = r } ∷ []) ≡ begun_count h.entries = count_refused h.entries (record { event = e; reply = r }) refused in
-        record {
-          items = λ x l. last_same accepted_item x h.entries (record { event = e; reply = r }) (none_at (item_of e) x refused) ∙ fit.items x l;
-          txns = λ t l. let m : begun_count h.entries < t = omega (arith, same, l) in last_same accepted_txn t h.entries (record { event = e; reply = r }) (none_at (txn_of e r) t refused) ∙ fit.txns t m;
-          ends = λ t l. let m : begun_count h.entries < t = omega (arith, same, l) in last_same accepted_end t h.entries (record { event = e; reply = r }) (none_at (ender e) t refused) ∙ fit.ends t m;
-        }
+    at_refusal refused = grind (arith, count_refused h.entries (record { event = e; reply = r }) refused, last_same, none_at)
 
     at_accept : is_refusal r ≡ false → IsFit (length h.opening) (h.entries ++ record { event = e; reply = r } ∷ [])
-    at_accept ok =
-        let k = keys d h e r is ok in
-        record {
-          items = λ x l. last_same accepted_item x h.entries (record { event = e; reply = r }) (some_at (item_of e) x ok (k.item x l)) ∙ fit.items x l;
-          txns = λ t l. let p = k.txn t l in last_same accepted_txn t h.entries (record { event = e; reply = r }) (some_at (txn_of e r) t ok p.0) ∙ fit.txns t p.2;
-          ends = λ t l. let p = k.txn t l in last_same accepted_end t h.entries (record { event = e; reply = r }) (some_at (ender e) t ok p.1) ∙ fit.ends t p.2;
-        }
+    at_accept ok = grind (arith, keys d h e r is ok, last_same, some_at)
 
 pub legal_fit : (d : Distance) (h : Schedule) → IsLegal d h → IsFit (length h.opening) h.entries
 legal_fit d h legal =

@@ -9,7 +9,7 @@ use Rattle.std.proofs.lemmas.Option.{slice_get_past}
 use Rattle.std.proofs.lemmas.List.FromFn.{length-range_with_len}
 use Rattle.esr_history.specs.declared.event.TxnId.{TxnId}
 use Rattle.esr_history.specs.declared.event.Event.{Event}
-use Rattle.esr_history.specs.declared.event.Event.TheVariants.{BeginUpdate, BeginQuery, Read, Write, Commit, Abort}
+use Rattle.esr_history.specs.declared.event.Event.TheVariants.{BeginUpdate, BeginQuery}
 use Rattle.esr_history.specs.declared.event.Reply.{Reply}
 use Rattle.esr_history.specs.declared.event.Refusal.TheVariants.{LimitOutOfRange}
 use Rattle.esr_history.specs.Events.{Beginning, is_refusal, beginnings, beginning_of, limit_of}
@@ -83,12 +83,7 @@ module _ (d : Distance) (h : Schedule) (legal : IsLegal d h) where
       unbegun (suc k) past = ap (λ (b : Option Beginning). unwrap_or (option_map (λ c. c.limit) b) 0) (slice_get_past (beginnings (done h)) k (omega arith))
 
   pub import_at : (table : List ℕ) → AreImports d h table → (t : ℕ) → slice_index_or table t 0 ≡ import_in (charges_in d h) t
-  import_at table are t =
-      ap (λ l. slice_index_or l t 0) are
-      ∙ ⊎_elim
-      (λ l. let z : 0 + t ≡ t = omega arith in mapped_get (λ t. import_in (charges_in d h) t) 0 (begun_count h.entries + 1) t l ∙ ap (λ k. import_in (charges_in d h) k) z)
-      (λ g. let past : begun_count h.entries < t = omega arith in mapped_past (λ t. import_in (charges_in d h) t) 0 (begun_count h.entries + 1) t g ∙ sym (import_none t past))
-      (cases_lt t (begun_count h.entries + 1))
+  import_at table are t = grind (arith, ⊎_elim, mapped_get, mapped_past, import_none, cases_lt)
 
 module _ (d : Distance) (h : Schedule) (legal : IsLegal d h) (e : Event) (r : Reply) (is : r ≡ reply_to d h e) where
   more : is_refusal r ≡ false → (t : ℕ) → import_in (charges_in d (extended h e r)) t ≡ import_in (charges_in d h) t + import_in (due_in d h e) t
@@ -97,8 +92,7 @@ module _ (d : Distance) (h : Schedule) (legal : IsLegal d h) (e : Event) (r : Re
   -- the sums fit 64 bits
   pub import_fits : (table : List ℕ) → AreImports d h table → (charges : List (TxnId × ℕ)) → AreDue d h e r charges → is_refusal r ≡ false → (t : ℕ) → slice_index_or table t 0 + imported charges t < 2 ^ 64
   import_fits table are charges due ok t =
-      let low : import_in (charges_in d (extended h e r)) t ≤ 10 ^ 18 = import_low d (extended h e r) (IsLegal-extended d h e r legal is) t in
-      omega (arith, low, import_at d h legal table are t, due ok t, more ok t)
+      grind (arith, import_low d (extended h e r) (IsLegal-extended d h e r legal is) t, import_at d h legal table are t, more ok t)
 
   pub imports_refused : is_refusal r ≡ true → (table : List ℕ) → AreImports d h table → AreImports d (extended h e r) table
   imports_refused refused table are =

@@ -1,5 +1,5 @@
 -- Two lists of the same updates, each of which keeps the conflict order, leave the same value of an item.
-use Rattle.std.proofs.Common.{◌≡◌, ℕ, ℤ, Bool, true, false, ◌⊎◌, List, [], ◌∷◌, ◌++◌, refl, sym, ◌∙◌, ap, subst, inl, inr, ⊎_elim, flat_map}
+use Rattle.std.proofs.Common.{◌≡◌, ℕ, ℤ, Bool, true, false, ◌⊎◌, List, [], ◌∷◌, ◌++◌, refl, sym, ◌∙◌, ap, subst, inl, inr, ⊎_elim, flat_map, arith}
 use Rattle.std.proofs.lemmas.Bool.{true≢false, cases_eq}
 use Rattle.esr_history.specs.Events.{last_value}
 use Rattle.esr_history.proofs.Membership.{In, Pairs, each_at}
@@ -85,13 +85,4 @@ same_left before w ps qs v orders pa pb to from =
     (last_writer before w ps v pa)
   where
     one : (x y : ℕ) → LastWriter before w ps v x → LastWriter before w qs v y → x ≡ y
-    one x y a b =
-        ⊎_elim
-        (λ e. e)
-        (λ ne. ⊎_elim (λ e. sym e)
-        (λ yx. ⊎_elim (λ e. e)
-        (λ xy. ⊎_elim (λ t. absurd (true≢false (sym t ∙ yx))) (λ t. absurd (true≢false (sym t ∙ xy)))
-        (orders x y a.writes b.writes ne))
-        (b.last x (to x a.is_in) a.writes))
-        (a.last y (from y b.is_in) b.writes))
-        (cases_eq x y)
+    one x y a b = grind (arith, ⊎_elim, true≢false, cases_eq x y)

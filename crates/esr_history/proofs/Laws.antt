@@ -1,5 +1,5 @@
 -- The laws of legal histories on their committed updates and queries.
-use Rattle.std.proofs.Common.{◌≡◌, ℕ, ℤ, ◌≤◌, true, false, not, ◌&&◌, ◌==◌, List, [], ◌∷◌, ◌++◌, length, take, refl, sym, ◌∙◌, ap, subst, filter, eqb, Some, slice_get, sum_by, if◌then◌else◌}
+use Rattle.std.proofs.Common.{◌≡◌, ℕ, ℤ, ◌≤◌, true, false, ◌&&◌, ◌==◌, List, [], ◌∷◌, ◌++◌, length, take, refl, sym, ◌∙◌, ap, subst, filter, eqb, Some, slice_get, sum_by, if◌then◌else◌, arith}
 use Rattle.std.specs.Prelude.{IsTrue, unwrap_or}
 use Rattle.std.specs.List.{before_first, filter_map}
 use Rattle.std.specs.Option.{option_map}
@@ -13,10 +13,10 @@ use Rattle.esr_history.specs.declared.event.TxnId.{TxnId}
 use Rattle.esr_history.specs.declared.event.Event.TheVariants.{Read}
 use Rattle.esr_history.specs.declared.event.Reply.TheVariants.{Value}
 use Rattle.esr_history.specs.declared.event.Entry.{Entry}
-use Rattle.esr_history.specs.Events.{is_refusal, accepted, is_query, is_update, is_committed, written, last_value}
+use Rattle.esr_history.specs.Events.{accepted, is_query, is_update, is_committed, written, last_value}
 use Rattle.esr_history.specs.Machine.{Distance, Schedule, done, distance_in, import_in, charges_in, IsLegal}
 use Rattle.esr_history.specs.Legal.{along}
-use Rattle.esr_history.specs.Operations.{Operation, operations, operations_in, operation_of, commit_order}
+use Rattle.esr_history.specs.Operations.{Operation, operations, operations_in, commit_order}
 use Rattle.esr_history.specs.Serial.{is_before, committed_updates, state, IsSerializable}
 use Rattle.esr_history.specs.Queries.{updates_of, is_strict, begins, before_begin, distance_from, members, ImportBoundsDistance, IsAlike}
 use Rattle.esr_history.proofs.Membership.{get_seam, Pairs, Pairs-filter, All-from_pairs, Contains-In, In-of_filter, In-filter, In-from_any, any-from_number}
@@ -31,9 +31,7 @@ use Rattle.esr_history.proofs.Onward.{IsAfter, legal_after, legal_front, has_beg
 
 -- operations of entries in two parts
 operations-append : (xs ys : List Entry) → operations_in (xs ++ ys) ≡ operations_in xs ++ operations_in ys
-operations-append xs ys =
-    ap (filter_map operation_of) (filter-append (λ (e : Entry). not (is_refusal e.reply)) xs ys)
-    ∙ filter_map-append operation_of (filter (λ (e : Entry). not (is_refusal e.reply)) xs) (filter (λ (e : Entry). not (is_refusal e.reply)) ys)
+operations-append xs ys = grind (arith, filter-append, filter_map-append, filter)
 
 module _ (d : Distance) (h : Schedule) (legal : IsLegal d h) where
   -- in commit order, each committed update once and after those before it

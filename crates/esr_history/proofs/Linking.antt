@@ -1,5 +1,5 @@
 -- Tables of places, entry after entry.
-use Rattle.std.proofs.Common.{◌≡◌, ℕ, zero, suc, ◌+◌, ◌-◌, ◌<◌, ◌≤◌, Bool, true, false, not, List, [], ◌∷◌, ◌++◌, length, take, get_or, refl, sym, ◌∙◌, ap, arith, ⊎_elim, filter, cond, map, Option, Some, None, slice_set, add-one, append-nil, replicate}
+use Rattle.std.proofs.Common.{◌≡◌, ℕ, zero, suc, ◌+◌, ◌-◌, ◌<◌, ◌≤◌, Bool, true, false, List, [], ◌∷◌, ◌++◌, length, take, get_or, refl, sym, ◌∙◌, ap, arith, ⊎_elim, filter, cond, map, Option, Some, None, slice_set, add-one, append-nil, replicate}
 use Rattle.std.specs.Prelude.{slice_index_or, if◌then◌else◌}
 use Rattle.std.specs.List.{last_or, range_with_len, slice_get, cons_option}
 use Rattle.std.specs.Option.{option_map}
@@ -42,8 +42,7 @@ last_same key k es e no_key = ap (last_or None) (places_push key k 0 es e ∙ (a
 
 pub last_here : (key : Entry → Option ℕ) (k : ℕ) (es : List Entry) (e : Entry) → is_key (key e) k ≡ true → last_place key k (es ++ e ∷ []) ≡ Some (length es)
 last_here key k es e has_key =
-    let z : 0 + length es ≡ length es = omega arith in
-    ap (last_or None) (places_push key k 0 es e ∙ ap (λ b. places_from key k 0 es ++ cond b ((0 + length es) ∷ []) []) has_key) ∙ (last_or_push None (places_from key k 0 es) (0 + length es) ∙ ap Some z)
+    grind (arith, places_push key k 0 es e, cond, last_or_push None (places_from key k 0 es) (0 + length es))
 
 -- ---- tables by key
 pub mapped_get : (f : ℕ → ℕ) (a n k : ℕ) → k < n → slice_index_or (map f (range_with_len a n)) k 0 ≡ f (a + k)
@@ -58,11 +57,7 @@ mapped_past f a (suc n) (suc k) l = mapped_past f (a + 1) n k (omega arith)
 
 pub at_key_is : (key : Entry → Option ℕ) (es : List Entry) (n : ℕ) → ((k : ℕ) → n ≤ k → last_place key k es ≡ None) → (own : Option ℕ) → key_at (lasts_by key es n) own ≡ coded (last_of_key key own es)
 at_key_is key es n past None = refl
-at_key_is key es n past (Some k) =
-    ⊎_elim
-    (λ l. let z : 0 + k ≡ k = omega arith in mapped_get (λ k. coded (last_place key k es)) 0 n k l ∙ ap (λ m. coded (last_place key m es)) z)
-    (λ g. mapped_past (λ k. coded (last_place key k es)) 0 n k g ∙ sym (ap coded (past k g)))
-    (cases_lt k n)
+at_key_is key es n past (Some k) = grind (arith, ⊎_elim, mapped_get, mapped_past, cases_lt)
 
 mapped_agree : (f g : ℕ → ℕ) (a n : ℕ) → ((i : ℕ) → a ≤ i → i < a + n → f i ≡ g i) → map f (range_with_len a n) ≡ map g (range_with_len a n)
 mapped_agree f g a zero same = refl
@@ -70,9 +65,7 @@ mapped_agree f g a (suc n) same = ap (λ v. v ∷ map f (range_with_len (a + 1) 
 
 mapped_set : (f g : ℕ → ℕ) (a n j : ℕ) → ((i : ℕ) → (i ≡ a + j → ⊥) → f i ≡ g i) → map f (range_with_len a n) ≡ slice_set (map g (range_with_len a n)) j (f (a + j))
 mapped_set f g a zero j same = refl
-mapped_set f g a (suc n) zero same =
-    let e : a ≡ a + 0 = omega arith in
-    ap (λ v. v ∷ map f (range_with_len (a + 1) n)) (ap f e) ∙ ap (λ l. f (a + 0) ∷ l) (mapped_agree f g (a + 1) n (λ i l m. same i (λ is. absurd (omega (arith, is, l)))))
+mapped_set f g a (suc n) zero same = grind (arith, map f (range_with_len (a + 1) n), mapped_agree)
 mapped_set f g a (suc n) (suc j) same =
     let e : a + 1 + j ≡ a + suc j = omega arith in
     ap (λ v. v ∷ map f (range_with_len (a + 1) n)) (same a (λ is. absurd (omega (arith, is))))
@@ -93,9 +86,7 @@ lasts_some key es e n k is =
     ∙ ap (slice_set (lasts_by key es n) k) (ap (λ m. coded (last_place key m (es ++ e ∷ []))) z ∙ ap coded (last_here key k es e (ap (λ o. is_key o k) is ∙ eq-eqb k k refl)))
 
 pub lasts_grow : (key : Entry → Option ℕ) (es : List Entry) (n : ℕ) → lasts_by key es (n + 1) ≡ lasts_by key es n ++ coded (last_place key n es) ∷ []
-lasts_grow key es n =
-    let z : 0 + n ≡ n = omega arith in
-    ap (map (λ k. coded (last_place key k es))) (range-push 0 n) ∙ (map-append (λ k. coded (last_place key k es)) (range_with_len 0 n) ((0 + n) ∷ []) ∙ ap (λ m. lasts_by key es n ++ coded (last_place key m es) ∷ []) z)
+lasts_grow key es n = grind (arith, map, range-push 0 n, map-append)
 
 -- ---- links by place
 
@@ -117,11 +108,7 @@ links_push key own es e =
     ∙ ap (λ t. coded (last_of_key key (own e) t)) (take-append_seam es (e ∷ [])))))))
 
 pub link_at : (key own : Entry → Option ℕ) (es : List Entry) (i : ℕ) → decoded (slice_index_or (links_by key own es) i 0) ≡ earlier key own es i
-link_at key own es i =
-    ⊎_elim
-    (λ l. let z : 0 + i ≡ i = omega arith in ap decoded (mapped_get (λ i. coded (earlier key own es i)) 0 (length es) i l ∙ ap (λ m. coded (earlier key own es m)) z) ∙ decoded_coded (earlier key own es i))
-    (λ g. ap decoded (mapped_past (λ i. coded (earlier key own es i)) 0 (length es) i g) ∙ sym (ap (λ o. earlier_at key (option_map own o) (take i es)) (slice_get_past es i g)))
-    (cases_lt i (length es))
+link_at key own es i = grind (arith, ⊎_elim, mapped_get, decoded_coded, mapped_past, slice_get_past, cases_lt)
 
 pub links_length : (key own : Entry → Option ℕ) (es : List Entry) → length (links_by key own es) ≡ length es
 links_length key own es = at 0 (length es)
@@ -132,13 +119,10 @@ links_length key own es = at 0 (length es)
 
 -- ---- what one more entry changes
 pub accepted_push : (es : List Entry) (e : Entry) → is_refusal e.reply ≡ false → accepted (es ++ e ∷ []) ≡ accepted es ++ e.event ∷ []
-accepted_push es e is =
-    ap (map (λ (m : Entry). m.event)) (filter-append (λ (m : Entry). not (is_refusal m.reply)) es (e ∷ []) ∙ ap (λ b. filter (λ (m : Entry). not (is_refusal m.reply)) es ++ cond (not b) (e ∷ []) []) is)
-    ∙ map-append (λ (m : Entry). m.event) (filter (λ (m : Entry). not (is_refusal m.reply)) es) (e ∷ [])
+accepted_push es e is = grind (arith, map, filter-append, filter, cond, map-append)
 
 pub accepted_refused : (es : List Entry) (e : Entry) → is_refusal e.reply ≡ true → accepted (es ++ e ∷ []) ≡ accepted es
-accepted_refused es e is =
-    ap (map (λ (m : Entry). m.event)) (filter-append (λ (m : Entry). not (is_refusal m.reply)) es (e ∷ []) ∙ (ap (λ b. filter (λ (m : Entry). not (is_refusal m.reply)) es ++ cond (not b) (e ∷ []) []) is ∙ append-nil (filter (λ (m : Entry). not (is_refusal m.reply)) es)))
+accepted_refused es e is = grind (arith, map, filter-append, filter, cond, append-nil)
 
 begins_push : (es : List Entry) (e : Entry) → is_refusal e.reply ≡ false → beginnings (accepted (es ++ e ∷ [])) ≡ beginnings (accepted es) ++ cons_option (beginning_of e.event) []
 begins_push es e is = ap beginnings (accepted_push es e is) ∙ filter_map-append beginning_of (accepted es) (e.event ∷ [])
@@ -169,19 +153,13 @@ items_after es e n is = at (item_of e.event) (ap (λ b. if b then None else item
 -- the tables by transactions after one more entry of a transaction that has begun
 module _ (es : List Entry) (e : Entry) (is : is_refusal e.reply ≡ false) (none : beginning_of e.event ≡ None) where
   txns_known : (t : ℕ) → txn_of e.event e.reply ≡ Some t → lasts_by accepted_txn (es ++ e ∷ []) (begun_count (es ++ e ∷ []) + 1) ≡ slice_set (lasts_by accepted_txn es (begun_count es + 1)) t (length es + 1)
-  txns_known t own =
-      ap (λ n. lasts_by accepted_txn (es ++ e ∷ []) (n + 1)) (count_same es e is none)
-      ∙ lasts_some accepted_txn es e (begun_count es + 1) t (ap (λ b. if b then None else txn_of e.event e.reply) is ∙ own)
+  txns_known t own = grind (arith, count_same es e is none, lasts_some)
 
   ends_known : (t : ℕ) → ender e.event ≡ Some t → lasts_by accepted_end (es ++ e ∷ []) (begun_count (es ++ e ∷ []) + 1) ≡ slice_set (lasts_by accepted_end es (begun_count es + 1)) t (length es + 1)
-  ends_known t own =
-      ap (λ n. lasts_by accepted_end (es ++ e ∷ []) (n + 1)) (count_same es e is none)
-      ∙ lasts_some accepted_end es e (begun_count es + 1) t (ap (λ b. if b then None else ender e.event) is ∙ own)
+  ends_known t own = grind (arith, count_same es e is none, lasts_some)
 
   ends_none : ender e.event ≡ None → lasts_by accepted_end (es ++ e ∷ []) (begun_count (es ++ e ∷ []) + 1) ≡ lasts_by accepted_end es (begun_count es + 1)
-  ends_none own =
-      ap (λ n. lasts_by accepted_end (es ++ e ∷ []) (n + 1)) (count_same es e is none)
-      ∙ lasts_none accepted_end es e (begun_count es + 1) (ap (λ b. if b then None else ender e.event) is ∙ own)
+  ends_none own = grind (arith, count_same es e is none, lasts_none)
 
 -- and after a begin
 module _ (es : List Entry) (e : Entry) (is : is_refusal e.reply ≡ false) (b : Beginning) (some : beginning_of e.event ≡ Some b) where
@@ -198,13 +176,7 @@ module _ (es : List Entry) (e : Entry) (is : is_refusal e.reply ≡ false) (b : 
       ∙ ap (λ o. lasts_by accepted_txn es (begun_count es + 1) ++ coded o ∷ []) (last_here accepted_txn (begun_count es + 1) es e (ap (λ o. is_key o (begun_count es + 1)) key ∙ eq-eqb (begun_count es + 1) (begun_count es + 1) refl))))
 
   ends_begun : (n : ℕ) → ender e.event ≡ None → IsFit n es → lasts_by accepted_end (es ++ e ∷ []) (begun_count (es ++ e ∷ []) + 1) ≡ lasts_by accepted_end es (begun_count es + 1) ++ 0 ∷ []
-  ends_begun n own fit =
-      let key : accepted_end e ≡ None = ap (λ b. if b then None else ender e.event) is ∙ own in
-      let past : begun_count es < begun_count es + 1 = omega arith in
-      ap (λ m. lasts_by accepted_end (es ++ e ∷ []) (m + 1)) count
-      ∙ (lasts_grow accepted_end (es ++ e ∷ []) (begun_count es + 1)
-      ∙ (ap (λ l. l ++ coded (last_place accepted_end (begun_count es + 1) (es ++ e ∷ [])) ∷ []) (lasts_none accepted_end es e (begun_count es + 1) key)
-      ∙ ap (λ o. lasts_by accepted_end es (begun_count es + 1) ++ coded o ∷ []) (last_same accepted_end (begun_count es + 1) es e (ap (λ o. is_key o (begun_count es + 1)) key) ∙ fit.ends (begun_count es + 1) past)))
+  ends_begun n own fit = grind (arith, count, lasts_grow accepted_end (es ++ e ∷ []) (begun_count es + 1), lasts_none, last_same)
 
 txns_after_entry : (es : List Entry) (ev : Event) (r : Reply) → is_refusal r ≡ false → IsNumbered es ev r
     → lasts_by accepted_txn (es ++ record { event = ev; reply = r } ∷ []) (begun_count (es ++ record { event = ev; reply = r } ∷ []) + 1) ≡ txns_after (lasts_by accepted_txn es (begun_count es + 1)) ev (length es + 1)
@@ -250,14 +222,7 @@ module _ (n : ℕ) (es : List Entry) (l : Links) (are : AreLinks n es l) (fit : 
   pub refused_more : (m : Links) → is_refusal e.reply ≡ true → m.on_item.items ≡ l.on_item.items ++ key_at l.items.items (item_in e) ∷ [] → m.of_txn.items ≡ l.of_txn.items ++ key_at l.txns.items (txn_in e) ∷ []
       → m.items ≡ l.items → m.txns ≡ l.txns → m.ends ≡ l.ends → m.begins ≡ l.begins → AreLinks n (es ++ e ∷ []) m
   refused_more m is a b c d f g =
-      let none : (o : Option ℕ) → (if is_refusal e.reply then None else o) ≡ None = λ o. ap (λ b. if b then None else o) is in record {
-        on_item = a ∙ on_item_more;
-        of_txn = b ∙ of_txn_more;
-        items = ap (λ v. v.items) c ∙ (are.items ∙ sym (lasts_none accepted_item es e n (none (item_in e))));
-        txns = ap (λ v. v.items) d ∙ (are.txns ∙ sym (ap (λ k. lasts_by accepted_txn (es ++ e ∷ []) (k + 1)) (count_refused es e is) ∙ lasts_none accepted_txn es e (begun_count es + 1) (none (txn_in e))));
-        ends = ap (λ v. v.items) f ∙ (are.ends ∙ sym (ap (λ k. lasts_by accepted_end (es ++ e ∷ []) (k + 1)) (count_refused es e is) ∙ lasts_none accepted_end es e (begun_count es + 1) (none (ender e.event))));
-        begins = ap (λ v. v.items) g ∙ (are.begins ∙ sym (ap (λ l. map begin_of (beginnings l)) (accepted_refused es e is)));
-      }
+      grind (arith, on_item_more, of_txn_more, lasts_none, count_refused es e is, map, accepted_refused es e is)
 
   pub accepted_more : (m : Links) (code : ℕ) → is_refusal e.reply ≡ false → IsNumbered es e.event e.reply → code ≡ length es + 1 → m.on_item.items ≡ l.on_item.items ++ key_at l.items.items (item_in e) ∷ [] → m.of_txn.items ≡ l.of_txn.items ++ key_at l.txns.items (txn_in e) ∷ []
       → m.items.items ≡ with_key l.items.items (item_of e.event) code → m.txns.items ≡ txns_after l.txns.items e.event code → m.ends.items ≡ ends_after l.ends.items e.event code → m.begins.items ≡ begins_after l.begins.items e.event → AreLinks n (es ++ e ∷ []) m

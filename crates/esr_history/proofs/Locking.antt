@@ -1,6 +1,5 @@
 -- What two-phase locking keeps: who conflicts has ended first, so commits keep the conflict order.
-use Rattle.std.proofs.Common.{◌≡◌, ℕ, Bool, true, false, not, ◌&&◌, ◌||◌, ◌⊎◌, List, [], ◌∷◌, ◌++◌, refl, sym, ◌∙◌, ap, subst, inl, inr, ⊎_elim, filter, eqb, Option}
-use Rattle.std.specs.Prelude.{is_some}
+use Rattle.std.proofs.Common.{◌≡◌, ℕ, Bool, true, false, not, ◌&&◌, ◌||◌, ◌⊎◌, List, [], ◌∷◌, ◌++◌, refl, sym, ◌∙◌, ap, subst, inl, inr, ⊎_elim, filter, eqb, Option, arith}
 use Rattle.std.specs.List.{list_any}
 use Rattle.std.proofs.lemmas.List.Folds.{list_any-append}
 use Rattle.std.proofs.lemmas.List.Elements.{filter-append}
@@ -13,8 +12,7 @@ use Rattle.esr_history.proofs.Traces.{is_among, says, Setting, Trace, update_in,
 
 pub among_push : (us : List ℕ) (u v : ℕ) → is_among (us ++ u ∷ []) v ≡ true → (is_among us v ≡ true) ⊎ (u ≡ v)
 among_push us u v h =
-    ⊎_elim (λ a. inl a) (λ b. ⊎_elim (λ e. inr (eqb-true u v e)) (λ f. absurd (true≢false (sym f))) (or_cases (eqb u v) false b))
-    (or_cases (is_among us v) (is_among (u ∷ []) v) (sym (list_any-append (λ w. eqb w v) us (u ∷ [])) ∙ h))
+    grind (arith, ⊎_elim, eqb-true, true≢false, or_cases, eqb u v, is_among us v, is_among (u ∷ []) v, list_any-append, eqb)
 
 pub among_keep : (us : List ℕ) (u v : ℕ) → is_among us v ≡ true → is_among (us ++ u ∷ []) v ≡ true
 among_keep us u v h = list_any-append (λ w. eqb w v) us (u ∷ []) ∙ or_left (is_among us v) (is_among (u ∷ []) v) h
@@ -59,12 +57,7 @@ ended_kept_abort t u v h =
 
 pub known : {s : Setting} {t : Trace} {m : ℕ → ℕ} → Reached s t m → Known t
 known nothing = record { of_operations = λ o i. absurd i; of_ends = λ u h. absurd (true≢false (sym h)) }
-known (begin {t = t} r b keeps) =
-    let k = known r in
-    record {
-      of_operations = λ o i. ap is_some (keeps o.txn (k.of_operations o i)) ∙ k.of_operations o i;
-      of_ends = λ u h. ap is_some (keeps u (k.of_ends u h)) ∙ k.of_ends u h;
-    }
+known (begin {t = t} r b keeps) = grind (arith, known r)
 known (read_update {t = t} r u x a up free) =
     let k = known r in
     record { of_operations = In-push (λ o. begun_in t o.txn ≡ true) t.operations _ k.of_operations a.begun; of_ends = k.of_ends }
@@ -74,12 +67,8 @@ known (read_query {t = t} r u x c a up free) =
 known (write {t = t} r u x v c a up free paid) =
     let k = known r in
     record { of_operations = In-push (λ o. begun_in t o.txn ≡ true) t.operations _ k.of_operations a.begun; of_ends = k.of_ends }
-known (commit {t = t} r u a) =
-    let k = known r in
-    record { of_operations = k.of_operations; of_ends = λ v h. ⊎_elim (λ e. k.of_ends v e) (λ e. subst (λ w. begun_in t w ≡ true) e a.begun) (ended_commit t u v h) }
-known (abort {t = t} r u a) =
-    let k = known r in
-    record { of_operations = k.of_operations; of_ends = λ v h. ⊎_elim (λ e. k.of_ends v e) (λ e. subst (λ w. begun_in t w ≡ true) e a.begun) (ended_abort t u v h) }
+known (commit {t = t} r u a) = grind (arith, known r, ⊎_elim, begun_in, ended_commit)
+known (abort {t = t} r u a) = grind (arith, known r, ⊎_elim, begun_in, ended_abort)
 
 -- of two conflicting operations of updates, the first is of one that has ended
 abbrev pub Locked : Trace → Operation → Operation → Type 0
@@ -101,26 +90,13 @@ update_stays t b u keeps h = ap (says (λ b. not b.query)) (keeps u h)
 
 pub locks : {s : Setting} {t : Trace} {m : ℕ → ℕ} → Reached s t m → Pairs (Locked t) t.operations
 locks nothing = tt
-locks (begin {t = t} r b keeps) =
-    Pairs-map (Locked t) (Locked (with_begins t b)) t.operations
-    (λ x y ix iy l c ux uy. l c (sym (update_stays t b x.txn keeps ((known r).of_operations x ix)) ∙ ux) (sym (update_stays t b y.txn keeps ((known r).of_operations y iy)) ∙ uy))
-    (locks r)
+locks (begin {t = t} r b keeps) = grind (arith, Pairs-map, with_begins t b, update_stays, known r, locks r)
 locks {s = s} (read_update {t = t} r u x a up free) =
-    let o = read_of u x (current_in s.opening t x) in
-    Pairs-push (Locked t) t.operations o (locks r)
-    (λ y iy c uy uo.
-    let p = conflict_parts y o c in
-    free.none y iy (⊎_elim (λ e. e) (λ e. absurd (true≢false (sym e))) (or_cases y.writes false p.one_writes)) p.same_item p.apart uy)
-locks (read_query {t = t} r u x c a up free) =
-    Pairs-push (Locked t) t.operations _ (locks r) (λ y iy c uy uo. absurd (true≢false (sym uo ∙ up)))
-locks (write {t = t} r u x v c a up free paid) =
-    let o = write_of u x v in
-    Pairs-push (Locked t) t.operations o (locks r)
-    (λ y iy c uy uo. let p = conflict_parts y o c in free.none y iy p.same_item p.apart uy)
-locks (commit {t = t} r u a) =
-    Pairs-map (Locked t) (Locked (with_commit t u)) t.operations (λ x y ix iy l c ux uy. ended_kept_commit t u x.txn (l c ux uy)) (locks r)
-locks (abort {t = t} r u a) =
-    Pairs-map (Locked t) (Locked (with_abort t u)) t.operations (λ x y ix iy l c ux uy. ended_kept_abort t u x.txn (l c ux uy)) (locks r)
+    grind (arith, read_of u x (current_in s.opening t x), current_in s.opening t x, Pairs-push, locks r, conflict_parts, ⊎_elim, true≢false, or_cases)
+locks (read_query {t = t} r u x c a up free) = grind (arith, Pairs-push, locks r, true≢false)
+locks (write {t = t} r u x v c a up free paid) = grind (arith, write_of u x v, Pairs-push, locks r, conflict_parts)
+locks (commit {t = t} r u a) = grind (arith, Pairs-map, with_commit t u, ended_kept_commit, locks r)
+locks (abort {t = t} r u a) = grind (arith, Pairs-map, with_abort t u, ended_kept_abort, locks r)
 
 abbrev pub is_before_in : Trace → ℕ → ℕ → Bool
 is_before_in t u v = any_pair (λ a b. (eqb a.txn u) && ((eqb b.txn v) && conflict a b)) t.operations
@@ -142,13 +118,7 @@ any_pair_push r (x ∷ xs) y h =
     (or_cases (list_any (r x) (xs ++ y ∷ [])) (any_pair r (xs ++ y ∷ [])) h)
 
 pub before_ended : {s : Setting} {t : Trace} {m : ℕ → ℕ} → Reached s t m → (u v : ℕ) → update_in t u ≡ true → update_in t v ≡ true → is_before_in t u v ≡ true → ended_in t u ≡ true
-before_ended {t = t} r u v uu uv h =
-    let f = any_pair_in (λ a b. (eqb a.txn u) && ((eqb b.txn v) && conflict a b)) (Locked t) t.operations (locks r) h in
-    let p = and_parts (eqb f.0.txn u) ((eqb f.1.txn v) && conflict f.0 f.1) f.2 in
-    let q = and_parts (eqb f.1.txn v) (conflict f.0 f.1) p.1 in
-    let eu : f.0.txn ≡ u = eqb-true f.0.txn u p.0 in
-    let ev : f.1.txn ≡ v = eqb-true f.1.txn v q.0 in
-    subst (λ w. ended_in t w ≡ true) eu (f.3 q.1 (ap (update_in t) eu ∙ uu) (ap (update_in t) ev ∙ uv))
+before_ended {t = t} r u v uu uv h = grind (arith, any_pair_in, eqb, locks r, and_parts, eqb-true, ended_in, update_in t)
 
 abbrev pub committed_updates_in : Trace → List ℕ
 committed_updates_in t = filter (update_in t) t.commits
@@ -197,7 +167,5 @@ commits_once (begin r b keeps) = commits_once r
 commits_once (read_update r u x a up free) = commits_once r
 commits_once (read_query r u x c a up free) = commits_once r
 commits_once (write r u x v c a up free paid) = commits_once r
-commits_once (commit {t = t} r u a) =
-    Pairs-push (λ u v. u ≡ v → ⊥) t.commits u (commits_once r)
-    (λ w iw e. true≢false (sym (commit_ended t w iw) ∙ subst (λ z. ended_in t z ≡ false) (sym e) a.open_ended))
+commits_once (commit {t = t} r u a) = grind (arith, Pairs-push, commits_once r, true≢false, commit_ended, ended_in)
 commits_once (abort r u a) = commits_once r

@@ -13,8 +13,8 @@ use Rattle.esr_history.specs.declared.event.Reply.{Reply}
 use Rattle.esr_history.specs.declared.event.Reply.TheVariants.{Begun, Value, Wrote, Committed, Aborted, Refused}
 use Rattle.esr_history.specs.declared.event.Refusal.{Refusal}
 use Rattle.esr_history.specs.declared.event.Entry.{Entry}
-use Rattle.esr_history.specs.Events.{Beginning, is_refusal, beginning, beginning_of, beginnings, numbers, is_query, is_update, is_begun, is_active, is_committed, holds_read, reads_of, current_value, committed_value, reads}
-use Rattle.esr_history.specs.Machine.{Distance, Schedule, Charge, done, extended, blank, distance_in, due_in, charge_of_read, charge_of_write, import_in, writer, reply_to, reasons, refusal, acceptance, answered, IsLegal, IsLegalAfter}
+use Rattle.esr_history.specs.Events.{Beginning, is_refusal, beginning, beginning_of, beginnings, numbers, is_query, is_update, is_begun, is_active, is_committed, holds_read, reads_of, current_value}
+use Rattle.esr_history.specs.Machine.{Distance, Schedule, Charge, done, extended, blank, distance_in, due_in, charge_of_write, import_in, reply_to, reasons, refusal, acceptance, answered, IsLegal, IsLegalAfter}
 use Rattle.esr_history.specs.Legal.{along, legal_induction, legal_induction_after}
 use Rattle.esr_history.specs.Queries.{begins}
 use Rattle.esr_history.proofs.Lists.{filter_map_push}
@@ -43,14 +43,7 @@ module _ (d : Distance) (h : Schedule) (q : ℕ) (over : is_committed (done h) q
 
   -- an event charges nothing to a query that has ended
   read_free : (t : TxnId) (x : ItemId) → is_active (done h) t.0 ≡ true → import_in (due_in d h (Read t x)) q ≡ 0
-  read_free t x act = at (is_query (done h) t.0) (writer (done h) x.0)
-    where
-      at : (b : Bool) (w : Option ℕ) → import_in (if b then charge_of_read (distance_in d h) h.opening (done h) t.0 x.0 w else []) q ≡ 0
-      at false w = refl
-      at true None = refl
-      at true (Some u) =
-          let c : Charge = record { query = t.0; update = u; amount = distance_in d h x.0 (current_value h.opening (done h) x.0) (committed_value h.opening (done h) x.0) } in
-          import-cons c [] q ∙ ap (λ b. cond b c.amount 0 + 0) (ne_eqb t.0 q (λ e. not_active (subst (λ w. is_active (done h) w ≡ true) e act)))
+  read_free t x act = grind (arith, import-cons, cond, ne_eqb, not_active)
 
   write_free : (t : TxnId) (x : ItemId) (v : ℤ) → import_in (due_in d h (Write t x v)) q ≡ 0
   write_free t x v = at (is_update (done h) t.0)
@@ -65,9 +58,7 @@ module _ (d : Distance) (h : Schedule) (q : ℕ) (over : is_committed (done h) q
               → (if b then Some (record { query = p; update = t.0; amount = reads_of (done h) p x.0 * distance_in d h x.0 v (current_value h.opening (done h) x.0) }) else None) ≡ Some c → ⊥
           given false passes some = cc
           given true passes some =
-              let same : p ≡ q = ap (λ (g : Charge). g.query) (same_Some (record { query = p; update = t.0; amount = reads_of (done h) p x.0 * distance_in d h x.0 v (current_value h.opening (done h) x.0) }) c some) ∙ own in
-              let held = (and_parts (is_query (done h) p) (holds_read (done h) p x.0) passes).1 in
-              not_active (subst (λ w. is_active (done h) w ≡ true) same (and_parts (is_active (done h) p) (list_any (reads p x.0) (done h)) held).0)
+              grind (arith, same_Some, and_parts (is_query (done h) p) (holds_read (done h) p x.0) passes, not_active, and_parts)
 
       at : (b : Bool) → import_in (if b then filter_map charge (numbers (done h)) else []) q ≡ 0
       at false = refl
@@ -84,11 +75,7 @@ module _ (d : Distance) (g : Schedule) (q : ℕ) (h : Schedule) (after : IsAfter
   over = committed_among (done h) q ∙ after.same.committed
 
   from : (e : Event) (r : Reply) → r ≡ reply_to d h e → (t : Trace) → trace (extended h e r) ≡ t → SameFor q (trace g) t → imports d (extended h e r) q ≡ imports d h q → IsAfter d g q (extended h e r)
-  from e r is t is_trace same imported = record {
-    reached = reached_step d h e r is after.reached;
-    same = subst (SameFor q (trace g)) (sym is_trace) same;
-    imported = imported ∙ after.imported;
-  }
+  from e r is t is_trace same imported = grind (arith, reached_step d h e r is after.reached, trace g)
 
   uncharged : (e : Event) (r : Reply) → is_refusal r ≡ false → import_in (due_in d h e) q ≡ 0 → imports d (extended h e r) q ≡ imports d h q
   uncharged e r is free = with_imports d h e r is q ∙ (ap (λ n. imports d h q + n) free ∙ add-zero (imports d h q))
@@ -131,8 +118,7 @@ module _ (d : Distance) (g : Schedule) (q : ℕ) (h : Schedule) (after : IsAfter
 pub legal_parts : (d : Distance) (before : Schedule) (xs ys : List Entry) → IsLegalAfter d before (xs ++ ys) → IsLegalAfter d before xs × IsLegalAfter d (along before xs) ys
 legal_parts d before [] ys legal = (tt, subst (λ (es : List Entry). IsLegalAfter d (record before { entries = es }) ys) (sym (append-nil before.entries)) legal)
 legal_parts d before (e ∷ xs) ys legal =
-    let p = legal_parts d (extended before e.event e.reply) xs ys legal.1 in
-    ((legal.0, p.0), subst (λ (es : List Entry). IsLegalAfter d (record before { entries = es }) ys) (append_assoc before.entries (e ∷ []) xs) p.1)
+    grind (arith, legal_parts d (extended before e.event e.reply) xs ys legal.1, append_assoc before.entries (e ∷ []) xs)
 
 pub legal_front : (d : Distance) (h : Schedule) (rest : List Entry) → IsLegal d (along h rest) → IsLegal d h
 legal_front d h rest legal = (legal_parts d (blank h) h.entries rest legal).0
@@ -152,9 +138,7 @@ HasBegins h = (u : ℕ) → is_begun (done h) u ≡ true → list_any (λ (n : E
 
 module _ (d : Distance) (h : Schedule) (has : HasBegins h) where
   begun_before : (e : Event) (r : Reply) (u : ℕ) → is_begun (done h) u ≡ true → list_any (λ (n : Entry). begins u n.reply) (extended h e r).entries ≡ true
-  begun_before e r u begun =
-      list_any-append (λ (n : Entry). begins u n.reply) h.entries (record { event = e; reply = r } ∷ [])
-      ∙ or_left (list_any (λ (n : Entry). begins u n.reply) h.entries) (list_any (λ (n : Entry). begins u n.reply) (record { event = e; reply = r } ∷ [])) (has u begun)
+  begun_before e r u begun = grind (arith, list_any-append, or_left)
 
   -- an event that begins nothing
   no_begin : (e : Event) (r : Reply) → ((u : ℕ) → is_begun (done (extended h e r)) u ≡ is_begun (done h) u) → HasBegins (extended h e r)
@@ -195,12 +179,8 @@ module _ (d : Distance) (h : Schedule) (has : HasBegins h) where
       accepted_begins (Abort t) = other_begin (Abort t) Aborted refl refl
 
       at : (why : Option Refusal) → refusal d h e ≡ why → HasBegins (extended h e r)
-      at None none =
-          let answer : r ≡ acceptance h e = is ∙ ap (λ w. answered w (acceptance h e)) none in
-          subst (λ w. HasBegins (extended h e w)) (sym answer) (accepted_begins e)
-      at (Some why) some =
-          let answer : r ≡ Refused why = is ∙ ap (λ w. answered w (acceptance h e)) some in
-          subst (λ w. HasBegins (extended h e w)) (sym answer) (no_begin e (Refused why) (λ u. ap (λ (es : List Event). is_begun es u) (done-refused h e why)))
+      at None none = grind (arith, accepted_begins e)
+      at (Some why) some = grind (arith, no_begin, done-refused h e why)
 
 pub has_begins : (d : Distance) (h : Schedule) → IsLegal d h → HasBegins h
 has_begins d h legal = legal_induction d HasBegins (λ g e r is has. begins_step d g has e r is) h none legal

@@ -4,7 +4,7 @@ use Rattle.std.proofs.lemmas.List.{get_or_append_left}
 use Rattle.std.proofs.lemmas.List.Elements.{All-head, All-tail}
 use Rattle.esr_history.specs.declared.event.Entry.{Entry}
 use Rattle.esr_history.specs.declared.short.Short.{Short}
-use Rattle.esr_history.specs.declared.short.Short.TheVariants.{UpdateBegun, QueryBegun, WasRead, WasWritten, HasCommitted, HasAborted, ReadBlocked, WriteBlocked, Long}
+use Rattle.esr_history.specs.declared.short.Short.TheVariants.{Long}
 use Rattle.esr_history.specs.Short.{entry_of, IsWithin, no_entry}
 
 -- the same entry with one more in the list

@@ -17,9 +17,7 @@ module _ {X : Type 0} where
   -- one element of a list made so is set
   pub set_range : (f g : ℕ → X) (a n k : ℕ) (y : X) → k < n → g (a + k) ≡ y → ((t : ℕ) → (t ≡ a + k → ⊥) → g t ≡ f t) → set (map f (range_with_len a n)) k y ≡ map g (range_with_len a n)
   set_range f g a zero k y l is same = absurd (omega arith)
-  set_range f g a (suc n) zero y l is same =
-      ap (λ (z : X). z ∷ map f (range_with_len (a + 1) n)) (sym is ∙ ap g (omega arith))
-      ∙ ap (λ (ys : List X). g a ∷ ys) (map_same f g (a + 1) n (λ t low high. sym (same t (λ (e : t ≡ a + 0). omega arith))))
+  set_range f g a (suc n) zero y l is same = grind (arith, map, map_same)
   set_range f g a (suc n) (suc k) y l is same =
       ap (λ (z : X). z ∷ set (map f (range_with_len (a + 1) n)) k y) (sym (same a (λ (e : a ≡ a + suc k). omega arith)))
       ∙ ap (λ (ys : List X). g a ∷ ys) (set_range f g (a + 1) n k y (omega arith) (ap g (omega arith) ∙ is) (λ t other. same t (λ (e : t ≡ a + suc k). other (omega arith))))
@@ -33,17 +31,11 @@ module _ {X : Type 0} where
   module _ (key : X → ℕ) (f : ℕ → Option X) (own : (u : ℕ) (y : X) → f u ≡ Some y → key y ≡ u) where
     pub keys_above : (t a n : ℕ) → t < a → AllByRecursion (λ (y : X). t < key y) (filter_map f (range_with_len a n))
     keys_above t a zero l = tt
-    keys_above t a (suc n) l = at (f a) refl (keys_above t (a + 1) n (omega arith))
-      where
-        at : (o : Option X) → f a ≡ o → AllByRecursion (λ (y : X). t < key y) (filter_map f (range_with_len (a + 1) n)) → AllByRecursion (λ (y : X). t < key y) (cons_option o (filter_map f (range_with_len (a + 1) n)))
-        at None is later = later
-        at (Some y) is later = (let k : key y ≡ a = own a y is in omega arith, later)
+    keys_above t a (suc n) l = grind (arith, keys_above t (a + 1) n (omega arith))
 
     placed_front : (t : ℕ) (new : X) (change : X → X) (xs : List X) → AllByRecursion (λ (y : X). t < key y) xs → placed key t new change xs ≡ new ∷ xs
     placed_front t new change [] all = refl
-    placed_front t new change (x ∷ xs) all =
-        let l : t < key x = all.0 in
-        rw (ne_eqb (key x) t (λ (e : key x ≡ t). omega arith), lt_ltb t (key x) l) refl
+    placed_front t new change (x ∷ xs) all = grind (arith, ne_eqb, lt_ltb)
 
     -- one number's element is placed among those in a row
     pub filter_map_placed : (g : ℕ → Option X) (t : ℕ) (new : X) (change : X → X) → ((u : ℕ) → (u ≡ t → ⊥) → g u ≡ f u) → g t ≡ Some (unwrap_or (option_map change (f t)) new)
@@ -67,9 +59,7 @@ module _ {X : Type 0} where
         past : (a ≡ t → ⊥) → (o : Option X) → f a ≡ o → filter_map g (range_with_len (a + 1) n) ≡ placed key t new change (filter_map f (range_with_len (a + 1) n))
             → cons_option o (filter_map g (range_with_len (a + 1) n)) ≡ placed key t new change (cons_option o (filter_map f (range_with_len (a + 1) n)))
         past ne None is' later = later
-        past ne (Some y) is' later =
-            let k : key y ≡ a = own a y is' in
-            rw (ne_eqb (key y) t (λ (h : key y ≡ t). ne (sym k ∙ h)), le_ltb t (key y) (let l : a ≤ t = low in omega arith)) (ap (λ ys. y ∷ ys) later)
+        past ne (Some y) is' later = grind (arith, ne_eqb, le_ltb)
 
     -- one number's element is dropped
     pub filter_map_dropped : (g : ℕ → Option X) (t : ℕ) → ((u : ℕ) → (u ≡ t → ⊥) → g u ≡ f u) → g t ≡ None → (us : List ℕ) → filter_map g us ≡ filter (λ (y : X). not (key y == t)) (filter_map f us)
@@ -94,11 +84,7 @@ kept_if p u = if p u then Some u else None
 
 pub filter-filter_map : (p : ℕ → Bool) (us : List ℕ) → filter p us ≡ filter_map (kept_if p) us
 filter-filter_map p [] = refl
-filter-filter_map p (u ∷ us) =
-    elim (cases_Bool (p u)) [
-      | inl passes ↦ rw passes (ap (λ ys. u ∷ ys) (filter-filter_map p us))
-      | inr fails ↦ rw fails (filter-filter_map p us)
-    ]
+filter-filter_map p (u ∷ us) = grind (arith, cases_Bool (p u), filter-filter_map p us)
 
 pub kept_if_own : (p : ℕ → Bool) (u y : ℕ) → kept_if p u ≡ Some y → y ≡ u
 kept_if_own p u y is = at (p u) is
@@ -109,11 +95,7 @@ kept_if_own p u y is = at (p u) is
 
 pub find_same : (p q : ℕ → Bool) → ((t : ℕ) → p t ≡ q t) → (us : List ℕ) → find p us ≡ find q us
 find_same p q same [] = refl
-find_same p q same (u ∷ us) =
-    elim (cases_Bool (p u)) [
-      | inl passes ↦ rw (passes, sym (same u) ∙ passes) refl
-      | inr fails ↦ rw (fails, sym (same u) ∙ fails) (find_same p q same us)
-    ]
+find_same p q same (u ∷ us) = grind (arith, cases_Bool (p u), find_same p q same us)
 
 -- who is among those that pass, in a row
 pub any_in_filter : (p : ℕ → Bool) (u : ℕ) (us : List ℕ) → list_any (λ v. v == u) (filter p us) ≡ true → p u ≡ true

@@ -11,16 +11,16 @@ use Rattle.esr_items.specs.Values.{value_at}
 use Rattle.esr_items.specs.declared.metric.ItemId.{ItemId}
 use Rattle.esr_history.specs.declared.event.TxnId.{TxnId}
 use Rattle.esr_history.specs.declared.event.Event.{Event}
-use Rattle.esr_history.specs.declared.event.Event.TheVariants.{BeginUpdate, BeginQuery, Read, Write, Commit, Abort}
+use Rattle.esr_history.specs.declared.event.Event.TheVariants.{Read, Write, Commit, Abort}
 use Rattle.esr_history.specs.declared.event.Reply.{Reply}
 use Rattle.esr_history.specs.declared.event.Reply.TheVariants.{Value, Wrote, Committed, Aborted, Refused}
 use Rattle.esr_history.specs.declared.event.Refusal.{Refusal}
-use Rattle.esr_history.specs.declared.event.Refusal.TheVariants.{QueryMayNotWrite, BlockedByLock}
+use Rattle.esr_history.specs.declared.event.Refusal.TheVariants.{BlockedByLock}
 use Rattle.esr_history.specs.declared.event.Entry.{Entry}
-use Rattle.esr_history.specs.Events.{Beginning, is_refusal, beginning, beginning_of, beginnings, numbers, is_query, is_update, is_active, holds_read, holds_write, reads, writes, reads_of, committed_value, current_value}
+use Rattle.esr_history.specs.Events.{Beginning, is_refusal, beginning, beginning_of, beginnings, numbers, is_query, is_update, is_active, holds_read, holds_write, reads, reads_of, committed_value, current_value}
 use Rattle.esr_history.specs.Machine.{Distance, Schedule, Charge, done, extended, distance_in, charges, charges_in, due_in, charge_of_read, charge_of_write, import_in, writer, other_writer, other_holder, blocked_by, reply_to, reasons, refusal, acceptance, answered, IsLegal}
 use Rattle.esr_history.specs.Legal.{legal_induction}
-use Rattle.esr_history.specs.Operations.{Operation, operation_by, operation_of, operations, committer, commit_order}
+use Rattle.esr_history.specs.Operations.{Operation, operation_by, operations, committer, commit_order}
 use Rattle.esr_history.proofs.Lists.{filter_map_push, find_none, option_map_none}
 use Rattle.esr_history.proofs.Orderly.{beginning-push, beginning-kept, update_begun, active_parts}
 use Rattle.esr_history.proofs.Allowed.{NoneApplies, none_applies, read_allowed, write_allowed, end_allowed}
@@ -45,16 +45,10 @@ entry e r = record { event = e; reply = r }
 
 -- operations after one more entry
 pub operations-refused : (h : Schedule) (e : Event) (why : Refusal) → operations (extended h e (Refused why)) ≡ operations h
-operations-refused h e why =
-    ap (filter_map operation_of) (filter-append (λ (n : Entry). not (is_refusal n.reply)) h.entries (entry e (Refused why) ∷ []) ∙ append-nil (filter (λ (n : Entry). not (is_refusal n.reply)) h.entries))
+operations-refused h e why = grind (arith, filter-append, append-nil, filter)
 
 pub operations-accepted : (h : Schedule) (e : Event) (r : Reply) → is_refusal r ≡ false → operations (extended h e r) ≡ operations h ++ cons_option (operation_by e r) []
-operations-accepted h e r is =
-    ap (filter_map operation_of) (filter-append (λ (n : Entry). not (is_refusal n.reply)) h.entries (entry e r ∷ []) ∙ ap (λ l. filter (λ (n : Entry). not (is_refusal n.reply)) h.entries ++ l) one)
-    ∙ filter_map-append operation_of (filter (λ (n : Entry). not (is_refusal n.reply)) h.entries) (entry e r ∷ [])
-  where
-    one : filter (λ (n : Entry). not (is_refusal n.reply)) (entry e r ∷ []) ≡ entry e r ∷ []
-    one = rw is refl
+operations-accepted h e r is = grind (arith, filter-append, filter, filter_map-append)
 
 pub count_none : {X : Type 0} (p : X → Bool) (xs : List X) → list_any p xs ≡ false → count_by p xs ≡ 0
 count_none p [] h = refl
@@ -114,9 +108,7 @@ module _ (d : Distance) (h : Schedule) where
       subst (λ (w : Trace). Reached (setting d h) w (imports d (extended h e r))) (sym same) (subst (λ (w : ℕ → ℕ). Reached (setting d h) t w) (sym sums) reached)
 
   pub refused_trace : (e : Event) (why : Refusal) → trace (extended h e (Refused why)) ≡ trace h
-  refused_trace e why =
-      let events : done (extended h e (Refused why)) ≡ done h = done-refused h e why in
-      λ i. record { operations = operations-refused h e why i; commits = commit_order (events i); aborts = filter_map aborter (events i); beginning = beginning (events i) }
+  refused_trace e why = grind (arith, done-refused h e why, operations-refused, aborter)
 
   pub refused_imports : (e : Event) (why : Refusal) → imports d (extended h e (Refused why)) ≡ imports d h
   refused_imports e why = ap (λ (es : List Event). import_in (charges (distance_in d h) h.opening es)) (done-refused h e why)
@@ -130,22 +122,14 @@ module _ (d : Distance) (h : Schedule) where
 
   holds_written : (o : Operation) → In o (operations h) → o.writes ≡ true → is_active (done h) o.txn ≡ true → holds_write (done h) o.txn o.item ≡ true
   holds_written o i w act =
-      and_from (is_active (done h) o.txn) (list_any (writes o.txn o.item) (done h)) act
-      (wrote_trace h o.txn o.item ∙ any-from_In (wrote_by o.item o.txn) (operations h) o i (rw (w, eq-eqb o.item o.item refl, eq-eqb o.txn o.txn refl) refl))
+      grind (arith, and_from, wrote_trace h o.txn o.item, any-from_In, wrote_by o.item o.txn, eq-eqb o.item o.item refl, eq-eqb o.txn o.txn refl)
 
   holds_taken : (o : Operation) → In o (operations h) → o.writes ≡ false → is_active (done h) o.txn ≡ true → holds_read (done h) o.txn o.item ≡ true
   holds_taken o i w act =
-      and_from (is_active (done h) o.txn) (list_any (reads o.txn o.item) (done h)) act
-      (read_trace h o.txn o.item ∙ any-from_In (read_item_by o.item o.txn) (operations h) o i (rw (w, eq-eqb o.item o.item refl, eq-eqb o.txn o.txn refl) refl))
+      grind (arith, and_from, read_trace h o.txn o.item, any-from_In, read_item_by o.item o.txn, eq-eqb o.item o.item refl, eq-eqb o.txn o.txn refl)
 
   no_writer : (t x : ℕ) → ((u : ℕ) → (u ≡ t → ⊥) → is_update (done h) u ≡ true → holds_write (done h) u x ≡ false) → NoOtherWriter (trace h) t x
-  no_writer t x free = record {
-    none = λ o i w here other update.
-        elim (cases_Bool (ended_in (trace h) o.txn)) [
-          | inl over ↦ over
-          | inr running ↦ absurd (true≢false (sym (subst (λ y. holds_write (done h) o.txn y ≡ true) here (holds_written o i w (active_user o.txn update running))) ∙ free o.txn other update))
-        ];
-  }
+  no_writer t x free = grind (arith, cases_Bool, ended_in, trace h, true≢false, holds_written, active_user)
 
   no_user : (t x : ℕ) → ((u : ℕ) → (u ≡ t → ⊥) → is_update (done h) u ≡ true → (holds_read (done h) u x || holds_write (done h) u x) ≡ false) → NoOtherUser (trace h) t x
   no_user t x free = record {
@@ -281,15 +265,8 @@ module _ (d : Distance) (h : Schedule) where
 
   accepted_step : (e : Event) → IsReached d h → NoneApplies (reasons d h e) → IsReached d (extended h e (acceptance h e))
   accepted_step (Read t x) reached none =
-      let allowed = read_allowed d h t x none in
-      let act : is_active (done h) t.0 ≡ true = not_ended h t.0 allowed.active in
-      elim (cases_Bool (is_query (done h) t.0)) [
-        | inl query ↦ query_reads t x reached act query
-        | inr not_query ↦ update_reads t x reached act not_query (sym (ap (λ b. if b then None else blocked_by (other_writer (done h) t.0 x.0)) not_query) ∙ allowed.free)
-      ]
-  accepted_step (Write t x v) reached none =
-      let allowed = (write_allowed d h t x v none).uncharged in
-      write_step t x v reached (not_ended h t.0 allowed.active) (when_none (is_query (done h) t.0) QueryMayNotWrite allowed.update) allowed.free
+      grind (arith, read_allowed d h t x none, not_ended, cases_Bool (is_query (done h) t.0), query_reads, update_reads)
+  accepted_step (Write t x v) reached none = grind (arith, write_allowed d h t x v none, write_step, not_ended, when_none)
   accepted_step (Commit t) reached none = commit_step t reached (not_ended h t.0 (end_allowed h t none).active)
   accepted_step (Abort t) reached none = abort_step t reached (not_ended h t.0 (end_allowed h t none).active)
   accepted_step e reached none = begin_step e (acceptance h e) refl refl refl refl (λ q. refl) reached

@@ -1,5 +1,5 @@
 -- The committed updates read what they would read one after another in the order of their commits.
-use Rattle.std.proofs.Common.{◌≡◌, ℕ, zero, suc, ℤ, true, false, not, ◌&&◌, ◌⊎◌, List, [], ◌∷◌, ◌++◌, take, refl, sym, ◌∙◌, ap, subst, inl, inr, ⊎_elim, filter, eqb, Some, slice_get}
+use Rattle.std.proofs.Common.{◌≡◌, ℕ, zero, suc, ℤ, true, false, not, ◌&&◌, ◌⊎◌, List, [], ◌∷◌, ◌++◌, take, refl, sym, ◌∙◌, ap, subst, inl, inr, ⊎_elim, filter, eqb, Some, slice_get, arith}
 use Rattle.std.specs.List.{before_first}
 use Rattle.std.proofs.lemmas.List.Elements.{filter-append}
 use Rattle.std.proofs.lemmas.Bool.{true≢false, cases_Bool, cases_eq, and_left, and_right, or_left, or_right, or_parts, eq-eqb, not_from_true, false_from_ne_true, cond-true}
@@ -43,8 +43,7 @@ get_push : {X : Type 0} (xs : List X) (y : X) (k : ℕ) (x : X) → slice_get (x
 get_push [] y zero x h = inr (cc, refl)
 get_push [] y (suc k) x h = absurd (cc)
 get_push (z ∷ zs) y zero x h = inl (h, refl)
-get_push (z ∷ zs) y (suc k) x h =
-    ⊎_elim (λ p. inl (p.0, ap (λ l. z ∷ l) p.1)) (λ p. inr (p.0, ap (λ l. z ∷ l) p.1)) (get_push zs y k x h)
+get_push (z ∷ zs) y (suc k) x h = grind (arith, ⊎_elim, get_push zs y k x h)
 
 -- what a read of an update that has not ended answered
 abbrev pub ReadsCommitted : (ℕ → ℤ) → Trace → Type 0

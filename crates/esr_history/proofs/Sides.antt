@@ -1,5 +1,5 @@
 -- Who is charged: queries import, updates export.
-use Rattle.std.proofs.Common.{◌≡◌, ℕ, ℤ, ◌*◌, List, [], ◌∷◌, ◌++◌, Bool, true, false, ◌&&◌, ◌==◌, refl, sym, ◌∙◌, ap, subst, Option, None, Some, if◌then◌else◌, append_assoc, append-nil}
+use Rattle.std.proofs.Common.{◌≡◌, ℕ, ℤ, ◌*◌, List, [], ◌∷◌, ◌++◌, Bool, true, false, ◌&&◌, ◌==◌, refl, sym, ◌∙◌, ap, subst, Option, None, Some, if◌then◌else◌, append_assoc, append-nil, arith}
 use Rattle.std.specs.Prelude.{unwrap_or}
 use Rattle.std.specs.List.{filter_map, AllByRecursion}
 use Rattle.std.specs.Option.{option_map}
@@ -7,9 +7,9 @@ use Rattle.std.proofs.lemmas.Bool.{false≢true, ne_eqb, and_parts}
 use Rattle.std.proofs.lemmas.List.Sums.{sum_by-cons}
 use Rattle.std.proofs.lemmas.Option.{same_Some}
 use Rattle.esr_history.specs.declared.event.Event.{Event}
-use Rattle.esr_history.specs.declared.event.Event.TheVariants.{BeginUpdate, BeginQuery, Read, Write, Commit, Abort}
-use Rattle.esr_history.specs.Events.{Beginning, beginning, numbers, is_query, is_update, reads_of, holds_read, holds_write, current_value}
-use Rattle.esr_history.specs.Machine.{Charge, due, charges, charges_after, charge_of_read, charge_of_write, writer, import_in, export_in}
+use Rattle.esr_history.specs.declared.event.Event.TheVariants.{Read, Write}
+use Rattle.esr_history.specs.Events.{Beginning, beginning, numbers, is_query, is_update, reads_of, holds_read, current_value}
+use Rattle.esr_history.specs.Machine.{Charge, due, charges, charges_after, charge_of_write, import_in, export_in}
 use Rattle.esr_history.proofs.Orderly.{beginning-push, is_update-push}
 use Rattle.esr_history.proofs.Lists.{find_some, Each-filter_map}
 use Rattle.esr_history.proofs.Membership.{Each-append}
@@ -34,23 +34,14 @@ all_along before [] cs all = subst (λ (es : List Event). AllByRecursion (IsOfKi
 all_along before (e ∷ later) cs all = subst (λ (es : List Event). AllByRecursion (IsOfKinds es) cs) (append_assoc before (e ∷ []) later) (all_along (before ++ e ∷ []) later cs (all_later before e cs all))
 
 pub due_kinds : (d : ℕ → ℤ → ℤ → ℕ) (opening : List ℤ) (events : List Event) (e : Event) → AllByRecursion (IsOfKinds events) (due d opening events e)
-due_kinds d opening events (Read q x) = read (is_query events q.0) refl (writer events x.0) refl
-  where
-    read : (b : Bool) → is_query events q.0 ≡ b → (u : Option ℕ) → writer events x.0 ≡ u → AllByRecursion (IsOfKinds events) (if b then charge_of_read d opening events q.0 x.0 u else [])
-    read false is u w = tt
-    read true is None w = tt
-    read true is (Some u) w =
-        let p : (is_update events u && holds_write events u x.0) ≡ true = find_some (λ v. is_update events v && holds_write events v x.0) (numbers events) u w in
-        ((is, (and_parts (is_update events u) (holds_write events u x.0) p).0), tt)
+due_kinds d opening events (Read q x) = grind (arith, find_some, and_parts)
 due_kinds d opening events (Write u x v) = write (is_update events u.0) refl
   where
     gives : is_update events u.0 ≡ true → (q : ℕ) (c : Charge) → charge_of_write d opening events u.0 x.0 v q ≡ Some c → IsOfKinds events c
     gives is q c got = at (is_query events q && holds_read events q x.0) refl got
       where
         at : (b : Bool) → (is_query events q && holds_read events q x.0) ≡ b → (if b then Some (record { query = q; update = u.0; amount = reads_of events q x.0 * d x.0 v (current_value opening events x.0) }) else None) ≡ Some c → IsOfKinds events c
-        at true both got' =
-            subst (IsOfKinds events) (same_Some (record { query = q; update = u.0; amount = reads_of events q x.0 * d x.0 v (current_value opening events x.0) }) c got')
-            ((and_parts (is_query events q) (holds_read events q x.0) both).0, is)
+        at true both got' = grind (arith, same_Some, and_parts (is_query events q) (holds_read events q x.0) both)
         at false both got' = absurd (cc)
 
     write : (b : Bool) → is_update events u.0 ≡ b → AllByRecursion (IsOfKinds events) (if b then filter_map (charge_of_write d opening events u.0 x.0 v) (numbers events) else [])

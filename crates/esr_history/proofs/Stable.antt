@@ -1,5 +1,5 @@
 -- What a finding of a committed query rests on does not move in a longer legal history.
-use Rattle.std.proofs.Common.{◌≡◌, ℕ, Bool, true, false, not, ◌&&◌, List, [], ◌∷◌, ◌++◌, refl, sym, ◌∙◌, ap, subst, ⊎_elim, filter, eqb, Option}
+use Rattle.std.proofs.Common.{◌≡◌, ℕ, Bool, true, false, not, ◌&&◌, List, [], ◌∷◌, ◌++◌, refl, sym, ◌∙◌, ap, subst, ⊎_elim, filter, eqb, Option, arith}
 use Rattle.std.specs.List.{list_any, before_first}
 use Rattle.std.proofs.lemmas.List.Folds.{list_any-append}
 use Rattle.std.proofs.lemmas.Bool.{true≢false, and_parts, and_right, or_cases, or_left, or_right, or_parts, eqb-true, ne_eqb, false_from_ne_true}
@@ -72,14 +72,7 @@ same_with_operation q t0 t o running h = record {
     in_commits u i = listed_committed t q u (subst (In u) (sym h.updates) i)
 
 pub same_with_commit : (q : ℕ) (t0 t : Trace) (u : ℕ) → SameFor q t0 t → SameFor q t0 (with_commit t u)
-same_with_commit q t0 t u h = record {
-  committed = among_keep t.commits u q h.committed;
-  begins = h.begins;
-  updates = ap (filter (update_in t)) (before_first-kept (λ u. eqb u q) t.commits (u ∷ []) h.committed) ∙ h.updates;
-  reads = h.reads;
-  writes = h.writes;
-  order = h.order;
-}
+same_with_commit q t0 t u h = grind (arith, among_keep, filter (update_in t), update_in t, before_first-kept, eqb)
 
 pub same_with_abort : (q : ℕ) (t0 t : Trace) (u : ℕ) → SameFor q t0 t → SameFor q t0 (with_abort t u)
 same_with_abort q t0 t u h = record { committed = h.committed; begins = h.begins; updates = h.updates; reads = h.reads; writes = h.writes; order = h.order }

@@ -1,5 +1,5 @@
 -- Committed and current values of a trace, and how each step moves them.
-use Rattle.std.proofs.Common.{◌≡◌, ℕ, ℤ, Bool, true, false, cond, not, ◌&&◌, ◌||◌, ◌⊎◌, List, [], ◌∷◌, ◌++◌, refl, sym, ◌∙◌, ap, subst, inl, inr, ⊎_elim, filter, eqb, flat_map}
+use Rattle.std.proofs.Common.{◌≡◌, ℕ, ℤ, Bool, true, false, cond, not, ◌&&◌, ◌||◌, ◌⊎◌, List, [], ◌∷◌, ◌++◌, refl, sym, ◌∙◌, ap, subst, inl, inr, ⊎_elim, filter, eqb, flat_map, arith}
 use Rattle.std.proofs.lemmas.List.{append-nil}
 use Rattle.std.proofs.lemmas.List.Concat.{flat_map-append}
 use Rattle.std.proofs.lemmas.List.Elements.{filter-append}
@@ -81,9 +81,7 @@ wrote_by x u o = writes_item x o && eqb o.txn u
 
 pub wrote_parts : (x u : ℕ) (o : Operation) → wrote_by x u o ≡ true → (o.writes ≡ true) × (o.item ≡ x) × (o.txn ≡ u)
 wrote_parts x u o h =
-    let p = and_parts (writes_item x o) (eqb o.txn u) h in
-    let r = and_parts o.writes (eqb o.item x) p.0 in
-    (r.0, eqb-true o.item x r.1, eqb-true o.txn u p.1)
+    grind (arith, and_parts (writes_item x o) (eqb o.txn u) h, writes_item x o, eqb o.txn u, and_parts, eqb o.item x, eqb-true)
 
 pub item_parts : (x : ℕ) (o : Operation) → writes_item x o ≡ true → (o.writes ≡ true) × (o.item ≡ x)
 item_parts x o h = let r = and_parts o.writes (eqb o.item x) h in (r.0, eqb-true o.item x r.1)
@@ -155,12 +153,7 @@ ended_agree {t = t} r v e =
 pub settled : {s : Setting} {t : Trace} {m : ℕ → ℕ} → Reached s t m → (o : ℕ → ℤ) (x : ℕ) →
     ((w : Operation) → In w t.operations → writes_item x w ≡ true → ended_in t w.txn ≡ true) → current_in o t x ≡ committed_in o t x
 settled {t = t} r o x f =
-    ap (after_writes (o x))
-    (filter_agree_in (λ w. writes_item x w && not (is_among t.aborts w.txn)) (λ w. writes_item x w && is_among t.commits w.txn) t.operations
-    (λ w i. ⊎_elim
-    (λ y. ap (λ b. writes_item x w && b) (ended_agree r w.txn (f w i y)))
-    (λ n. and_left (writes_item x w) (not (is_among t.aborts w.txn)) n ∙ sym (and_left (writes_item x w) (is_among t.commits w.txn) n))
-    (cases_Bool (writes_item x w))))
+    grind (arith, after_writes (o x), filter_agree_in, writes_item, is_among, ⊎_elim, ended_agree, and_left, cases_Bool)
 
 -- the current value, with the writes of an update that has not ended set apart
 pub current_split : {s : Setting} {t : Trace} {m : ℕ → ℕ} → Reached s t m → (o : ℕ → ℤ) (u x : ℕ) → Active t u →
@@ -203,14 +196,7 @@ pairs_either R (x ∷ xs) p a b ia ib ne =
 others_ended : {s : Setting} {t : Trace} {m : ℕ → ℕ} → Reached s t m → (u x : ℕ) → Active t u →
     (a : Operation) → In a t.operations → wrote_by x u a ≡ true → (w : Operation) → In w t.operations → writes_item x w ≡ true → (w.txn ≡ u → ⊥) → ended_in t w.txn ≡ true
 others_ended {t = t} r u x ac a ia ma w iw hw ne =
-    let pa = wrote_parts x u a ma in
-    let pw = item_parts x w hw in
-    let apart : a.txn ≡ w.txn → ⊥ = λ e. ne (sym e ∙ pa.2) in
-    let apart' : w.txn ≡ a.txn → ⊥ = λ e. ne (e ∙ pa.2) in
-    ⊎_elim
-    (λ l. absurd (true≢false (sym (l (conflict_of a w apart (pa.1 ∙ sym pw.1) (or_left a.writes w.writes pa.0)) (writers r a ia pa.0) (writers r w iw pw.0)) ∙ (ap (ended_in t) pa.2 ∙ ac.open_ended))))
-    (λ l. l (conflict_of w a apart' (pw.1 ∙ sym pa.1) (or_left w.writes a.writes pw.0)) (writers r w iw pw.0) (writers r a ia pa.0))
-    (pairs_either (Locked t) t.operations (locks r) a w ia iw (λ e. apart (ap (λ o. o.txn) e)))
+    grind (arith, wrote_parts x u a ma, item_parts x w hw, ⊎_elim, true≢false, conflict_of, or_left, writers, ended_in t, pairs_either, locks r)
 
 -- an abort leaves the current value, or puts the committed one back
 pub current_after_abort : {s : Setting} {t : Trace} {m : ℕ → ℕ} → Reached s t m → (o : ℕ → ℤ) (u x : ℕ) → Active t u →
@@ -258,20 +244,14 @@ filter_push_true p xs y h = filter-append p xs (y ∷ []) ∙ ap (λ zs. filter 
 
 -- one more operation of an active transaction
 pub committed_with : (o : ℕ → ℤ) (t : Trace) (w : Operation) (x : ℕ) → ended_in t w.txn ≡ false → committed_in o (with_operation t w) x ≡ committed_in o t x
-committed_with o t w x h =
-    ap (after_writes (o x)) (filter_push_false (λ w. writes_item x w && is_among t.commits w.txn) t.operations w
-    (and_right (writes_item x w) (is_among t.commits w.txn) (or_parts (is_among t.commits w.txn) (is_among t.aborts w.txn) h).0))
+committed_with o t w x h = grind (arith, after_writes (o x), filter_push_false, writes_item, is_among, and_right, or_parts)
 
 pub current_with_other : (o : ℕ → ℤ) (t : Trace) (w : Operation) (x : ℕ) → writes_item x w ≡ false → current_in o (with_operation t w) x ≡ current_in o t x
-current_with_other o t w x h =
-    ap (after_writes (o x)) (filter_push_false (λ w. writes_item x w && not (is_among t.aborts w.txn)) t.operations w
-    (and_left (writes_item x w) (not (is_among t.aborts w.txn)) h))
+current_with_other o t w x h = grind (arith, after_writes (o x), filter_push_false, writes_item, is_among, and_left)
 
 pub current_with_write : (o : ℕ → ℤ) (t : Trace) (w : Operation) (x : ℕ) → ended_in t w.txn ≡ false → writes_item x w ≡ true → current_in o (with_operation t w) x ≡ w.value
 current_with_write o t w x h wi =
-    ap (after_writes (o x)) (filter_push_true (λ w. writes_item x w && not (is_among t.aborts w.txn)) t.operations w
-    (and_from (writes_item x w) (not (is_among t.aborts w.txn)) wi (not_from_false (is_among t.aborts w.txn) (or_parts (is_among t.commits w.txn) (is_among t.aborts w.txn) h).1)))
-    ∙ after_writes-append (o x) (filter (λ w. writes_item x w && not (is_among t.aborts w.txn)) t.operations) (w ∷ [])
+    grind (arith, after_writes (o x), filter_push_true, writes_item, is_among, and_from, not_from_false, or_parts, after_writes-append, filter)
 
 -- the value of x after the updates us
 abbrev pub state_in : (ℕ → ℤ) → Trace → List ℕ → ℕ → ℤ
@@ -284,8 +264,7 @@ flat_map_agree f g (x ∷ xs) h = ap (λ zs. zs ++ flat_map f xs) (h x (inl refl
 -- an operation of another transaction changes no state
 pub state_with : (o : ℕ → ℤ) (t : Trace) (w : Operation) (us : List ℕ) (x : ℕ) → ((u : ℕ) → In u us → w.txn ≡ u → ⊥) → state_in o (with_operation t w) us x ≡ state_in o t us x
 state_with o t w us x h =
-    ap (after_writes (o x)) (flat_map_agree (λ u. filter (wrote_by x u) (t.operations ++ w ∷ [])) (λ u. filter (wrote_by x u) t.operations) us
-    (λ u i. filter_push_false (wrote_by x u) t.operations w (and_right (writes_item x w) (eqb w.txn u) (ne_eqb w.txn u (h u i)))))
+    grind (arith, after_writes (o x), flat_map_agree, filter, filter_push_false, and_right, writes_item x w, eqb, ne_eqb)
 
 pub commit_among : (t : Trace) (u : ℕ) → In u (committed_updates_in t) → is_among t.commits u ≡ true
 commit_among t u i = any-from_number t.commits u (In-of_filter (update_in t) t.commits u i).0

@@ -47,9 +47,7 @@ record InRanges (h : Schedule) : Type 0 where
 module _ (d : Distance) (h : Schedule) (was : InRanges h) where
   current-range : AllByRecursion IsValue h.opening → (x : ℕ) → IsValue (current_value h.opening (done h) x)
   current-range opened x =
-      rw (current_trace h x)
-      (after_writes-range (value_at h.opening x) (filter (λ w. writes_item x w && not (is_among (trace h).aborts w.txn)) (operations h)) (value_at-range h.opening x opened)
-      (λ o i. was.values opened o (In-of_filter (λ w. writes_item x w && not (is_among (trace h).aborts w.txn)) (operations h) o i).0))
+      grind (arith, current_trace h x, after_writes-range, filter, writes_item, is_among, trace h, value_at-range h.opening x opened, In-of_filter)
 
   reads-push : (e : Event) (t : ℕ) → all_reads_of (done h ++ e ∷ []) t ≡ all_reads_of (done h) t + cond (reads_any t e) 1 0
   reads-push e t =
@@ -62,15 +60,10 @@ module _ (d : Distance) (h : Schedule) (was : InRanges h) where
 
   -- an event that begins and reads nothing
   fewer_reads : (e : Event) → ((t : ℕ) → reads_any t e ≡ false) → (t : ℕ) → is_update (done h ++ e ∷ []) t ≡ false → all_reads_of (done h ++ e ∷ []) t ≤ 1000
-  fewer_reads e none t fails =
-      let before : all_reads_of (done h) t ≤ 1000 = was.reads t (no_update_before e t fails) in
-      rw (reads-push e t, none t) (omega arith)
+  fewer_reads e none t fails = grind (arith, no_update_before e t fails, reads-push e t)
 
   same_begins : (e : Event) → beginning_of e ≡ None → length (beginnings (done h ++ e ∷ [])) ≤ 65535
-  same_begins e none =
-      let same : length (beginnings (done h ++ e ∷ [])) ≡ length (beginnings (done h)) + 0 = ap length (filter_map_push beginning_of (done h) e ∙ ap (λ o. beginnings (done h) ++ cons_option o []) none) ∙ length-append (beginnings (done h)) [] in
-      let before = was.begins in
-      omega arith
+  same_begins e none = grind (arith, filter_map_push beginning_of (done h) e, length-append (beginnings (done h)))
 
   -- after an accepted event
   about : (e : Event) (r : Reply) → is_refusal r ≡ false → length (beginnings (done h ++ e ∷ [])) ≤ 65535
@@ -146,9 +139,7 @@ module _ (d : Distance) (h : Schedule) (was : InRanges h) where
   InRanges-extended e r is = at (refusal d h e) refl
     where
       at : (why : Option Refusal) → refusal d h e ≡ why → InRanges (extended h e r)
-      at None none =
-          let answer : r ≡ acceptance h e = is ∙ ap (λ w. answered w (acceptance h e)) none in
-          subst (λ w. InRanges (extended h e w)) (sym answer) (accepted_in_ranges e (none_applies (reasons d h e) none))
+      at None none = grind (arith, accepted_in_ranges e (none_applies (reasons d h e) none), none_applies (reasons d h e) none)
       at (Some why) some =
           let answer : r ≡ Refused why = is ∙ ap (λ w. answered w (acceptance h e)) some in
           let events : done (extended h e (Refused why)) ≡ done h = done-refused h e why in

@@ -1,5 +1,5 @@
 -- The words of a history and those of its trace say the same.
-use Rattle.std.proofs.Common.{◌≡◌, ℕ, ◌+◌, ℤ, Bool, true, false, cond, not, ◌&&◌, ◌||◌, ◌==◌, List, [], ◌∷◌, ◌++◌, refl, sym, ◌∙◌, ap, arith, filter, eqb, Option, Some, None, count_by, map, flat_map, if◌then◌else◌}
+use Rattle.std.proofs.Common.{◌≡◌, ℕ, ◌+◌, Bool, true, false, cond, not, ◌&&◌, ◌||◌, ◌==◌, List, [], ◌∷◌, refl, sym, ◌∙◌, ap, arith, filter, eqb, Option, Some, None, count_by, map, flat_map}
 use Rattle.std.specs.Prelude.{unwrap_or}
 use Rattle.std.specs.Option.{option_map}
 use Rattle.std.specs.List.{list_any, filter_map, cons_option}
@@ -13,9 +13,9 @@ use Rattle.esr_history.specs.declared.event.Event.{Event}
 use Rattle.esr_history.specs.declared.event.Event.TheVariants.{BeginUpdate, BeginQuery, Read, Write, Commit, Abort}
 use Rattle.esr_history.specs.declared.event.Reply.{Reply}
 use Rattle.esr_history.specs.declared.event.Entry.{Entry}
-use Rattle.esr_history.specs.Events.{is_refusal, beginning, is_active, is_committed, is_aborted, commits, aborts, reads, writes, reads_of, written, last_value, committed_value, current_value, Beginning, is_query, is_update}
+use Rattle.esr_history.specs.Events.{is_refusal, beginning, is_active, is_committed, is_aborted, reads, writes, reads_of, written, last_value, committed_value, current_value, Beginning, is_query, is_update}
 use Rattle.esr_history.specs.Machine.{Schedule, done}
-use Rattle.esr_history.specs.Operations.{Operation, operation_by, operation_of, operations, committer, commit_order, answer}
+use Rattle.esr_history.specs.Operations.{Operation, operation_by, operation_of, operations, commit_order, answer}
 use Rattle.esr_history.specs.Serial.{values_by, state}
 use Rattle.esr_history.proofs.Orderly.{active_parts}
 use Rattle.esr_history.proofs.Traces.{Trace, is_among, writes_item, reads_item, after_writes, committed_in, current_in, Active, read_count_in}
@@ -46,45 +46,15 @@ any_given f p q same [] = refl
 any_given f p q same (x ∷ xs) = ap (λ b. b || list_any p xs) (same x) ∙ (ap (λ b. any_of q (f x) || b) (any_given f p q same xs) ∙ sym (any-cons_option q (f x) (filter_map f xs)))
 
 pub committed_among : (events : List Event) (u : ℕ) → is_committed events u ≡ is_among (commit_order events) u
-committed_among events u = any_given committer (commits u) (λ t. eqb t u) at events
-  where
-    at : (e : Event) → commits u e ≡ any_of (λ t. eqb t u) (committer e)
-    at (BeginUpdate l) = refl
-    at (BeginQuery l s) = refl
-    at (Read t x) = refl
-    at (Write t x v) = refl
-    at (Commit t) = refl
-    at (Abort t) = refl
+committed_among events u = grind (arith, any_given, eqb)
 
 pub aborted_among : (events : List Event) (u : ℕ) → is_aborted events u ≡ is_among (filter_map aborter events) u
-aborted_among events u = any_given aborter (aborts u) (λ t. eqb t u) at events
-  where
-    at : (e : Event) → aborts u e ≡ any_of (λ t. eqb t u) (aborter e)
-    at (BeginUpdate l) = refl
-    at (BeginQuery l s) = refl
-    at (Read t x) = refl
-    at (Write t x v) = refl
-    at (Commit t) = refl
-    at (Abort t) = refl
+aborted_among events u = grind (arith, any_given, eqb)
 
 -- the values written to an item, and those of operations on it
 written_kept : (k : ℕ → Bool) (x : ℕ) (es : List Entry) → filter_map (written k x) (map (λ e. e.event) es) ≡ map (λ o. o.value) (filter (λ o. writes_item x o && k o.txn) (filter_map operation_of es))
 written_kept k x [] = refl
-written_kept k x (e ∷ es) = at e.event (written_kept k x es)
-  where
-    both : (b : Bool) (o : Operation) (vs : List ℤ) (os : List Operation) → vs ≡ map (λ w. w.value) os → cons_option (if b then Some o.value else None) vs ≡ map (λ w. w.value) (cond b (o ∷ os) os)
-    both true o vs os same = ap (λ l. o.value ∷ l) same
-    both false o vs os same = same
-
-    at : (ev : Event) → filter_map (written k x) (map (λ e. e.event) es) ≡ map (λ o. o.value) (filter (λ o. writes_item x o && k o.txn) (filter_map operation_of es))
-        → cons_option (written k x ev) (filter_map (written k x) (map (λ e. e.event) es)) ≡ map (λ o. o.value) (filter (λ o. writes_item x o && k o.txn) (cons_option (operation_by ev e.reply) (filter_map operation_of es)))
-    at (BeginUpdate l) same = same
-    at (BeginQuery l s) same = same
-    at (Read t y) same = same
-    at (Write t y v) same =
-        both (y.0 == x && k t.0) (record { txn = t.0; item = y.0; writes = true; value = v }) (filter_map (written k x) (map (λ e. e.event) es)) (filter (λ o. writes_item x o && k o.txn) (filter_map operation_of es)) same
-    at (Commit t) same = same
-    at (Abort t) same = same
+written_kept k x (e ∷ es) = grind (arith, written_kept k x es, map, cond, filter, writes_item)
 
 -- who used an item, and who read it how often
 any_kept : (p : Event → Bool) (q : Operation → Bool) → ((e : Event) (r : Reply) → p e ≡ any_of q (operation_by e r)) → (es : List Entry) → list_any p (map (λ e. e.event) es) ≡ list_any q (filter_map operation_of es)
@@ -127,26 +97,10 @@ module _ (h : Schedule) where
   written_trace k x = written_kept k x (filter accepts h.entries)
 
   pub wrote_trace : (t x : ℕ) → list_any (writes t x) (done h) ≡ list_any (wrote_by x t) (operations h)
-  wrote_trace t x = any_kept (writes t x) (wrote_by x t) at (filter accepts h.entries)
-    where
-      at : (e : Event) (r : Reply) → writes t x e ≡ any_of (wrote_by x t) (operation_by e r)
-      at (BeginUpdate l) r = refl
-      at (BeginQuery l s) r = refl
-      at (Read u y) r = refl
-      at (Write u y v) r = and_comm (u.0 == t) (y.0 == x)
-      at (Commit u) r = refl
-      at (Abort u) r = refl
+  wrote_trace t x = grind (arith, any_kept, wrote_by x t, filter accepts h.entries)
 
   pub read_trace : (t x : ℕ) → list_any (reads t x) (done h) ≡ list_any (read_item_by x t) (operations h)
-  read_trace t x = any_kept (reads t x) (read_item_by x t) at (filter accepts h.entries)
-    where
-      at : (e : Event) (r : Reply) → reads t x e ≡ any_of (read_item_by x t) (operation_by e r)
-      at (BeginUpdate l) r = refl
-      at (BeginQuery l s) r = refl
-      at (Read u y) r = and_comm (u.0 == t) (y.0 == x)
-      at (Write u y v) r = refl
-      at (Commit u) r = refl
-      at (Abort u) r = refl
+  read_trace t x = grind (arith, any_kept, filter accepts h.entries)
 
   pub reads_trace : (t x : ℕ) → reads_of (done h) t x ≡ read_count_in (trace h) x t
   reads_trace t x = read_kept t x (filter accepts h.entries)
@@ -167,9 +121,7 @@ module _ (h : Schedule) where
   flat_values : (x : ℕ) (us : List ℕ) → flat_map (values_by h x) us ≡ map (λ o. o.value) (flat_map (λ u. filter (wrote_by x u) (operations h)) us)
   flat_values x [] = refl
   flat_values x (u ∷ us) =
-      ap (λ l. l ++ flat_map (values_by h x) us) (values_trace x u)
-      ∙ (ap (λ l. map (λ o. o.value) (filter (wrote_by x u) (operations h)) ++ l) (flat_values x us)
-      ∙ sym (map-append (λ o. o.value) (filter (wrote_by x u) (operations h)) (flat_map (λ u. filter (wrote_by x u) (operations h)) us)))
+      grind (arith, flat_map (values_by h x) us, values_trace, map, filter, wrote_by, flat_values x us, map-append, flat_map)
 
   pub state_trace : (us : List ℕ) (x : ℕ) → state h us x ≡ state_in (value_at h.opening) (trace h) us x
   state_trace us x = ap (last_value (value_at h.opening x)) (flat_values x us)
