@@ -61,10 +61,7 @@ read_active d h t x none = not_ended h t.0 (read_allowed d h t x (none_applies (
 
 pub read_few : (d : Distance) (h : Schedule) (t : TxnId) (x : ItemId) → refusal d h (Read t x) ≡ None → is_query (done h) t.0 ≡ true → all_reads_of (done h) t.0 < 1000
 read_few d h t x none query =
-    let allowed = read_allowed d h t x (none_applies (reasons d h (Read t x)) none) in
-    let both : (is_query (done h) t.0 && nat_le 1000 (all_reads_of (done h) t.0)) ≡ false = when_none (is_query (done h) t.0 && nat_le 1000 (all_reads_of (done h) t.0)) TooManyReads allowed.few in
-    let few : nat_le 1000 (all_reads_of (done h) t.0) ≡ false = rw query at both in
-    grind (arith, nat_tests)
+    grind (arith, read_allowed d h t x (none_applies (reasons d h (Read t x)) none), none_applies (reasons d h (Read t x)) none, when_none, nat_tests)
 
 module _ (d : Distance) (h : Schedule) (items : List Versions) (table : List Transaction) (locks : List ItemLocks) (accounts : List Account) (tie : IsTied (d h.weights) h.opening (done h) items table locks accounts) where
   -- the charge of a read that is not refused fits

@@ -19,13 +19,13 @@ use Rattle.esr_ledgers.specs.Books.{number, account_of, is_open, is_open_query, 
 use Rattle.esr_core.specs.Tied.{entry_of, books_of}
 use Rattle.esr_core.proofs.Held.{IsBegin, numbers-kept, query-kept, limit-kept, beginnings-begin, beginning-begin, beginning-new, update_or_query}
 use Rattle.esr_core.proofs.Rows.{begun_at}
+use Rattle.std.proofs.lemmas.Grind.{common_steps}
 
 abbrev entry : ℕ → Bool → ℕ → ℕ → ℕ → Account
 entry t query limit i x = record { number = record { 0 = t }; query = query; limit = limit; amount = if query then i else x }
 
 entry_same : (t : ℕ) (p q : Bool) (l m i j x y : ℕ) → p ≡ q → l ≡ m → i ≡ j → x ≡ y → entry t p l i x ≡ entry t q m j y
-entry_same t p q l m i j x y a b c e =
-    ap (λ (z : Bool). entry t z l i x) a ∙ (ap (λ (z : ℕ). entry t q z i x) b ∙ (ap (λ (z : ℕ). entry t q m z x) c ∙ ap (λ (z : ℕ). entry t q m j z) e))
+entry_same t p q l m i j x y a b c e = grind (arith, common_steps)
 
 module _ (d : ℕ → ℤ → ℤ → ℕ) (opening : List ℤ) (events : List Event) where
   -- the account of a transaction that has begun

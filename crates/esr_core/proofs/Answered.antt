@@ -1,5 +1,5 @@
 -- An answer goes on to the state of the longer history.
-use Rattle.std.proofs.Common.{◌≡◌, List, [], ◌∷◌, ◌++◌, sym, ◌∙◌, ap, subst, None, Some}
+use Rattle.std.proofs.Common.{◌≡◌, List, [], ◌∷◌, ◌++◌, sym, ◌∙◌, ap, subst, None, Some, arith}
 use Rattle.esr_history.specs.declared.event.Event.{Event}
 use Rattle.esr_history.specs.declared.event.Reply.{Reply}
 use Rattle.esr_history.specs.declared.event.Reply.TheVariants.{Refused}
@@ -12,12 +12,9 @@ use Rattle.esr_core.specs.States.{IsStateOf, IsStateAfter}
 
 -- a refusal leaves the state
 pub refused_state : (d : Distance) (h : Schedule) (e : Event) (why : Refusal) (s : State) → Some why ≡ refusal d h e → IsStateOf d h s → (Refused why ≡ reply_to d h e) × IsStateOf d (extended h e (Refused why)) s
-refused_state d h e why s is tie =
-    (ap (λ r. answered r (acceptance h e)) is, subst (λ (es : List Event). IsStateAfter d h es s) (sym (done-refused h e why)) tie)
+refused_state d h e why s is tie = grind (arith, done-refused h e why)
 
 -- an event that nothing refuses adds itself
 pub accepted_state : (d : Distance) (h : Schedule) (e : Event) (r : Reply) (s : State) → refusal d h e ≡ None → r ≡ acceptance h e → IsStateAfter d h (done h ++ e ∷ []) s → (r ≡ reply_to d h e) × IsStateOf d (extended h e r) s
-accepted_state d h e r s none is tie = (
-  is ∙ sym (ap (λ w. answered w (acceptance h e)) none),
-  subst (λ (es : List Event). IsStateAfter d h es s) (sym (done-accepted h e r (ap is_refusal is ∙ acceptance_accepts h e))) tie,
-)
+accepted_state d h e r s none is tie =
+    grind (arith, done-accepted h e r (ap is_refusal is ∙ acceptance_accepts h e), acceptance_accepts h e)

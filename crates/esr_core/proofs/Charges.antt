@@ -30,6 +30,7 @@ use Rattle.esr_core.specs.States.{reason_of, charges_to}
 use Rattle.esr_core.proofs.Held.{numbers-kept, query-kept, limit-kept}
 use Rattle.esr_core.proofs.Rows.{begun_at}
 use Rattle.esr_core.proofs.Accounts.{open_query_is, open_update_is, limit_is, import_is, export_is}
+use Rattle.std.proofs.lemmas.Grind.{common_steps}
 
 abbrev is_some_charge : List (TxnId × ℕ) → Bool
 is_some_charge [] = false
@@ -51,11 +52,7 @@ total_by u (c ∷ cs) = sum_by-cons (λ (g : Charge). g.amount) (charge_to u c) 
 
 -- what an update exports to all
 export_by : (u t : ℕ) (cs : List (TxnId × ℕ)) → export_in (charges_by u cs) t ≡ (if u == t then total_of cs else 0)
-export_by u t [] = at (u == t)
-  where
-    at : (b : Bool) → ◌≡◌ {A = ℕ} 0 (if b then 0 else 0)
-    at true = refl
-    at false = refl
+export_by u t [] = grind (arith, common_steps)
 export_by u t (c ∷ cs) =
     sum_by-cons (λ (g : Charge). if g.update == t then g.amount else 0) (charge_to u c) (charges_by u cs)
     ∙ (ap (λ n. (if u == t then c.1 else 0) + n) (export_by u t cs)
@@ -120,10 +117,7 @@ module _ (d : ℕ → ℤ → ℤ → ℕ) (opening : List ℤ) (events : List E
 
       kept : (t : ℕ) (q : Bool) (i x : ℕ) → is_query events t ≡ q → (if q then import_in (charges d opening (events ++ e ∷ [])) t else export_in (charges d opening (events ++ e ∷ [])) t) ≡ (if q then i else x)
           → ◌≡◌ {A = Account} (record { number = record { 0 = t }; query = q; limit = limit_of events t; amount = if q then i else x }) (entry_of d opening (events ++ e ∷ []) t)
-      kept t q i x is amounts =
-          ap (λ n. record { number = record { 0 = t }; query = q; limit = limit_of events t; amount = n }) (sym amounts)
-          ∙ (ap (λ (p : Bool). record { number = record { 0 = t }; query = p; limit = limit_of events t; amount = if p then import_in (charges d opening (events ++ e ∷ [])) t else export_in (charges d opening (events ++ e ∷ [])) t }) (sym is ∙ sym (query-kept events e none t))
-          ∙ ap (λ n. record { number = record { 0 = t }; query = is_query (events ++ e ∷ []) t; limit = n; amount = if is_query (events ++ e ∷ []) t then import_in (charges d opening (events ++ e ∷ [])) t else export_in (charges d opening (events ++ e ∷ [])) t }) (sym (limit-kept events e none t)))
+      kept t q i x is amounts = grind (arith, query-kept events e none t, limit-kept events e none t)
 
       at : (t : ℕ) (q : Bool) → is_query events t ≡ q → is_begun events t ≡ true
           → (if t == u.0 then more (total_of cs) (more (import_in (charges_by u.0 cs) t) (record { number = record { 0 = t }; query = q; limit = limit_of events t; amount = if q then import_in (charges d opening events) t else export_in (charges d opening events) t })) else more (import_in (charges_by u.0 cs) t) (record { number = record { 0 = t }; query = q; limit = limit_of events t; amount = if q then import_in (charges d opening events) t else export_in (charges d opening events) t })) ≡ entry_of d opening (events ++ e ∷ []) t
@@ -151,13 +145,7 @@ module _ (d : ℕ → ℤ → ℤ → ℕ) (opening : List ℤ) (events : List E
     where
       each : (us : List ℕ) → filter_map (charge_of_write d opening events u.0 x.0 v) us ≡ charges_by u.0 (charges_to (d x.0 v (current_value opening events x.0)) (filter_map (query_reads events x.0) us))
       each [] = refl
-      each (q ∷ us) = at (is_query events q && holds_read events q x.0) (each us)
-        where
-          at : (b : Bool) → filter_map (charge_of_write d opening events u.0 x.0 v) us ≡ charges_by u.0 (charges_to (d x.0 v (current_value opening events x.0)) (filter_map (query_reads events x.0) us))
-              → cons_option (if b then Some (record { query = q; update = u.0; amount = reads_of events q x.0 * d x.0 v (current_value opening events x.0) }) else None) (filter_map (charge_of_write d opening events u.0 x.0 v) us)
-              ≡ charges_by u.0 (charges_to (d x.0 v (current_value opening events x.0)) (cons_option (if b then Some (q, reads_of events q x.0) else None) (filter_map (query_reads events x.0) us)))
-          at true later = ap (λ (gs : List Charge). record { query = q; update = u.0; amount = reads_of events q x.0 * d x.0 v (current_value opening events x.0) } ∷ gs) later
-          at false later = later
+      each (q ∷ us) = grind (arith, each us)
 
   -- they are of queries that have begun, ascending
   pub are_charges-write : (u : TxnId) (x amount : ℕ) → is_update events u.0 ≡ true → AreCharges (books_of d opening events) u (charges_to amount (filter_map (query_reads events x) (numbers events)))
@@ -209,11 +197,7 @@ module _ (d : Distance) (h : Schedule) where
       → option_map (λ (c : Charge). BlockedByExport (record { 0 = c.update })) (find (λ (c : Charge). nat_lt (limit_of (done h) c.update) (export_in (charges_in d h) c.update + n)) (charges_by u cs)) ≡ (if is_some_charge cs && b then Some (BlockedByExport (record { 0 = u })) else None)
   export_over u [] n b is = refl
   export_over u (c ∷ cs) n true is = rw is refl
-  export_over u (c ∷ cs) n false is = rw is (export_over u cs n false is ∙ none (is_some_charge cs))
-    where
-      none : (a : Bool) → (if a && false then Some (BlockedByExport (record { 0 = u })) else None) ≡ None
-      none true = refl
-      none false = refl
+  export_over u (c ∷ cs) n false is = grind (arith, export_over u cs n false is)
 
   -- a quote asks for the refusal that the history has
   pub quote_reason : (u : TxnId) (c : TxnId × ℕ) (cs : List (TxnId × ℕ)) → is_update (done h) u.0 ≡ true → AllByRecursion (λ (g : TxnId × ℕ). is_query (done h) g.0.0 ≡ true) (c ∷ cs)
@@ -237,11 +221,7 @@ module _ (d : Distance) (h : Schedule) where
 -- charges of nothing change nothing
 pub charged_none : (accounts : List Account) (u : TxnId) → charged accounts u [] ≡ accounts
 charged_none [] u = refl
-charged_none (a ∷ accounts) u = rw (charged_none accounts u) (at (number a == u.0))
-  where
-    at : (b : Bool) → (if b then more 0 a else a) ∷ accounts ≡ a ∷ accounts
-    at true = ap (λ (x : Account). x ∷ accounts) (more_none a)
-    at false = refl
+charged_none (a ∷ accounts) u = grind (arith, charged_none accounts u, more_none a)
 
 pub empty_list : (cs : List (TxnId × ℕ)) → (length cs == 0) ≡ true → cs ≡ []
 empty_list [] is = refl

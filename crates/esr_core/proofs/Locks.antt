@@ -29,6 +29,7 @@ use Rattle.esr_history.proofs.Words.{query_not_update}
 use Rattle.esr_locks.specs.Tables.{locks_at, no_locks, is_writer, is_reader, with_reader, with_writer, with_query_read, released, keeps_from_reading, keeps_from_writing, IsLeast}
 use Rattle.esr_locks.proofs.Least.{IsLeast-same}
 use Rattle.esr_core.proofs.Held.{active-kept, held-begin, IsBegin, numbers-kept, query-kept, update-kept, beginnings-begin, beginning-begin, not_named, reads_name, writes_name, update_or_query}
+use Rattle.std.proofs.lemmas.Grind.{common_steps}
 
 -- who passes as a writer of an item, as a reader of it
 abbrev wrote : List Event → ℕ → ℕ → Bool
@@ -96,11 +97,7 @@ module _ (done : List Event) (o : IsOrderly done) where
       (λ u is. wrote_number x u (and_parts (not (u == t)) (wrote done x u) is).1)
 
   either_update : (u x : ℕ) → (read_it done x u || wrote done x u) ≡ (is_update done u && (holds_read done u x || holds_write done u x))
-  either_update u x = at (is_update done u) (holds_read done u x) (holds_write done u x)
-    where
-      at : (a b c : Bool) → ((a && b) || (a && c)) ≡ (a && (b || c))
-      at true b c = refl
-      at false b c = refl
+  either_update u x = grind (arith, common_steps)
 
   pub least_holder : (t x : ℕ) (r : Option ℕ) → IsLeast (keeps_from_writing (item_locks done x) t) r → find (λ u. not (u == t) && (is_update done u && (holds_read done u x || holds_write done u x))) (numbers done) ≡ r
   least_holder t x r least =
@@ -116,8 +113,7 @@ abbrev locks_with : Option ℕ → List ℕ → List (ℕ × ℕ) → ItemLocks
 locks_with w r q = record { writer = w; readers = r; queries = q }
 
 locks_same : (w v : Option ℕ) (r s : List ℕ) (q p : List (ℕ × ℕ)) → w ≡ v → r ≡ s → q ≡ p → ◌≡◌ {A = ItemLocks} (record { writer = w; readers = r; queries = q }) (record { writer = v; readers = s; queries = p })
-locks_same w v r s q p e f g =
-    ap (λ (x : Option ℕ). locks_with x r q) e ∙ (ap (λ (x : List ℕ). locks_with v x q) f ∙ ap (λ (x : List (ℕ × ℕ)). locks_with v s x) g)
+locks_same w v r s q p e f g = grind (arith, common_steps)
 
 -- two sets of accepted events with the same numbers and the same locks on an item
 locks_agree : (old new : List Event) (x : ℕ) → numbers new ≡ numbers old → ((u : ℕ) → wrote new x u ≡ wrote old x u) → ((u : ℕ) → read_it new x u ≡ read_it old x u) → ((u : ℕ) → query_reads new x u ≡ query_reads old x u)
@@ -156,11 +152,7 @@ module _ (done : List Event) (e : Event) (none : beginning_of e ≡ None) (c : (
   read-same u fails = read-step u ∙ ap (λ b. is_update done u && (is_active done u && b)) (ap (λ b. list_any (reads u x) done || b) fails ∙ or_false (list_any (reads u x) done))
 
   query-same : (u : ℕ) → reads u x e ≡ false → query_reads (done ++ e ∷ []) x u ≡ query_reads done x u
-  query-same u fails =
-      query-step u
-      ∙ (ap (λ b. if is_query done u && (is_active done u && (list_any (reads u x) done || b)) then Some (u, reads_of done u x + (if b then 1 else 0)) else None) fails
-      ∙ (ap (λ b. if is_query done u && (is_active done u && b) then Some (u, reads_of done u x + 0) else None) (or_false (list_any (reads u x) done))
-      ∙ ap (λ n. if is_query done u && holds_read done u x then Some (u, n) else None) (add-zero (reads_of done u x))))
+  query-same u fails = grind (arith, query-step u, or_false (list_any (reads u x) done), add-zero (reads_of done u x))
 
   -- an event on another item
   locks-other : ((u : ℕ) → writes u x e ≡ false) → ((u : ℕ) → reads u x e ≡ false) → item_locks (done ++ e ∷ []) x ≡ item_locks done x
@@ -255,8 +247,7 @@ module _ (done : List Event) (t : TxnId) (x : ItemId) where
       was : (b : Bool) → list_any (reads t.0 x.0) done ≡ b → ◌≡◌ {A = Option (ℕ × ℕ)} (Some (t.0, reads_of done t.0 x.0 + 1)) (Some (unwrap_or (option_map (λ (p : ℕ × ℕ). (p.0, p.1 + 1)) (query_reads done x.0 t.0)) (t.0, 1)))
       was true did = ap (λ b. Some (unwrap_or (option_map (λ (p : ℕ × ℕ). (p.0, p.1 + 1)) (if b then Some (t.0, reads_of done t.0 x.0) else None)) (t.0, 1))) (sym (and_from (is_query done t.0) (holds_read done t.0 x.0) query (and_from (is_active done t.0) (list_any (reads t.0 x.0) done) act did)))
       was false did =
-          ap (λ n. Some (t.0, n)) (ap (λ n. n + 1) (count_none (reads t.0 x.0) done did) ∙ (let one : 0 + 1 ≡ 1 = omega arith in one))
-          ∙ ap (λ b. Some (unwrap_or (option_map (λ (p : ℕ × ℕ). (p.0, p.1 + 1)) (if b then Some (t.0, reads_of done t.0 x.0) else None)) (t.0, 1))) (sym (and_right (is_query done t.0) (holds_read done t.0 x.0) (and_right (is_active done t.0) (list_any (reads t.0 x.0) done) did)))
+          grind (arith, count_none (reads t.0 x.0) done did, and_right, and_right (is_active done t.0) (list_any (reads t.0 x.0) done) did)
 
 -- a write, where nobody else holds a lock on the item
 module _ (done : List Event) (t : TxnId) (x : ItemId) (v : ℤ) where
@@ -422,10 +413,7 @@ all-begin done o e b is n = map_same (item_locks (done ++ e ∷ [])) (item_locks
 
 one_item : (done : List Event) (e : Event) (n x : ℕ) (f : ItemLocks → ItemLocks) → x < n → item_locks (done ++ e ∷ []) x ≡ f (item_locks done x) → ((y : ℕ) → (y ≡ x → ⊥) → item_locks (done ++ e ∷ []) y ≡ item_locks done y)
     → set (locks_of done n) x (f (locks_at (locks_of done n) x)) ≡ locks_of (done ++ e ∷ []) n
-one_item done e n x f l here other =
-    set_range (item_locks done) (item_locks (done ++ e ∷ [])) 0 n x (f (locks_at (locks_of done n) x)) l
-    ((let z : 0 + x ≡ x = omega arith in ap (item_locks (done ++ e ∷ [])) z) ∙ (here ∙ ap f (sym (locks_here done n x l))))
-    (λ y ne. other y (λ (g : y ≡ x). ne (omega arith)))
+one_item done e n x f l here other = grind (arith, set_range, locks_here)
 
 pub all-read : (done : List Event) (t : TxnId) (x : ItemId) (n : ℕ) → x.0 < n → is_update done t.0 ≡ true → is_active done t.0 ≡ true → set (locks_of done n) x.0 (with_reader t.0 (locks_at (locks_of done n) x.0)) ≡ locks_of (done ++ Read t x ∷ []) n
 all-read done t x n l update act =

@@ -1,5 +1,5 @@
 -- The machine before its first event, and its totals.
-use Rattle.std.proofs.Common.{◌≡◌, ℕ, ℤ, ◌+◌, List, [], ◌∷◌, refl, sym, ◌∙◌, ap, inl, inr, map, if◌then◌else◌}
+use Rattle.std.proofs.Common.{◌≡◌, ℕ, ℤ, ◌+◌, List, [], ◌∷◌, refl, sym, ◌∙◌, ap, inl, inr, map, if◌then◌else◌, arith}
 use Rattle.std.specs.Prelude.{sum_by}
 use Rattle.std.proofs.lemmas.Bool.{cases_Bool}
 use Rattle.std.proofs.lemmas.List.Sums.{sum_by-cons}
@@ -18,11 +18,7 @@ module _ (d : ℕ → ℤ → ℤ → ℕ) (opening : List ℤ) (events : List E
   imports_of = each (numbers events)
     where
       one : (t : ℕ) → (if is_query events t then (if is_query events t then import_in (charges d opening events) t else export_in (charges d opening events) t) else 0) ≡ import_in (charges d opening events) t
-      one t =
-          elim (cases_Bool (is_query events t)) [
-            | inl is ↦ rw is refl
-            | inr isnt ↦ rw isnt (sym (no_import events (charges d opening events) (charges_kinds d opening events) t isnt))
-          ]
+      one t = grind (arith, cases_Bool (is_query events t), no_import, charges_kinds d opening events)
 
       each : (ts : List ℕ) → imports (map (entry_of d opening events) ts) ≡ sum_by (λ t. import_in (charges d opening events) t) ts
       each [] = refl
@@ -35,11 +31,7 @@ module _ (d : ℕ → ℤ → ℤ → ℕ) (opening : List ℤ) (events : List E
   exports_of = each (numbers events)
     where
       one : (t : ℕ) → (if is_query events t then 0 else (if is_query events t then import_in (charges d opening events) t else export_in (charges d opening events) t)) ≡ export_in (charges d opening events) t
-      one t =
-          elim (cases_Bool (is_query events t)) [
-            | inl is ↦ rw is (sym (no_export events (charges d opening events) (charges_kinds d opening events) t (query_not_update events t is)))
-            | inr isnt ↦ rw isnt refl
-          ]
+      one t = grind (arith, cases_Bool (is_query events t), no_export, charges_kinds d opening events, query_not_update)
 
       each : (ts : List ℕ) → exports (map (entry_of d opening events) ts) ≡ sum_by (λ t. export_in (charges d opening events) t) ts
       each [] = refl

@@ -75,26 +75,10 @@ module _ (d : Distance) (h : Schedule) (items : List Versions) (table : List Tra
     where
       at : (w : Option ℕ) → writer (done h) x.0 ≡ w → read_charge (d h.weights x.0) (versions_at items x.0) w ≡ Some c → (due_in d h (Read t x) ≡ charges_by c.0.0 ((t, c.1) ∷ [])) × (is_update (done h) c.0.0 ≡ true)
       at None found some = absurd (cc)
-      at (Some u) found some =
-          let this : ◌≡◌ {A = TxnId × ℕ} (record { 0 = u }, d h.weights x.0 (current_at items x.0) (committed_at items x.0)) c = same_Some (record { 0 = u }, d h.weights x.0 (current_at items x.0) (committed_at items x.0)) c some in (
-            ap (λ (b : Bool). if b then charge_of_read (d h.weights) h.opening (done h) t.0 x.0 (writer (done h) x.0) else []) query
-                ∙ (ap (λ (w : Option ℕ). charge_of_read (d h.weights) h.opening (done h) t.0 x.0 w) found
-                ∙ (ap (λ (v : ℤ). charge_to u (t, d h.weights x.0 v (committed_value h.opening (done h) x.0)) ∷ []) (sym (tie.current x.0 (inside x.0 l)))
-                ∙ (ap (λ (v : ℤ). charge_to u (t, d h.weights x.0 (current_at items x.0) v) ∷ []) (sym (tie.committed x.0 (inside x.0 l)))
-                ∙ ap (λ (g : TxnId × ℕ). charges_by g.0.0 ((t, g.1) ∷ [])) this))),
-            ap (λ (g : TxnId × ℕ). is_update (done h) g.0.0) (sym this) ∙ writer_update (done h) x.0 u found,
-          )
+      at (Some u) found some = grind (arith, same_Some, charge_to, inside x.0 l, charges_by, writer_update (done h) x.0 u found)
 
   pub due_none : (t : TxnId) (x : ItemId) → x.0 < length items → read_charge (d h.weights x.0) (versions_at items x.0) (locks_at locks x.0).writer ≡ None → due_in d h (Read t x) ≡ []
-  due_none t x l is = at (locks_at locks x.0).writer (writer_at x.0 l) is
-    where
-      none : (b : Bool) → ◌≡◌ {A = List Charge} (if b then [] else []) []
-      none true = refl
-      none false = refl
-
-      at : (w : Option ℕ) → writer (done h) x.0 ≡ w → read_charge (d h.weights x.0) (versions_at items x.0) w ≡ None → due_in d h (Read t x) ≡ []
-      at None found isnt = ap (λ (w : Option ℕ). if is_query (done h) t.0 then charge_of_read (d h.weights) h.opening (done h) t.0 x.0 w else []) found ∙ none (is_query (done h) t.0)
-      at (Some u) found isnt = absurd (cc)
+  due_none t x l is = grind (arith, writer_at x.0 l)
 
   -- a single charge is one of an update to a query
   pub are_charges-read : (t u : TxnId) (amount : ℕ) → is_query (done h) t.0 ≡ true → is_update (done h) u.0 ≡ true → AreCharges accounts u ((t, amount) ∷ [])
@@ -106,27 +90,16 @@ module _ (d : Distance) (h : Schedule) (items : List Versions) (table : List Tra
       })
 
   many_none : (t : ℕ) → all_reads_of (done h) t < 1000 → many_reads h t ≡ None
-  many_none t l = ap (λ b. when (is_query (done h) t && b) TooManyReads) few ∙ at (is_query (done h) t)
-    where
-      few : nat_le 1000 (all_reads_of (done h) t) ≡ false
-      few = grind (arith, nat_tests)
-
-      at : (b : Bool) → when (b && false) TooManyReads ≡ None
-      at true = refl
-      at false = refl
+  many_none t l = grind (arith, nat_tests)
 
   -- why a read by a query is refused
   pub query_many : (t : TxnId) (x : ItemId) → is_query (done h) t.0 ≡ true → 1000 ≤ all_reads_of (done h) t.0
       → Some TooManyReads ≡ first_reason (many_reads h t.0 ∷ import_full d h (due_in d h (Read t x)) ∷ export_full d h (due_in d h (Read t x)) ∷ [])
-  query_many t x query l =
-      let many : nat_le 1000 (all_reads_of (done h) t.0) ≡ true = grind (arith, nat_tests) in
-      sym (ap (λ (r : Option Refusal). first_reason (r ∷ import_full d h (due_in d h (Read t x)) ∷ export_full d h (due_in d h (Read t x)) ∷ [])) (ap (λ b. when (b && nat_le 1000 (all_reads_of (done h) t.0)) TooManyReads) query ∙ ap (λ b. when b TooManyReads) many))
+  query_many t x query l = grind (arith, nat_tests)
 
   pub query_none : (t : TxnId) (x : ItemId) → all_reads_of (done h) t.0 < 1000 → due_in d h (Read t x) ≡ []
       → None ≡ first_reason (many_reads h t.0 ∷ import_full d h (due_in d h (Read t x)) ∷ export_full d h (due_in d h (Read t x)) ∷ [])
-  query_none t x l none =
-      sym (ap (λ (r : Option Refusal). first_reason (r ∷ import_full d h (due_in d h (Read t x)) ∷ export_full d h (due_in d h (Read t x)) ∷ [])) (many_none t.0 l)
-      ∙ ap (λ (cs : List Charge). first_reason (None ∷ import_full d h cs ∷ export_full d h cs ∷ [])) none)
+  query_none t x l none = grind (arith, many_none t.0 l)
 
   pub query_some : (t u : TxnId) (x : ItemId) (amount : ℕ) → is_query (done h) t.0 ≡ true → is_update (done h) u.0 ≡ true → all_reads_of (done h) t.0 < 1000 → due_in d h (Read t x) ≡ charges_by u.0 ((t, amount) ∷ [])
       → reason_of (quote_of accounts u ((t, amount) ∷ [])) ≡ first_reason (many_reads h t.0 ∷ import_full d h (due_in d h (Read t x)) ∷ export_full d h (due_in d h (Read t x)) ∷ [])
@@ -139,10 +112,7 @@ module _ (d : Distance) (h : Schedule) (items : List Versions) (table : List Tra
   -- why a read is refused, where the transaction is active and the item is there
   pub read_query : (t : TxnId) (x : ItemId) → is_query (done h) t.0 ≡ true → None ≡ first_reason (not_begun h t.0 ∷ ended h t.0 ∷ []) → None ≡ no_item h x.0
       → first_reason (many_reads h t.0 ∷ import_full d h (due_in d h (Read t x)) ∷ export_full d h (due_in d h (Read t x)) ∷ []) ≡ refusal d h (Read t x)
-  read_query t x query active item =
-      sym (skip (not_begun h t.0) (ended h t.0) (no_item h x.0) (many_reads h t.0 ∷ read_blocked h t.0 x.0 ∷ import_full d h (due_in d h (Read t x)) ∷ export_full d h (due_in d h (Read t x)) ∷ []) active item
-      ∙ (ap (λ (b : Bool). first_reason (many_reads h t.0 ∷ (if b then None else blocked_by (other_writer (done h) t.0 x.0)) ∷ import_full d h (due_in d h (Read t x)) ∷ export_full d h (due_in d h (Read t x)) ∷ [])) query
-      ∙ without (many_reads h t.0) (import_full d h (due_in d h (Read t x))) (export_full d h (due_in d h (Read t x)))))
+  read_query t x query active item = grind (arith, skip, without)
 
   pub read_update : (t : TxnId) (x : ItemId) (r : Option ℕ) → x.0 < length items → IsLeast (keeps_from_reading (locks_at locks x.0) t.0) r → is_query (done h) t.0 ≡ false → None ≡ first_reason (not_begun h t.0 ∷ ended h t.0 ∷ []) → None ≡ no_item h x.0
       → blocked_by r ≡ refusal d h (Read t x)
@@ -170,16 +140,11 @@ module _ (d : Distance) (h : Schedule) (items : List Versions) (table : List Tra
 
   pub write_query : (t : TxnId) (x : ItemId) (v : ℤ) → is_query (done h) t.0 ≡ true → None ≡ first_reason (not_begun h t.0 ∷ ended h t.0 ∷ []) → None ≡ no_item h x.0
       → Some QueryMayNotWrite ≡ first_reason (not_begun h t.0 ∷ ended h t.0 ∷ no_item h x.0 ∷ query_writes h t.0 ∷ out_of_range v ∷ write_blocked h t.0 x.0 ∷ [])
-  write_query t x v query active item =
-      sym (skip (not_begun h t.0) (ended h t.0) (no_item h x.0) (query_writes h t.0 ∷ out_of_range v ∷ write_blocked h t.0 x.0 ∷ []) active item
-      ∙ ap (λ (b : Bool). first_reason (when b QueryMayNotWrite ∷ out_of_range v ∷ write_blocked h t.0 x.0 ∷ [])) query)
+  write_query t x v query active item = grind (arith, skip)
 
   pub write_range : (t : TxnId) (x : ItemId) (v : ℤ) (why : Refusal) → is_query (done h) t.0 ≡ false → Some why ≡ out_of_range v → None ≡ first_reason (not_begun h t.0 ∷ ended h t.0 ∷ []) → None ≡ no_item h x.0
       → Some why ≡ first_reason (not_begun h t.0 ∷ ended h t.0 ∷ no_item h x.0 ∷ query_writes h t.0 ∷ out_of_range v ∷ write_blocked h t.0 x.0 ∷ [])
-  write_range t x v why no_query range active item =
-      sym (skip (not_begun h t.0) (ended h t.0) (no_item h x.0) (query_writes h t.0 ∷ out_of_range v ∷ write_blocked h t.0 x.0 ∷ []) active item
-      ∙ (ap (λ (b : Bool). first_reason (when b QueryMayNotWrite ∷ out_of_range v ∷ write_blocked h t.0 x.0 ∷ [])) no_query
-      ∙ ap (λ (o : Option Refusal). first_reason (o ∷ write_blocked h t.0 x.0 ∷ [])) (sym range)))
+  write_range t x v why no_query range active item = grind (arith, skip)
 
 -- the reasons before the charges of a write come first
 pub write_split : (a b c e f g i j : Option Refusal) → first_reason (a ∷ b ∷ c ∷ e ∷ f ∷ g ∷ []) ≡ None → first_reason (a ∷ b ∷ c ∷ e ∷ f ∷ g ∷ i ∷ j ∷ []) ≡ first_reason (i ∷ j ∷ [])

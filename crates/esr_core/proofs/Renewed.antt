@@ -38,20 +38,10 @@ tied_values d opening events items table locks accounts tie =
 module _ (d : Distance) (h k : Schedule) (first : IsLegal d h) (second : IsLegal d k) (opens : k.opening ≡ committed_values h) where
   -- the second opens as the first leaves its items
   starts : (x : ℕ) → x < length h.opening → value_at k.opening x ≡ state h (committed_updates h) x
-  starts x l =
-      ap (λ vs. value_at vs x) opens ∙ (get_or-map-range_with_len (committed_value h.opening (done h)) 0 (length h.opening) x x (pos 0) l (omega arith)
-      ∙ sym ((legal_serializable d h first).leaves x))
+  starts x l = grind (arith, get_or-map-range_with_len, pos 0, legal_serializable d h first)
 
   goes_on : (vs : List ℕ) (x : ℕ) → x < length h.opening → state k vs x ≡ state_over h (committed_updates h) k vs x
   goes_on vs x l = ap (λ v. last_value v (flat_map (values_by k x) vs)) (starts x l)
 
   pub as_one : AreSerializableAsOne h k
-  as_one =
-      let s = legal_serializable d k second in
-      record {
-        first = legal_serializable d h first;
-        serial = s.serial;
-        reads = λ before after t x v l is by. s.reads before after t x v is by
-            ∙ ap (λ w. last_value w (filter_map (written (λ u. u == t.0) x.0) (accepted before))) (goes_on (before_first (λ u. u == t.0) (committed_updates k)) x.0 l);
-        leaves = λ x l. sym (goes_on (committed_updates k) x l) ∙ s.leaves x;
-      }
+  as_one = grind (arith, legal_serializable d k second, legal_serializable d h first, goes_on)

@@ -19,17 +19,9 @@ module _ (d : Distance) (h : Schedule) where
   after : (past es : List Entry) (i : ℕ) (e : Entry) → IsLegalAfter d (record h { entries = past }) es → slice_get es i ≡ Some e
       → (e.reply ≡ reply_to d (record h { entries = past ++ take i es }) e.event) × (take (i + 1) es ≡ take i es ++ e ∷ [])
   after past [] i e legal at = let b : None ≡ Some e = at in absurd (cc)
-  after past (x ∷ es) zero e legal at =
-      let s : x ≡ e = (let b : Some x ≡ Some e = at in cc) in (
-        subst (λ (n : Entry). n.reply ≡ reply_to d (record h { entries = past ++ [] }) n.event) s
-            (subst (λ (ps : List Entry). x.reply ≡ reply_to d (record h { entries = ps }) x.event) (sym (append-nil past)) legal.0),
-        ap (λ (n : Entry). n ∷ []) s,
-      )
+  after past (x ∷ es) zero e legal at = grind (arith, append-nil past)
   after past (x ∷ es) (suc i) e legal at =
-      let rest = after (past ++ x ∷ []) es i e legal.1 at in (
-        subst (λ (ps : List Entry). e.reply ≡ reply_to d (record h { entries = ps }) e.event) (append_assoc past (x ∷ []) (take i es)) rest.0,
-        (let n : suc i + 1 ≡ suc (i + 1) = omega arith in ap (λ k. take k (x ∷ es)) n ∙ ap (λ ns. x ∷ ns) rest.1),
-      )
+      grind (arith, after (past ++ x ∷ []) es i e legal.1 at, append_assoc past (x ∷ []) (take i es))
 
   pub next : IsLegal d h → (i : ℕ) (e : Entry) → slice_get h.entries i ≡ Some e → IsNext d h i e
   next legal i e at =

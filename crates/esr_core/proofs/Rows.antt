@@ -88,15 +88,7 @@ rows-begin done o e b is table was =
 
     new : record { query = b.query; active = true; reads = 0 } ≡ row_of (done ++ e ∷ []) (suc (length (beginnings done)))
     new =
-        let n = suc (length (beginnings done)) in
-        let no_reads : all_reads_of (done ++ e ∷ []) n ≡ 0 = no_more n ∙ count_none (reads_any n) done (not_named done o (reads_any n) (reads_any_name n)) in
-        let query : is_query (done ++ e ∷ []) n ≡ b.query = ap (λ (w : Option Beginning). unwrap_or (option_map (λ (c : Beginning). c.query) w) false) (beginning-new done e b is) in
-        let active : is_active (done ++ e ∷ []) n ≡ true = rw (beginning-new done e b is, any_push_no (commits n) done e (is.commits_none n), any_push_no (aborts n) done e (is.aborts_none n), not_named done o (commits n) (commits_name n), not_named done o (aborts n) (names_aborter n)) refl in
-        either b.query ∙ row_same b.query (is_query (done ++ e ∷ []) n) true (is_active (done ++ e ∷ []) n) 0 (all_reads_of (done ++ e ∷ []) n) (sym query) (sym active) (sym no_reads)
-      where
-        either : (q : Bool) → ◌≡◌ {A = Transaction} (record { query = q; active = true; reads = 0 }) (row q true 0)
-        either true = refl
-        either false = refl
+        grind (arith, no_more, count_none, not_named, reads_any_name, beginning-new done e b is, any_push_no, commits_name, names_aborter, row_same)
 
 module _ (done : List Event) (e : Event) (none : beginning_of e ≡ None) where
   along : (table : List Transaction) → table ≡ map (row_of (done ++ e ∷ [])) (numbers done) → table ≡ rows_of (done ++ e ∷ [])
@@ -113,11 +105,8 @@ module _ (done : List Event) (e : Event) (none : beginning_of e ≡ None) where
   rows-kept c a r table was = along table (was ∙ map_same (row_of done) (row_of (done ++ e ∷ [])) 1 (length (beginnings done)) (λ t low high. same t))
     where
       same : (t : ℕ) → row_of done t ≡ row_of (done ++ e ∷ []) t
-      same t = sym (after t (is_active done t) (active-kept done e none c a t) ∙ at (is_query done t) refl)
-        where
-          at : (q : Bool) → is_query done t ≡ q → row q (is_active done t) (all_reads_of done t + (if reads_any t e then 1 else 0)) ≡ row q (is_active done t) (all_reads_of done t)
-          at true is = ap (λ (m : ℕ). row true (is_active done t) m) (ap (λ (b : Bool). all_reads_of done t + (if b then 1 else 0)) (r t is) ∙ add-zero (all_reads_of done t))
-          at false is = refl
+      same t =
+          grind (arith, after t (is_active done t) (active-kept done e none c a t), active-kept done e none c a t, add-zero (all_reads_of done t))
 
   -- a read by a query is counted
   pub rows-read : (k : ℕ) (r : Transaction) → ((t : ℕ) → commits t e ≡ false) → ((t : ℕ) → aborts t e ≡ false) → is_query done (suc k) ≡ true → ((t : ℕ) → reads_any t e ≡ (suc k == t))
@@ -140,9 +129,7 @@ module _ (done : List Event) (e : Event) (none : beginning_of e ≡ None) where
           counts false is = absurd (false≢true is)
 
       other : (t : ℕ) → (t ≡ 1 + k → ⊥) → row_of (done ++ e ∷ []) t ≡ row_of done t
-      other t ne =
-          after t (is_active done t) (active-kept done e none c a t)
-          ∙ ap (λ (m : ℕ). row (is_query done t) (is_active done t) m) (ap (λ (b : Bool). all_reads_of done t + (if b then 1 else 0)) (by t ∙ ne_eqb (suc k) t (λ (f : suc k ≡ t). ne (omega arith))) ∙ add-zero (all_reads_of done t))
+      other t ne = grind (arith, after, active-kept, ne_eqb, add-zero)
 
   -- the end of a transaction
   pub rows-end : (k : ℕ) (r : Transaction) → ((t : ℕ) → is_active (done ++ e ∷ []) t ≡ (is_active done t && not (suc k == t))) → ((t : ℕ) → reads_any t e ≡ false)
@@ -163,6 +150,4 @@ module _ (done : List Event) (e : Event) (none : beginning_of e ≡ None) where
           ∙ ap (λ (q : Transaction). record q { active = false }) (sym (row_is done table was k r l at))))
 
       other : (t : ℕ) → (t ≡ 1 + k → ⊥) → row_of (done ++ e ∷ []) t ≡ row_of done t
-      other t ne =
-          after t (is_active done t) (ends t ∙ (ap (λ (b : Bool). is_active done t && not b) (ne_eqb (suc k) t (λ (f : suc k ≡ t). ne (omega arith))) ∙ and-true (is_active done t)))
-          ∙ ap (λ (m : ℕ). row (is_query done t) (is_active done t) m) (count t)
+      other t ne = grind (arith, after, ne_eqb, count)

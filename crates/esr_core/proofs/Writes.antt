@@ -1,5 +1,5 @@
 -- The charges of a write, by the parts of the machine.
-use Rattle.std.proofs.Common.{◌≡◌, ℕ, ℤ, ◌<◌, List, [], ◌∷◌, ◌++◌, length, Bool, true, false, ◌&&◌, refl, sym, ◌∙◌, ap, subst, Option, None, Some, if◌then◌else◌}
+use Rattle.std.proofs.Common.{◌≡◌, ℕ, ℤ, ◌<◌, List, [], ◌∷◌, ◌++◌, length, Bool, true, false, ◌&&◌, refl, sym, ◌∙◌, ap, subst, Option, None, Some, if◌then◌else◌, arith}
 use Rattle.std.specs.List.{filter_map, cons_option, AllByRecursion}
 use Rattle.std.proofs.lemmas.Bool.{and_parts}
 use Rattle.esr_items.specs.Values.{current_at}
@@ -31,8 +31,7 @@ abbrev pub barred : Schedule → TxnId → ItemId → ℤ → Option Refusal
 barred h t x v = first_reason (not_begun h t.0 ∷ ended h t.0 ∷ no_item h x.0 ∷ query_writes h t.0 ∷ out_of_range v ∷ write_blocked h t.0 x.0 ∷ [])
 
 open_of : (h : Schedule) (t : TxnId) (x : ItemId) (v : ℤ) → barred h t x v ≡ None → WriteOpen h t x v
-open_of h t x v none =
-    write_open h t x v (none_applies (not_begun h t.0 ∷ ended h t.0 ∷ no_item h x.0 ∷ query_writes h t.0 ∷ out_of_range v ∷ write_blocked h t.0 x.0 ∷ []) none)
+open_of h t x v none = grind (arith, write_open, none_applies)
 
 pub active_of : (h : Schedule) (t : TxnId) (x : ItemId) (v : ℤ) → barred h t x v ≡ None → is_active (done h) t.0 ≡ true
 active_of h t x v none = not_ended h t.0 (open_of h t x v none).active
@@ -42,8 +41,7 @@ update_of h t x v none =
     update_from (done h) t.0 (active_parts (done h) t.0 (active_of h t x v none)).0 (when_none (is_query (done h) t.0) QueryMayNotWrite (open_of h t x v none).update)
 
 pub barred_first : (d : Distance) (h : Schedule) (t : TxnId) (x : ItemId) (v : ℤ) (why : Refusal) → barred h t x v ≡ Some why → refusal d h (Write t x v) ≡ Some why
-barred_first d h t x v why is =
-    write_first (not_begun h t.0) (ended h t.0) (no_item h x.0) (query_writes h t.0) (out_of_range v) (write_blocked h t.0 x.0) (import_full d h (due_in d h (Write t x v))) (export_full d h (due_in d h (Write t x v))) why is
+barred_first d h t x v why is = grind (arith, write_first)
 
 queries_charged : (events : List Event) (x amount : ℕ) (us : List ℕ) → AllByRecursion (λ (c : TxnId × ℕ). is_query events c.0.0 ≡ true) (charges_to amount (filter_map (query_reads events x) us))
 queries_charged events x amount [] = tt
@@ -59,9 +57,7 @@ module _ (d : Distance) (h : Schedule) (items : List Versions) (table : List Tra
   owed = charges_to (d h.weights x.0 v (current_at items x.0)) (locks_at locks x.0).queries
 
   owed_is : owed ≡ charges_to (d h.weights x.0 v (current_value h.opening (done h) x.0)) (filter_map (query_reads (done h) x.0) (numbers (done h)))
-  owed_is =
-      ap (λ (w : ℤ). charges_to (d h.weights x.0 v w) (locks_at locks x.0).queries) (tie.current x.0 (rw (← tie.count) l))
-      ∙ ap (λ (g : ItemLocks). charges_to (d h.weights x.0 v (current_value h.opening (done h) x.0)) g.queries) (ap (λ (ls : List ItemLocks). locks_at ls x.0) tie.locked ∙ locks_here (done h) (length h.opening) x.0 (rw (← tie.count) l))
+  owed_is = grind (arith, locks_here (done h) (length h.opening) x.0 (rw (← tie.count) l))
 
   pub are_charges : is_update (done h) t.0 ≡ true → AreCharges accounts t owed
   are_charges update =
@@ -80,8 +76,4 @@ module _ (d : Distance) (h : Schedule) (items : List Versions) (table : List Tra
 
   -- a write that is not barred is refused for its charges alone
   pub write_reason : barred h t x v ≡ None → refusal d h (Write t x v) ≡ reason_for accounts t owed
-  write_reason none =
-      let update : is_update (done h) t.0 ≡ true = update_of h t x v none in
-      write_split (not_begun h t.0) (ended h t.0) (no_item h x.0) (query_writes h t.0) (out_of_range v) (write_blocked h t.0 x.0) (import_full d h (due_in d h (Write t x v))) (export_full d h (due_in d h (Write t x v))) none
-      ∙ (ap (λ (cs : List Charge). first_reason (import_full d h cs ∷ export_full d h cs ∷ [])) (due_is update)
-      ∙ reason_is update owed (subst (λ (cs : List (TxnId × ℕ)). AllByRecursion (λ (c : TxnId × ℕ). is_query (done h) c.0.0 ≡ true) cs) (sym owed_is) (queries_charged (done h) x.0 (d h.weights x.0 v (current_value h.opening (done h) x.0)) (numbers (done h)))))
+  write_reason none = grind (arith, update_of h t x v none, write_split, due_is, reason_is, owed_is, queries_charged)

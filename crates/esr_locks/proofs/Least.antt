@@ -1,5 +1,5 @@
 -- The smallest number that passes a test, in a list that ascends.
-use Rattle.std.proofs.Common.{◌≡◌, ℕ, ◌<◌, ◌≤◌, List, [], ◌∷◌, Bool, true, false, not, ◌&&◌, ◌||◌, ◌==◌, refl, sym, ◌∙◌, ap, arith, inl, inr, Option, None, Some, map}
+use Rattle.std.proofs.Common.{◌≡◌, ℕ, ◌<◌, ◌≤◌, List, [], ◌∷◌, Bool, false, not, ◌&&◌, ◌==◌, refl, sym, ◌∙◌, arith, Option, None, Some, map}
 use Rattle.std.specs.Prelude.{find, All}
 use Rattle.std.specs.List.{list_any, AllByRecursion}
 use Rattle.std.specs.Option.{option_map}
@@ -23,25 +23,7 @@ module _ {X : Type 0} (key : X → ℕ) where
   pub least_other : (t : ℕ) (xs : List X) → IsAscendingBy key xs → IsLeast (λ u. not (u == t) && list_any (λ y. key y == u) xs) (option_map key (find (λ y. not (key y == t)) xs))
   least_other t [] asc = λ u. and_right (not (u == t)) false refl
   least_other t (x ∷ xs) asc =
-      elim (cases_eq (key x) t) [
-        | inl e ↦
-            rw (eq-eqb (key x) t e)
-            (IsLeast-same (λ u. not (u == t) && list_any (λ y. key y == u) xs) (λ u. not (u == t) && (key x == u || list_any (λ y. key y == u) xs)) (option_map key (find (λ y. not (key y == t)) xs)) (same e) (least_other t xs asc.1))
-        | inr ne ↦ rw (ne_eqb (key x) t ne) (here ne, lower)
-      ]
-    where
-      same : key x ≡ t → (u : ℕ) → (not (u == t) && list_any (λ y. key y == u) xs) ≡ (not (u == t) && (key x == u || list_any (λ y. key y == u) xs))
-      same e u =
-          elim (cases_eq u t) [
-            | inl is ↦ and_left (not (u == t)) (list_any (λ y. key y == u) xs) (ap not (eq-eqb u t is)) ∙ sym (and_left (not (u == t)) (key x == u || list_any (λ y. key y == u) xs) (ap not (eq-eqb u t is)))
-            | inr other ↦ ap (λ b. not (u == t) && (b || list_any (λ y. key y == u) xs)) (sym (ne_eqb (key x) u (λ (f : key x ≡ u). other (sym f ∙ e))))
-          ]
-
-      here : (key x ≡ t → ⊥) → (not (key x == t) && (key x == key x || list_any (λ y. key y == key x) xs)) ≡ true
-      here ne = rw (ne_eqb (key x) t ne, eq-eqb (key x) (key x) refl) refl
-
-      lower : (v : ℕ) → v < key x → (not (v == t) && (key x == v || list_any (λ y. key y == v) xs)) ≡ false
-      lower v l = and_right (not (v == t)) (key x == v || list_any (λ y. key y == v) xs) (rw (ne_eqb (key x) v (λ (f : key x ≡ v). omega arith)) (none_lower (key x) v (omega arith) xs asc.0))
+      grind (arith, cases_eq, eq-eqb, IsLeast-same, least_other t xs asc.1, ne_eqb, and_left, and_right, none_lower)
 
 -- what holds of each element of a mapped list
 pub All-from_map : {X Y : Type 0} (f : X → Y) (P : Y → Type 0) (xs : List X) → All P (map f xs) → All (λ x. P (f x)) xs

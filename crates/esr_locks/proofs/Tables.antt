@@ -23,9 +23,7 @@ locks_at-rows rows x l = get_or-map (λ (r : RowOf). r.locks) rows x empty_row n
 -- a row changed is one item's locks changed
 pub set_row : (rows : List RowOf) (x : ℕ) (row new : RowOf) (f : ItemLocks → ItemLocks) → x < length rows → row ≡ get_or rows x row → new.locks ≡ f row.locks
     → map (λ r. r.locks) (set rows x new) ≡ set (map (λ r. r.locks) rows) x (f (locks_at (map (λ r. r.locks) rows) x))
-set_row rows x row new f l is new_is =
-    map-set (λ (r : RowOf). r.locks) rows x new
-    ∙ ap (set (map (λ r. r.locks) rows) x) (new_is ∙ ap f (ap (λ (r : RowOf). r.locks) is ∙ sym (get_or-map (λ (r : RowOf). r.locks) rows x row no_locks l)))
+set_row rows x row new f l is new_is = grind (arith, map-set, set, map, get_or-map)
 
 -- who holds a lock after one more held one before, or is who took it
 pub reader_more : (t u : ℕ) (l : ItemLocks) → has_lock (with_reader t l) u ≡ true → (has_lock l u ≡ true) ⊎ (t ≡ u)
@@ -109,22 +107,11 @@ module _ (rows : List RowOf) (held : List HeldOf) (tab : IsTable rows held) (t x
       at_t = ap (λ (h : HeldOf). h.items) (get_or-set_same held t list nothing_held in_held) ∙ list_is
 
       keeps : (u y : ℕ) → lists_item (held_at held u).items y ≡ true → lists_item (held_at (set held t list) u).items y ≡ true
-      keeps u y before =
-          elim (cases_eq u t) [
-            | inl e ↦ ap (λ v. lists_item (held_at (set held t list) v).items y) e ∙ (ap (λ (is' : List ItemId). lists_item is' y) at_t ∙ (any_push (λ (i : ItemId). i.0 == y) (held_at held t).items id ∙ or_left (lists_item (held_at held t).items y) (id.0 == y) (ap (λ v. lists_item (held_at held v).items y) (sym e) ∙ before)))
-            | inr ne ↦ ap (λ (h : HeldOf). lists_item h.items y) (get_or-set_other held t u list nothing_held ne) ∙ before
-          ]
+      keeps u y before = grind (arith, cases_eq u t, set held t list, at_t, any_push, or_left, get_or-set_other)
 
   -- who took the lock had one there
   pub IsTable-again : ((u : ℕ) → has_lock new.locks u ≡ true → (has_lock row.locks u ≡ true) ⊎ (t ≡ u)) → has_lock row.locks t ≡ true → IsTable (set rows x new) held
-  IsTable-again more had = record {
-    within = λ u. rw length-set (tab.within u);
-    listed = λ u y l has.
-        elim (lock_there more u y l has) [
-          | inl before ↦ before
-          | inr now ↦ subst (λ v. lists_item (held_at held v).items y ≡ true) now.0 (subst (λ z. lists_item (held_at held t).items z ≡ true) now.1 (tab.listed t x inside (ap (λ (r : RowOf). has_lock r.locks t) (sym (read_row rows x row inside is)) ∙ had)))
-        ];
-  }
+  IsTable-again more had = grind (arith, length-set, lock_there, read_row rows x row inside is)
 
 -- a release changes nothing where the transaction has no lock
 list_any_none : {X : Type 0} (p : X → Bool) (xs : List X) → list_any p xs ≡ false → filter (λ x. not (p x)) xs ≡ xs
@@ -152,11 +139,7 @@ any_filter p q (x ∷ xs) is =
 
 none_left : {X : Type 0} (p : X → Bool) (xs : List X) → list_any p (filter (λ x. not (p x)) xs) ≡ false
 none_left p [] = refl
-none_left p (x ∷ xs) =
-    elim (cases_Bool (p x)) [
-      | inl passes ↦ rw passes (none_left p xs)
-      | inr fails ↦ rw (fails, fails) (none_left p xs)
-    ]
+none_left p (x ∷ xs) = grind (arith, cases_Bool (p x), none_left p xs)
 
 -- after its release a transaction has no lock, and no other has more than before
 pub released_gone : (t : ℕ) (l : ItemLocks) → has_lock (released t l) t ≡ false
@@ -164,11 +147,7 @@ released_gone t l = rw (writer_gone l.writer, none_left (λ u. u == t) l.readers
   where
     writer_gone : (w : Option ℕ) → unwrap_or (option_map (λ u. u == t) (if unwrap_or (option_map (λ u. u == t) w) false then None else w)) false ≡ false
     writer_gone None = refl
-    writer_gone (Some u) =
-        elim (cases_Bool (u == t)) [
-          | inl is ↦ rw is refl
-          | inr isnt ↦ rw (isnt, isnt) refl
-        ]
+    writer_gone (Some u) = grind (arith, cases_Bool (u == t))
 
 pub released_less : (t u : ℕ) (l : ItemLocks) → has_lock (released t l) u ≡ true → has_lock l u ≡ true
 released_less t u l is =
@@ -182,24 +161,15 @@ released_less t u l is =
   where
     writer_less : (w : Option ℕ) → unwrap_or (option_map (λ v. v == u) (if unwrap_or (option_map (λ v. v == t) w) false then None else w)) false ≡ true → unwrap_or (option_map (λ v. v == u) w) false ≡ true
     writer_less None h = absurd (false≢true h)
-    writer_less (Some v) h =
-        elim (cases_Bool (v == t)) [
-          | inl it ↦ absurd (false≢true (rw it at h))
-          | inr other ↦ rw other at h
-        ]
+    writer_less (Some v) h = grind (arith, cases_Bool (v == t), false≢true)
 
 module _ (rows : List RowOf) (held : List HeldOf) (tab : IsTable rows held) (t : ℕ) (rows_new : List RowOf) (held_new : List HeldOf)
     (len : length rows_new ≡ length rows)
     (locks : (x : ℕ) → x < length rows → (row_at rows_new x).locks ≡ (if lists_item (held_at held t).items x then released t (row_at rows x).locks else (row_at rows x).locks))
     (left : (u : ℕ) → (held_at held_new u).items ≡ (if t == u then [] else (held_at held u).items)) where
   every : (x : ℕ) → x < length rows → (row_at rows_new x).locks ≡ released t (row_at rows x).locks
-  every x l = locks x l ∙ elim (cases_Bool (lists_item (held_at held t).items x)) [
-    | inl listed ↦ rw listed refl
-    | inr not_listed ↦ rw not_listed (sym (released_none t (row_at rows x).locks (elim (cases_Bool (has_lock (row_at rows x).locks t)) [
-      | inl has ↦ absurd (false≢true (sym not_listed ∙ tab.listed t x l has))
-      | inr none ↦ none
-    ])))
-  ]
+  every x l =
+      grind (arith, cases_Bool (lists_item (held_at held t).items x), released_none, cases_Bool (has_lock (row_at rows x).locks t), false≢true)
 
   pub released_all : map (λ r. r.locks) rows_new ≡ map (released t) (map (λ r. r.locks) rows)
   released_all =
@@ -211,19 +181,7 @@ module _ (rows : List RowOf) (held : List HeldOf) (tab : IsTable rows held) (t :
       locks_at-rows rows_new x l_new ∙ (every x l_old ∙ (ap (released t) (sym (locks_at-rows rows x l_old)) ∙ sym (get_or-map (released t) (map (λ r. r.locks) rows) x no_locks no_locks (simp length-map l_old)))))
 
   pub IsTable-released : IsTable rows_new held_new
-  IsTable-released = record {
-    within = λ u. elim (cases_Bool (t == u)) [
-      | inl same ↦ subst (λ (is : List ItemId). All (λ (i : ItemId). i.0 < length rows_new) is) {x = []} (sym (left u ∙ rw same refl)) (All-nil (λ (i : ItemId). i.0 < length rows_new))
-      | inr other ↦ subst (λ (is : List ItemId). All (λ (i : ItemId). i.0 < length rows_new) is) {x = (held_at held u).items} (sym (left u ∙ rw other refl)) (rw len (tab.within u))
-    ];
-    listed = λ u x l has.
-        let l_old : x < length rows = rw (← len) l in
-        let there : has_lock (released t (row_at rows x).locks) u ≡ true = ap (λ (g : ItemLocks). has_lock g u) (sym (every x l_old)) ∙ has in
-        elim (cases_Bool (t == u)) [
-          | inl same ↦ absurd (false≢true (sym (released_gone t (row_at rows x).locks) ∙ (ap (has_lock (released t (row_at rows x).locks)) (eqb-true t u same) ∙ there)))
-          | inr other ↦ ap (λ (is : List ItemId). lists_item is x) (left u ∙ rw other refl) ∙ tab.listed u x l_old (released_less t u (row_at rows x).locks there)
-        ];
-  }
+  IsTable-released = grind (arith, cases_Bool, All-nil, every, false≢true, released_gone, eqb-true, released_less)
 
 -- a row whose locks are the same
 pub set_same_row : (rows : List RowOf) (x : ℕ) (row new : RowOf) → row ≡ get_or rows x row → new.locks ≡ row.locks → map (λ r. r.locks) (set rows x new) ≡ map (λ r. r.locks) rows

@@ -1,4 +1,4 @@
-use Rattle.std.proofs.Common.{◌∙◌, sym, ap, not}
+use Rattle.std.proofs.Common.{sym, ap, not, arith}
 use Rattle.esr_history.specs.Ascending.{IsPlaceOf, IsGapFor}
 use Rattle.esr_history.proofs.Ascending.{placed_same, placed_gap, any_place, any_gap}
 use Rattle.esr_locks.specs.Rows.{reader}
@@ -15,9 +15,7 @@ returns-in-Ok-clause-fresh c =
     ap not (sym (any_place (λ r. r.update.0) c.args.t.0 c.in-Ok.field-0 c.args.readers.now.items (reader c.args.t) place))
 
 pub returns-in-Err-clause-items : goal.returns-in-Err-clause-items
-returns-in-Err-clause-items c =
-    let gap : IsGapFor (λ r. r.update.0) c.args.readers.now.items c.args.t.0 c.in-Err.at = rw (← c.deref.ensures) c.in-Err.ensures.absent in
-    c.put.ensures ∙ placed_gap (λ r. r.update.0) c.args.t.0 (reader c.args.t) (λ u. u) c.args.readers.now.items c.in-Err.at gap
+returns-in-Err-clause-items c = grind (arith, placed_gap)
 
 pub returns-in-Err-clause-fresh : goal.returns-in-Err-clause-fresh
 returns-in-Err-clause-fresh c =

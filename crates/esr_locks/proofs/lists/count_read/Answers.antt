@@ -1,4 +1,4 @@
-use Rattle.std.proofs.Common.{◌∙◌, sym, ap, not, set, get_or, List}
+use Rattle.std.proofs.Common.{◌∙◌, sym, ap, not, set, get_or, List, arith}
 use Rattle.std.proofs.Math.ListN.{length-set}
 use Rattle.smallvec.proofs.SmallVecLemmas.{items-with_items}
 use Rattle.esr_history.specs.Ascending.{IsPlaceOf, IsGapFor}
@@ -17,9 +17,7 @@ returns-in-Ok-clause-items c =
     ∙ placed_at (λ r. r.query.0) c.args.q.0 (first_reads c.args.q) more_reads reads c.requires.ascending c.in-Ok.at nobody place)
 
 pub returns-in-Err-clause-items : goal.returns-in-Err-clause-items
-returns-in-Err-clause-items c =
-    let gap : IsGapFor (λ r. r.query.0) c.args.queries.now.items c.args.q.0 c.in-Err.at = rw (← c.deref.ensures) c.in-Err.ensures.absent in
-    c.put.ensures ∙ placed_gap (λ r. r.query.0) c.args.q.0 (first_reads c.args.q) more_reads c.args.queries.now.items c.in-Err.at gap
+returns-in-Err-clause-items c = grind (arith, placed_gap)
 
 pub returns-in-Err-clause-fresh : goal.returns-in-Err-clause-fresh
 returns-in-Err-clause-fresh c =

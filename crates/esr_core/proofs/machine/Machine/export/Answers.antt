@@ -1,4 +1,4 @@
-use Rattle.std.proofs.Common.{◌≡◌, ◌∙◌, ℕ, ap, false, true, not, Bool, Option, Some}
+use Rattle.std.proofs.Common.{◌≡◌, ◌∙◌, ℕ, ap, false, true, not, Bool, Option, Some, arith}
 use Rattle.std.specs.Prelude.{unwrap_or}
 use Rattle.std.specs.Option.{option_map}
 use Rattle.esr_history.specs.declared.links.Facts.{Facts}
@@ -18,25 +18,13 @@ update : (h : Schedule) (u : ℕ) (r : Option Facts) (f : Facts) → r ≡ facts
 update h u r f is some isnt = kind_of h.entries u r is ∙ (ap told some ∙ ap not isnt)
 
 pub returns-in_default : goal.returns-in_default
-returns-in_default g c =
-    let h = c.self.inside.history.schedule in
-    let isnt : is_update (done h) c.args.u.0 ≡ false = kind_of h.entries c.args.u.0 c.facts.result c.facts.ensures ∙ ap told c.in_default.is in
-    exports_nothing g.M.Metric.distance_by h c.args.u.0 isnt ∙ ap (λ (s : Schedule). export_in (charges_in g.M.Metric.distance_by s) c.args.u.0) c.self.view_is
+returns-in_default g c = grind (arith, kind_of, exports_nothing)
 
 pub returns-then-facts : goal.returns-then-facts
-returns-then-facts g c =
-    let h = c.self.inside.history.schedule in
-    let isnt : is_update (done h) c.args.u.0 ≡ false = kind_of h.entries c.args.u.0 c.facts.result c.facts.ensures ∙ (ap told c.in-Some.is ∙ ap not c.if-facts.true) in
-    exports_nothing g.M.Metric.distance_by h c.args.u.0 isnt ∙ ap (λ (s : Schedule). export_in (charges_in g.M.Metric.distance_by s) c.args.u.0) c.self.view_is
+returns-then-facts g c = grind (arith, kind_of, exports_nothing)
 
 pub amount-requires : goal.amount-requires
-amount-requires g c =
-    let h = c.self.inside.history.schedule in
-    rw c.self.invariant.0.books (update_open c.args.u.0 _ (open_update_is (g.M.Metric.distance_by h.weights) h.opening (done h) c.args.u.0 (update h c.args.u.0 c.facts.result c.in-Some.facts c.facts.ensures c.in-Some.is c.if-facts.false)))
+amount-requires g c = grind (arith, update_open, open_update_is, update)
 
 pub returns : goal.returns
-returns g c =
-    let h = c.self.inside.history.schedule in
-    c.amount.ensures ∙ (ap (λ books. amount_at books c.args.u.0) c.self.invariant.0.books
-    ∙ (export_is (g.M.Metric.distance_by h.weights) h.opening (done h) c.args.u.0 (update h c.args.u.0 c.facts.result c.in-Some.facts c.facts.ensures c.in-Some.is c.if-facts.false)
-    ∙ ap (λ (s : Schedule). export_in (charges_in g.M.Metric.distance_by s) c.args.u.0) c.self.view_is))
+returns g c = grind (arith, export_is, update)

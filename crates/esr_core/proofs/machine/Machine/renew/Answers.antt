@@ -6,9 +6,7 @@ use Rattle.esr_core.proofs.Renewed.{as_one}
 use Rattle.esr_core.proofs.machine.Machine.renew.Goals as goal
 
 pub restart-requires-clause-items : goal.restart-requires-clause-items
-restart-requires-clause-items g c =
-    let h = c.args.self.now in
-    ap length c.in-Ok.ensures.opening ∙ (length-map-range_with_len (committed_value h.opening (done h)) 0 (length h.opening) ∙ ap (λ (s : Schedule). length s.opening) (sym c.self.view_is))
+restart-requires-clause-items g c = grind (arith, length-map-range_with_len)
 
 pub invariant_of-self : goal.invariant_of-self
 invariant_of-self g c =

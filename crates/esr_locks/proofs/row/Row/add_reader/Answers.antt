@@ -1,4 +1,4 @@
-use Rattle.std.proofs.Common.{◌≡◌, ◌∙◌, ◌==◌, ◌||◌, sym, ap, subst, refl, not, map}
+use Rattle.std.proofs.Common.{◌≡◌, ◌∙◌, ◌==◌, ◌||◌, sym, ap, subst, refl, not, map, arith}
 use Rattle.std.specs.List.{list_any}
 use Rattle.std.specs.Option.{option_map}
 use Rattle.esr_history.specs.Ascending.{placed}
@@ -10,8 +10,7 @@ use Rattle.esr_locks.proofs.Tables.{wrote}
 use Rattle.esr_locks.proofs.row.Row.add_reader.Goals as goal
 
 pub invariant_of-self : goal.invariant_of-self
-invariant_of-self c =
-    (rw c.add_reader-has_read.ensures.items (placed_ascends (λ r. r.update.0) c.args.t.0 (reader c.args.t) (λ r. r) refl (λ r. refl) c.self.inside.readers.items c.self.invariant.0), c.self.invariant.1, c.self.invariant.2)
+invariant_of-self c = grind (arith, placed_ascends)
 
 pub returns-clause-locks : goal.returns-clause-locks
 returns-clause-locks c =

@@ -1,4 +1,4 @@
-use Rattle.std.proofs.Common.{◌≡◌, ◌∙◌, ap, subst, refl, not, ℕ, map, ◌==◌, ◌≤◌, Bool, true, false, Option, None, Some, if◌then◌else◌}
+use Rattle.std.proofs.Common.{◌≡◌, ◌∙◌, ap, subst, refl, not, ℕ, map, ◌==◌, false, Option, None, Some, if◌then◌else◌, arith}
 use Rattle.std.specs.Prelude.{filter, unwrap_or}
 use Rattle.std.specs.Option.{option_map}
 use Rattle.esr_history.specs.declared.event.TxnId.{TxnId}
@@ -6,21 +6,14 @@ use Rattle.esr_history.proofs.Ascending.{filter_ascends, all_filter, map-others}
 use Rattle.esr_locks.specs.Rows.{RowOf, reads_of}
 use Rattle.esr_locks.specs.Tables.{released}
 use Rattle.esr_locks.proofs.row.Row.release.Goals as goal
+use Rattle.std.proofs.lemmas.Grind.{common_steps}
 
 pub invariant_of-self : goal.invariant_of-self
-invariant_of-self c = (
-  rw c.drop_reader.ensures (filter_ascends (λ r. r.update.0) (λ r. not (r.update.0 == c.args.t.0)) c.self.inside.readers.items c.self.invariant.0),
-  rw c.drop_query.ensures (filter_ascends (λ r. r.query.0) (λ r. not (r.query.0 == c.args.t.0)) c.self.inside.queries.items c.self.invariant.1),
-  rw c.drop_query.ensures (all_filter (λ r. r.query.0) (λ r. not (r.query.0 == c.args.t.0)) (λ r. r.count ≤ 1000) c.self.inside.queries.items c.self.invariant.2),
-)
+invariant_of-self c = grind (arith, filter_ascends, all_filter)
 
 other_writer : (w : Option TxnId) (t : ℕ) → option_map (λ u. u.0) (if unwrap_or (option_map (λ u. u.0 == t) w) false then None else w) ≡ (if unwrap_or (option_map (λ u. u == t) (option_map (λ u. u.0) w)) false then None else option_map (λ u. u.0) w)
 other_writer None t = refl
-other_writer (Some u) t = at (u.0 == t)
-  where
-    at : (b : Bool) → option_map (λ v. v.0) (if b then None else Some u) ≡ (if b then None else Some u.0)
-    at true = refl
-    at false = refl
+other_writer (Some u) t = grind (arith, common_steps)
 
 pub returns : goal.returns
 returns c =

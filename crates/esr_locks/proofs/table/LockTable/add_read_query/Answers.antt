@@ -1,4 +1,4 @@
-use Rattle.std.proofs.Common.{◌≡◌, ℕ, ◌<◌, ◌∙◌, sym, ap, subst, refl, length, map, true, min, arith, ◌⊎◌, ◌++◌, ◌∷◌, [], set}
+use Rattle.std.proofs.Common.{◌≡◌, ℕ, ◌<◌, ◌∙◌, sym, ap, subst, length, map, true, min, arith, ◌⊎◌, set}
 use Rattle.std.specs.Prelude.{slice_index}
 use Rattle.std.proofs.lemmas.Bool.{not-false}
 use Rattle.std.proofs.lemmas.List.{length-map}
@@ -27,10 +27,7 @@ locks c =
     (set_row c.self.inside.rows.items c.args.x.0 c.index_mut.result.now c.add_query_read.new.self (λ (l : ItemLocks). with_query_read c.args.q.0 l) (inside c) c.index_mut.ensures.value c.add_query_read.ensures.locks)
 
 pub invariant_of-self : goal.invariant_of-self
-invariant_of-self c =
-    let w : After-add_query_read = (goal.at.invariant_of-self c).After-add_query_read in
-    IsTable-push c.self.inside.rows.items c.self.inside.held.items c.self.invariant c.args.q.0 c.args.x.0 (inside w) c.index_mut.result.now c.add_query_read.new.self c.index_mut.ensures.value c.push.new.self (more w) (in_list w) c.args.x refl
-    (c.push.ensures ∙ ap (λ (h : HeldOf). h.items ++ c.args.x ∷ []) (read_list c.self.inside.held.items c.args.q.0 c.index_mut-then-add_query_read.result.now (in_list w) c.index_mut-then-add_query_read.ensures.value))
+invariant_of-self c = grind (arith, After-add_query_read, IsTable-push, inside, more, in_list, read_list)
 
 pub invariant_of-self-else-add_query_read : goal.invariant_of-self-else-add_query_read
 invariant_of-self-else-add_query_read c =

@@ -1,4 +1,4 @@
-use Rattle.std.proofs.Common.{◌≡◌, ℕ, ◌<◌, ◌∙◌, sym, ap, subst, refl, length, map, true, min, arith, ◌⊎◌, ◌++◌, ◌∷◌, [], set}
+use Rattle.std.proofs.Common.{◌≡◌, ℕ, ◌<◌, ◌∙◌, sym, ap, subst, length, map, true, min, arith, ◌⊎◌, set}
 use Rattle.std.specs.Prelude.{slice_index}
 use Rattle.std.proofs.lemmas.Bool.{not-false}
 use Rattle.std.proofs.lemmas.List.{length-map}
@@ -27,10 +27,7 @@ locks c =
     (set_row c.self.inside.rows.items c.args.x.0 c.index_mut.result.now c.add_reader.new.self (λ (l : ItemLocks). with_reader c.args.t.0 l) (inside c) c.index_mut.ensures.value c.add_reader.ensures.locks)
 
 pub invariant_of-self : goal.invariant_of-self
-invariant_of-self c =
-    let w : After-add_reader = (goal.at.invariant_of-self c).After-add_reader in
-    IsTable-push c.self.inside.rows.items c.self.inside.held.items c.self.invariant c.args.t.0 c.args.x.0 (inside w) c.index_mut.result.now c.add_reader.new.self c.index_mut.ensures.value c.push.new.self (more w) (in_list w) c.args.x refl
-    (c.push.ensures ∙ ap (λ (h : HeldOf). h.items ++ c.args.x ∷ []) (read_list c.self.inside.held.items c.args.t.0 c.index_mut-then-add_reader.result.now (in_list w) c.index_mut-then-add_reader.ensures.value))
+invariant_of-self c = grind (arith, After-add_reader, IsTable-push, inside, more, in_list, read_list)
 
 pub invariant_of-self-else-add_reader : goal.invariant_of-self-else-add_reader
 invariant_of-self-else-add_reader c =

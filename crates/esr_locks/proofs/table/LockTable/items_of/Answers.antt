@@ -1,29 +1,21 @@
-use Rattle.std.proofs.Common.{◌≡◌, ◌∙◌, ℕ, ◌<◌, ◌≤◌, sym, ap, subst, map, length, true, List, arith, []}
-use Rattle.std.specs.Prelude.{All}
+use Rattle.std.proofs.Common.{◌≡◌, ℕ, ◌<◌, ◌≤◌, subst, map, length, true, List, arith, []}
 use Rattle.esr_items.specs.declared.metric.ItemId.{ItemId}
-use Rattle.esr_locks.specs.Rows.{RowOf, HeldOf, held_at}
+use Rattle.esr_locks.specs.Rows.{RowOf, held_at}
 use Rattle.esr_locks.specs.Tables.{Table, locks_at, has_lock, lists_item}
 use Rattle.esr_locks.proofs.Tables.{table_listed, table_within, read_list, past_lists}
 use Rattle.esr_locks.proofs.table.LockTable.items_of.Goals as goal
 use Rattle.esr_locks.proofs.table.LockTable.items_of.Goals.{After-items}
 
 list : (c : After-items) → c.items.result.now ≡ (held_at c.self.inside.held.items c.args.t.0).items
-list c =
-    let n = c.self.inside.held.ok.0 in
-    let l : c.args.t.0 < length c.self.inside.held.items = omega (arith, n) in
-    c.items.ensures ∙ ap (λ (h : HeldOf). h.items) (read_list c.self.inside.held.items c.args.t.0 c.index.result.now l c.index.ensures)
+list c = grind (arith, read_list)
 
 pub returns-then-at-len-clause-within : goal.returns-then-at-len-clause-within
 returns-then-at-len-clause-within c =
-    subst (λ (v : Table). All (λ (i : ItemId). i.0 < length v.locks) c.items.result.now) c.self.view_is
-    (subst (λ (is : List ItemId). All (λ (i : ItemId). i.0 < length (map (λ (r : RowOf). r.locks) c.self.inside.rows.items)) is) (sym (list (goal.at.returns-then-at-len-clause-within c).After-items))
-    (table_within c.self.inside.rows.items c.self.inside.held.items c.self.invariant c.args.t.0))
+    grind (arith, map, list (goal.at.returns-then-at-len-clause-within c).After-items, table_within)
 
 pub returns-then-at-len-clause-listed : goal.returns-then-at-len-clause-listed
 returns-then-at-len-clause-listed c =
-    subst (λ (v : Table). (x : ℕ) → x < length v.locks → has_lock (locks_at v.locks x) c.args.t.0 ≡ true → lists_item c.items.result.now x ≡ true) c.self.view_is
-    (subst (λ (is : List ItemId). (x : ℕ) → x < length (map (λ (r : RowOf). r.locks) c.self.inside.rows.items) → has_lock (locks_at (map (λ (r : RowOf). r.locks) c.self.inside.rows.items) x) c.args.t.0 ≡ true → lists_item is x ≡ true) (sym (list (goal.at.returns-then-at-len-clause-listed c).After-items))
-    (table_listed c.self.inside.rows.items c.self.inside.held.items c.self.invariant c.args.t.0))
+    grind (arith, map, list (goal.at.returns-then-at-len-clause-listed c).After-items, table_listed)
 
 pub returns-else-at-len-clause-listed : goal.returns-else-at-len-clause-listed
 returns-else-at-len-clause-listed c =

@@ -1,16 +1,14 @@
-use Rattle.std.proofs.Common.{◌≡◌, ◌∙◌, ℕ, ◌<◌, subst, map, length, if◌then◌else◌, List}
-use Rattle.esr_items.specs.declared.metric.ItemId.{ItemId}
+use Rattle.std.proofs.Common.{◌≡◌, ℕ, ◌<◌, subst, map, length, if◌then◌else◌, arith}
 use Rattle.esr_locks.specs.Rows.{RowOf, row_at, held_at}
 use Rattle.esr_locks.specs.Tables.{Table, released, lists_item}
 use Rattle.esr_locks.proofs.Tables.{released_all, IsTable-released}
 use Rattle.esr_locks.proofs.table.LockTable.release.Goals as goal
 use Rattle.esr_locks.proofs.table.LockTable.release.Goals.{After-release_each}
+use Rattle.std.proofs.lemmas.Grind.{common_steps}
 
 each : (c : After-release_each) (x : ℕ) → x < length c.self.inside.rows.items
     → (row_at c.release_each.new.rows.items x).locks ≡ (if lists_item (held_at c.self.inside.held.items c.args.t.0).items x then released c.args.t.0 (row_at c.self.inside.rows.items x).locks else (row_at c.self.inside.rows.items x).locks)
-each c x l =
-    subst (λ (is : List ItemId). (row_at c.release_each.new.rows.items x).locks ≡ (if lists_item is x then released c.args.t.0 (row_at c.self.inside.rows.items x).locks else (row_at c.self.inside.rows.items x).locks))
-    (c.items.ensures ∙ c.take_list-held.ensures.taken) (c.release_each.ensures.locks x l)
+each c x l = grind (arith, common_steps)
 
 pub invariant_of-self : goal.invariant_of-self
 invariant_of-self c =
