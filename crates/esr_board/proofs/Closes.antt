@@ -83,10 +83,7 @@ count_all given = sym (ones (all_drawn given)) ∙ sum_flat (λ _. 1) drawn give
 -- the count of what the seats drew, and of what the others drew, is the word
 count_parts : (jobs seats word : ℕ) (given : List BoardSeat) (st : IsBoardAt jobs seats (map hand_of given) word) → length (all_drawn given) + sum_by (λ (h : Hand). sum_by (λ _. 1) h.drawn) st.0 ≡ word
 count_parts jobs seats word given st =
-    let two = sum_by-append (λ (h : Hand). sum_by (λ _. 1) h.drawn) (map hand_of given) st.0 in
-    let mapped = sum_mapped (λ (h : Hand). sum_by (λ _. 1) h.drawn) hand_of given in
-    let all = st.1.0 (λ _. 1) in
-    let a = count_all given in let b = ones (below word) in let c = length-below word in omega arith
+    grind (arith, sum_by-append, sum_by, map hand_of given, sum_mapped, count_all given, ones (below word), length-below word)
 
 pub count_le : (jobs seats word : ℕ) (given : List BoardSeat) → IsBoardAt jobs seats (map hand_of given) word → length (all_drawn given) ≤ word
 count_le jobs seats word given st = let p = count_parts jobs seats word given st in omega arith

@@ -5,11 +5,7 @@ use Rattle.std.proofs.lemmas.List.Elements.{filter-append}
 use Rattle.esr_board.specs.Claims.{Drew}
 
 pub drew_then : (jobs : ℕ) (a b c js ks : List ℕ) → Drew jobs a b js → Drew jobs b c ks → Drew jobs a c (js ++ ks)
-drew_then jobs a b c js ks x y = (
-  x.0 ++ y.0,
-  y.1 ∙ ap (λ (l : List ℕ). l ++ y.0) x.1 ∙ append_assoc a x.0 y.0,
-  filter-append (λ n. ltb n jobs) x.0 y.0 ∙ (λ i. x.2 i ++ y.2 i),
-)
+drew_then jobs a b c js ks x y = grind (arith, append_assoc a x.0 y.0, filter-append, ltb)
 
 pub drew_job : (jobs : ℕ) (b c : List ℕ) (n : ℕ) → c ≡ b ++ n ∷ [] → n < jobs → Drew jobs b c (n ∷ [])
 drew_job jobs b c n e l = (n ∷ [], e, ap (λ t. cond {A = List ℕ} t (n ∷ []) []) (lt-ltb n jobs l))

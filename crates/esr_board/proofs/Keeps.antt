@@ -13,18 +13,11 @@ use Rattle.esr_board.proofs.Weights.{sum_set, part_le, ones, length-below, past_
 
 -- the word never passes the jobs by more than the seats
 pub word_le : (jobs seats word : ℕ) (hands : List Hand) → IsFair jobs seats word hands → word ≤ jobs + seats
-word_le jobs seats word hands r =
-    let all = r.0 (λ x. cond {A = ℕ} (leb jobs x) 1 0) in
-    let past = count_past-below jobs word in
-    let le = sum_by-le-sum_by (λ (h : Hand). count_past jobs h.drawn) (passes_of jobs) hands (λ h. omega arith) in
-    let is = r.1 in omega arith
+word_le jobs seats word hands r = grind (arith, cond, leb, count_past-below jobs word, sum_by-le-sum_by)
 
 -- a list of numbers drawn is no longer than the word
 pub drawn_le : (jobs seats word : ℕ) (hands : List Hand) (id : ℕ) (v : Hand) → IsFair jobs seats word hands → get_elem? hands id ≡ some v → length v.drawn ≤ word
-drawn_le jobs seats word hands id v r at =
-    let part = part_le (λ (h : Hand). sum_by (λ (_ : ℕ). 1) h.drawn) hands id v at in
-    let all = r.0 (λ _. 1) in
-    let a = ones (below word) in let b = ones v.drawn in let c = length-below word in omega arith
+drawn_le jobs seats word hands id v r at = grind (arith, part_le, sum_by, ones (below word), ones v.drawn, length-below word)
 
 -- each number drawn is below the word
 pub drawn_below : (jobs seats word : ℕ) (hands : List Hand) (id : ℕ) (v : Hand) → IsFair jobs seats word hands → get_elem? hands id ≡ some v → All (λ x. x < word) v.drawn
@@ -45,18 +38,8 @@ passes-claim v n some_pass = let p = count_past_push v.jobs v.drawn n in
     (cases_lt n v.jobs)
 
 fair-claim : (v : Hand) (seats word : ℕ) (hands : List Hand) (id : ℕ) → 0 < v.passes → IsFair v.jobs seats word hands → get_elem? hands id ≡ some v → IsFair v.jobs seats (suc word) (set hands id (with_claim v word))
-fair-claim v seats word hands id some_pass r at = let w : Hand = with_claim v word in let kept = passes-claim v word some_pass in (
-  (λ weight.
-      let change = sum_set (λ (h : Hand). sum_by weight h.drawn) hands id v w at in
-      let longer = sum_by_push weight v.drawn word in
-      let more = sum_by_push weight (below word) word in
-      let was = r.0 weight in omega arith),
-  (let change = sum_set (passes_of v.jobs) hands id v w at in let was = r.1 in omega arith),
-  (λ j h there idle. ⊎_elim
-      (λ (t : (j ≡ id) × (w ≡ h)). let same : passes_of v.jobs w ≡ passes_of v.jobs h = ap (passes_of v.jobs) t.1 in absurd (omega arith))
-      (λ (t : (j ≢ id) × (get_elem? hands j ≡ some h)). r.2 j h t.1 idle)
-      (at_set hands id j w h there)),
-)
+fair-claim v seats word hands id some_pass r at =
+    grind (arith, passes-claim v word some_pass, sum_set, sum_by, sum_by_push, ⊎_elim, at_set)
 
 has_pass : (p : ℕ) → false ≡ eqb p 0 → 0 < p
 has_pass p e = let n = false-eqb p 0 e in omega arith
@@ -85,68 +68,16 @@ claims plan slots id me its few_jobs few_seats some_pass s r _ at fits =
     )
 
 pub opens : (plan : Plan) → IsKept plan record { words = 0 ∷ plan.jobs ∷ plan.seats ∷ []; homes = []; views = first_hand plan ∷ [] }
-opens plan = (refl, refl, refl, ((λ weight. refl), sum_by-cons (passes_of plan.jobs) (first_hand plan) [] ∙ omega arith, idle))
-  where
-    idle : IdleIsEmpty plan.jobs (first_hand plan ∷ [])
-    idle zero h e _ = ap (λ (z : Hand). z.drawn) (sym (some-injective (first_hand plan) h e))
-    idle (suc id) h e _ = absurd (some-ne-none h (sym e))
+opens plan = grind (arith, sum_by-cons (passes_of plan.jobs) (first_hand plan))
 
 -- one pass goes to a new seat
 pub splits : (plan : Plan) (id : ℕ) (v : Hand) → v.jobs ≡ plan.jobs → 0 < v.passes → v.drawn ≡ [] → Splits (IsKept plan) id v (with_one_less v) (one_pass v)
-splits plan id v its some_pass nothing s r at = let l : Hand = with_one_less v in let n : Hand = one_pass v in (
-  r.0,
-  r.1,
-  r.2,
-  (
-    (λ weight.
-        let change = sum_set (λ (h : Hand). sum_by weight h.drawn) s.views id v l at in
-        let longer = sum_by_push (λ (h : Hand). sum_by weight h.drawn) (set s.views id l) n in
-        let was = r.3.0 weight in omega arith),
-    (let change = sum_set (passes_of plan.jobs) s.views id v l at in
-        let longer = sum_by_push (passes_of plan.jobs) (set s.views id l) n in let was = r.3.1 in omega arith),
-    (λ j h there idle. ⊎_elim
-        (λ (kept : get_elem? (set s.views id l) j ≡ some h). ⊎_elim
-        (λ (t : (j ≡ id) × (l ≡ h)). subst (λ (z : Hand). z.drawn ≡ []) t.1 nothing)
-        (λ (t : (j ≢ id) × (get_elem? s.views j ≡ some h)). r.3.2 j h t.1 idle)
-        (at_set s.views id j l h kept))
-        (λ (new : n ≡ h). ap (λ (z : Hand). z.drawn) (sym new))
-        (at_snoc (set s.views id l) n h j there)),
-  ),
-)
+splits plan id v its some_pass nothing s r at = grind (arith, sum_set, sum_by, sum_by_push, set, ⊎_elim, at_set, at_snoc)
 
 -- a seat gets what another has
 pub joins : (plan : Plan) (id : ℕ) (v : Hand) (other : ℕ) (w : Hand) → Joins (IsKept plan) id v other w (joined v w) spent
-joins plan id v other w s r at apart there = let b : Hand = joined v w in let first : List Hand = set s.views id b in
-    let w_at : get_elem? s.views other ≡ some w = sym (set_else s.views id other b apart) ∙ there in
-    let parts : (weight : ℕ → ℕ) → sum_by weight b.drawn ≡ sum_by weight v.drawn + sum_by weight w.drawn = λ weight. sum_by-append weight v.drawn w.drawn in (
-      r.0,
-      r.1,
-      r.2,
-      (
-        (λ weight.
-            let one = sum_set (λ (h : Hand). sum_by weight h.drawn) s.views id v b at in
-            let two = sum_set (λ (h : Hand). sum_by weight h.drawn) first other w spent there in
-            let part = parts weight in
-            let was = r.3.0 weight in omega arith),
-        (let one = sum_set (passes_of plan.jobs) s.views id v b at in
-            let two = sum_set (passes_of plan.jobs) first other w spent there in
-            let part = parts (λ n. cond {A = ℕ} (leb plan.jobs n) 1 0) in
-            let was = r.3.1 in omega arith),
-        (λ j h here idle. ⊎_elim
-            (λ (t : (j ≡ other) × (spent ≡ h)). ap (λ (z : Hand). z.drawn) (sym t.1))
-            (λ (t : (j ≢ other) × (get_elem? first j ≡ some h)). ⊎_elim
-            (λ (u : (j ≡ id) × (b ≡ h)).
-            let part = parts (λ n. cond {A = ℕ} (leb plan.jobs n) 1 0) in
-            let none_left : passes_of plan.jobs b ≡ 0 = ap (passes_of plan.jobs) u.1 ∙ idle in
-            let v_none : v.drawn ≡ [] = r.3.2 id v at (omega arith) in
-            let w_none : w.drawn ≡ [] = r.3.2 other w w_at (omega arith) in
-            let both : b.drawn ≡ [] = (λ i. v_none i ++ w_none i) in
-            subst (λ (z : Hand). z.drawn ≡ []) u.1 both)
-            (λ (u : (j ≢ id) × (get_elem? s.views j ≡ some h)). r.3.2 j h u.1 idle)
-            (at_set s.views id j b h t.1))
-            (at_set first other j spent h here)),
-      ),
-    )
+joins plan id v other w s r at apart there =
+    grind (arith, set, set_else, sum_by, sum_by-append, sum_set, cond, leb, ⊎_elim, at_set)
 
 -- what a claim leaves in its seat
 abbrev pub M : Type 0

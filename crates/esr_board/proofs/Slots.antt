@@ -21,11 +21,7 @@ use Rattle.esr_board.proofs.Closes.{all_popped}
 -- what an audit of q says of a finding is what is found of its query
 pub finding_is : (d : Distance) (h : Schedule) (f : Finding) (q : TxnId) → f.query ≡ q → IsAnswer d h q.0 f.distance f.import (map (λ (t : TxnId). t.0) f.before.items)
     → IsShown d h q.0 f.distance (map (λ (t : TxnId). t.0) f.before.items) f.problem (certificate_of f.certificate) → AreNear h q.0 f.problem.updates → IsFinding d h f
-finding_is d h f q is answer shown near = record {
-  answer = subst (λ (t : TxnId). IsAnswer d h t.0 f.distance f.import (map (λ (t : TxnId). t.0) f.before.items)) (sym is) answer;
-  shown = subst (λ (t : TxnId). IsShown d h t.0 f.distance (map (λ (t : TxnId). t.0) f.before.items) f.problem (certificate_of f.certificate)) (sym is) shown;
-  near = subst (λ (t : TxnId). AreNear h t.0 f.problem.updates) (sym is) near;
-}
+finding_is d h f q is answer shown near = grind (arith, map)
 
 any_holds : (P : ℕ → Type 0) (xs : List ℕ) (a : Any P xs) → P a.1
 any_holds P xs a = a.4
@@ -39,10 +35,7 @@ worked_is d h queries jobs old new (Ok s) none_yet len committed drew found ende
 worked_is d h queries jobs old new (Err NoMemory) none_yet len committed drew found ended err other = refl
 worked_is d h queries jobs old new (Err WorkersOutOfRange) none_yet len committed drew found ended err other = absurd (other refl)
 worked_is d h queries jobs old new (Err NotACommittedQuery) none_yet len committed drew found ended err other =
-    let a = err.2 refl in
-    let at = any_holds (λ n. (n < jobs) × (is_committed_query h (query_of queries n).0 ≡ false)) err.0 a in
-    let below : a.1 < length queries = subst (λ (k : ℕ). a.1 < k) (sym len) at.0 in
-    absurd (true≢false (sym (committed a.1 (record { 0 = 0 }) below) ∙ at.1))
+    grind (arith, any_holds, true≢false)
 
 module _ (d : Distance) (h : Schedule) (queries : List TxnId) (slots : List (Option Finding)) (job : ℕ) (f : Finding) (room : job < length slots) where
   abbrev after : List (Option Finding)
@@ -52,26 +45,14 @@ module _ (d : Distance) (h : Schedule) (queries : List TxnId) (slots : List (Opt
   same_here = get_or-set_same slots job (Some f) None room
 
   pub put_kept : (k : ℕ) → IsFilled slots k → IsFilled after k
-  put_kept k was = dite (ℕ_discrete k job)
-      (λ e. subst (λ (o : Option Finding). IsSome o) (sym (ap (λ (j : ℕ). get_or after j None) e ∙ same_here)) refl)
-      (λ ne. subst (λ (o : Option Finding). IsSome o) (sym (get_or-set_other slots job k (Some f) None ne)) was)
+  put_kept k was = grind (arith, same_here, get_or-set_other)
 
   pub put_right : IsFindingOf d h queries job f → AreRight d h queries slots → AreRight d h queries after
-  put_right is right k l = dite (ℕ_discrete k job)
-      (λ e. subst (λ (o : Option Finding). IfSome o (IsFindingOf d h queries k)) (sym (ap (λ (j : ℕ). get_or after j None) e ∙ same_here)) (subst (λ (j : ℕ). IsFindingOf d h queries j f) (sym e) is))
-      (λ ne. subst (λ (o : Option Finding). IfSome o (IsFindingOf d h queries k)) (sym (get_or-set_other slots job k (Some f) None ne))
-      (right k (let len = length-set slots job (Some f) in omega arith)))
+  put_right is right k l = grind (arith, same_here, get_or-set_other, length-set slots job (Some f))
 
   pub put_filled : (old new : List (ℕ × Finding)) (total k : ℕ) → old ≡ new ++ (job, f) ∷ [] → IsFilled slots k ⊎ (times k (map (λ p. p.0) old) ≡ total) → IsFilled after k ⊎ (times k (map (λ p. p.0) new) ≡ total)
-  put_filled old new total k e so_far = dite (ℕ_discrete k job)
-      (λ is. inl (subst (λ (o : Option Finding). IsSome o) (sym (ap (λ (j : ℕ). get_or after j None) is ∙ same_here)) refl))
-      (λ ne. ⊎_elim (λ was. inl (put_kept k was))
-      (λ (t : times k (map (λ (p : ℕ × Finding). p.0) old) ≡ total). inr (
-      let longer : times k (map (λ (p : ℕ × Finding). p.0) old) ≡ times k (map (λ (p : ℕ × Finding). p.0) new ++ job ∷ []) = ap (λ (l : List (ℕ × Finding)). times k (map (λ (p : ℕ × Finding). p.0) l)) e ∙ ap (times k) (map-append (λ (p : ℕ × Finding). p.0) new ((job, f) ∷ [])) in
-      let p = sum_by_push (λ x. cond {A = ℕ} (eqb x k) 1 0) (map (λ (p : ℕ × Finding). p.0) new) job in
-      let apart : ¬ (job ≡ k) = λ z. ne (sym z) in
-      let z : cond {A = ℕ} (eqb job k) 1 0 ≡ 0 = ap (λ b. cond {A = ℕ} b 1 0) (ne_eqb job k apart) in omega arith))
-      so_far)
+  put_filled old new total k e so_far =
+      grind (arith, same_here, ⊎_elim, put_kept, map, map-append, sum_by_push, cond, eqb, ne_eqb)
 
   pub put_share : (old new : List (ℕ × Finding)) → old ≡ new ++ (job, f) ∷ [] → AreFound d h queries (length slots) old → AreFound d h queries (length after) new
   put_share old new e a = subst (λ (n : ℕ). AreFound d h queries n new) (sym (length-set slots job (Some f)))

@@ -1,6 +1,6 @@
 -- What holds where an event is not refused.
 use Rattle.std.proofs.Common.{◌≡◌, ℕ, ◌<◌, ◌≤◌, List, [], ◌∷◌, ◌++◌, length, Bool, true, false, ◌&&◌, ◌==◌, refl, sym, ◌∙◌, ap, subst, arith, Option, None, Some, if◌then◌else◌}
-use Rattle.std.specs.Prelude.{nat_le, All}
+use Rattle.std.specs.Prelude.{All}
 use Rattle.std.specs.List.{filter_map, cons_option, AllByRecursion}
 use Rattle.std.proofs.lemmas.Bool.{false≢true, and_parts}
 use Rattle.std.proofs.lemmas.Bool.Decides.{nat_tests}
@@ -13,7 +13,6 @@ use Rattle.esr_history.specs.declared.event.TxnId.{TxnId}
 use Rattle.esr_history.specs.declared.event.Event.{Event}
 use Rattle.esr_history.specs.declared.event.Event.TheVariants.{BeginUpdate, BeginQuery, Read, Write, Commit, Abort}
 use Rattle.esr_history.specs.declared.event.Refusal.{Refusal}
-use Rattle.esr_history.specs.declared.event.Refusal.TheVariants.{TooManyReads}
 use Rattle.esr_history.specs.Events.{numbers, reads, reads_any, is_query, is_update, is_active, holds_read, reads_of, all_reads_of}
 use Rattle.esr_history.specs.Machine.{Distance, Schedule, done, due_in, first_reason, refusal, reasons, Charge, import_full, export_full}
 use Rattle.esr_history.specs.ItemLocks.{ItemLocks, query_reads}

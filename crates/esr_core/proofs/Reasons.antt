@@ -5,7 +5,7 @@ use Rattle.std.proofs.lemmas.Bool.{and_parts}
 use Rattle.std.proofs.lemmas.Bool.Decides.{nat_tests}
 use Rattle.std.proofs.lemmas.Option.{same_Some}
 use Rattle.std.proofs.lemmas.List.Elements.{All-from_recursion}
-use Rattle.esr_items.specs.Values.{current_at, committed_at, versions_at}
+use Rattle.esr_items.specs.Values.{versions_at}
 use Rattle.esr_items.specs.declared.store.Versions.{Versions}
 use Rattle.esr_items.specs.declared.metric.ItemId.{ItemId}
 use Rattle.esr_history.specs.declared.event.TxnId.{TxnId}
@@ -13,7 +13,7 @@ use Rattle.esr_history.specs.declared.event.Event.{Event}
 use Rattle.esr_history.specs.declared.event.Event.TheVariants.{Read}
 use Rattle.esr_history.specs.declared.event.Refusal.{Refusal}
 use Rattle.esr_history.specs.declared.event.Refusal.TheVariants.{TooManyReads, QueryMayNotWrite}
-use Rattle.esr_history.specs.Events.{numbers, is_query, is_update, holds_write, all_reads_of, committed_value}
+use Rattle.esr_history.specs.Events.{numbers, is_query, is_update, holds_write, all_reads_of}
 use Rattle.esr_history.specs.Machine.{Distance, Schedule, Charge, done, due_in, writer, charge_of_read, first_reason, not_begun, ended, no_item, many_reads, query_writes, out_of_range, read_blocked, write_blocked, blocked_by, import_full, export_full, refusal, when, other_writer, other_holder}
 use Rattle.esr_history.specs.ItemLocks.{ItemLocks, item_locks}
 use Rattle.esr_history.proofs.Lists.{find_some}

@@ -1,13 +1,13 @@
 -- Two histories, one after the other.
-use Rattle.std.proofs.Common.{◌≡◌, ℕ, ℤ, ◌<◌, ◌∙◌, ap, refl, sym, List, [], ◌∷◌, length, map, flat_map, pos, ◌||◌, ◌==◌, arith}
-use Rattle.std.specs.List.{before_first, filter_map, list_any, range_with_len}
+use Rattle.std.proofs.Common.{◌≡◌, ℕ, ℤ, ◌<◌, ◌∙◌, ap, refl, sym, List, [], ◌∷◌, length, map, flat_map, pos, ◌||◌, arith}
+use Rattle.std.specs.List.{list_any, range_with_len}
 use Rattle.std.proofs.lemmas.List.{get_or-map, length-map, same_lists}
 use Rattle.std.proofs.lemmas.List.FromFn.{get_or-map-range_with_len, length-map-range_with_len}
 use Rattle.esr_items.specs.Values.{value_at, opened}
 use Rattle.esr_items.specs.declared.store.Versions.{Versions}
 use Rattle.esr_history.specs.declared.event.Event.{Event}
-use Rattle.esr_history.specs.Events.{accepted, numbers, is_active, written, last_value, committed_value}
-use Rattle.esr_history.specs.Machine.{Distance, Schedule, IsLegal, done}
+use Rattle.esr_history.specs.Events.{numbers, is_active, last_value, committed_value}
+use Rattle.esr_history.specs.Machine.{Distance, Schedule, IsLegal}
 use Rattle.esr_history.specs.Serial.{committed_updates, state, values_by}
 use Rattle.esr_history.proofs.Laws.{legal_serializable}
 use Rattle.esr_history.specs.ItemLocks.{ItemLocks}

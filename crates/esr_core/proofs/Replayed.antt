@@ -1,5 +1,5 @@
 -- A legal history run again: each of its replies is the machine's after the entries before it. What replays a history cites this.
-use Rattle.std.proofs.Common.{◌≡◌, ℕ, ℤ, zero, suc, ◌+◌, ◌<◌, List, [], ◌∷◌, ◌++◌, length, take, map, refl, sym, ap, ◌∙◌, subst, arith, Some, None, append_assoc, append-nil}
+use Rattle.std.proofs.Common.{◌≡◌, ℕ, ℤ, zero, suc, ◌+◌, ◌<◌, List, [], ◌∷◌, ◌++◌, length, take, map, refl, sym, ap, arith, Some, None, append_assoc, append-nil}
 use Rattle.std.specs.Prelude.{slice_get}
 use Rattle.esr_items.specs.Values.{opened}
 use Rattle.esr_items.specs.declared.store.Versions.{Versions}

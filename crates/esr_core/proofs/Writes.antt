@@ -11,7 +11,7 @@ use Rattle.esr_history.specs.declared.event.Event.TheVariants.{Write}
 use Rattle.esr_history.specs.declared.event.Refusal.{Refusal}
 use Rattle.esr_history.specs.declared.event.Refusal.TheVariants.{QueryMayNotWrite}
 use Rattle.esr_history.specs.Events.{numbers, is_query, is_update, is_active, holds_read, reads_of, current_value}
-use Rattle.esr_history.specs.Machine.{Distance, Schedule, Charge, done, due_in, first_reason, not_begun, ended, no_item, query_writes, out_of_range, write_blocked, import_full, export_full, refusal}
+use Rattle.esr_history.specs.Machine.{Distance, Schedule, done, due_in, first_reason, not_begun, ended, no_item, query_writes, out_of_range, write_blocked, import_full, export_full, refusal}
 use Rattle.esr_history.specs.ItemLocks.{ItemLocks, query_reads}
 use Rattle.esr_history.proofs.Allowed.{WriteOpen, none_applies, write_open}
 use Rattle.esr_history.proofs.Lawful.{when_none, not_ended, update_from}

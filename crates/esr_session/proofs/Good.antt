@@ -28,8 +28,7 @@ none_below es earlier low (r ∷ rs) h k lt =
 pub none_after : (es : List Entry) (earlier : List Receipt) (low : ℕ) (rs : List Receipt) → GoodFrom es earlier low rs → (k : ℕ) → next_place low rs ≤ k → count_at k rs ≡ 0
 none_after es earlier low [] h k le = refl
 none_after es earlier low (r ∷ rs) h k le =
-    let n = low_next es earlier (r.at + 1) rs h.1 in
-    omega (arith, count_at-cons k r rs, one_other r.at k (λ e. omega (arith, e, n, le)), none_after es earlier (r.at + 1) rs h.1 k le)
+    grind (arith, low_next es earlier (r.at + 1) rs h.1, count_at-cons k r rs, one_other, none_after es earlier (r.at + 1) rs h.1 k le)
 
 pub good_from-snoc : (es : List Entry) (earlier : List Receipt) (low : ℕ) (rs : List Receipt) (r : Receipt) → GoodFrom es earlier low rs → IsGood es earlier (next_place low rs) r → GoodFrom es earlier low (rs ++ r ∷ [])
 good_from-snoc es earlier low [] r h good = (good, tt)
@@ -113,21 +112,18 @@ zero_of n h = grind (arith, nat_tests)
 -- the place of a good receipt is not marked
 pub good_unmarked : (es : List Entry) (earlier rs : List Receipt) (marks : List Bool) (r : Receipt) → AreMarked (earlier ++ rs) marks → length marks ≡ length es → GoodFrom es earlier 0 rs → IsGood es earlier (next_place 0 rs) r → get_or marks r.at false ≡ false
 good_unmarked es earlier rs marks r marked len before good =
-    let none : count_at r.at (earlier ++ rs) ≡ 0 = omega (arith, count_at-append r.at earlier rs, good.2, none_after es earlier 0 rs before r.at good.1) in
-    marked r.at (omega (arith, len, named_below es r good.0)) ∙ ap (ltb 0) none
+    grind (arith, count_at-append r.at earlier rs, none_after es earlier 0 rs before r.at good.1, named_below es r good.0, ltb 0)
 
 -- a receipt whose place is not marked is good
 pub unmarked_good : (es : List Entry) (earlier rs : List Receipt) (marks : List Bool) (r : Receipt) → AreMarked (earlier ++ rs) marks → length marks ≡ length es → Names es r → next_place 0 rs ≤ r.at → get_or marks r.at false ≡ false → IsGood es earlier (next_place 0 rs) r
 unmarked_good es earlier rs marks r marked len names le free =
-    let none = zero_of (count_at r.at (earlier ++ rs)) (sym (marked r.at (omega (arith, len, named_below es r names))) ∙ free) in
-    (names, le, omega (arith, count_at-append r.at earlier rs, none))
+    grind (arith, zero_of, named_below es r names, count_at-append r.at earlier rs)
 
 pub cut_at : {X : Type 0} (xs : List X) (i : ℕ) (d : X) → i < length xs → xs ≡ take i xs ++ get_or xs i d ∷ drop (suc i) xs
 cut_at xs i d lt = sym (take-append-drop i xs) ∙ ap (λ t. take i xs ++ t) (drop-cons xs i d lt)
 
 pub receipts_in-snoc : (lists : List (List Receipt)) (rs : List Receipt) → receipts_in (lists ++ rs ∷ []) ≡ receipts_in lists ++ rs
-receipts_in-snoc lists rs =
-    flat_map-append (λ (l : List Receipt). l) lists (rs ∷ []) ∙ ap (λ t. receipts_in lists ++ t) (append-nil rs)
+receipts_in-snoc lists rs = grind (arith, flat_map-append, append-nil rs)
 
 -- good receipts, as many as there are entries, match
 pub good_matches : (es : List Entry) (lists : List (List Receipt)) → AllGood es [] lists → length es ≤ count_in lists → Matches es lists

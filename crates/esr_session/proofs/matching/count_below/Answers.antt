@@ -9,7 +9,4 @@ returns-then-len-left g c =
     omega (arith, more.1, c.loop-list.invariant, c.if-len-left.true, ap length c.receipts-len.ensures)
 
 pub loop-list-preserved : goal.loop-list-preserved
-loop-list-preserved g c =
-    let list = c.list-item.result in
-    let more = count_more g.L.HasReceipts.receipts c.args.lists.now c.loop-list.list-index list c.loop-list-test.true c.list-item.is in
-    omega (arith, more.0, c.loop-list.invariant, c.if-len-left.false, ap length c.receipts-len.ensures)
+loop-list-preserved g c = grind (arith, count_more)

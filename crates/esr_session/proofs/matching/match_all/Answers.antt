@@ -8,8 +8,7 @@ use Rattle.esr_session.proofs.Lists.{mapped_at, length-mapped}
 use Rattle.esr_session.proofs.matching.match_all.Goals as goal
 
 pub match_list-requires-clause-marked : goal.match_list-requires-clause-marked
-match_list-requires-clause-marked g c =
-    subst (λ (l : List (List Receipt)). AreMarked (receipts_in l) c.loop-i.marks.items) (take-map g.L.HasReceipts.receipts c.loop-i.i c.args.lists.now) c.loop-i.invariant.marked
+match_list-requires-clause-marked g c = grind (arith, take-map g.L.HasReceipts.receipts c.loop-i.i c.args.lists.now)
 
 pub returns-in-Some-match_list-clause-verdict : goal.returns-in-Some-match_list-clause-verdict
 returns-in-Some-match_list-clause-verdict g c =
@@ -68,12 +67,7 @@ loop-i-preserved g c =
 
 pub returns-clause-verdict : goal.returns-clause-verdict
 returns-clause-verdict g c =
-    let es = c.args.history.now.schedule.entries in
-    let m = map g.L.HasReceipts.receipts c.args.lists.now in
-    let i = c.loop-i.i in
-    let all : take i m ≡ m = take_all i m (omega (arith, length-mapped g.L.HasReceipts.receipts c.args.lists.now, c.loop-i-test.false)) in
-    let enough : length es ≤ count_in m = search rules in
-    good_matches es m (subst (λ (l : List (List Receipt)). AllGood es [] l) all c.loop-i.invariant.good) enough
+    grind (arith, map g.L.HasReceipts.receipts c.args.lists.now, take_all, length-mapped g.L.HasReceipts.receipts c.args.lists.now, good_matches)
 
 pub returns-clause-every_entry : goal.returns-clause-every_entry
 returns-clause-every_entry g c =

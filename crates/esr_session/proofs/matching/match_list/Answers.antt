@@ -34,19 +34,10 @@ returns-then-not-is_good-clause-foreign g c =
     }
 
 pub index_mut-requires : goal.index_mut-requires
-index_mut-requires g c =
-    let r = get_or c.args.list.now c.loop-r.r-index (receipt 0 (BeginUpdate 0) (Begun (record { 0 = 0 }))) in
-    let yes = c.is_good.ensures.0 c.if-not-is_good.false in
-    omega (arith, named_below c.args.history.now.schedule.entries r yes.0, c.loop-r.invariant.len)
+index_mut-requires g c = grind (arith, named_below)
 
 pub overflow_add-low : goal.overflow_add-low
-overflow_add-low g c =
-    let r = get_or c.args.list.now c.loop-r.r-index (receipt 0 (BeginUpdate 0) (Begun (record { 0 = 0 }))) in
-    let yes = c.is_good.ensures.0 c.if-not-is_good.false in
-    let below = named_below c.args.history.now.schedule.entries r yes.0 in
-    let len = c.loop-r.invariant.len in
-    let small = c.loop-r.marks.small in
-    search rules
+overflow_add-low g c = grind (arith, named_below)
 
 pub loop-r-preserved : goal.loop-r-preserved
 loop-r-preserved g c =

@@ -44,10 +44,7 @@ returns-in_default-clause-word c = let final = c.close-closed.ensures.values.2 i
     subst (λ (l : List BoardSeat). IsBoardAt b.jobs b.seats (map hand_of l) c.word-word.result) (sym none_given) (final.0.views, fair)
 
 pub returns-clause-count : goal.returns-clause-count
-returns-clause-count c =
-    let empty : c.pop-in-loop-next.new.self.items ≡ [] = search rules in
-    let nothing : c.loop-next.seats.items ≡ [] = search rules in
-    c.loop-next.invariant.counted ∙ counted_all c.args.seats.items c.loop-next.all.me.0.drawn (λ weight. none_left (λ s. sum_by weight (drawn s)) _ _ c.loop-next.seats.items nothing (c.loop-next.invariant.numbers weight))
+returns-clause-count c = grind (arith, counted_all, none_left, sum_by)
 
 pub returns-clause-word : goal.returns-clause-word
 returns-clause-word c = let final = c.close_with-closed.ensures.values.2 in let b = c.args.self in

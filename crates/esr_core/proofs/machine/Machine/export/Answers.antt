@@ -4,8 +4,7 @@ use Rattle.std.specs.Option.{option_map}
 use Rattle.esr_history.specs.declared.links.Facts.{Facts}
 use Rattle.esr_history.specs.Events.{is_update}
 use Rattle.esr_history.specs.Links.{facts_of}
-use Rattle.esr_history.specs.Machine.{Schedule, done, charges_in, export_in}
-use Rattle.esr_ledgers.specs.Books.{amount_at}
+use Rattle.esr_history.specs.Machine.{Schedule, done}
 use Rattle.esr_ledgers.proofs.Books.{update_open}
 use Rattle.esr_core.proofs.Accounts.{export_is, open_update_is}
 use Rattle.esr_core.proofs.Exports.{kind_of, exports_nothing}

@@ -1,9 +1,6 @@
-use Rattle.std.proofs.Common.{◌∙◌, ap, rules, subst, arith}
-use Rattle.esr_history.specs.Machine.{Schedule, IsLegal, done}
-use Rattle.esr_history.specs.Totals.{all_imports, all_exports}
+use Rattle.std.proofs.Common.{arith}
 use Rattle.esr_history.proofs.Charges.{legal_within_limits}
 use Rattle.esr_history.proofs.Sums.{imports_are_exports}
-use Rattle.esr_ledgers.specs.Books.{imports, exports}
 use Rattle.esr_core.proofs.Opening.{imports_of, exports_of}
 use Rattle.esr_core.proofs.machine.Machine.totals.Goals as goal
 
