@@ -3,11 +3,10 @@ use Rattle.std.proofs.Common.{◌≡◌, ℕ, zero, suc, ◌+◌, ◌-◌, ◌<�
 use Rattle.std.proofs.lemmas.List.{length-map, get_or-map, get_or_default}
 use Rattle.std.specs.List.Sorted.{IsNonDecreasingBy}
 use Rattle.std.proofs.lemmas.Bool.{cases_lt}
-use Rattle.std.proofs.lemmas.List.Folds.{flat_map-map}
 use Rattle.std.proofs.lemmas.List.Sums.{sum_by-cons}
 use Rattle.esr_cert.specs.declared.network.Arc.{Arc}
 use Rattle.esr_cert.specs.declared.problem.Chain as code
-use Rattle.esr_cert.specs.Problem.{Chain, Problem, greatest, size, is_sound}
+use Rattle.esr_cert.specs.Problem.{Chain, Problem, size, is_sound}
 use Rattle.esr_cert.specs.Network.{arc_at, links, chain_links, back_arc, must_arc, back_arcs, must_arcs, network}
 use Rattle.esr_cert.specs.Starts.{starts_from, joined, AreStarts}
 use Rattle.esr_history.specs.declared.event.TxnId.{TxnId}
@@ -15,50 +14,6 @@ use Rattle.esr_cert.specs.Views.{chain_of, problem_of}
 use Rattle.esr_cert.proofs.Sound.{here, there, facts, few, are_few, IsProblem}
 use Rattle.esr_cert.proofs.Matched.{AreWhole, links_length}
 use Rattle.esr_cert.proofs.StartsLaws.{starts_long, starts_rise, row_ends, in_row, in_backs, in_musts, rows_end}
-use Rattle.esr_cert.proofs.Least.{is_network}
-
--- each chain has one cost more than writers
-pub chains_long : (p : Problem) → IsProblem p → (chains : List code.Chain) → map chain_of chains ≡ p.chains → (k : ℕ) (d : code.Chain) → k < length chains → length (get_or chains k d).costs.items ≡ length (get_or chains k d).writers.items + 1
-chains_long p ok chains is k d l =
-    let inside : k < length p.chains = omega (arith, ap length is, length-map chains chain_of) in
-    let here : get_or p.chains k (chain_of (get_or chains k d)) ≡ chain_of (get_or chains k d) =
-    ap (λ (xs : List Chain). get_or xs k (chain_of (get_or chains k d))) (sym is) ∙ get_or-map chain_of chains k d (chain_of (get_or chains k d)) l in
-    (ok.chains (chain_of (get_or chains k d)) (k, inside, here)).one_more
-
-greatest_in : (costs : List ℕ) (k d : ℕ) → k < length costs → get_or costs k d ≤ greatest costs
-greatest_in [] k d l = absurd (omega arith)
-greatest_in (c ∷ costs) zero d l = omega arith
-greatest_in (c ∷ costs) (suc k) d l = omega (arith, greatest_in costs k d (omega arith))
-
-costs_in_sum : (chains : List code.Chain) (k : ℕ) (d : code.Chain) → k < length chains → (j c : ℕ) → j < length (get_or chains k d).costs.items → get_or (get_or chains k d).costs.items j c ≤ sum_by (λ (chain : Chain). greatest chain.costs) (map chain_of chains)
-costs_in_sum [] k d l j c inside = absurd (omega arith)
-costs_in_sum (one ∷ chains) zero d l j c inside = omega (arith, sum_by-cons (λ (chain : Chain). greatest chain.costs) (chain_of one) (map chain_of chains), greatest_in one.costs.items j c inside)
-costs_in_sum (one ∷ chains) (suc k) d l j c inside = omega (arith, sum_by-cons (λ (chain : Chain). greatest chain.costs) (chain_of one) (map chain_of chains), costs_in_sum chains k d (omega arith) j c inside)
-
--- each cost is below the number that stands for no limit
-pub costs_small : (p : Problem) → IsProblem p → (chains : List code.Chain) → map chain_of chains ≡ p.chains → (k : ℕ) (d : code.Chain) → k < length chains → (j c : ℕ) → j < length (get_or chains k d).costs.items → get_or (get_or chains k d).costs.items j c < 18446744073709551615
-costs_small p ok chains is k d l j c inside =
-    let all = subst (λ (xs : List Chain). sum_by (λ (chain : Chain). greatest chain.costs) xs ≤ 2000000000000000000) (sym is) ok.small in
-    omega (arith, costs_in_sum chains k d l j c inside, all)
-
-pub arcs_whole : (p : Problem) (n : ℕ) (chains : List code.Chain) (before : List (ℕ × ℕ)) (must : List ℕ) (a b c : List Arc)
-    → n ≡ size p → map chain_of chains ≡ p.chains → before ≡ p.before → must ≡ p.must
-    → a ≡ flat_map (λ chain. chain_links n (chain_of chain)) chains → b ≡ a ++ map back_arc before → c ≡ b ++ map (must_arc n) must
-    → c ≡ (network p).arcs
-arcs_whole p n chains before must a b c size_is chains_are before_is must_is first second third =
-    let links : a ≡ flat_map (chain_links (size p)) p.chains =
-    first ∙ sym (flat_map-map (chain_links n) chain_of chains) ∙ ap (flat_map (chain_links n)) chains_are ∙ ap (λ m. flat_map (chain_links m) p.chains) size_is in
-    let backs : b ≡ flat_map (chain_links (size p)) p.chains ++ map back_arc p.before = second ∙ ap (λ xs. xs ++ map back_arc before) links ∙ ap (λ (xs : List (ℕ × ℕ)). flat_map (chain_links (size p)) p.chains ++ map back_arc xs) before_is in
-    third ∙ ap (λ xs. xs ++ map (must_arc n) must) backs ∙ ap (λ m. (flat_map (chain_links (size p)) p.chains ++ map back_arc p.before) ++ map (must_arc m) must) size_is
-    ∙ ap (λ xs. (flat_map (chain_links (size p)) p.chains ++ map back_arc p.before) ++ map (must_arc (size p)) xs) must_is
-
--- the arcs join nodes
-pub ends_of : (p : Problem) → IsProblem p → (arcs : List Arc) (n : ℕ) → arcs ≡ (network p).arcs → n ≡ size p → (i : ℕ) (d : Arc) → i < length arcs → ((get_or arcs i d).from < n + 2) × ((get_or arcs i d).to < n + 2)
-ends_of p ok arcs n e m i d l =
-    let k : i < length (network p).arcs = omega (arith, ap length e) in
-    let h : ((arc_at (network p).arcs i).from < size p + 2) × ((arc_at (network p).arcs i).to < size p + 2) = (is_network p ok).ends i k in
-    let same : get_or arcs i d ≡ arc_at (network p).arcs i = get_or_default arcs i d (record { from = 0; to = 0; capacity = Some 0 }) l ∙ ap (λ list. arc_at list i) e in
-    (omega (arith, ap (λ a. a.from) same, h.0), omega (arith, ap (λ a. a.to) same, h.1))
 
 -- the costs of the code's chains are as many as those of the chains that contracts see
 pub costs_count : (chains : List code.Chain) → sum_by (λ (chain : Chain). length chain.costs) (map chain_of chains) ≡ sum_by (λ (chain : code.Chain). length chain.costs.items) chains
@@ -111,6 +66,13 @@ module _ (p : Problem) (ok : IsProblem p) where
   rows_long : length rows ≡ length p.chains
   rows_long = length-map p.chains (chain_links (size p))
 
+  same_end : get_or starts (length rows) 0 ≡ get_or starts (length p.chains) 0
+  same_end = ap (λ k. get_or starts k 0) rows_long
+
+  pub arcs_long : length (network p).arcs ≡ get_or starts (length p.chains) 0 + length p.before + length p.must
+  arcs_long =
+      omega (arith, ap length whole_list, length-append (joined rows ++ back_arcs p) (must_arcs p), length-append (joined rows) (back_arcs p), same_end, rows_end starts rows (links_starts p ok), length-map {B = Arc} p.before back_arc, length-map {B = Arc} p.must (must_arc (size p)))
+
   pub arc_in_chain : (k number : ℕ) (d : Chain) → k < length p.chains → get_or starts k 0 ≤ number → number < get_or starts (suc k) 0 → arc_at (network p).arcs number ≡ arc_at (chain_links (size p) (get_or p.chains k d)) (number - get_or starts k 0)
   arc_in_chain k number d l begun before =
       ap (λ arcs. arc_at arcs number) whole_list
@@ -119,25 +81,20 @@ module _ (p : Problem) (ok : IsProblem p) where
 
   pub arc_of_pair : (number : ℕ) (d : ℕ × ℕ) → get_or starts (length p.chains) 0 ≤ number → number - get_or starts (length p.chains) 0 < length p.before → arc_at (network p).arcs number ≡ back_arc (get_or p.before (number - get_or starts (length p.chains) 0) d)
   arc_of_pair number d behind inside =
-      let end : get_or starts (length rows) 0 ≡ get_or starts (length p.chains) 0 = ap (λ k. get_or starts k 0) rows_long in
       ap (λ arcs. arc_at arcs number) whole_list
-      ∙ in_backs starts rows (links_starts p ok) none (back_arcs p) (must_arcs p) number (omega (arith, end)) (omega (arith, end, length-map {B = Arc} p.before back_arc))
-      ∙ ap (λ n. arc_at (back_arcs p) (number - n)) end
+      ∙ in_backs starts rows (links_starts p ok) none (back_arcs p) (must_arcs p) number (omega (arith, same_end)) (omega (arith, same_end, length-map {B = Arc} p.before back_arc))
+      ∙ ap (λ n. arc_at (back_arcs p) (number - n)) same_end
       ∙ get_or-map back_arc p.before (number - get_or starts (length p.chains) 0) d none inside
 
   pub arc_of_must : (number d : ℕ) → number < length (network p).arcs → get_or starts (length p.chains) 0 ≤ number → length p.before ≤ number - get_or starts (length p.chains) 0
       → (number - get_or starts (length p.chains) 0 - length p.before < length p.must) × (arc_at (network p).arcs number ≡ must_arc (size p) (get_or p.must (number - get_or starts (length p.chains) 0 - length p.before) d))
   arc_of_must number d inside behind after =
-      let end : get_or starts (length rows) 0 ≡ get_or starts (length p.chains) 0 = ap (λ k. get_or starts k 0) rows_long in
       let backs : length (back_arcs p) ≡ length p.before = length-map {B = Arc} p.before back_arc in
-      let musts : length (must_arcs p) ≡ length p.must = length-map {B = Arc} p.must (must_arc (size p)) in
-      let long : length (network p).arcs ≡ length (joined rows) + length (back_arcs p) + length (must_arcs p) =
-      omega (arith, ap length whole_list, length-append (joined rows ++ back_arcs p) (must_arcs p), length-append (joined rows) (back_arcs p)) in
-      let short : number - get_or starts (length p.chains) 0 - length p.before < length p.must = omega (arith, long, end, backs, musts, rows_end starts rows (links_starts p ok)) in (
+      let short : number - get_or starts (length p.chains) 0 - length p.before < length p.must = omega (arith, arcs_long) in (
         short,
         ap (λ arcs. arc_at arcs number) whole_list
-            ∙ in_musts starts rows (links_starts p ok) none (back_arcs p) (must_arcs p) number (omega (arith, end)) (omega (arith, end, backs))
-            ∙ ap (λ n. arc_at (must_arcs p) (number - n - length (back_arcs p))) end ∙ ap (λ n. arc_at (must_arcs p) (number - get_or starts (length p.chains) 0 - n)) backs
+            ∙ in_musts starts rows (links_starts p ok) none (back_arcs p) (must_arcs p) number (omega (arith, same_end)) (omega (arith, same_end, backs))
+            ∙ ap (λ n. arc_at (must_arcs p) (number - n - length (back_arcs p))) same_end ∙ ap (λ n. arc_at (must_arcs p) (number - get_or starts (length p.chains) 0 - n)) backs
             ∙ get_or-map (must_arc (size p)) p.must (number - get_or starts (length p.chains) 0 - length p.before) d none short,
       )
 
@@ -182,11 +139,14 @@ module _ (updates : List TxnId) (before : List (ℕ × ℕ)) (chains : List code
   abbrev links_end : ℕ
   links_end = get_or starts (length chains) 0
 
-  same_end : links_end ≡ get_or (starts_from 0 parts.chains) (length parts.chains) 0
-  same_end = ap (λ list. get_or list (length chains) 0) are ∙ ap (λ n. get_or (starts_from 0 parts.chains) n 0) (sym (length-map chains chain_of))
+  end_is : links_end ≡ get_or (starts_from 0 parts.chains) (length parts.chains) 0
+  end_is = ap (λ list. get_or list (length chains) 0) are ∙ ap (λ n. get_or (starts_from 0 parts.chains) n 0) (sym (length-map chains chain_of))
 
   size_is : size parts ≡ length updates
   size_is = length-map updates (λ t. t.0)
+
+  pub arcs_are : links_end + length before + length must ≡ length (network parts).arcs
+  arcs_are = omega (arith, end_is, arcs_long parts ok)
 
   -- what a search for the row of an arc of the chains gives
   module _ (number k : ℕ) (early : number < links_end) (bound : k < length starts) (begun : get_or starts k 0 ≤ number) (last : k + 1 < length starts → number < get_or starts (k + 1) 0) where
@@ -227,12 +187,12 @@ module _ (updates : List TxnId) (before : List (ℕ × ℕ)) (chains : List code
   module _ (number : ℕ) (late : links_end ≤ number) where
     pub pair_is : number - links_end < length before → back_arc (get_or before (number - links_end) (0, 0)) ≡ arc_at (network parts).arcs number
     pair_is inside =
-        ap (λ n. back_arc (get_or before (number - n) (0, 0))) same_end ∙ sym (arc_of_pair parts ok number (0, 0) (omega (arith, same_end, late)) (omega (arith, same_end)))
+        ap (λ n. back_arc (get_or before (number - n) (0, 0))) end_is ∙ sym (arc_of_pair parts ok number (0, 0) (omega (arith, end_is, late)) (omega (arith, end_is)))
 
     must_parts : number < length (network parts).arcs → length before ≤ number - links_end → (number - links_end - length before < length must) × (arc_at (network parts).arcs number ≡ must_arc (size parts) (get_or must (number - links_end - length before) 0))
     must_parts inside after =
-        subst (λ n. (number - n - length before < length must) × (arc_at (network parts).arcs number ≡ must_arc (size parts) (get_or must (number - n - length before) 0))) (sym same_end)
-        (arc_of_must parts ok number 0 inside (omega (arith, same_end, late)) (omega (arith, same_end)))
+        subst (λ n. (number - n - length before < length must) × (arc_at (network parts).arcs number ≡ must_arc (size parts) (get_or must (number - n - length before) 0))) (sym end_is)
+        (arc_of_must parts ok number 0 inside (omega (arith, end_is, late)) (omega (arith, end_is)))
 
     pub must_inside : number < length (network parts).arcs → length before ≤ number - links_end → number - links_end - length before < length must
     must_inside inside after = (must_parts inside after).0

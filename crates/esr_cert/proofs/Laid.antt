@@ -9,9 +9,9 @@ use Rattle.esr_cert.specs.declared.step.Step.TheVariants.{Along, Against}
 use Rattle.esr_cert.specs.declared.rows.Span.{Span}
 use Rattle.esr_cert.specs.Network.{arc_at}
 use Rattle.esr_cert.specs.Steps.{arc_of, order_of, start, step_at, AreOnce}
-use Rattle.esr_cert.specs.Rows.{span_at, row_in, first_steps, steps_from, row_of, AreDegrees, AreRows, AreSteps, lengthen}
+use Rattle.esr_cert.specs.Rows.{span_at, row_in, first_steps, steps_from, row_of, AreDegrees, AreRows, AreSteps, HaveEnds, lengthen}
 use Rattle.esr_cert.proofs.StepsLaws.{first_next, has_steps}
-use Rattle.esr_cert.proofs.RowsLaws.{row_length, at_row, HasEnds, ends_at, Filled, filled_more, place_within, room_along, room_against, filled_all, step_with}
+use Rattle.esr_cert.proofs.RowsLaws.{row_length, at_row, Filled, filled_more, place_within, room_along, room_against, filled_all, step_with}
 
 -- the rows after the first i arcs
 pub record Laid (arcs : List Arc) (nodes i : ℕ) (spans : List Span) (steps : List Step) : Type 0 where
@@ -23,7 +23,7 @@ pub laid_long : {arcs : List Arc} {nodes i : ℕ} {spans : List Span} {steps : L
 laid_long h = h.filled.total ∙ h.are.both
 
 -- the two steps of an arc are put into the rows of its ends
-module _ {arcs : List Arc} {nodes i : ℕ} {spans : List Span} {steps : List Step} (l : i < length arcs) (ends : HasEnds arcs nodes) (h : Laid arcs nodes i spans steps) where
+module _ {arcs : List Arc} {nodes i : ℕ} {spans : List Span} {steps : List Step} (l : i < length arcs) (ends : HaveEnds arcs nodes) (h : Laid arcs nodes i spans steps) where
   abbrev from : ℕ
   from = (arc_at arcs i).from
 
@@ -31,16 +31,16 @@ module _ {arcs : List Arc} {nodes i : ℕ} {spans : List Span} {steps : List Ste
   to = (arc_at arcs i).to
 
   known_from : from < length h.degrees
-  known_from = omega (arith, (ends_at arcs nodes i ends l).0, h.are.count)
+  known_from = omega (arith, (ends i l).0, h.are.count)
 
   known_to : to < length h.degrees
-  known_to = omega (arith, (ends_at arcs nodes i ends l).1, h.are.count)
+  known_to = omega (arith, (ends i l).1, h.are.count)
 
   room_from : length (steps_from arcs from (first_steps i)) < get_or h.degrees from 0
-  room_from = room_along arcs nodes h.degrees i from h.are l (ends_at arcs nodes i ends l).0 refl
+  room_from = room_along arcs nodes h.degrees i from h.are l (ends i l).0 refl
 
   room_to : length (steps_from arcs to (first_steps i ++ Along i ∷ [])) < get_or h.degrees to 0
-  room_to = room_against arcs nodes h.degrees i to h.are l (ends_at arcs nodes i ends l).1 refl
+  room_to = room_against arcs nodes h.degrees i to h.are l (ends i l).1 refl
 
   pub within_along : (span_at spans from).end < length steps
   within_along = place_within arcs h.degrees (first_steps i) spans steps (Along i) from refl known_from room_from h.filled

@@ -1,13 +1,12 @@
 -- Rows that lie one after another, as they are counted and filled.
-use Rattle.std.proofs.Common.{◌≡◌, ◌≢◌, ℕ, suc, ◌+◌, ◌-◌, ◌<◌, ◌≤◌, List, [], ◌∷◌, ◌++◌, length, get_or, set, take, drop, sum, Some, sym, ap, ◌∙◌, subst, inl, inr, arith, length-drop, length-take, length-set, get_or-set_same, get_or-set_other}
+use Rattle.std.proofs.Common.{◌≡◌, ◌≢◌, ℕ, suc, ◌+◌, ◌-◌, ◌<◌, ◌≤◌, List, [], ◌∷◌, ◌++◌, length, get_or, set, take, drop, sum, sym, ap, ◌∙◌, subst, inl, inr, arith, length-drop, length-take, length-set, get_or-set_same, get_or-set_other}
 use Rattle.std.proofs.lemmas.Bool.{cases_eq, cases_lt}
-use Rattle.std.proofs.lemmas.List.{get_or-take, get_or-drop, take-take, ext_get_or, length_push, get_or_read, get_or_default}
+use Rattle.std.proofs.lemmas.List.{get_or-take, get_or-drop, take-take, ext_get_or, length_push, get_or_read}
 use Rattle.std.proofs.lemmas.List.Sums.{sum_by_more, sum_by-take-le, sum_by-cons, sum_by_more_le, sum_by-set, get_or-le-sum_by}
 use Rattle.esr_cert.specs.declared.network.Arc.{Arc}
 use Rattle.esr_cert.specs.declared.step.Step.{Step}
 use Rattle.esr_cert.specs.declared.step.Step.TheVariants.{Along, Against}
 use Rattle.esr_cert.specs.declared.rows.Span.{Span}
-use Rattle.esr_cert.specs.Network.{arc_at}
 use Rattle.esr_cert.specs.Steps.{start}
 use Rattle.esr_cert.specs.Rows.{row_in, span_at}
 use Rattle.esr_cert.specs.Steps.{step_at}
@@ -21,18 +20,6 @@ row_length list span l =
 pub at_row : {X : Type 0} (list : List X) (span : Span) (k : ℕ) (d : X) → k < span.end - span.begin → get_or (row_in list span) k d ≡ get_or list (span.begin + k) d
 at_row list span k d l =
     get_or-take (span.end - span.begin) (drop span.begin list) k d l ∙ get_or-drop span.begin list k d
-
--- an arc that the code reads, whatever the default of the read
-pub arc_read : (arcs : List Arc) (i : ℕ) {d x : Arc} → i < length arcs → d ≡ get_or arcs i d → x ≡ d → x ≡ arc_at arcs i
-arc_read arcs i {d} l is e = e ∙ is ∙ get_or_default arcs i d (record { from = 0; to = 0; capacity = Some 0 }) l
-
--- the ends of the arcs are nodes, in the words of the contracts of the rows
-abbrev pub HasEnds : List Arc → ℕ → Type 0
-HasEnds arcs nodes = (i : ℕ) (d : Arc) → i < length arcs → ((get_or arcs i d).from < nodes) × ((get_or arcs i d).to < nodes)
-
--- the ends of one arc are nodes
-pub ends_at : (arcs : List Arc) (nodes i : ℕ) → HasEnds arcs nodes → i < length arcs → ((arc_at arcs i).from < nodes) × ((arc_at arcs i).to < nodes)
-ends_at arcs nodes i ends l = ends i (record { from = 0; to = 0; capacity = Some 0 }) l
 
 -- how many of some steps start at each node
 pub record Counted (arcs : List Arc) (nodes : ℕ) (done : List Step) (counts : List ℕ) : Type 0 where

@@ -7,7 +7,6 @@ pub mod Views
 pub mod Drafts
 pub mod Steps
 pub mod Short
-pub mod ShortArc
 pub mod Rows
 pub mod Starts
 pub mod Balance

@@ -1,17 +1,13 @@
 //! The arcs of a problem's network.
-ghost use Rattle.std.specs.Prelude.{◌≡◌, ℕ, ◌+◌, ◌<◌, ◌≤◌, ◌++◌, length, get_or, map, flat_map, true, All, IfOk};
-ghost use Rattle.esr_cert.specs.declared.problem.Chain.{Chain};
-ghost use Rattle.esr_cert.specs.Problem.{is_sound};
-ghost use Rattle.esr_cert.specs.Starts.{starts_from, owners_from};
-ghost use Rattle.esr_cert.specs.Views.{chain_of, problem_of};
-ghost use Rattle.esr_cert.specs.Network.{arc_at, links, chain_links, back_arc, must_arc, network};
+ghost use Rattle.std.specs.Prelude.{◌≡◌, ◌+◌, ◌*◌, ◌^◌, ◌<◌, ◌≤◌, length, map, sum_by};
+ghost use Rattle.esr_cert.specs.Views.{chain_of};
+ghost use Rattle.esr_cert.specs.Network.{arc_at, chain_links};
 
 use crate::network::Arc;
 use crate::problem::Chain;
-use crate::short_arc::ShortArc;
 use crate::starts::owner_at;
 use esr_history::TxnId;
-use std::alloc::{AllocError, Global};
+use std::marker::Model;
 
 /// An arc of a chain, by its place there: from the source or a writer to the next writer, or to the sink.
 fn link_at(chain: &Chain, source: u32, j: usize) -> Arc
@@ -33,136 +29,88 @@ fn link_at(chain: &Chain, source: u32, j: usize) -> Arc
     }
 }
 
-/// The arc with a number of the network of a problem of these parts: where the arcs of each chain start, and the chain
-/// of each, are given.
-pub fn arc_of(
-    updates: &[TxnId],
-    before: &[(u32, u32)],
-    chains: &[Chain],
-    must: &[u32],
-    starts: &[u32],
-    owners: &[u16],
-    number: u32,
-) -> Arc
-    requires sound { is_sound (problem_of updates.now before.now chains.now must.now) ≡ true }
-    requires starts { starts.now ≡ starts_from 0 (map chain_of chains.now) }
-    requires owners { owners.now ≡ owners_from 0 (map chain_of chains.now) }
-    requires inside { number < length (network (problem_of updates.now before.now chains.now must.now)).arcs }
-    ensures { result ≡ arc_at (network (problem_of updates.now before.now chains.now must.now)).arcs number }
-{
-    let source = updates.len() as u32;
-    let links = starts[chains.len()];
-    if number < links {
-        let chain = owner_at(chains, starts, owners, number);
-        let place = number - starts[chain];
-        return link_at(&chains[chain], source, place as usize);
-    }
-    let i = (number - links) as usize;
-    let (from, to) = if i < before.len() {
-        (before[i].1, before[i].0)
-    } else {
-        (source, must[i - before.len()])
-    };
-    Arc {
-        from,
-        to,
-        capacity: None,
-    }
+/// The arcs of the network of a problem of these parts, each made when it is asked for: where those of each chain start,
+/// and the chain of each of them, are given.
+#[derive(Drop)]
+pub struct Arcs<'a> {
+    pub updates: &'a [TxnId],
+    pub before: &'a [(u32, u32)],
+    pub chains: &'a [Chain],
+    pub must: &'a [u32],
+    pub starts: &'a [u32],
+    pub owners: &'a [u16],
 }
 
-/// Adds the arcs of a chain.
-fn push_links(
-    arcs: &mut Vec<ShortArc>,
-    source: u32,
-    sink: u32,
-    writers: &[u32],
-    costs: &[u64],
-) -> Result<(), AllocError>
-    requires count { length costs.now ≡ length writers.now + 1 }
-    requires limits { All (λ c. c < 18446744073709551615) costs.now }
-    ensures { IfOk result (λ _. arcs.new.items ≡ arcs.old.items ++ links source sink writers.now costs.now) }
-{
-    let mut from = source;
-    for (j, cost) in costs.iter().enumerate() {
-        let to = if j < writers.len() { writers[j] } else { sink };
-        arcs.push(ShortArc::of(Arc {
+impl<'a> Model for Arcs<'a> {
+    ghost use Rattle.std.specs.Prelude.{◌≡◌, List, map, true};
+    ghost use Rattle.esr_cert.specs.declared.network.Arc.{Arc};
+    ghost use Rattle.esr_cert.specs.Network.{network};
+    ghost use Rattle.esr_cert.specs.Problem.{is_sound};
+    ghost use Rattle.esr_cert.specs.Starts.{starts_from, owners_from};
+    ghost use Rattle.esr_cert.specs.Views.{chain_of, problem_of};
+
+    ghost Value = { List Arc };
+
+    ghost view = { λ a. (network (problem_of a.updates.now a.before.now a.chains.now a.must.now)).arcs };
+
+    ghost invariant = { λ a. (is_sound (problem_of a.updates.now a.before.now a.chains.now a.must.now) ≡ true)
+        × (a.starts.now ≡ starts_from 0 (map chain_of a.chains.now))
+        × (a.owners.now ≡ owners_from 0 (map chain_of a.chains.now)) };
+}
+
+impl<'a> Arcs<'a> {
+    /// How many there are.
+    pub fn len(&self) -> usize
+        ensures { result ≡ length self.now }
+    {
+        self.starts[self.chains.len()] as usize + self.before.len() + self.must.len()
+    }
+
+    /// The arc with a number.
+    pub fn at(&self, number: u32) -> Arc
+        requires { number < length self.now }
+        ensures { result ≡ arc_at self.now number }
+    {
+        let source = self.updates.len() as u32;
+        let links = self.starts[self.chains.len()];
+        if number < links {
+            let chain = owner_at(self.chains, self.starts, self.owners, number);
+            let place = number - self.starts[chain];
+            return link_at(&self.chains[chain], source, place as usize);
+        }
+        let i = (number - links) as usize;
+        let (from, to) = if i < self.before.len() {
+            (self.before[i].1, self.before[i].0)
+        } else {
+            (source, self.must[i - self.before.len()])
+        };
+        Arc {
             from,
             to,
-            capacity: Some(*cost),
-        }))?;
-        from = to;
-    }
-    Ok(())
-}
-
-/// Adds the arcs of all chains.
-fn push_chains(arcs: &mut Vec<ShortArc>, source: u32, chains: &[Chain]) -> Result<(), AllocError>
-    requires chains { (k : ℕ) (d : Chain) → k < length chains.now
-        → length (get_or chains.now k d).costs.items ≡ length (get_or chains.now k d).writers.items + 1 }
-    requires limits { All (λ chain. All (λ c. c < 18446744073709551615) chain.costs.items) chains.now }
-    requires source { source ≤ 65535 }
-    ensures { IfOk result (λ _. arcs.new.items ≡ arcs.old.items
-        ++ flat_map (λ chain. chain_links source (chain_of chain)) chains.now) }
-{
-    for chain in chains {
-        push_links(arcs, source, source + 1, &chain.writers, &chain.costs)?;
-    }
-    Ok(())
-}
-
-/// Adds the back arcs.
-fn push_backs(arcs: &mut Vec<ShortArc>, before: &[(u32, u32)]) -> Result<(), AllocError>
-    ensures { IfOk result (λ _. arcs.new.items ≡ arcs.old.items ++ map back_arc before.now) }
-{
-    for pair in before {
-        arcs.push(ShortArc::of(Arc {
-            from: pair.1,
-            to: pair.0,
             capacity: None,
-        }))?;
+        }
     }
-    Ok(())
 }
 
-/// Adds the arcs into the updates that a set must hold.
-fn push_musts(arcs: &mut Vec<ShortArc>, source: u32, must: &[u32]) -> Result<(), AllocError>
-    ensures { IfOk result (λ _. arcs.new.items ≡ arcs.old.items ++ map (must_arc source) must.now) }
+/// How many arcs the chains have.
+fn link_count(chains: &[Chain]) -> u128
+    requires { length chains.now ≤ 4096 }
+    ensures value { result ≡ sum_by (λ chain. length chain.costs) (map chain_of chains.now) }
+    ensures small { result < 2 ^ 76 }
 {
-    for u in must {
-        arcs.push(ShortArc::of(Arc {
-            from: source,
-            to: *u,
-            capacity: None,
-        }))?;
-    }
-    Ok(())
-}
-
-/// How many arcs there are.
-fn count_of(before: &[(u32, u32)], chains: &[Chain], must: &[u32]) -> usize {
-    let mut count = before.len().saturating_add(must.len());
+    let mut count: u128 = 0;
     for chain in chains {
-        count = count.saturating_add(chain.costs.len());
+        count += chain.costs.len() as u128;
     }
     count
 }
 
-/// The arcs of the network of a problem of these parts, in its order.
-pub fn arcs_of(
-    alloc: Global,
-    updates: &[TxnId],
-    before: &[(u32, u32)],
-    chains: &[Chain],
-    must: &[u32],
-) -> Result<Vec<ShortArc>, AllocError>
-    requires sound { is_sound (problem_of updates.now before.now chains.now must.now) ≡ true }
-    ensures { IfOk result (λ arcs. arcs.items
-        ≡ (network (problem_of updates.now before.now chains.now must.now)).arcs) }
+/// How many arcs the network of a problem of these parts has.
+pub fn arc_count(before: &[(u32, u32)], chains: &[Chain], must: &[u32]) -> u128
+    requires { length chains.now ≤ 4096 }
+    ensures value { result
+        ≡ sum_by (λ chain. length chain.costs) (map chain_of chains.now) + length before.now + length must.now }
+    ensures small { result < 2 ^ 77 }
 {
-    let source = updates.len() as u32;
-    let mut arcs = Vec::with_capacity(alloc, count_of(before, chains, must))?;
-    push_chains(&mut arcs, source, chains)?;
-    push_backs(&mut arcs, before)?;
-    push_musts(&mut arcs, source, must)?;
-    Ok(arcs)
+    link_count(chains) + before.len() as u128 + must.len() as u128
 }

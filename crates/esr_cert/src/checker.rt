@@ -11,6 +11,7 @@ ghost use Rattle.esr_cert.specs.Starts.{AreStarts};
 ghost use Rattle.esr_cert.specs.Parts.{is_row_within, are_rows_within};
 ghost use Rattle.esr_cert.specs.Views.{chain_of, rows_of, certificate_of};
 
+use crate::arcs::arc_count;
 use crate::certificate::{Certificate, Fault};
 use crate::lists::{are_below, contains, is_ascending};
 use crate::problem::{Chain, Problem};
@@ -212,19 +213,6 @@ fn is_tight(problem: &Problem, certificate: &Certificate) -> bool
     worth == set_cost(chains, &certificate.set)
 }
 
-/// How many arcs the chains have.
-fn link_count(chains: &[Chain]) -> u128
-    requires { length chains.now ≤ 4096 }
-    ensures value { result ≡ sum_by (λ chain. length chain.costs) (map chain_of chains.now) }
-    ensures small { result < 2 ^ 76 }
-{
-    let mut count: u128 = 0;
-    for chain in chains {
-        count += chain.costs.len() as u128;
-    }
-    count
-}
-
 /// Whether a count of augmentations that is given is at most nodes times arcs.
 fn is_short(problem: &Problem, augmentations: Option<u64>) -> bool
     ensures { result ≡ is_short problem.now augmentations }
@@ -233,8 +221,7 @@ fn is_short(problem: &Problem, augmentations: Option<u64>) -> bool
         return true;
     };
     let nodes = problem.updates().len() as u128 + 2;
-    let links = link_count(problem.chains());
-    let arcs = links + problem.before().len() as u128 + problem.must().len() as u128;
+    let arcs = arc_count(problem.before(), problem.chains(), problem.must());
     u128::from(count) <= nodes * arcs
 }
 

@@ -16,7 +16,6 @@ mod problem;
 mod range;
 mod rows;
 mod shape;
-mod short_arc;
 mod starts;
 mod step;
 
@@ -27,7 +26,6 @@ pub use network::Arc;
 pub use problem::{BundleFault, Chain, Problem};
 pub use rows::{Rows, Span};
 pub use shape::has_shape;
-pub use short_arc::ShortArc;
 pub use step::{ShortStep, Step};
 
 #[cfg(test)]

@@ -6,11 +6,11 @@ ghost use Rattle.esr_cert.specs.Rows.{AreLaid};
 ghost use Rattle.esr_cert.specs.Starts.{starts_from, owners_from};
 ghost use Rattle.esr_cert.specs.Views.{chain_of, problem_of};
 
-use crate::arcs::{arc_of, arcs_of};
+use crate::arcs::{Arcs, arc_count};
 use crate::network::Arc;
 use crate::parts::have_shape;
 use crate::range::is_in_range;
-use crate::rows::{Rows, rows_of};
+use crate::rows::{MOST_ARCS, Rows, rows_of};
 use crate::starts::{owners_of, starts_of};
 use esr_history::TxnId;
 use esr_items::ItemId;
@@ -161,10 +161,20 @@ impl Problem {
         requires sound { is_sound (problem_of updates.items before.items chains.items must.items) ≡ true }
         ensures { IfOk result (λ p. p ≡ problem_of updates.items before.items chains.items must.items) }
     {
-        let arcs = arcs_of(alloc, &updates, &before, &chains, &must)?;
-        let rows = rows_of(alloc, updates.len() + 2, &arcs)?;
+        if arc_count(&before, &chains, &must) > MOST_ARCS as u128 {
+            return Err(AllocError);
+        }
         let starts = starts_of(alloc, &chains)?;
-        let owners = owners_of(alloc, &chains, arcs.len().saturating_sub(before.len()))?;
+        let owners = owners_of(alloc, &chains, starts[chains.len()] as usize)?;
+        let arcs = Arcs {
+            updates: &updates,
+            before: &before,
+            chains: &chains,
+            must: &must,
+            starts: &starts,
+            owners: &owners,
+        };
+        let rows = rows_of(alloc, updates.len() + 2, &arcs)?;
         Ok(Problem {
             updates,
             before,
@@ -216,13 +226,6 @@ impl Problem {
         &self.starts
     }
 
-    /// The chain of each arc of the chains.
-    fn owners(&self) -> &[u16]
-        ensures list { result.now ≡ owners_from 0 self.now.chains }
-    {
-        &self.owners
-    }
-
     /// An arc of the network, by its number.
     ///
     /// A read item gives a chain of arcs from the source through its writers to the sink, each with the cost of a
@@ -233,15 +236,15 @@ impl Problem {
         requires { number < length (network self.now).arcs }
         ensures { result ≡ arc_at (network self.now).arcs number }
     {
-        arc_of(
-            self.updates(),
-            self.before(),
-            self.chains(),
-            self.must(),
-            self.starts(),
-            self.owners(),
-            number,
-        )
+        let arcs = Arcs {
+            updates: &self.updates,
+            before: &self.before,
+            chains: &self.chains,
+            must: &self.must,
+            starts: &self.starts,
+            owners: &self.owners,
+        };
+        arcs.at(number)
     }
 
     /// For each node of the network the steps that start there.

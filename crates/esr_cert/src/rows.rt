@@ -1,10 +1,11 @@
 //! The steps that start at each node, in rows that lie one after another.
-ghost use Rattle.std.specs.Prelude.{◌≡◌, ◌<◌, ◌≤◌, length, set, sum, All, Contains, IsOk, IfOk};
+ghost use Rattle.std.specs.Prelude.{◌≡◌, ◌<◌, ◌≤◌, length, set, sum, Contains, IfOk};
 ghost use Rattle.std.specs.List.Sorted.{IsNonDecreasingBy};
 ghost use Rattle.esr_cert.specs.Steps.{arc_of, order_of, step_at};
-ghost use Rattle.esr_cert.specs.Rows.{row_in, span_at, lengthen, AreDegrees, AreBegun, AreRows, AreSteps};
+ghost use Rattle.esr_cert.specs.Rows.{row_in, span_at, lengthen, AreDegrees, AreBegun, AreRows, AreSteps, HaveEnds};
+ghost use Rattle.esr_cert.specs.declared.rows.TheConstants.{MOST_ARCS};
 
-use crate::short_arc::ShortArc;
+use crate::arcs::Arcs;
 use crate::step::{ShortStep, Step};
 use std::alloc::{AllocError, Global};
 
@@ -16,17 +17,17 @@ pub struct Span {
 }
 
 /// The most arcs whose steps numbers of 32 bits count.
-const MOST: usize = 2_147_483_647;
+pub const MOST_ARCS: usize = 2_147_483_647;
 
 /// How many steps start at each node: the arcs that leave it, and those that come to it.
-fn degrees_of(alloc: Global, nodes: usize, arcs: &[ShortArc]) -> Result<Vec<usize>, AllocError>
-    requires few { length arcs.now ≤ 2147483647 }
-    requires ends { All (λ arc. (arc.from < nodes) × (arc.to < nodes)) arcs.now }
+fn degrees_of(alloc: Global, nodes: usize, arcs: &Arcs) -> Result<Vec<usize>, AllocError>
+    requires few { length arcs.now ≤ MOST_ARCS }
+    requires ends { HaveEnds arcs.now nodes }
     ensures { IfOk result (λ degrees. AreDegrees arcs.now nodes degrees.items) }
 {
     let mut degrees = vec![in alloc; 0usize; nodes]?;
-    for arc in arcs {
-        let arc = arc.arc();
+    for i in 0..arcs.len() {
+        let arc = arcs.at(i as u32);
         let from = arc.from as usize;
         degrees[from] += 1;
         let to = arc.to as usize;
@@ -98,22 +99,20 @@ impl Rows {
 }
 
 /// For each node the steps that start at it: first they are counted, then each is put into its row.
-pub fn rows_of(alloc: Global, nodes: usize, arcs: &[ShortArc]) -> Result<Rows, AllocError>
-    requires { All (λ arc. (arc.from < nodes) × (arc.to < nodes)) arcs.now }
+pub fn rows_of(alloc: Global, nodes: usize, arcs: &Arcs) -> Result<Rows, AllocError>
+    requires few { length arcs.now ≤ MOST_ARCS }
+    requires ends { HaveEnds arcs.now nodes }
     ensures rows { IfOk result (λ rows. AreRows arcs.now nodes rows.spans.items rows.steps.items) }
     ensures steps { IfOk result (λ rows. AreSteps arcs.now rows.steps.items) }
-    ensures few { IsOk result → length arcs.now ≤ 2147483647 }
 {
-    if arcs.len() > MOST {
-        return Err(AllocError);
-    }
     let spans = begin_rows(alloc, &degrees_of(alloc, nodes, arcs)?)?;
     let steps = vec![in alloc; ShortStep::of(Step::Along(0)); 2 * arcs.len()]?;
     let mut rows = Rows { spans, steps };
-    for (i, arc) in arcs.iter().enumerate() {
-        let arc = arc.arc();
-        rows.add_step(arc.from as usize, Step::Along(i as u32));
-        rows.add_step(arc.to as usize, Step::Against(i as u32));
+    for i in 0..arcs.len() {
+        let number = i as u32;
+        let arc = arcs.at(number);
+        rows.add_step(arc.from as usize, Step::Along(number));
+        rows.add_step(arc.to as usize, Step::Against(number));
     }
     Ok(rows)
 }

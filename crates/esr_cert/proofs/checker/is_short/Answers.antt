@@ -7,18 +7,17 @@ use Rattle.esr_cert.proofs.Sound.{facts, are_few}
 use Rattle.esr_cert.proofs.Worth.{arc_count}
 use Rattle.esr_cert.proofs.checker.is_short.Goals as goal
 
-pub link_count-links-requires : goal.link_count-links-requires
-link_count-links-requires c = omega (arith, (are_few c.args.problem.now c.chains.ensures.sound).chains, ap length c.chains.ensures.list, length-map c.chains.result.now chain_of)
+pub arc_count-arcs-requires : goal.arc_count-arcs-requires
+arc_count-arcs-requires c = omega (arith, (are_few c.args.problem.now c.chains.ensures.sound).chains, ap length c.chains.ensures.list, length-map c.chains.result.now chain_of)
 
 pub returns : goal.returns
 returns c =
     let p = c.args.problem.now in
     let nodes : length c.updates.result.now + 2 ≡ (network p).nodes = omega (arith, ap length c.updates.ensures.list, length-map c.updates.result.now (λ t. t.0)) in
-    let links : c.link_count-links.result ≡ sum_by (λ chain. length chain.costs) p.chains = c.link_count-links.ensures.value ∙ ap (sum_by (λ chain. length chain.costs)) c.chains.ensures.list in
-    let arcs : c.link_count-links.result + length c.before-2.result.now + length c.must.result.now ≡ length (network p).arcs =
-    omega (arith, links, arc_count p (facts p c.chains.ensures.sound), ap length c.before-2.ensures.list, ap length c.must.ensures.list) in
-    let limit : (length c.updates.result.now + 2) * (c.link_count-links.result + length c.before-2.result.now + length c.must.result.now) ≡ (network p).nodes * length (network p).arcs =
-    ap (λ n. n * (c.link_count-links.result + length c.before-2.result.now + length c.must.result.now)) nodes ∙ ap (λ n. (network p).nodes * n) arcs in
-    ap (λ n. nat_le n ((length c.updates.result.now + 2) * (c.link_count-links.result + length c.before-2.result.now + length c.must.result.now))) c.from.ensures
+    let arcs : c.arc_count-arcs.result ≡ length (network p).arcs =
+    omega (arith, c.arc_count-arcs.ensures.value, ap (sum_by (λ chain. length chain.costs)) c.chains.ensures.list, arc_count p (facts p c.chains.ensures.sound), ap length c.before-2.ensures.list, ap length c.must.ensures.list) in
+    let limit : (length c.updates.result.now + 2) * c.arc_count-arcs.result ≡ (network p).nodes * length (network p).arcs =
+    ap (λ n. n * c.arc_count-arcs.result) nodes ∙ ap (λ n. (network p).nodes * n) arcs in
+    ap (λ n. nat_le n ((length c.updates.result.now + 2) * c.arc_count-arcs.result)) c.from.ensures
     ∙ ap (nat_le c.in-Some.count) limit
     ∙ ap (is_short p) (sym c.in-Some.is)

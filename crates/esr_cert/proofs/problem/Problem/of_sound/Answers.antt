@@ -1,36 +1,59 @@
-use Rattle.std.proofs.Common.{arith, ◌≡◌, ◌∙◌, ap, refl, length, sum_by}
+use Rattle.std.proofs.Common.{arith, ◌≡◌, ◌+◌, ◌∙◌, ap, sym, subst, length, map, sum_by}
 use Rattle.std.proofs.lemmas.List.{length-map}
 use Rattle.esr_cert.specs.Problem.{Problem}
 use Rattle.esr_cert.specs.Network.{network}
+use Rattle.esr_cert.specs.Rows.{HaveEnds}
+use Rattle.esr_cert.specs.Starts.{starts_from}
 use Rattle.esr_cert.specs.Views.{chain_of, problem_of}
 use Rattle.esr_cert.proofs.Sound.{facts, are_few}
 use Rattle.esr_cert.proofs.Steps.{same_parts}
 use Rattle.esr_cert.proofs.Worth.{arc_count}
-use Rattle.esr_cert.proofs.ArcsLaws.{ends_of, costs_count}
+use Rattle.esr_cert.proofs.Least.{is_network}
+use Rattle.esr_cert.proofs.ArcsLaws.{costs_count, count_is}
 use Rattle.esr_cert.proofs.problem.Problem.of_sound.Goals as goal
 
-pub rows_of-requires : goal.rows_of-requires
-rows_of-requires c =
+pub arc_count-requires : goal.arc_count-requires
+arc_count-requires c =
     let p : Problem = problem_of c.args.updates.items c.args.before.items c.args.chains.items c.args.must.items in
-    let given : problem_of c.deref.result.now c.deref-2.result.now c.deref-3.result.now c.deref-4.result.now ≡ p =
-    same_parts c.deref.ensures.value c.deref-2.ensures.value c.deref-3.ensures.value c.deref-4.ensures.value in
-    ends_of p (facts p c.requires.sound) c.deref-5.result.now c.len.result (c.deref-5.ensures.value ∙ c.in_ok-arcs.ensures ∙ ap (λ q. (network q).arcs) given) (omega (arith, length-map c.args.updates.items (λ t. t.0), c.len.ensures, c.args.updates.ok.0))
+    omega (arith, (are_few p c.requires.sound).chains, length-map c.args.chains.items chain_of, ap length c.deref-2.ensures.value)
 
 pub starts_of-requires : goal.starts_of-requires
 starts_of-requires c =
-    let p : Problem = problem_of c.args.updates.items c.args.before.items c.args.chains.items c.args.must.items in
-    let given : problem_of c.deref.result.now c.deref-2.result.now c.deref-3.result.now c.deref-4.result.now ≡ p =
-    same_parts c.deref.ensures.value c.deref-2.ensures.value c.deref-3.ensures.value c.deref-4.ensures.value in
     omega (
       arith,
-      arc_count p (facts p c.requires.sound),
-      ap length (c.deref-5.ensures.value ∙ c.in_ok-arcs.ensures ∙ ap (λ q. (network q).arcs) given),
-      c.in_ok-rows.ensures.few refl,
+      c.if-arc_count.false,
+      c.arc_count.ensures.value,
       costs_count c.args.chains.items,
-      ap (sum_by (λ chain. length chain.costs.items)) c.deref-6.ensures.value,
+      ap (λ list. sum_by (λ chain. length chain.costs.items) list) c.deref-4.ensures.value,
+      ap (λ list. sum_by (λ chain. length chain.costs) (map chain_of list)) c.deref-2.ensures.value,
     )
+
+pub index-requires : goal.index-requires
+index-requires c =
+    omega (arith, count_is c.args.updates.items c.args.before.items c.args.chains.items c.args.must.items c.requires.sound c.in_ok-starts.starts.items (c.in_ok-starts.ensures ∙ ap (λ list. starts_from 0 (map chain_of list)) c.deref-4.ensures.value), c.len.ensures, c.args.chains.ok.0, c.in_ok-starts.starts.ok.0)
 
 pub owners_of-requires : goal.owners_of-requires
 owners_of-requires c =
     let p : Problem = problem_of c.args.updates.items c.args.before.items c.args.chains.items c.args.must.items in
-    omega (arith, (are_few p c.requires.sound).chains, length-map c.args.chains.items chain_of, ap length c.deref-7.ensures.value)
+    omega (arith, (are_few p c.requires.sound).chains, length-map c.args.chains.items chain_of, ap length c.deref-5.ensures.value)
+
+pub rows_of-requires-clause-few : goal.rows_of-requires-clause-few
+rows_of-requires-clause-few c =
+    let p : Problem = problem_of c.args.updates.items c.args.before.items c.args.chains.items c.args.must.items in
+    omega (
+      arith,
+      ap (λ q. length (network q).arcs) (same_parts c.deref-6.ensures.value c.deref-7.ensures.value c.deref-8.ensures.value c.deref-9.ensures.value),
+      arc_count p (facts p c.requires.sound),
+      c.if-arc_count.false,
+      c.arc_count.ensures.value,
+      ap (λ list. sum_by (λ chain. length chain.costs) (map chain_of list)) c.deref-2.ensures.value,
+      ap length c.deref.ensures.value,
+      ap length c.deref-3.ensures.value,
+    )
+
+pub rows_of-requires-clause-ends : goal.rows_of-requires-clause-ends
+rows_of-requires-clause-ends c =
+    let p : Problem = problem_of c.args.updates.items c.args.before.items c.args.chains.items c.args.must.items in
+    let nodes : c.len-2.result + 2 ≡ (network p).nodes = omega (arith, length-map c.args.updates.items (λ t. t.0), c.len-2.ensures, c.args.updates.ok.0) in
+    subst (λ q. HaveEnds (network q).arcs (c.len-2.result + 2)) (sym (same_parts c.deref-6.ensures.value c.deref-7.ensures.value c.deref-8.ensures.value c.deref-9.ensures.value))
+    (subst (HaveEnds (network p).arcs) (sym nodes) (is_network p (facts p c.requires.sound)).ends)

@@ -1,6 +1,6 @@
 use Rattle.std.proofs.Common.{◌≡◌, ◌≤◌, ◌*◌, take, map, length, sum_by}
 use Rattle.esr_cert.specs.Views.{chain_of}
-use Rattle.esr_cert.proofs.checker.link_count.Given as goal
+use Rattle.esr_cert.proofs.arcs.link_count.Given as goal
 
 abbrev pub invariant-loop-chain : goal.invariant-loop-chain
 invariant-loop-chain l = record {

@@ -1,7 +1,7 @@
 use Rattle.std.proofs.Common.{◌∙◌, length, arith}
 use Rattle.esr_cert.specs.Views.{chain_of}
 use Rattle.esr_cert.proofs.Steps.{sum_step}
-use Rattle.esr_cert.proofs.checker.link_count.Goals as goal
+use Rattle.esr_cert.proofs.arcs.link_count.Goals as goal
 
 pub loop-chain-preserved : goal.loop-chain-preserved
 loop-chain-preserved c =
