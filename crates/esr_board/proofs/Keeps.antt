@@ -1,6 +1,6 @@
 -- Each step of a board keeps its rule.
-use Rattle.std.proofs.Common.{◌≡◌, ℕ, zero, suc, ◌+◌, ◌-◌, ◌%◌, ◌^◌, ◌<◌, ◌≤◌, ◌≢◌, cond, eqb, leb, ltb, List, [], ◌∷◌, ◌++◌, length, get_or, set, sym, refl, ap, ◌∙◌, subst, ⊎_elim, arith, sum_by, All, length-set, get_or-set_same, get_or-set_other, lt-ltb, le-ltb, eq-eqb, ne_eqb, false-eqb, true, false, length-append}
-use mathlib.Core.Option.{none, some, some-injective, some-ne-none}
+use Rattle.std.proofs.Common.{◌≡◌, ℕ, suc, ◌+◌, ◌-◌, ◌%◌, ◌^◌, ◌<◌, ◌≤◌, cond, eqb, leb, ltb, List, [], ◌∷◌, length, get_or, set, sym, refl, ap, ◌∙◌, subst, ⊎_elim, arith, sum_by, All, length-set, get_or-set_same, get_or-set_other, lt-ltb, le-ltb, eq-eqb, ne_eqb, false-eqb, true, false, length-append}
+use mathlib.Core.Option.{none, some}
 use lib.ListN.{get_elem?}
 use Rattle.std.proofs.lemmas.Bool.{cases_lt}
 use Rattle.std.proofs.lemmas.List.Sums.{sum_by-cons, sum_by-append, sum_by_push, sum_by-le-sum_by}
@@ -8,7 +8,7 @@ use Rattle.atomic_table.specs.Table.{Me, step, keeps, stepped, Allows, Splits, J
 use Rattle.atomic_table.proofs.Lists.{at_set, at_snoc, set_else}
 use Rattle.esr_board.specs.declared.hand.Hand.{Hand}
 use Rattle.esr_board.specs.declared.hand.Plan.{Plan}
-use Rattle.esr_board.specs.Claims.{times, count_past, below, passes_of, IdleIsEmpty, IsFair, IsKept, first_hand, with_claim, Claimed, with_one_less, one_pass, joined, spent}
+use Rattle.esr_board.specs.Claims.{times, count_past, below, passes_of, IsFair, IsKept, first_hand, with_claim, Claimed, with_one_less, one_pass, joined, spent}
 use Rattle.esr_board.proofs.Weights.{sum_set, part_le, ones, length-below, past_yes, past_no, count_past_push, count_past-below, times-below-none, times_at}
 
 -- the word never passes the jobs by more than the seats

@@ -1,9 +1,7 @@
 -- Findings put back at the places of their jobs.
-use Rattle.std.proofs.Common.{◌≡◌, ℕ, ◌<◌, ◌≢◌, ◌⊎◌, cond, eqb, List, [], ◌∷◌, ◌++◌, map, length, get_or, set, sym, refl, ap, ◌∙◌, subst, inl, inr, ⊎_elim, arith, Any, Option, Some, None, IsSome, IfSome, Result, Ok, Err, IfOk, IfErr, MatchResult, length-set, get_or-set_same, get_or-set_other, ne_eqb, false, true≢false}
+use Rattle.std.proofs.Common.{◌≡◌, ℕ, ◌<◌, ◌≢◌, ◌⊎◌, cond, eqb, List, [], ◌∷◌, ◌++◌, map, length, get_or, set, sym, refl, subst, ⊎_elim, arith, Any, Option, Some, None, Result, Ok, Err, IfOk, IfErr, MatchResult, length-set, get_or-set_same, get_or-set_other, ne_eqb, false, true≢false}
 use Rattle.std.proofs.lemmas.List.{map-append}
 use Rattle.std.proofs.lemmas.List.Sums.{sum_by_push}
-use mathlib.Core.Logic.{dite}
-use native.Mathlib.Decide.{ℕ_discrete}
 use Rattle.esr_history.specs.declared.event.TxnId.{TxnId}
 use Rattle.esr_history.specs.Machine.{Distance, Schedule}
 use Rattle.esr_history.specs.Queries.{is_committed_query}

@@ -13,7 +13,7 @@ use Rattle.esr_history.specs.declared.event.Reply.{Reply}
 use Rattle.esr_history.specs.declared.event.Entry.{Entry}
 use Rattle.esr_history.specs.Events.{written, last_value}
 use Rattle.esr_history.specs.Machine.{Distance, Schedule, IsLegal}
-use Rattle.esr_history.specs.Operations.{Operation, answer, operation_by, operation_of, operations}
+use Rattle.esr_history.specs.Operations.{Operation, operation_by, operation_of, operations}
 use Rattle.esr_history.specs.Ranges.{IsWithinRanges}
 use Rattle.esr_history.specs.Serial.{state, values_by}
 use Rattle.esr_history.specs.Queries.{reads_by}
@@ -24,7 +24,6 @@ use Rattle.esr_audit.proofs.Within.{state_in_range}
 use Rattle.esr_order.specs.declared.accesses.Access.{Access}
 use Rattle.esr_order.specs.Scans.{access_of, accesses_in}
 use Rattle.esr_explain.specs.Accesses.{access_line, put, put_all}
-use Rattle.esr_explain.specs.Explain.{read_line}
 
 abbrev by : ℕ → Operation → Bool
 by t o = eqb o.txn t
@@ -43,30 +42,8 @@ written_next : (x t : ℕ) (ev : Event) (r : Reply) (os : List Operation) (R : L
     → filter_map (put_in x) (accesses_by t (cons_option (operation_by ev r) os)) ≡ cons_option (written (λ u. eqb u t) x ev) R
 written_next x t (BeginUpdate l) r os R rest = rest
 written_next x t (BeginQuery l s) r os R rest = rest
-written_next x t (Read u y) r os R rest = own (eqb u.0 t)
-  where
-    o : Operation
-    o = record { txn = u.0; item = y.0; writes = false; value = answer r }
-
-    own : (b : Bool) → filter_map (put_in x) (map access_of (cond b (o ∷ filter (by t) os) (filter (by t) os))) ≡ R
-    own true = rest
-    own false = rest
-written_next x t (Write u y v) r os R rest = own (eqb u.0 t)
-  where
-    o : Operation
-    o = record { txn = u.0; item = y.0; writes = true; value = v }
-
-    here : (c : Bool) → cons_option (if c then Some v else None) (filter_map (put_in x) (accesses_by t os)) ≡ cons_option (if c && true then Some v else None) R
-    here true = ap (λ l. v ∷ l) rest
-    here false = rest
-
-    other : (c : Bool) → filter_map (put_in x) (accesses_by t os) ≡ cons_option (if c && false then Some v else None) R
-    other true = rest
-    other false = rest
-
-    own : (b : Bool) → filter_map (put_in x) (map access_of (cond b (o ∷ filter (by t) os) (filter (by t) os))) ≡ cons_option (if (eqb y.0 x) && b then Some v else None) R
-    own true = here (eqb y.0 x)
-    own false = other (eqb y.0 x)
+written_next x t (Read u y) r os R rest = grind (arith, eqb u.0 t, map, cond, filter (by t) os)
+written_next x t (Write u y v) r os R rest = grind (arith, eqb u.0 t, map, cond, filter (by t) os, eqb y.0 x)
 written_next x t (Commit u) r os R rest = rest
 written_next x t (Abort u) r os R rest = rest
 
@@ -81,15 +58,10 @@ values_put h x t = written_by x t (filter accepts h.entries)
 pub values_put_all : (h : Schedule) (x : ℕ) (us : List ℕ) → filter_map (put_in x) (flat_map (accesses_in h.entries) us) ≡ flat_map (values_by h x) us
 values_put_all h x [] = refl
 values_put_all h x (u ∷ us) =
-    filter_map-append (put_in x) (accesses_in h.entries u) (flat_map (accesses_in h.entries) us)
-    ∙ (ap (λ l. l ++ filter_map (put_in x) (flat_map (accesses_in h.entries) us)) (values_put h x u) ∙ ap (λ l. values_by h x u ++ l) (values_put_all h x us))
+    grind (arith, filter_map-append, flat_map (accesses_in h.entries) us, values_put h x u, values_put_all h x us)
 
 pub put_length : (vs : List ℤ) (a : Access) → length (put vs a) ≡ length vs
-put_length vs a = at a.writes
-  where
-    at : (w : Bool) → length (if w then set vs a.item.0 a.value else vs) ≡ length vs
-    at true = length-set vs a.item.0 a.value
-    at false = refl
+put_length vs a = grind (arith, set vs a.item.0 a.value, length-set)
 
 pub put_all_length : (vs : List ℤ) (xs : List Access) → length (put_all vs xs) ≡ length vs
 put_all_length vs [] = refl
@@ -107,12 +79,8 @@ put_all_value (a ∷ xs) vs x l =
 
     one : (w : Bool) (i : ℕ) (v : ℤ) → last_value (value_at (if w then set vs i v else vs) x) R ≡ last_value (value_at vs x) (cons_option (if w && (eqb i x) then Some v else None) R)
     one false i v = refl
-    one true i v = ⊎_elim
-        (λ e. ap (λ u. last_value u R) (ap (λ j. value_at (set vs j v) x) e ∙ get_or-set_same vs x v (pos 0) l)
-        ∙ sym (ap (λ (c : Bool). last_value (value_at vs x) (cons_option (if c then Some v else None) R)) (eq-eqb i x e)))
-        (λ ne. ap (λ u. last_value u R) (get_or-set_other vs i x v (pos 0) (λ f. ne (sym f)))
-        ∙ sym (ap (λ (c : Bool). last_value (value_at vs x) (cons_option (if c then Some v else None) R)) (ne_eqb i x ne)))
-        (cases_eq i x)
+    one true i v =
+        grind (arith, ⊎_elim, set, get_or-set_same vs x v (pos 0) l, pos 0, eq-eqb, get_or-set_other, ne_eqb, cases_eq i x)
 
 pub put_append : (vs : List ℤ) (xs bs : List Access) → put_all vs (xs ++ bs) ≡ put_all (put_all vs xs) bs
 put_append vs [] bs = refl
@@ -159,22 +127,7 @@ IsInside n x v = IsValue v × (x < n)
 reads_of : (q : ℕ) (f : ℕ → ℤ → List ℕ) (os : List Operation)
     → flat_map (λ (a : Access). if a.writes then [] else f a.item.0 a.value) (accesses_by q os) ≡ flat_map (λ (o : Operation). f o.item o.value) (filter (λ (o : Operation). not o.writes && (eqb o.txn q)) os)
 reads_of q f [] = refl
-reads_of q f (o ∷ os) = at (eqb o.txn q) o.writes refl (reads_of q f os)
-  where
-    F : Access → List ℕ
-    F a = if a.writes then [] else f a.item.0 a.value
-
-    G : Operation → List ℕ
-    G o = f o.item o.value
-
-    R : List Operation
-    R = filter (λ (o : Operation). not o.writes && (eqb o.txn q)) os
-
-    at : (own w : Bool) → o.writes ≡ w → flat_map F (accesses_by q os) ≡ flat_map G R → flat_map F (map access_of (cond own (o ∷ filter (by q) os) (filter (by q) os))) ≡ flat_map G (cond (not w && own) (o ∷ R) R)
-    at true true is rest = ap (λ (b : Bool). (if b then [] else f o.item o.value) ++ flat_map F (accesses_by q os)) is ∙ rest
-    at true false is rest = ap (λ (b : Bool). (if b then [] else f o.item o.value) ++ flat_map F (accesses_by q os)) is ∙ ap (λ l. f o.item o.value ++ l) rest
-    at false true is rest = rest
-    at false false is rest = rest
+reads_of q f (o ∷ os) = grind (arith, eqb, reads_of q f os, filter, flat_map, map, cond, filter (by q) os)
 
 pub reads_told : (h : Schedule) (q : ℕ) (f : ℕ → ℤ → List ℕ) → flat_map (λ (a : Access). if a.writes then [] else f a.item.0 a.value) (accesses_in h.entries q) ≡ flat_map (λ (o : Operation). f o.item o.value) (reads_by h q)
 reads_told h q f = reads_of q f (operations h)
@@ -189,8 +142,7 @@ pub lines_agree : (D : ℕ → ℤ → ℤ → ℕ) (items : List (List ℕ)) (v
     → (xs : List Access) → AllByRecursion (λ (a : Access). IsInside n a.item.0 a.value) xs → flat_map (access_line D items v) xs ≡ flat_map (access_line D items w) xs
 lines_agree D items v w n same [] all = refl
 lines_agree D items v w n same (a ∷ xs) all =
-    ap (λ (u : ℤ). (if a.writes then [] else read_line D items a.item.0 a.value u) ++ flat_map (access_line D items v) xs) (same a.item.0 (all.0).1)
-    ∙ ap (λ l. access_line D items w a ++ l) (lines_agree D items v w n same xs all.1)
+    grind (arith, flat_map (access_line D items v) xs, lines_agree D items v w n same xs all.1)
 
 -- ---- ranges
 
@@ -217,11 +169,7 @@ module _ (d : Distance) (h : Schedule) (opened : All IsValue h.opening) (legal :
       (recursion_from_All (λ (o : Operation). IsValue o.value) (operations h) range.values) (recursion_from_All (λ (o : Operation). o.item < length h.opening) (operations h) range.items))
 
   pub accesses_valued : (t : ℕ) → All (λ (a : Access). IsValue a.value) (accesses_in h.entries t)
-  accesses_valued t = All-from_recursion (λ (a : Access). IsValue a.value) (accesses_in h.entries t) (valued (accesses_in h.entries t) (accesses_inside t))
-    where
-      valued : (xs : List Access) → AllByRecursion (λ (a : Access). IsInside (length h.opening) a.item.0 a.value) xs → AllByRecursion (λ (a : Access). IsValue a.value) xs
-      valued [] all = tt
-      valued (a ∷ xs) all = ((all.0).0, valued xs all.1)
+  accesses_valued t = grind (arith, All-from_recursion, accesses_inside t)
 
   -- what updates leave are values
   pub left_in_range : (us : List ℕ) (x : ℕ) → IsValue (value_at (put_all h.opening (flat_map (accesses_in h.entries) us)) x)

@@ -1,5 +1,5 @@
 -- Updates that are among others.
-use Rattle.std.proofs.Common.{inl, inr, ◌≡◌, ℕ, zero, suc, ◌+◌, ◌<◌, ◌≤◌, Bool, true, false, cond, eqb, List, [], ◌∷◌, ◌++◌, length, get_or, take, map, filter, refl, sym, ◌∙◌, ap, arith, Result, Ok, Err, MatchResult, append-nil}
+use Rattle.std.proofs.Common.{◌≡◌, ℕ, zero, suc, ◌+◌, ◌<◌, Bool, true, false, cond, eqb, List, [], ◌∷◌, ◌++◌, length, get_or, take, map, filter, refl, ◌∙◌, ap, arith, Result, append-nil}
 use Rattle.std.specs.Ordering.{nat_cmp}
 use Rattle.std.specs.Result.{is_ok}
 use Rattle.std.specs.List.Sorted.{IsBinarySearchResult, IsNonDecreasing}
@@ -21,14 +21,7 @@ not_among (x ∷ xs) u h = or_from (eqb x u) (is_among xs u) (ne_eqb x u (λ (e 
 
 -- what a binary search finds is among the numbers
 pub found_among : (xs : List ℕ) (u : ℕ) (r : Result ℕ ℕ) → IsNonDecreasing xs → IsBinarySearchResult (λ y. nat_cmp y u) xs r → is_ok r ≡ is_among xs u
-found_among xs u r rises s = go r (searched xs u r s (λ i j l m. rises i j 0 l m))
-  where
-    go : (r : Result ℕ ℕ) → MatchResult r (λ i. (i < length xs) × (get_or xs i 0 ≡ u)) (λ i. (i ≤ length xs) × ((k : ℕ) → k < i → get_or xs k 0 < u) × ((k : ℕ) → i ≤ k → k < length xs → u < get_or xs k 0)) → is_ok r ≡ is_among xs u
-    go (Ok i) m = sym (among_at xs i u m.0 m.1)
-    go (Err i) m = sym (not_among xs u (λ k l e. apart i m.1 m.2 k l e))
-      where
-        apart : (i : ℕ) → ((k : ℕ) → k < i → get_or xs k 0 < u) → ((k : ℕ) → i ≤ k → k < length xs → u < get_or xs k 0) → (k : ℕ) → k < length xs → get_or xs k 0 ≡ u → ⊥
-        apart i low high k l e = elim (cases_lt k i) [ inl n ↦ omega (arith, low k n) | inr n ↦ omega (arith, high k n l) ]
+found_among xs u r rises s = grind (arith, searched, among_at, not_among, cases_lt)
 
 -- of one more element, what passes
 filter_more : {X : Type 0} (p : X → Bool) (xs : List X) (k : ℕ) (d : X) → k < length xs → filter p (take (k + 1) xs) ≡ filter p (take k xs) ++ filter p (get_or xs k d ∷ [])
@@ -43,9 +36,4 @@ filter_fails p xs k d l is = filter_more p xs k d l ∙ (ap (λ b. filter p (tak
 -- updates that pass a test of their numbers
 pub numbers_kept : (p : ℕ → Bool) (ts : List TxnId) → map (λ (t : TxnId). t.0) (filter (λ (t : TxnId). p t.0) ts) ≡ filter p (map (λ (t : TxnId). t.0) ts)
 numbers_kept p [] = refl
-numbers_kept p (t ∷ ts) = at (p t.0) (numbers_kept p ts)
-  where
-    at : (b : Bool) → map (λ (t : TxnId). t.0) (filter (λ (t : TxnId). p t.0) ts) ≡ filter p (map (λ (t : TxnId). t.0) ts)
-        → map (λ (t : TxnId). t.0) (cond b (t ∷ filter (λ (t : TxnId). p t.0) ts) (filter (λ (t : TxnId). p t.0) ts)) ≡ cond b (t.0 ∷ filter p (map (λ (t : TxnId). t.0) ts)) (filter p (map (λ (t : TxnId). t.0) ts))
-    at true rest = ap (λ l. t.0 ∷ l) rest
-    at false rest = rest
+numbers_kept p (t ∷ ts) = grind (arith, numbers_kept p ts, map, filter, cond)

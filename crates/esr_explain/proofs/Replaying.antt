@@ -59,16 +59,13 @@ module _ (d : Distance) (h : Schedule) (items transactions : List (List ℕ)) (q
 
   pub line_met : (m : Meeting) → Some m ≡ meeting (until i h) e.event → imported d h q (i + 1) ≢ imported d h q i
       → charge_at d h items transactions q i (Some e) ≡ charge_line items transactions (charge_of d h q i m)
-  line_met m some other =
-      ap (λ b. if b then [] else met_line d h items transactions q i (meeting (until i h) e.event)) (ne_eqb (imported d h q (i + 1)) (imported d h q i) other)
-      ∙ ap (met_line d h items transactions q i) (sym some)
+  line_met m some other = grind (arith, ne_eqb (imported d h q (i + 1)) (imported d h q i) other)
 
 -- ---- one step of the machine
 
 pub stepped : (h : Schedule) (i : ℕ) (e : Entry) (old new : Schedule) (r : Result Reply StepError) → IsLegal weighted h → slice_get h.entries i ≡ Some e → old ≡ until i h
     → is_err r ≡ false → IfOk r (λ reply. reply ≡ reply_to weighted old e.event) → IfOk r (λ reply. new ≡ extended old e.event reply) → new ≡ until (i + 1) h
-stepped h i e old new (Ok reply) legal is start ok answered added =
-    added ∙ (ap (λ k. extended k e.event reply) start ∙ until_more weighted h i e reply legal is (answered ∙ ap (λ k. reply_to weighted k e.event) start))
+stepped h i e old new (Ok reply) legal is start ok answered added = grind (arith, until_more)
 stepped h i e old new (Err x) legal is start ok answered added = cc
 
 pub always : {T E : Type 0} (r : Result T E) (P : Type 0) → P → OnOk r P

@@ -1,5 +1,5 @@
 -- The explanation of what was asked for.
-use Rattle.std.proofs.Common.{◌≡◌, ◌++◌, ℕ, List, sym, ◌∙◌, ap}
+use Rattle.std.proofs.Common.{◌≡◌, ◌++◌, ℕ, List, ◌∙◌, ap, arith}
 use Rattle.esr_items.specs.Weights.{weighted}
 use Rattle.esr_history.specs.Machine.{Schedule}
 use Rattle.esr_audit.specs.Findings.{told, told_of}
@@ -7,20 +7,19 @@ use Rattle.esr_script.specs.declared.asked.Asked.{Asked}
 use Rattle.esr_script.specs.Ask.{IsAnswered}
 use Rattle.esr_script.specs.Text.{State, transaction_called}
 use Rattle.esr_explain.specs.Explain.{explanation}
+use Rattle.std.proofs.lemmas.Grind.{common_steps}
 
 -- the parts of an explanation, one after another
 pub joined : (r c b a s after_r after_c after_b after_a after_s : List ℕ) → after_r ≡ r → after_c ≡ after_r ++ c → after_b ≡ after_c ++ b → after_a ≡ after_b ++ a → after_s ≡ after_a ++ s
     → after_s ≡ r ++ c ++ b ++ a ++ s
-joined r c b a s after_r after_c after_b after_a after_s is_r is_c is_b is_a is_s =
-    is_s ∙ ap (λ l. l ++ s) (is_a ∙ ap (λ l. l ++ a) (is_b ∙ ap (λ l. l ++ b) (is_c ∙ ap (λ l. l ++ c) is_r)))
+joined r c b a s after_r after_c after_b after_a after_s is_r is_c is_b is_a is_s = grind (arith, common_steps)
 
 -- the query that was found is the one that was asked for
 query_is : (s : State) (name : List ℕ) (a : Asked) → IsAnswered s name a → a.finding.query.0 ≡ (transaction_called s name).0
 query_is s name a h = ap (λ (t : ℕ × ℕ × ℕ × List ℕ). t.0) h.told
 
 pub told_so : (s : State) (name : List ℕ) (a : Asked) → IsAnswered s name a → told a.finding ≡ told_of weighted a.history.schedule a.finding.query.0
-told_so s name a h =
-    h.told ∙ (ap (λ (k : Schedule). told_of weighted k (transaction_called s name).0) (sym h.history) ∙ ap (λ n. told_of weighted a.history.schedule n) (sym (query_is s name a h)))
+told_so s name a h = grind (arith, query_is s name a h)
 
 -- the explanation of what was asked for
 pub explained_told : (s : State) (name : List ℕ) (a : Asked) → IsAnswered s name a → (text : List ℕ)

@@ -1,5 +1,5 @@
 -- What a run's last state answers of a query.
-use Rattle.std.proofs.Common.{◌≡◌, ℕ, List, Bool, true, false, map, sym, ◌∙◌, ap, subst}
+use Rattle.std.proofs.Common.{◌≡◌, ℕ, List, Bool, true, false, map, sym, ◌∙◌, ap, subst, arith}
 use Rattle.esr_items.specs.Weights.{weighted}
 use Rattle.esr_history.specs.declared.event.TxnId.{TxnId}
 use Rattle.esr_history.specs.Machine.{Schedule, charges_in, import_in}
@@ -11,10 +11,10 @@ use Rattle.esr_script.specs.declared.asked.Asked.{Asked}
 use Rattle.esr_script.specs.Ask.{IsAnswered}
 use Rattle.esr_script.specs.Certify.{IsFound}
 use Rattle.esr_script.specs.Text.{State, transaction_called}
+use Rattle.std.proofs.lemmas.Grind.{common_steps}
 
 four : {a b c d e f : ℕ} {us vs : List ℕ} → a ≡ b → c ≡ d → e ≡ f → us ≡ vs → ◌≡◌ {A = ℕ × ℕ × ℕ × List ℕ} (a, c, e, us) (b, d, f, vs)
-four {a} {b} {c} {d} {e} {f} {us} {vs} x y z w =
-    ap (λ n. (n, c, e, us)) x ∙ (ap (λ n. (b, n, e, us)) y ∙ (ap (λ n. (b, d, n, us)) z ∙ ap (λ ws. (b, d, f, ws)) w))
+four {a} {b} {c} {d} {e} {f} {us} {vs} x y z w = grind (arith, common_steps)
 
 module _ (s : State) (items names : List (List ℕ)) (was : Bool) (first h : Schedule) (name : List ℕ) (q : TxnId)
     (seen : record { items = items; transactions = names; closed = was; history = first } ≡ s) (same : h ≡ first) (called : q ≡ transaction_called s name) where

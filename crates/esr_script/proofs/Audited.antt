@@ -1,5 +1,5 @@
 -- Each end of the audit of a script.
-use Rattle.std.proofs.Common.{◌≡◌, ℕ, ◌+◌, ◌<◌, true, false, List, [], ◌∷◌, ◌++◌, Bool, length, take, map, get_or, refl, sym, ◌∙◌, ap, Result, Ok, Err, OnOk, append_assoc, append-nil}
+use Rattle.std.proofs.Common.{◌≡◌, ℕ, ◌+◌, ◌<◌, true, false, List, [], ◌∷◌, ◌++◌, Bool, length, take, map, get_or, refl, ap, Result, Ok, Err, OnOk, append_assoc, append-nil, arith}
 use Rattle.std.specs.Prelude.{◌↔◌, IsOk}
 use Rattle.std.specs.List.{flat_map}
 use Rattle.std.proofs.lemmas.List.{take_more}
@@ -13,6 +13,7 @@ use Rattle.esr_script.specs.declared.fault.RunFault.{RunFault}
 use Rattle.esr_items.specs.Weights.{weighted}
 use Rattle.esr_script.specs.Text.{State}
 use Rattle.esr_script.specs.Audit.{told_line, audit_output}
+use Rattle.std.proofs.lemmas.Grind.{common_steps}
 
 -- ---- the lines
 
@@ -20,8 +21,7 @@ use Rattle.esr_script.specs.Audit.{told_line, audit_output}
 pub lines_more : {X : Type 0} (f : X → List ℕ) (xs : List X) (i : ℕ) (x : X) (old mid all : List ℕ)
     → mid ≡ old ++ flat_map f (take i xs) → i < length xs → x ≡ get_or xs i x → all ≡ mid ++ f x → all ≡ old ++ flat_map f (take (i + 1) xs)
 lines_more f xs i x old mid all so_far lt is more =
-    more ∙ (ap (λ l. l ++ f x) so_far ∙ (append_assoc old (flat_map f (take i xs)) (f x)
-    ∙ ap (λ l. old ++ l) (sym (ap (flat_map f) (take_more xs i x lt ∙ ap (λ y. take i xs ++ y ∷ []) (sym is)) ∙ (flat_map-append f (take i xs) (x ∷ []) ∙ ap (λ l. flat_map f (take i xs) ++ l) (append-nil (f x)))))))
+    grind (arith, append_assoc old (flat_map f (take i xs)) (f x), take_more xs i x lt, flat_map-append f (take i xs) (x ∷ []), append-nil (f x))
 
 pub lines_of_map : {X Y : Type 0} (f : Y → List ℕ) (g : X → Y) (xs : List X) → flat_map (λ (x : X). f (g x)) xs ≡ flat_map f (map g xs)
 lines_of_map f g [] = refl
@@ -37,13 +37,11 @@ pub book_lines : {E : Type 0} (r : Result (Unit {0}) RunFault) (p : Result (Unit
 book_lines {E} r p items names was h0 h s order tolds imports exports entries out grown seen same o t i e n said lines = ended r p said lines
   where
     whole : order_line names order ++ flat_map (told_line names) tolds ++ totals_line imports exports entries ≡ audit_output s
-    whole = (λ j. order_line names (o j) ++ flat_map (told_line names) (t j) ++ totals_line (i j) (e j) (n j))
-        ∙ ap (λ k. audit_output (record { items = items; transactions = names; closed = was; history = k })) same ∙ ap audit_output seen
+    whole = grind (arith, common_steps)
 
     ended : (r : Result (Unit {0}) RunFault) (p : Result (Unit {0}) E) → IsOk r ↔ IsOk p
         → OnOk p (grown ≡ out ++ order_line names order ++ flat_map (told_line names) tolds ++ totals_line imports exports entries) → OnOk r (grown ≡ out ++ audit_output s)
     ended (Err f) p said lines = tt
     ended (Ok u) (Err f) said lines = let none : false ≡ true = said.0 refl in cc
     ended (Ok u) (Ok v) said lines =
-        lines ∙ ap (λ l. l ++ totals_line imports exports entries) (append_assoc out (order_line names order) (flat_map (told_line names) tolds))
-        ∙ append_assoc out (order_line names order ++ flat_map (told_line names) tolds) (totals_line imports exports entries) ∙ ap (λ l. out ++ l) whole
+        grind (arith, append_assoc out (order_line names order) (flat_map (told_line names) tolds), append_assoc, whole)

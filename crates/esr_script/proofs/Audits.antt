@@ -1,5 +1,5 @@
 -- What an audit finds is what its line says.
-use Rattle.std.proofs.Common.{◌≡◌, ℕ, List, ◌++◌, Result, Ok, Err, IfOk, OnOk, map, refl, sym, ◌∙◌, ap, subst, Bool, true, false, if◌then◌else◌}
+use Rattle.std.proofs.Common.{◌≡◌, ℕ, List, ◌++◌, Result, Ok, Err, IfOk, OnOk, map, refl, sym, ◌∙◌, ap, subst, Bool, true, false, if◌then◌else◌, arith}
 use Rattle.std.specs.Prelude.{◌↔◌, IsErrOf, IsOk}
 use Rattle.esr_history.specs.declared.event.TxnId.{TxnId}
 use Rattle.esr_history.specs.Machine.{Distance, Schedule, charges_in, import_in}
@@ -16,6 +16,7 @@ use Rattle.esr_report.specs.declared.lines.LineError.TheVariants as errors
 use Rattle.esr_script.specs.declared.fault.RunFault.{RunFault}
 use Rattle.esr_items.specs.Weights.{weighted}
 use Rattle.esr_script.specs.Text.{State, transaction_called, audit_text}
+use Rattle.std.proofs.lemmas.Grind.{common_steps}
 
 module _ (d : Distance) (h : Schedule) (q : ℕ) where
   abbrev pub Answers : Finding → Type 0
@@ -34,11 +35,7 @@ module _ (d : Distance) (h : Schedule) (q : ℕ) where
   before_is (Err e) a = tt
 
   pub committed : (r : Result Finding AuditError) → IsErrOf r NotACommittedQuery ↔ (is_committed_query h q ≡ false) → IfOk r (λ f. is_committed_query h q ≡ true)
-  committed (Ok f) refused = at (is_committed_query h q) refused.1
-    where
-      at : (b : Bool) → (b ≡ false → IsErrOf (Ok f) NotACommittedQuery) → b ≡ true
-      at true k = refl
-      at false k = let none : Ok f ≡ Err NotACommittedQuery = k refl in cc
+  committed (Ok f) refused = grind (arith, common_steps)
   committed (Err e) refused = tt
 
 abbrev pub answered : State → List ℕ → Result (State × List ℕ) RunFault
@@ -66,12 +63,7 @@ said_so {E} r p items names was running h0 h s name q distance import before out
         else error_line errors.NotACommittedQuery
 
     text : audit_text (state was) name ≡ audit_line names name distance import before
-    text =
-        ap whole (sym (ap (λ (t : TxnId). t.0) called))
-        ∙ ap (λ (c : Bool). if c then audit_line names name (least_cost weighted h q.0) (import_in (charges_in weighted h) q.0) (least_set weighted h q.0) else error_line errors.NotACommittedQuery) shown
-        ∙ ap (λ n. audit_line names name n (import_in (charges_in weighted h) q.0) (least_set weighted h q.0)) (sym d)
-        ∙ ap (λ n. audit_line names name distance n (least_set weighted h q.0)) (sym i)
-        ∙ ap (λ us. audit_line names name distance import us) (sym b)
+    text = grind (arith, whole)
 
     ended : (r : Result (Unit {0}) RunFault) (p : Result (Unit {0}) E) → IsOk r ↔ IsOk p → OnOk p (grown ≡ out ++ audit_line names name distance import before)
         → OnOk r ((text : List ℕ) × (answered (state true) (audit_text (state was) name) ≡ answered (state running) text) × (grown ≡ out ++ text))

@@ -1,11 +1,11 @@
 -- Words between blanks, and names.
-use Rattle.std.proofs.Common.{◌≡◌, ℕ, suc, ◌+◌, ◌-◌, ◌<◌, ◌≤◌, List, [], ◌∷◌, inl, inr, Bool, true, false, cond, length, take, drop, refl, sym, ◌∙◌, ap, arith, nat_eq, nat_le, Some, None, ltb-false, ltb-true, length-drop, IsUtf8, get_or, zero, eqb-true, leb-true}
+use Rattle.std.proofs.Common.{◌≡◌, ℕ, suc, ◌+◌, ◌-◌, ◌<◌, ◌≤◌, List, [], ◌∷◌, inl, inr, Bool, true, false, cond, length, take, drop, refl, ◌∙◌, ap, arith, nat_eq, nat_le, Some, None, ltb-false, ltb-true, length-drop, IsUtf8, get_or, zero, eqb-true, leb-true}
 use Rattle.std.proofs.Math.Seq.{take-length}
 use Rattle.std.proofs.lemmas.List.Splits.{slice_split_first}
 use Rattle.std.proofs.lemmas.Str.{IsUtf8-from_ascii}
 use Rattle.std.proofs.lemmas.Bool.{cases_Bool, or_cases, and_parts}
 use Rattle.std.proofs.lemmas.Option.{cond_some}
-use Rattle.std.specs.List.{position, position_or_len, before_first, after_first, onto_first, list_all}
+use Rattle.std.specs.List.{position, position_or_len, onto_first, list_all}
 use Rattle.esr_script.specs.Command.{is_letter, is_name_byte, is_name, is_between}
 use Rattle.esr_script.specs.Reading.{words_of, is_blank, one_of, totals_of}
 
@@ -29,11 +29,7 @@ no_blank bytes e = one_word bytes (ltb-false _ _ (chosen_none _ _ e))
 pub at_blank : (bytes : List ℕ) (place : ℕ) → position is_blank bytes ≡ Some place
     → words_of bytes ≡ take place bytes ∷ words_of (take (length bytes - (place + 1)) (drop (place + 1) bytes))
 at_blank bytes place e =
-    let found = cond_some _ _ _ e in
-    let all : take (length bytes - (place + 1)) (drop (place + 1) bytes) ≡ drop (place + 1) bytes =
-    ap (λ n. take n (drop (place + 1) bytes)) (sym (length-drop (place + 1) bytes)) ∙ take-length (drop (place + 1) bytes) in
-    let split : words_of bytes ≡ before_first is_blank bytes ∷ words_of (after_first is_blank bytes) = slice_split_first is_blank bytes 0 (ltb-true _ _ found.0) in
-    rw all (split ∙ ap (λ n. take n bytes ∷ words_of (drop (n + 1) bytes)) found.1)
+    grind (arith, cond_some _ _ _ e, length-drop (place + 1) bytes, take-length (drop (place + 1) bytes), slice_split_first, ltb-true)
 
 -- ---- text
 

@@ -33,16 +33,11 @@ module _ (items moved ahead : List ℕ) (s e len : ℕ) (order : s ≤ e) (withi
 
     -- the buffer holds what was put into it
     held : take len (after ++ drop (length after) before) ≡ after
-    held =
-        let same : length after ≡ len = same_len_mid (e - s) part moved read room ∙ long ∙ sym whole in
-        ap (λ n. take n (after ++ drop (length after) before)) (sym same) ∙ take-append_seam after (drop (length after) before)
+    held = grind (arith, same_len_mid (e - s) part moved read room, long, take-append_seam after (drop (length after) before))
 
     -- where nothing was read
     pub kept : take ((e - s) - 0) (drop 0 (take len (after ++ drop (length after) before))) ≡ ahead
-    kept =
-        let none : (e - s) - 0 ≡ length ahead = omega (arith, size) in
-        let rest = read ++ post_of (e - s) part moved in
-        ap (take ((e - s) - 0)) held ∙ ap (λ n. take n after) none ∙ ap (λ l. take (length ahead) (l ++ rest)) front ∙ take-append_seam ahead rest
+    kept = grind (arith, size, post_of (e - s) part moved, held, front, take-append_seam)
 
     -- where so many bytes were read behind them
     pub filled : (count : ℕ) → count ≤ length read → take (((e - s) + count) - 0) (drop 0 (take len (after ++ drop (length after) before))) ≡ ahead ++ take count read

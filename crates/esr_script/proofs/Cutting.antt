@@ -61,10 +61,7 @@ front-feed b bs e = rw (len-feed b bs e) refl
 -- no line feed stands before the first one
 pub plain-front : (bytes : List ℕ) → line_len (front bytes) ≡ length (front bytes)
 plain-front [] = refl
-plain-front (b ∷ bs) = elim (cases_Bool (nat_eq b 10)) [
-  | inl e ↦ rw (front-feed b bs e) refl
-  | inr e ↦ rw (front-other b bs e) (len-other b (front bs) e ∙ ap suc (plain-front bs))
-]
+plain-front (b ∷ bs) = grind (arith, cases_Bool (nat_eq b 10), nat_eq b 10, front-feed, front-other, len-other, plain-front bs)
 
 -- the bytes up to the first line feed, that and the rest
 pub split-front : (bytes : List ℕ) → line_len bytes < length bytes → bytes ≡ front bytes ++ 10 ∷ behind_front bytes
@@ -80,10 +77,7 @@ split-front (b ∷ bs) h = elim (cases_Bool (nat_eq b 10)) [
 -- bytes with no line feed are one line
 pub lines-last : (bytes : List ℕ) → line_len bytes ≡ length bytes → 0 < length bytes → lines bytes ≡ bytes ∷ []
 lines-last [] h some = absurd (omega (arith, some))
-lines-last (b ∷ []) h some = elim (cases_Bool (nat_eq b 10)) [
-  | inl e ↦ absurd (omega (arith, h, len-feed b [] e))
-  | inr e ↦ lines-other b [] e
-]
+lines-last (b ∷ []) h some = grind (arith, cases_Bool (nat_eq b 10), nat_eq b 10, len-feed b, lines-other b)
 lines-last (b ∷ c ∷ bs) h some = elim (cases_Bool (nat_eq b 10)) [
   | inl e ↦ absurd (omega (arith, h, len-feed b (c ∷ bs) e))
   | inr e ↦ lines-other b (c ∷ bs) e ∙ ap (onto_first b) (lines-last (c ∷ bs) (omega (arith, h, len-other b (c ∷ bs) e)) (omega arith))

@@ -1,5 +1,5 @@
 -- Each end of going over a whole script.
-use Rattle.std.proofs.Common.{◌≡◌, ℕ, List, [], ◌⊎◌, inl, inr, refl, sym, ap, subst, Option, Some, false, Result, Ok, Err, OnOk, IfOk, IfErr}
+use Rattle.std.proofs.Common.{◌≡◌, ℕ, List, [], ◌⊎◌, inl, inr, refl, sym, ap, subst, Option, Some, false, Result, Ok, Err, OnOk, IfOk, IfErr, arith}
 use Rattle.std.specs.Prelude.{IsErrOf}
 use Rattle.std.specs.Io.KnownBytes.{Appends, Consumes}
 use Rattle.esr_history.specs.Queries.{is_committed_query}
@@ -10,6 +10,7 @@ use Rattle.esr_script.specs.declared.fault.RunFault.TheVariants as fault
 use Rattle.esr_script.specs.Text.{State, transaction_called, final}
 use Rattle.esr_script.specs.Ask.{IsAnswered, IsAsked}
 use Rattle.esr_script.specs.Ends.{IsWhole, IsReachedBy, IsWrittenBy, IsToldBy}
+use Rattle.std.proofs.lemmas.Grind.{common_steps}
 
 module _ (input : List ℕ) (left : Option (List ℕ)) where
   -- a fault says the same of whatever was to be reached, and less where a refusal says less
@@ -40,9 +41,7 @@ module _ (input : List ℕ) (left : Option (List ℕ)) where
       → IfErr r (λ e. (e ≡ fault.Write) × ((sent : List ℕ) × BeginsWith text sent × Appends old new sent))
       → (written : List ℕ) × Appends old new written × IsWrittenBy Q N input left r written
   written_sent Q N text read whole is (Ok u) old new out ok err = (text, ok.1, (read, whole, is))
-  written_sent Q N text read whole is (Err e) old new out ok err =
-      let part = err.1 in
-      (part.0, part.2, subst (λ (f : RunFault). IsWrittenBy Q N input left (Err f) part.0) (sym err.0) (whole, text, is, part.1))
+  written_sent Q N text read whole is (Err e) old new out ok err = grind (arith, common_steps)
 
   -- a text of which more is known
   pub written_of : (P Q : List ℕ → Type 0) (N : Type 0) → ((text : List ℕ) → P text → Q text) → (r : Result (Unit {0}) RunFault) (written : List ℕ)

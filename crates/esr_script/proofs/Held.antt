@@ -1,5 +1,5 @@
 -- Each end of a run, with the output that is not yet sent.
-use Rattle.std.proofs.Common.{◌≡◌, ◌≢◌, ℕ, ◌<◌, ◌≤◌, List, [], ◌∷◌, ◌++◌, ◌⊎◌, inl, inr, Bool, true, false, length, take, refl, sym, ◌∙◌, ap, arith, Option, Some, None, Result, Ok, Err, OnOk, OnErr, IfErr, append_assoc, append-nil, ◌==◌, eq-eqb, IsErrOf, ◌||◌}
+use Rattle.std.proofs.Common.{◌≡◌, ◌≢◌, ℕ, ◌<◌, ◌≤◌, List, [], ◌∷◌, ◌++◌, ◌⊎◌, Bool, true, false, length, take, refl, sym, ◌∙◌, ap, arith, Option, Some, None, Result, Ok, Err, OnOk, OnErr, IfErr, append_assoc, append-nil, ◌==◌, eq-eqb, IsErrOf, ◌||◌}
 use Rattle.std.specs.Io.KnownBytes.{IsAtEnd, Consumes, Keeps}
 use Rattle.esr_history.specs.Watch.{BeginsWith}
 use Rattle.esr_script.specs.declared.fault.RunFault.{RunFault}
@@ -11,6 +11,7 @@ use Rattle.esr_script.specs.Run.{IsRunBy}
 use Rattle.esr_script.specs.Parts.{line_len, IsNext, Standing, IsHeldRun, is_read_fault, is_write_fault}
 use Rattle.esr_script.proofs.Prefix.{line_len-le}
 use Rattle.esr_script.proofs.Steps.{advance, all_read, text_begins, at_memory, at_long, at_many, at_fault_line, at_last, at_fault_last, at_read}
+use Rattle.std.proofs.lemmas.Grind.{common_steps}
 
 -- bytes stand ahead where it need not be read on
 pub has_bytes : (found : Next) (bytes : List ℕ) → IsNext found bytes → (found ≡ next.More → ⊥) → 0 < length bytes
@@ -30,9 +31,7 @@ all_sent w here = rw append-nil here
 -- where the output has grown
 pub all_grown : {input : List ℕ} {left : Option (List ℕ)} {bytes : List ℕ} {n : ℕ} {s : State} (sent out t grown : List ℕ) → grown ≡ out ++ t
     → Standing input left bytes n s ((sent ++ out) ++ t) → Standing input left bytes n s (sent ++ grown)
-all_grown sent out t grown grew here =
-    let same : (sent ++ out) ++ t ≡ sent ++ grown = append_assoc sent out t ∙ ap (λ l. sent ++ l) (sym grew) in
-    rw same at here
+all_grown sent out t grown grew here = grind (arith, append_assoc sent out t)
 
 nothing_read : (before after : Option (List ℕ)) → Keeps before after → Consumes before after []
 nothing_read None after h = tt
@@ -45,10 +44,7 @@ pub unread : (input : List ℕ) (before after : Option (List ℕ)) (bytes same :
 unread input before after bytes same n s w here is kept = advance input n s w before after bytes same [] here (is ∙ sym (append-nil bytes)) (nothing_read before after kept)
 
 pub is_some : (bytes seen : List ℕ) (empty : Bool) → empty ≡ (length seen == 0) → empty ≡ false → seen ≡ bytes → 0 < length bytes
-is_some [] seen empty is not_empty same =
-    let none : length seen ≡ 0 = ap length same in
-    let yes_empty : empty ≡ true = is ∙ eq-eqb (length seen) 0 none in
-    cc
+is_some [] seen empty is not_empty same = grind (arith, eq-eqb)
 is_some (b ∷ bs) seen empty is not_empty same = omega arith
 
 module _ (input : List ℕ) (left : Option (List ℕ)) (bytes : List ℕ) (n : ℕ) (s : State) (sent out : List ℕ) (here : Standing input left bytes n s (sent ++ out)) where
@@ -97,10 +93,7 @@ module _ (input : List ℕ) (left : Option (List ℕ)) (bytes : List ℕ) (n : �
         → IfErr r (λ e. (e ≡ fault.NoMemory) ⊎ ((e ≡ fault.HistoryFull) × (answer s bytes ≡ Err fault.HistoryFull)))
         → IsHeldRun input left grown r sent
     held_last some few (Ok done) s' grown ok err faults = held_line_last some few s' ok.0 grown ok.1 ok.2
-    held_last some few (Err e) s' grown ok err faults = elim faults [
-      | inl m ↦ rw (m, err) (held_memory left)
-      | inr h ↦ rw (h.0, err) (held_full_last some few h.1)
-    ]
+    held_last some few (Err e) s' grown ok err faults = grind (arith, held_memory left, held_full_last)
 
 -- a run that no write has ended
 pub held_kept : (input : List ℕ) (left : Option (List ℕ)) (out : List ℕ) (r : Result (Unit {0}) RunFault) (sent : List ℕ) → is_write_fault r ≡ false
@@ -124,6 +117,4 @@ not_written true b e = cc
 not_written false b e = e
 
 pub is_not_read : (r : Result (Unit {0}) RunFault) → is_read_fault r ≡ false → r ≡ Err fault.Read → ⊥
-is_not_read r other is =
-    let read : is_read_fault r ≡ true = ap is_read_fault is in
-    cc
+is_not_read r other is = grind (arith, common_steps)

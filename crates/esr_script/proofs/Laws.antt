@@ -68,19 +68,11 @@ pub record IsValueOf (cs : List ℕ) (i value : ℕ) : Type 0 where
 -- a digit more
 pub one_digit : (cs : List ℕ) (i d value c : ℕ) → IsValueOf cs i value → i < length cs → c ≡ get_or cs i d → is_ascii_digit c ≡ true → c ≤ 57 → IsValueOf cs (i + 1) (10 * value + (c - 48))
 one_digit cs i d value c so_far within is digit high =
-    let more : take (i + 1) cs ≡ take i cs ++ c ∷ [] = take_more cs i d within ∙ ap (λ b. take i cs ++ b ∷ []) (sym is) in
-    record {
-      value_is = ap (λ v. 10 * v + (c - 48)) so_far.value_is ∙ sym (value-push 0 (take i cs) c) ∙ ap (value_from 0) (sym more);
-      small = omega (arith, so_far.small, ten_times i, high);
-      digits = rw more (digits-push (take i cs) c so_far.digits digit);
-    }
+    grind (arith, take_more cs i d within, value-push 0 (take i cs) c, ten_times i, digits-push (take i cs) c so_far.digits digit)
 
 -- a byte that is no digit
 pub no_digit : (cs : List ℕ) (i d : ℕ) → i < length cs → is_ascii_digit (get_or cs i d) ≡ false → all_ascii_digits cs ≡ false
-no_digit cs i d within other = elim (cases_Bool (all_ascii_digits cs)) [
-  | inl t ↦ let digit = digit_at cs i d t within in cc
-  | inr f ↦ f
-]
+no_digit cs i d within other = grind (arith, cases_Bool (all_ascii_digits cs), digit_at)
 
 -- a spelled number is read
 pub number_again : (bound n : ℕ) → bound ≤ 10 ^ 19 → n < bound → number_below bound (decimal n) ≡ Some n
@@ -103,13 +95,8 @@ all_digits n small = digits_decimal own n (omega arith)
 
 unsigned : (text : List ℕ) (n : ℕ) → all_ascii_digits text ≡ true → 0 < length text → number_below (10 ^ 18) text ≡ Some n → int_of text ≡ Some (pos n)
 unsigned [] n digits some e = absurd (omega (arith, some))
-unsigned (c ∷ cs) n digits some e = elim (cases_Bool (nat_eq c 45)) [
-  | inl t ↦
-      let same : c ≡ 45 = eqb-true c 45 t in
-      let digit : is_ascii_digit 45 ≡ true = rw same at (and_parts (is_ascii_digit c) (all_ascii_digits cs) digits).0 in
-      cc
-  | inr f ↦ rw (f, e) refl
-]
+unsigned (c ∷ cs) n digits some e =
+    grind (arith, cases_Bool (nat_eq c 45), nat_eq c 45, eqb-true, and_parts (is_ascii_digit c) (all_ascii_digits cs) digits)
 
 nonzero : (n : ℕ) → nat_eq (suc n) 0 ≡ false
 nonzero n = ne_eqb (suc n) 0 (λ e. omega (arith, e))
@@ -160,11 +147,7 @@ fits i value small few =
 
 -- after the last digit
 pub all_read : (cs : List ℕ) (i value : ℕ) → IsValueOf cs i value → length cs ≤ i → i ≤ length cs → length cs ≤ 19 → (value ≡ value_from 0 cs) × (value < 10 ^ 19) × (all_ascii_digits cs ≡ true)
-all_read cs i value so_far end within few =
-    let whole : take i cs ≡ cs = take_all i cs end in
-    let fewer : i ≤ 19 = omega (arith, within, few) in
-    let most : 10 ^ i ≤ 10 ^ 19 = pow-le-pow_right (omega arith) fewer in
-    (so_far.value_is ∙ ap (value_from 0) whole, omega (arith, so_far.small, most), ap all_ascii_digits (sym whole) ∙ so_far.digits)
+all_read cs i value so_far end within few = grind (arith, take_all i cs end, pow-le-pow_right)
 
 pub too_long : (word : List ℕ) → 19 < length word → None ≡ limit_of word
 too_long word long = limit_none word (λ n small is. omega (arith, long, ap length is, length-decimal-le 19 n (omega arith) small (omega arith)))

@@ -1,5 +1,5 @@
 -- The machine that is made of the items' values.
-use Rattle.std.proofs.Common.{◌≡◌, ℕ, ℤ, List, [], map, refl, ◌∙◌, ap, Vec, Global}
+use Rattle.std.proofs.Common.{◌≡◌, ℕ, ℤ, List, [], map, Vec, Global, arith}
 use Rattle.esr_core.proofs.Replayed.{opened_values}
 use Rattle.esr_items.specs.declared.store.Versions.{Versions}
 use Rattle.esr_items.specs.Values.{opened}
@@ -13,8 +13,4 @@ pub opens : (stage : Stage) (values taken : Vec ℤ Global) (weights held : Vec 
     → stage ≡ Open values weights → taken ≡ values → held ≡ weights → store ≡ map opened taken.items → metric ≡ held.items
     → machine ≡ record { opening = map (λ (w : Versions). w.committed) store; weights = metric; entries = [] } → machine ≡ history_of stage
 opens stage values taken weights held store metric machine is same same_weights made measured new =
-    let opening : map (λ (w : Versions). w.committed) store ≡ values.items =
-    ap (map (λ (w : Versions). w.committed)) made ∙ opened_values taken.items ∙ ap (λ (v : Vec ℤ Global). v.items) same in
-    let by : metric ≡ weights.items = measured ∙ ap (λ (v : Vec ℕ Global). v.items) same_weights in
-    new ∙ ap (λ (l : List ℤ). let h : Schedule = record { opening = l; weights = metric; entries = [] } in h) opening
-    ∙ ap (λ (l : List ℕ). let h : Schedule = record { opening = values.items; weights = l; entries = [] } in h) by ∙ rw is refl
+    grind (arith, map, opened_values taken.items)

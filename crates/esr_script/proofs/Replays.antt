@@ -35,10 +35,7 @@ module _ (input : List ℕ) (left : Option (List ℕ)) (bytes : List ℕ) (n : �
 
   pub replay_more : (k : ℕ) (s' : State) (t : List ℕ) → n ≢ max_lines → IsNext (next.Line k) bytes → answer s (take k bytes) ≡ Ok (s', t)
       → Standing input left (drop (k + 1) bytes) (n + 1) s' (w ++ t)
-  replay_more k s' t few is ok =
-      let found : Standing input left (drop (line_len bytes + 1) bytes) (n + 1) s' (w ++ t) =
-      step_line input left bytes n s w here s' t few (omega (arith, is.0, is.1)) (omega (arith, is.0, is.2)) (ap (λ j. answer s (take j bytes)) (sym is.0) ∙ ok) in
-      rw is.0 found
+  replay_more k s' t few is ok = grind (arith, step_line)
 
   pub replay_ended : IsAtEnd left → line_len bytes ≡ length bytes → length bytes ≤ max_line_bytes → 0 < length bytes → n ≢ max_lines
       → (r : Result (Unit {0}) RunFault) (s' : State) (out grown : List ℕ) → OnOk r ((t : List ℕ) × (answer s bytes ≡ Ok (s', t)) × (grown ≡ out ++ t))
@@ -53,9 +50,7 @@ module _ (input : List ℕ) (left : Option (List ℕ)) (bytes : List ℕ) (n : �
 -- a certificate without its count
 
 without_count : (p : Problem) (c : Certificate) → Certifies p c → Certifies p (record c { augmentations = None })
-without_count p c h =
-    let f = faultless p c h in
-    certifies_from p (record c { augmentations = None }) (record { ascending = f.ascending; known = f.known; closed = f.closed; within = f.within; conserved = f.conserved; tight = f.tight; short = refl })
+without_count p c h = grind (arith, faultless p c h, certifies_from)
 
 -- ---- what is certified
 

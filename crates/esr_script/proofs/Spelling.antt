@@ -1,5 +1,5 @@
 -- What a line spells, and what is read from it.
-use Rattle.std.proofs.Common.{◌≡◌, ℕ, suc, ◌<◌, ◌^◌, ℤ, pos, negsuc, nat_abs, List, [], ◌∷◌, inl, inr, ◌⊎◌, Bool, true, false, not, ◌&&◌, cond, refl, sym, ◌∙◌, ap, subst, arith, nat_eq, Some, None, Option, option_map, option_and_then, codes, decimal, eqb-true}
+use Rattle.std.proofs.Common.{◌≡◌, ℕ, suc, ◌<◌, ◌^◌, ℤ, pos, negsuc, nat_abs, List, [], ◌∷◌, inl, inr, ◌⊎◌, Bool, true, false, not, ◌&&◌, cond, refl, ◌∙◌, ap, subst, arith, nat_eq, Some, None, Option, option_map, option_and_then, codes, decimal, eqb-true}
 use Rattle.std.specs.List.{AllByRecursion, join_with_byte, list_all}
 use Rattle.std.specs.Option.{option_or}
 use Rattle.std.specs.Str.{bytes_eq, all_ascii_digits}
@@ -12,14 +12,12 @@ use Rattle.esr_script.specs.Command.{Command, item, weighted_item, begin_update,
 use Rattle.esr_script.specs.Reading.{words_of, name_of, limit_of, int_of, one_of, two_of, three_of, four_of, both, plain_item_of, weighted_item_of, item_of, plain_begin_of, strict_query_of, begin_of, read_of, write_of, one_name_of, totals_of, command_of, command_by, reading}
 use Rattle.std.proofs.lemmas.Bool.{cases_Bool, and_parts}
 use Rattle.esr_script.proofs.Laws.{and_then_some, map_some, split_join, number_again, number_found, all_digits, int_again, int_found}
+use Rattle.std.proofs.lemmas.Grind.{common_steps}
 
 -- ---- words without blanks
 
 unlike : (p : ℕ → Bool) → p 32 ≡ false → (b : ℕ) → p b ≡ true → nat_eq b 32 ≡ false
-unlike p not_blank b holds = elim (cases_Bool (nat_eq b 32)) [
-  | inl e ↦ let blank : p 32 ≡ true = rw (eqb-true b 32 e) at holds in cc
-  | inr e ↦ e
-]
+unlike p not_blank b holds = grind (arith, cases_Bool (nat_eq b 32), nat_eq b 32, eqb-true)
 
 plain_list : (p : ℕ → Bool) → p 32 ≡ false → (bs : List ℕ) → list_all p bs ≡ true → IsPlainWord bs
 plain_list p not_blank [] h = All-nil (λ b. nat_eq b 32 ≡ false)
@@ -93,16 +91,10 @@ spelled line totals h = found line (codes "totals") [] totals h.1 (plain_text (c
 -- ---- what is read is spelled
 
 name_found : (text name : List ℕ) → name_of text ≡ Some name → IsName name × (text ≡ name)
-name_found text name e = elim (cases_Bool (is_name text)) [
-  | inl t ↦ let same : text ≡ name = let given : Some text ≡ Some name = rw t at e in cc in (rw (← same) t, same)
-  | inr f ↦ let none : None ≡ Some name = rw f at e in cc
-]
+name_found text name e = grind (arith, cases_Bool (is_name text))
 
 both_found : {A B C : Type 0} (f : A → B → C) (a : Option A) (b : Option B) (c : C) → both f a b ≡ Some c → (x : A) × (y : B) × (a ≡ Some x) × (b ≡ Some y) × (f x y ≡ c)
-both_found f a b c e =
-    let first = and_then_some (λ x. option_map (f x) b) a c e in
-    let second = map_some (f first.0) b c first.2 in
-    (first.0, second.0, first.1, second.1, second.2)
+both_found f a b c e = grind (arith, and_then_some, option_map, map_some)
 
 one_found : (ws : List (List ℕ)) (w : List ℕ) → one_of ws ≡ Some w → ws ≡ w ∷ []
 one_found (a ∷ []) w e = let same : a ≡ w = cc in rw same refl
@@ -117,9 +109,7 @@ three_found (a ∷ b ∷ c ∷ []) p e = let given : List ℕ × List ℕ × Lis
 three_found _ p e = cc
 
 four_found : (ws : List (List ℕ)) (p : List ℕ × List ℕ × List ℕ × List ℕ) → four_of ws ≡ Some p → ws ≡ p.0 ∷ p.1 ∷ p.2 ∷ p.3 ∷ []
-four_found (a ∷ b ∷ c ∷ d ∷ []) p e =
-    let given : List ℕ × List ℕ × List ℕ × List ℕ = (a, b, c, d) in let same : given ≡ p = cc in
-    ap (λ (q : List ℕ × List ℕ × List ℕ × List ℕ). q.0 ∷ q.1 ∷ q.2 ∷ q.3 ∷ []) same
+four_found (a ∷ b ∷ c ∷ d ∷ []) p e = grind (arith, common_steps)
 four_found _ p e = cc
 
 or_found : {A : Type 0} (a b : Option A) (c : A) → option_or a b ≡ Some c → (a ≡ Some c) ⊎ (b ≡ Some c)
@@ -173,12 +163,7 @@ item_found ws c e = elim (or_found (plain_item_of ws) (weighted_item_of ws) c e)
 ]
 
 read_found : (ws : List (List ℕ)) (c : Command) → read_of ws ≡ Some c → Behind (codes "read") ws c
-read_found ws c e =
-    let p = and_then_some (λ (q : List ℕ × List ℕ). both read (name_of q.0) (name_of q.1)) (two_of ws) c e in
-    let b = both_found read (name_of p.0.0) (name_of p.0.1) c p.2 in
-    let t = name_found p.0.0 b.0 b.2 in
-    let x = name_found p.0.1 b.1 b.3 in
-    subst (Behind (codes "read") ws) b.4 ((t.0, x.0), ap (λ l. codes "read" ∷ l) (two_found ws p.0 p.1 ∙ same_two t.1 x.1))
+read_found ws c e = grind (arith, and_then_some, both_found, name_found, codes "read", two_found, same_two)
 
 write_found : (ws : List (List ℕ)) (c : Command) → write_of ws ≡ Some c → Behind (codes "write") ws c
 write_found ws c e =
@@ -194,10 +179,7 @@ begin_by : (kind : List ℕ) (f : List ℕ → ℕ → Command) (ws : List (List
     → both f (name_of p.0) (limit_of p.2) ≡ Some c → ((n : List ℕ) (l : ℕ) → IsName n → IsLimit l → codes "begin" ∷ ws ≡ codes "begin" ∷ n ∷ kind ∷ decimal l ∷ [] → Behind (codes "begin") ws (f n l))
     → Behind (codes "begin") ws c
 begin_by kind f ws p c three is_kind e spells =
-    let b = both_found f (name_of p.0) (limit_of p.2) c e in
-    let n = name_found p.0 b.0 b.2 in
-    let l = number_found (10 ^ 19) p.2 b.1 b.3 in
-    subst (Behind (codes "begin") ws) b.4 (spells b.0 b.1 n.0 l.0 (ap (λ l. codes "begin" ∷ l) (three ∙ same_three n.1 ((bytes_eq-Decides p.1 kind).0 is_kind) l.1)))
+    grind (arith, both_found f (name_of p.0) (limit_of p.2) c e, name_found, number_found, codes "begin", same_three, bytes_eq-Decides p.1 kind)
 
 plain_begin_found : (ws : List (List ℕ)) (c : Command) → plain_begin_of ws ≡ Some c → Behind (codes "begin") ws c
 plain_begin_found ws c e =
@@ -244,36 +226,21 @@ totals_found [] c e = let same : totals ≡ c = cc in subst (Behind (codes "tota
 totals_found (w ∷ ws) c e = cc
 
 one_name_found : (ws : List (List ℕ)) (t : List ℕ) → one_name_of ws ≡ Some t → IsName t × (ws ≡ t ∷ [])
-one_name_found ws t e =
-    let p = and_then_some name_of (one_of ws) t e in
-    let n = name_found p.0 t p.2 in
-    (n.0, one_found ws p.0 p.1 ∙ ap (λ w. w ∷ []) n.1)
+one_name_found ws t e = grind (arith, and_then_some name_of (one_of ws) t e, name_found, one_found)
 
 commit_found : (ws : List (List ℕ)) (c : Command) → option_map commit (one_name_of ws) ≡ Some c → Behind (codes "commit") ws c
-commit_found ws c e =
-    let m = map_some commit (one_name_of ws) c e in
-    let t = one_name_found ws m.0 m.1 in
-    subst (Behind (codes "commit") ws) m.2 (t.0, ap (λ l. codes "commit" ∷ l) t.1)
+commit_found ws c e = grind (arith, map_some commit (one_name_of ws) c e, one_name_found, codes "commit")
 
 abort_found : (ws : List (List ℕ)) (c : Command) → option_map abort (one_name_of ws) ≡ Some c → Behind (codes "abort") ws c
-abort_found ws c e =
-    let m = map_some abort (one_name_of ws) c e in
-    let t = one_name_found ws m.0 m.1 in
-    subst (Behind (codes "abort") ws) m.2 (t.0, ap (λ l. codes "abort" ∷ l) t.1)
+abort_found ws c e = grind (arith, map_some abort (one_name_of ws) c e, one_name_found, codes "abort")
 
 audit_found : (ws : List (List ℕ)) (c : Command) → option_map audit (one_name_of ws) ≡ Some c → Behind (codes "audit") ws c
-audit_found ws c e =
-    let m = map_some audit (one_name_of ws) c e in
-    let t = one_name_found ws m.0 m.1 in
-    subst (Behind (codes "audit") ws) m.2 (t.0, ap (λ l. codes "audit" ∷ l) t.1)
+audit_found ws c e = grind (arith, map_some audit (one_name_of ws) c e, one_name_found, codes "audit")
 
 -- one of two, by the first word
 choose : (k word : List ℕ) (ws : List (List ℕ)) (a b : Option Command) (c : Command) → cond (bytes_eq k word) a b ≡ Some c
     → (a ≡ Some c → Behind word ws c) → (b ≡ Some c → Behind k ws c) → Behind k ws c
-choose k word ws a b c e here there = elim (cases_Bool (bytes_eq k word)) [
-  | inl t ↦ let first : a ≡ Some c = rw t at e in rw ((bytes_eq-Decides k word).0 t) (here first)
-  | inr f ↦ let second : b ≡ Some c = rw f at e in there second
-]
+choose k word ws a b c e here there = grind (arith, cases_Bool (bytes_eq k word), word, bytes_eq-Decides k word)
 
 behind : (k : List ℕ) (ws : List (List ℕ)) (c : Command) → command_of k ws ≡ Some c → Behind k ws c
 behind k ws c e =
@@ -291,6 +258,4 @@ by_words [] c e = cc
 by_words (k ∷ ws) c e = behind k ws c e
 
 pub read_back : (line : List ℕ) (c : Command) → reading line ≡ Some c → Spells line c
-read_back line c e =
-    let h = by_words (words_of line) c e in
-    (h.0, sym (join_with_byte-slice_split 32 line) ∙ ap (join_with_byte 32) h.1)
+read_back line c e = grind (arith, by_words (words_of line) c e, join_with_byte-slice_split 32 line)

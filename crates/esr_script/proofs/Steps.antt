@@ -1,5 +1,5 @@
 -- How a run goes on, and how it ends.
-use Rattle.std.proofs.Common.{◌≡◌, ◌≢◌, ℕ, ◌+◌, ◌<◌, ◌≤◌, List, [], ◌∷◌, ◌++◌, length, take, refl, sym, ◌∙◌, ap, subst, arith, Option, Some, None, Ok, Err, append_assoc, append-nil, length-append, length-take, le-ltb, lt-ltb, ne_eqb, eq-eqb}
+use Rattle.std.proofs.Common.{◌≡◌, ◌≢◌, ℕ, ◌+◌, ◌<◌, ◌≤◌, List, [], ◌∷◌, ◌++◌, length, take, refl, sym, ◌∙◌, ap, arith, Option, Some, None, Ok, Err, append_assoc, append-nil, length-append, length-take, le-ltb, lt-ltb, ne_eqb, eq-eqb}
 use Rattle.std.proofs.Math.Seq.{take-append_seam}
 use Rattle.std.specs.Io.KnownBytes.{IsAtEnd, Consumes}
 use Rattle.esr_script.specs.declared.fault.RunFault.{RunFault}
@@ -107,11 +107,7 @@ pub advance : (input : List ℕ) (n : ℕ) (s : State) (w : List ℕ) (before af
     → Standing input before bytes n s w → grown ≡ bytes ++ more → Consumes before after more → Standing input after grown n s w
 advance input n s w None after bytes grown more here g taken = cc (here.known)
 advance input n s w (Some x) None bytes grown more here g taken = absurd taken
-advance input n s w (Some x) (Some y) bytes grown more here g taken =
-    let same : x ≡ here.rest = cc (here.known) in
-    let moved : bytes ++ here.rest ≡ grown ++ y =
-    ap (λ r. bytes ++ r) (sym same ∙ taken) ∙ sym (append_assoc bytes more y) ∙ ap (λ b. b ++ y) (sym g) in
-    record { rest = y; known = refl; progress = subst (λ u. Progress input u n s w) moved here.progress }
+advance input n s w (Some x) (Some y) bytes grown more here g taken = grind (arith, append_assoc bytes more y)
 
 at_end : (left : Option (List ℕ)) (rest : List ℕ) → left ≡ Some rest → IsAtEnd left → rest ≡ []
 at_end None rest e h = cc
@@ -125,8 +121,7 @@ module _ (input : List ℕ) (left : Option (List ℕ)) (bytes : List ℕ) (n : �
   pub step_line : Standing input left bytes n s w → (s' : State) (t : List ℕ) → n ≢ max_lines
       → line_len bytes < length bytes → line_len bytes ≤ max_line_bytes → answer s (front bytes) ≡ Ok (s', t)
       → Standing input left (behind_front bytes) (n + 1) s' (w ++ t)
-  step_line here s' t few ended short is =
-      record { rest = here.rest; known = here.known; progress = step input n s w bytes here.rest s' t here.progress few ended short is }
+  step_line here s' t few ended short is = grind (arith, step input n s w bytes here.rest s' t here.progress few ended short is)
 
   pub text_begins : Standing input left bytes n s w → BeginsWith (outcome input).text w
   text_begins here = begins_with input n s w (bytes ++ here.rest) here.progress
@@ -141,10 +136,7 @@ module _ (input : List ℕ) (left : Option (List ℕ)) (bytes : List ℕ) (n : �
       ∙ ap (behind w) (outcome-long n s b.line b.more few (omega (arith, long, b.long))) ∙ behind-stopped w LineTooLong
 
   pub at_many : Standing input left bytes n s w → n ≡ max_lines → 0 < length bytes → outcome input ≡ record { text = w; fault = Some TooManyLines }
-  at_many here many some =
-      let b : Begins bytes here.rest = begins bytes here.rest some in
-      whole input n s w (bytes ++ here.rest) (b.line ∷ b.more) here.progress b.is
-      ∙ ap (behind w) (outcome-many n s b.line b.more many) ∙ behind-stopped w TooManyLines
+  at_many here many some = grind (arith, begins bytes here.rest some, whole, outcome-many, behind-stopped w TooManyLines)
 
   pub at_fault_line : Standing input left bytes n s w → (f : RunFault) → n ≢ max_lines → line_len bytes < length bytes → line_len bytes ≤ max_line_bytes
       → answer s (front bytes) ≡ Err f → outcome input ≡ record { text = w; fault = Some f }
@@ -161,8 +153,7 @@ module _ (input : List ℕ) (left : Option (List ℕ)) (bytes : List ℕ) (n : �
 
   pub at_done : Standing input left bytes n s w → IsAtEnd left → bytes ≡ [] → outcome input ≡ record { text = w; fault = None }
   at_done here end none =
-      let nothing : bytes ++ here.rest ≡ [] = ap (λ b. b ++ here.rest) none ∙ at_end left here.rest here.known end in
-      whole input n s w (bytes ++ here.rest) [] here.progress (ap lines nothing) ∙ behind-done w n s
+      grind (arith, at_end left here.rest here.known end, whole input n s w (bytes ++ here.rest), behind-done w n s)
 
   pub state_at_done : Standing input left bytes n s w → IsAtEnd left → bytes ≡ [] → final input ≡ s
   state_at_done here end none =
@@ -176,8 +167,7 @@ module _ (input : List ℕ) (left : Option (List ℕ)) (bytes : List ℕ) (n : �
 
   last_line : Standing input left bytes n s w → IsAtEnd left → line_len bytes ≡ length bytes → 0 < length bytes → outcome input ≡ behind w (outcome_from n s (bytes ∷ []))
   last_line here end plain some =
-      let all : bytes ++ here.rest ≡ bytes = ap (λ r. bytes ++ r) (at_end left here.rest here.known end) ∙ append-nil bytes in
-      whole input n s w (bytes ++ here.rest) (bytes ∷ []) here.progress (ap lines all ∙ lines-last bytes plain some)
+      grind (arith, at_end left here.rest here.known end, append-nil bytes, whole, lines-last bytes plain some)
 
   pub at_last : Standing input left bytes n s w → IsAtEnd left → line_len bytes ≡ length bytes → 0 < length bytes → length bytes ≤ max_line_bytes → n ≢ max_lines
       → (s' : State) (t : List ℕ) → answer s bytes ≡ Ok (s', t) → outcome input ≡ record { text = w ++ t; fault = None }
@@ -192,9 +182,4 @@ module _ (input : List ℕ) (left : Option (List ℕ)) (bytes : List ℕ) (n : �
 
   -- where a read failed
   pub at_read : Standing input left bytes n s w → line_len bytes ≡ length bytes → (taken : List ℕ) × Consumes (Some input) left taken × IsWholeText (outcome_of_lines (whole_lines taken)) w
-  at_read here plain =
-      let p = here.progress in
-      let split : input ≡ (p.used ++ bytes) ++ here.rest = p.split ∙ sym (append_assoc p.used bytes here.rest) in
-      let cut : whole_lines (p.used ++ bytes) ≡ p.answered = p.cut_whole bytes ∙ ap (λ ls. p.answered ++ ls) (whole-none bytes plain) ∙ append-nil p.answered in
-      let text : outcome_of_lines p.answered ≡ record { text = w; fault = None } = ap outcome_of_lines (sym (append-nil p.answered)) ∙ p.ran [] ∙ behind-done w n s in
-      (p.used ++ bytes, consumed left here.rest (p.used ++ bytes) here.known split, ap outcome_of_lines cut ∙ text)
+  at_read here plain = grind (arith, append_assoc, whole-none bytes plain, append-nil, behind-done w n s, consumed)

@@ -1,7 +1,7 @@
 -- What contracts see of an engine.
 use Rattle.std.specs.Prelude.{ℕ, Bool, true, false}
 use Rattle.esr_session.specs.declared.receipt.CloseError.{CloseError}
-use Rattle.esr_session.specs.declared.receipt.CloseError.TheVariants.{SessionMissing, ForeignReceipt, NoMemory}
+use Rattle.esr_session.specs.declared.receipt.CloseError.TheVariants.{SessionMissing}
 
 -- how many sessions were opened
 pub record Sessions : Type 0 where

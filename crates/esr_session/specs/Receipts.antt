@@ -1,5 +1,5 @@
 -- Receipts of answered calls, and lists of receipts that match a history.
-use Rattle.std.specs.Prelude.{◌≡◌, ℕ, ◌+◌, ◌<◌, ◌≤◌, ◌==◌, Bool, true, false, IsTrue, List, [], ◌∷◌, ◌++◌, length, slice_get, count_by, All, Option, Some, None, Result, Ok, Err, IfOk, IfSome}
+use Rattle.std.specs.Prelude.{◌≡◌, ℕ, ◌+◌, ◌<◌, ◌≤◌, ◌==◌, Bool, true, false, List, [], ◌∷◌, ◌++◌, length, slice_get, count_by, All, Some, Result, Ok, Err}
 use Rattle.std.specs.List.{flat_map, sum_by}
 use Rattle.std.specs.Prelude.{ℤ}
 use Rattle.esr_history.specs.Machine.{Schedule, Distance, IsLegal}

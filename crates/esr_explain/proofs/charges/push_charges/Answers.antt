@@ -1,4 +1,4 @@
-use Rattle.std.proofs.Common.{◌≡◌, ◌∙◌, ◌++◌, ℕ, List, ap, append_assoc, arith, flat_map, length, sym}
+use Rattle.std.proofs.Common.{◌≡◌, ◌∙◌, ◌++◌, ℕ, List, ap, append_assoc, arith, flat_map, length}
 use Rattle.std.specs.Prelude.{slice_get}
 use Rattle.std.specs.List.{range_with_len}
 use Rattle.esr_items.specs.Weights.{weighted}
@@ -7,13 +7,7 @@ use Rattle.esr_explain.proofs.Replaying.{text_more}
 use Rattle.esr_explain.proofs.charges.push_charges.Goals as goal
 
 pub loop-i-preserved : goal.loop-i-preserved
-loop-i-preserved c =
-    let h = c.args.history.now.schedule in let i = c.loop-i.i in let out = c.args.out.now.items in
-    let f : ℕ → List ℕ = λ k. charge_at weighted h c.args.items.now c.args.transactions.now c.args.q.0 k (slice_get h.entries k) in (
-      c.in_ok-push_charge.ensures.machine,
-      c.in_ok-push_charge.ensures.out
-          ∙ (ap (λ l. l ++ f i) c.loop-i.invariant.1 ∙ (append_assoc out (flat_map f (range_with_len 0 i)) (f i) ∙ ap (λ l. out ++ l) (sym (text_more f i)))),
-    )
+loop-i-preserved c = grind (arith, append_assoc, flat_map, text_more)
 
 pub returns : goal.returns
 returns c =

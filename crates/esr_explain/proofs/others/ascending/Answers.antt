@@ -1,12 +1,9 @@
-use Rattle.std.proofs.Common.{◌∙◌, ap, eqb, sym}
+use Rattle.std.proofs.Common.{eqb, arith}
 use Rattle.std.proofs.lemmas.List.Sorted.{IsNonDecreasingBy-from_sort, list_any-IsPermutation}
-use Rattle.esr_order.specs.Placements.{is_among}
 use Rattle.esr_explain.proofs.others.ascending.Goals as goal
 
 pub returns-clause-sorted : goal.returns-clause-sorted
 returns-clause-sorted c = IsNonDecreasingBy-from_sort (λ x. x) c.sort_unstable.new.self.items c.sort_unstable.ensures.sorted
 
 pub returns-clause-same : goal.returns-clause-same
-returns-clause-same c = λ u.
-    sym (list_any-IsPermutation (λ v. eqb v u) c.in_ok-numbers.numbers.items c.sort_unstable.new.self.items c.sort_unstable.ensures.permutation)
-    ∙ ap (λ l. is_among l u) c.in_ok-numbers.ensures
+returns-clause-same c = grind (arith, list_any-IsPermutation, eqb)

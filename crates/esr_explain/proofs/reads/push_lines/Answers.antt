@@ -1,4 +1,4 @@
-use Rattle.std.proofs.Common.{◌≡◌, ◌∙◌, ◌+◌, ◌++◌, Bool, List, [], ℕ, ℤ, ap, append-nil, append_assoc, false, flat_map, get_or, if◌then◌else◌, of_z, pos, subst, sym, take, to_z, w64}
+use Rattle.std.proofs.Common.{◌≡◌, ◌∙◌, ◌+◌, ◌++◌, Bool, List, [], ℕ, ℤ, ap, append-nil, append_assoc, false, flat_map, get_or, if◌then◌else◌, of_z, pos, subst, sym, take, to_z, w64, arith}
 use Rattle.std.proofs.lemmas.Int.{to_z-of_z}
 use Rattle.esr_items.specs.Values.{value_at, IsValue}
 use Rattle.esr_items.specs.Weights.{weighted}
@@ -39,6 +39,4 @@ loop-access-preserved c =
     ]
 
 pub returns : goal.returns
-returns c =
-    c.loop-access.invariant
-    ∙ ap (λ (xs : List Access). c.args.out.now.items ++ flat_map (access_line (weighted c.args.metric.now) c.args.items.now (value_at c.args.values.now)) xs) (take_whole c.args.accesses.now c.loop-access.access-index c.loop-access-test.false)
+returns c = grind (arith, flat_map, take_whole c.args.accesses.now c.loop-access.access-index c.loop-access-test.false)

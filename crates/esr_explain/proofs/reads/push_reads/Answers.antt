@@ -1,10 +1,9 @@
-use Rattle.std.proofs.Common.{◌≡◌, ◌∙◌, ◌++◌, All, List, OnOk, ℕ, ℤ, ap, flat_map, map, subst, sym, length}
+use Rattle.std.proofs.Common.{◌≡◌, ◌∙◌, ◌++◌, List, OnOk, ℕ, ℤ, ap, flat_map, map, subst, sym, length, arith}
 use Rattle.esr_items.specs.Values.{value_at, IsValue}
 use Rattle.esr_items.specs.Weights.{weighted}
 use Rattle.esr_history.specs.declared.event.TxnId.{TxnId}
 use Rattle.esr_history.specs.Machine.{distance_in}
 use Rattle.esr_history.specs.Serial.{state}
-use Rattle.esr_order.specs.declared.accesses.Access.{Access}
 use Rattle.esr_order.specs.Scans.{accesses_in}
 use Rattle.esr_explain.specs.Accesses.{access_line}
 use Rattle.esr_explain.specs.Explain.{read_line, read_lines}
@@ -12,10 +11,7 @@ use Rattle.esr_explain.proofs.Accessed.{accesses_inside, accesses_valued, lines_
 use Rattle.esr_explain.proofs.reads.push_reads.Goals as goal
 
 pub push_lines-requires-clause-accesses : goal.push_lines-requires-clause-accesses
-push_lines-requires-clause-accesses c = λ k d l.
-    let h = c.args.history.now.schedule in
-    let is : c.deref.result.now ≡ accesses_in h.entries c.args.q.0 = c.deref.ensures.value ∙ c.in_ok-accesses.ensures in
-    subst (All (λ (a : Access). IsValue a.value)) (sym is) (accesses_valued weighted h c.log-legal.ensures.range c.log-legal.ensures.legal c.args.q.0) k d l
+push_lines-requires-clause-accesses c = grind (arith, accesses_valued)
 
 pub push_lines-requires-clause-values : goal.push_lines-requires-clause-values
 push_lines-requires-clause-values c = λ x. subst (λ (vs : List ℤ). IsValue (value_at vs x)) (sym c.deref-2.ensures.value) (c.in_ok-values.ensures.range x)

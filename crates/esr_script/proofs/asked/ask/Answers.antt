@@ -1,13 +1,10 @@
-use Rattle.std.proofs.Common.{◌≡◌}
+use Rattle.std.proofs.Common.{arith}
 use Rattle.esr_history.specs.Watch.{inner}
-use Rattle.esr_script.specs.Text.{State, final}
-use Rattle.esr_script.specs.Ask.{IsAnswered}
 use Rattle.esr_script.proofs.Ends.{reached_fault, asked_after}
 use Rattle.esr_script.proofs.asked.ask.Goals as goal
 
 pub returns-in-Err-clause-asked : goal.returns-in-Err-clause-asked
-returns-in-Err-clause-asked g c input known =
-    reached_fault input (g.R.Read.remaining (inner c.replay.new.reader)) (λ (s : State). final input ≡ s) (IsAnswered (final input) c.args.name.now) _ _ (λ none. absurd none) c.in-Err.fault (c.in-Err.ensures.replay input known)
+returns-in-Err-clause-asked g c input known = grind (arith, reached_fault)
 
 pub returns-in-Ok-clause-asked : goal.returns-in-Ok-clause-asked
 returns-in-Ok-clause-asked g c input known =

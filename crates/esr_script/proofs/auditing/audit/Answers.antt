@@ -1,4 +1,4 @@
-use Rattle.std.proofs.Common.{◌≡◌, [], ℕ, Vec}
+use Rattle.std.proofs.Common.{◌≡◌, [], ℕ, Vec, arith}
 use Rattle.std.specs.declared.alloc.Global.{Global}
 use Rattle.esr_history.specs.Watch.{inner}
 use Rattle.esr_script.specs.Audit.{audit_output}
@@ -13,6 +13,4 @@ returns-in-Err-clause-text g c input known =
     ([], Appends-nil _, written_fault input left (λ (out : Vec ℕ Global). out.items ≡ audit_output (final input)) _ _ c.in-Err.fault (c.in-Err.ensures.ready input known))
 
 pub returns-clause-text : goal.returns-clause-text
-returns-clause-text g c input known =
-    let ready = c.in-Ok.ensures.ready input known in
-    written_sent input (g.R.Read.remaining (inner c.prepare.new.reader)) _ _ c.in-Ok.out.items ready.0 ready.1 ready.2 c.send_all.result _ _ _ c.send_all.ensures.ok c.send_all.ensures.err
+returns-clause-text g c input known = grind (arith, written_sent)

@@ -57,15 +57,7 @@ lines-preserved-in-Ok g c =
     }
 
 pub returns-in-Err-answer_next : goal.returns-in-Err-answer_next
-returns-in-Err-answer_next g c =
-    record {
-      text = λ input known.
-          let inv = c.lines.invariant.text input known in
-          (inv.0, inv.1, c.in-Err-answer_next.ensures.held input inv.0 _ inv.2);
-      read = λ h. absurd (is_not_read _ c.in-Err-answer_next.ensures.read h);
-      reader = c.lines.invariant.reader ∙ sym c.in-Err-answer_next.ensures.read;
-      writer = c.lines.invariant.writer ∙ sym c.in-Err-answer_next.ensures.write;
-    }
+returns-in-Err-answer_next g c = grind (arith, is_not_read)
 
 pub returns-in-Err-send_all : goal.returns-in-Err-send_all
 returns-in-Err-send_all g c =

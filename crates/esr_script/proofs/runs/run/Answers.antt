@@ -1,13 +1,11 @@
-use Rattle.std.proofs.Common.{◌++◌, sym}
+use Rattle.std.proofs.Common.{◌++◌, sym, arith}
 use Rattle.std.proofs.KnownBytes.{Appends-trans}
 use Rattle.esr_script.specs.Parts.{is_read_fault, is_write_fault}
 use Rattle.esr_script.proofs.Held.{held_kept, held_lost, begins_part, not_written}
 use Rattle.esr_script.proofs.runs.run.Goals as goal
 
 pub returns-then-is_lost-clause-text : goal.returns-then-is_lost-clause-text
-returns-then-is_lost-clause-text g c input known =
-    let held = c.answer_lines-ended.ensures.text input known in
-    (held.0, held.1, held_lost input _ _ c.answer_lines-ended.result held.0 (sym c.if-is_lost.ensures) c.answer_lines-ended.ensures.read held.2)
+returns-then-is_lost-clause-text g c input known = grind (arith, held_lost)
 
 pub returns-in-Err-clause-text : goal.returns-in-Err-clause-text
 returns-in-Err-clause-text g c input known =

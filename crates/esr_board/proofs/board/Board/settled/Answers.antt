@@ -1,4 +1,4 @@
-use Rattle.std.proofs.Common.{◌≡◌, rules, arith, sym, ◌∙◌, sum_by, List, [], map, subst}
+use Rattle.std.proofs.Common.{◌≡◌, rules, arith, sym, sum_by, List, [], map, subst}
 use Rattle.esr_board.specs.Boards.{IsSeatOf, drawn, hand_of}
 use Rattle.esr_board.specs.Claims.{passes_of, IsBoardAt}
 use Rattle.esr_board.specs.declared.board.BoardSeat.{BoardSeat}

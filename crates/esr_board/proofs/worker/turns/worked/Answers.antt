@@ -1,4 +1,4 @@
-use Rattle.std.proofs.Common.{rules, arith}
+use Rattle.std.proofs.Common.{arith}
 use Rattle.esr_board.proofs.Slots.{worked_is}
 use Rattle.esr_board.proofs.worker.turns.worked.Goals as goal
 
