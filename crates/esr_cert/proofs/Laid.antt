@@ -7,9 +7,9 @@ use Rattle.esr_cert.specs.declared.network.Arc.{Arc}
 use Rattle.esr_cert.specs.declared.step.Step.{Step}
 use Rattle.esr_cert.specs.declared.step.Step.TheVariants.{Along, Against}
 use Rattle.esr_cert.specs.declared.rows.Span.{Span}
-use Rattle.esr_cert.specs.Network.{arc_at}
+use Rattle.esr_cert.specs.Network.{arc_at, HaveEnds}
 use Rattle.esr_cert.specs.Steps.{arc_of, order_of, start, step_at, AreOnce}
-use Rattle.esr_cert.specs.Rows.{span_at, row_in, first_steps, steps_from, row_of, AreDegrees, AreRows, AreSteps, HaveEnds, lengthen}
+use Rattle.esr_cert.specs.Rows.{span_at, row_in, first_steps, steps_from, row_of, AreDegrees, AreRows, AreSteps, lengthen}
 use Rattle.esr_cert.proofs.StepsLaws.{first_next, has_steps}
 use Rattle.esr_cert.proofs.RowsLaws.{row_length, at_row, Filled, filled_more, place_within, room_along, room_against, filled_all, step_with}
 

@@ -14,10 +14,13 @@ pub record Network : Type 0 where
 abbrev pub arc_at : List Arc → ℕ → Arc
 arc_at arcs i = get_or arcs i (record { from = 0; to = 0; capacity = Some 0 })
 
+-- the ends of the arcs are nodes
+abbrev pub HaveEnds : List Arc → ℕ → Type 0
+HaveEnds arcs nodes = (i : ℕ) → i < length arcs → ((arc_at arcs i).from < nodes) × ((arc_at arcs i).to < nodes)
+
 -- arcs join nodes, and none goes into the source
 pub record IsNetwork (net : Network) : Type 0 where
-  pub ends : (i : ℕ) → i < length net.arcs
-      → ((arc_at net.arcs i).from < net.nodes) × ((arc_at net.arcs i).to < net.nodes)
+  pub ends : HaveEnds net.arcs net.nodes
   pub no_way_back : (i : ℕ) → i < length net.arcs → (arc_at net.arcs i).to ≢ net.source
   pub two_ends : net.source ≢ net.sink
   pub source_is_node : net.source < net.nodes

@@ -5,7 +5,7 @@ use Rattle.esr_cert.specs.declared.step.Step.{Step}
 use Rattle.esr_cert.specs.declared.step.Step.TheVariants.{Along, Against}
 use Rattle.esr_cert.specs.declared.rows.Span.{Span}
 use Rattle.esr_cert.specs.declared.rows.Rows.{Rows}
-use Rattle.esr_cert.specs.Network.{Network, arc_at}
+use Rattle.esr_cert.specs.Network.{Network}
 use Rattle.esr_cert.specs.Steps.{arc_of, start, step_at, AreOnce}
 
 abbrev pub span_at : List Span → ℕ → Span
@@ -27,10 +27,6 @@ steps_from arcs v steps = filter (λ step. start arcs step == v) steps
 -- all steps that start at a node, by the numbers of their arcs
 abbrev pub row_of : List Arc → ℕ → List Step
 row_of arcs v = steps_from arcs v (first_steps (length arcs))
-
--- the ends of the arcs are nodes
-abbrev pub HaveEnds : List Arc → ℕ → Type 0
-HaveEnds arcs nodes = (i : ℕ) → i < length arcs → ((arc_at arcs i).from < nodes) × ((arc_at arcs i).to < nodes)
 
 -- how many steps start at each node, and how many there are
 pub record AreDegrees (arcs : List Arc) (nodes : ℕ) (degrees : List ℕ) : Type 0 where

@@ -1,5 +1,5 @@
 //! The arcs of a problem's network.
-ghost use Rattle.std.specs.Prelude.{◌≡◌, ◌+◌, ◌*◌, ◌^◌, ◌<◌, ◌≤◌, length, map, sum_by};
+ghost use Rattle.std.specs.Prelude.{◌≡◌, ◌+◌, ◌^◌, ◌<◌, ◌≤◌, length, map, sum_by};
 ghost use Rattle.esr_cert.specs.Views.{chain_of};
 ghost use Rattle.esr_cert.specs.Network.{arc_at, chain_links};
 

@@ -3,7 +3,7 @@ ghost use Rattle.esr_cert.specs.Problem.{size, has_shape, is_sound};
 ghost use Rattle.esr_cert.specs.Faults.{problem_fault, bundle_fault_number};
 ghost use Rattle.esr_cert.specs.Network.{arc_at, network};
 ghost use Rattle.esr_cert.specs.Rows.{AreLaid};
-ghost use Rattle.esr_cert.specs.Starts.{starts_from, owners_from};
+ghost use Rattle.esr_cert.specs.Starts.{starts_from};
 ghost use Rattle.esr_cert.specs.Views.{chain_of, problem_of};
 
 use crate::arcs::{Arcs, arc_count};

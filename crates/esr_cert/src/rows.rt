@@ -2,7 +2,8 @@
 ghost use Rattle.std.specs.Prelude.{◌≡◌, ◌<◌, ◌≤◌, length, set, sum, Contains, IfOk};
 ghost use Rattle.std.specs.List.Sorted.{IsNonDecreasingBy};
 ghost use Rattle.esr_cert.specs.Steps.{arc_of, order_of, step_at};
-ghost use Rattle.esr_cert.specs.Rows.{row_in, span_at, lengthen, AreDegrees, AreBegun, AreRows, AreSteps, HaveEnds};
+ghost use Rattle.esr_cert.specs.Rows.{row_in, span_at, lengthen, AreDegrees, AreBegun, AreRows, AreSteps};
+ghost use Rattle.esr_cert.specs.Network.{HaveEnds};
 ghost use Rattle.esr_cert.specs.declared.rows.TheConstants.{MOST_ARCS};
 
 use crate::arcs::Arcs;

@@ -43,7 +43,7 @@ fn push_owner(owners: &mut Vec<u16>, chain: u16, count: usize) -> Result<(), All
     Ok(())
 }
 
-/// The chain of each arc of the chains, which are about so many.
+/// The chain of each arc of the chains, of which there are so many.
 pub fn owners_of(alloc: Global, chains: &[Chain], count: usize) -> Result<Vec<u16>, AllocError>
     requires { length chains.now ≤ 4096 }
     ensures { IfOk result (λ owners. owners.items ≡ owners_from 0 (map chain_of chains.now)) }

@@ -109,9 +109,6 @@ module _ (done : List Event) (o : IsOrderly done) where
       number : (u : ℕ) → (not (u == t) && (is_update done u && (holds_read done u x || holds_write done u x))) ≡ true → (1 ≤ u) × (u < 1 + length (beginnings done))
       number u is = begun_number done u (update_begun done u (and_parts (is_update done u) (holds_read done u x || holds_write done u x) (and_parts (not (u == t)) (is_update done u && (holds_read done u x || holds_write done u x)) is).1).0)
 
-abbrev locks_with : Option ℕ → List ℕ → List (ℕ × ℕ) → ItemLocks
-locks_with w r q = record { writer = w; readers = r; queries = q }
-
 locks_same : (w v : Option ℕ) (r s : List ℕ) (q p : List (ℕ × ℕ)) → w ≡ v → r ≡ s → q ≡ p → ◌≡◌ {A = ItemLocks} (record { writer = w; readers = r; queries = q }) (record { writer = v; readers = s; queries = p })
 locks_same w v r s q p e f g = grind (arith, common_steps)
 

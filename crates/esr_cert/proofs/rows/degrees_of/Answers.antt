@@ -2,8 +2,8 @@ use Rattle.std.proofs.Common.{arith, ◌≡◌, refl, ℕ, ◌+◌, ◌<◌, ◌
 use Rattle.std.proofs.lemmas.List.{length_push}
 use Rattle.esr_cert.specs.declared.network.Arc.{Arc}
 use Rattle.esr_cert.specs.declared.step.Step.TheVariants.{Along, Against}
-use Rattle.esr_cert.specs.Network.{arc_at}
-use Rattle.esr_cert.specs.Rows.{first_steps, HaveEnds}
+use Rattle.esr_cert.specs.Network.{arc_at, HaveEnds}
+use Rattle.esr_cert.specs.Rows.{first_steps}
 use Rattle.esr_cert.proofs.StepsLaws.{first_next, first_count}
 use Rattle.esr_cert.proofs.RowsLaws.{Counted, counted_at, counted_more, counted_all}
 use Rattle.esr_cert.proofs.rows.degrees_of.Goals as goal

@@ -1,8 +1,7 @@
 use Rattle.std.proofs.Common.{arith, ◌≡◌, ◌+◌, ◌∙◌, ap, sym, subst, length, map, sum_by}
 use Rattle.std.proofs.lemmas.List.{length-map}
 use Rattle.esr_cert.specs.Problem.{Problem}
-use Rattle.esr_cert.specs.Network.{network}
-use Rattle.esr_cert.specs.Rows.{HaveEnds}
+use Rattle.esr_cert.specs.Network.{network, HaveEnds}
 use Rattle.esr_cert.specs.Starts.{starts_from}
 use Rattle.esr_cert.specs.Views.{chain_of, problem_of}
 use Rattle.esr_cert.proofs.Sound.{facts, are_few}
