@@ -8,8 +8,7 @@ use Rattle.esr_history.specs.Operations.{operations}
 use Rattle.esr_history.specs.Serial.{is_before}
 use Rattle.esr_history.specs.Queries.{must}
 use Rattle.esr_history.proofs.Membership.{Pairs-from_all}
-use Rattle.esr_history.proofs.WithinRanges.{legal_items}
-use Rattle.esr_order.specs.declared.steps.Step.{Step}
+use Rattle.esr_order.specs.Steps.{Step}
 use Rattle.esr_order.specs.Turns.{turns}
 use Rattle.esr_order.specs.Placements.{is_among}
 use Rattle.esr_order.specs.Listing.{IsBelow}
@@ -17,7 +16,7 @@ use Rattle.esr_order.specs.Ties.{on_item, IsTied, AreNextPaired}
 use Rattle.esr_order.specs.Chains.{Chain, chain_from, last_step, nth}
 use Rattle.esr_order.specs.Orders.{IsOrderAmong}
 use Rattle.esr_order.proofs.Turns as turns_of
-use Rattle.esr_order.proofs.Complete.{order_found, rising_writes}
+use Rattle.esr_order.proofs.Complete.{order_found}
 
 module _ (d : Distance) (h : Schedule) (legal : IsLegal d h) (commits : List TxnId) (once : AllPairs (λ u v. u ≢ v) (map (λ t. t.0) commits)) (keeps : AllPairs (λ u v. is_before h v u ≡ false) (map (λ t. t.0) commits)) (few : length commits ≤ 65535) where
   abbrev us : List ℕ
@@ -29,28 +28,17 @@ module _ (d : Distance) (h : Schedule) (legal : IsLegal d h) (commits : List Txn
   len : length (map (λ (t : TxnId). t.0) commits) ≡ length commits
   len = length-map commits (λ (t : TxnId). t.0)
 
-  pub below : (items : ℕ) → items ≡ length h.opening → All (λ s. s.item < items) steps
-  below items count = turns_of.items_inside (operations h) us items (λ o i. subst (λ n. o.item < n) (sym count) (legal_items d h legal o i))
-
-  pub placed : All (λ s. s.place < length commits) steps
-  placed = subst (λ n. All (λ (s : Step). s.place < n) steps) len (turns_of.placed (operations h) us)
-
-  pub rise : (x : ℕ) → AllPairs (λ a b. a.place ≤ b.place) (filter (λ s. s.writes) (on_item x steps))
-  rise x = rising_writes d h 0 legal us once keeps x
-
   pub few_pairs : (before : List (ℕ × ℕ)) → IsTied steps before → length before ≤ 2 * length (filter (λ o. is_among (map (λ t. t.0) commits) o.txn) (operations h))
   few_pairs before tied = omega (arith, tied.few, turns_of.counted (operations h) 0 us (Pairs-from_all (λ u v. u ≢ v) us once))
 
   pub made : (before : List (ℕ × ℕ)) → AllPairs IsBelow before → IsTied steps before × ((x : ℕ) → AreNextPaired before (filter (λ s. s.writes) (on_item x steps)))
-      → (items : ℕ) → items ≡ length h.opening → (chains : List Chain) → chains ≡ map (λ x. chain_from (last_step steps x) (length commits)) (range_with_len 0 items)
+      → (chains : List Chain) → chains ≡ map (λ x. chain_from (last_step steps x) (length commits)) (range_with_len 0 (length h.opening))
       → (n : ℕ) → n ≤ length commits → (first : List ℕ) → first ≡ range_with_len 0 n
       → (q : ℕ) → map (nth (map (λ t. t.0) commits)) (range_with_len 0 n) ≡ must h q
       → IsOrderAmong h q (map (λ t. t.0) commits) (record { commits = commits; before = before; must = first; chains = chains })
-  made before ascends pairs items count chains links n part first firsts q musts =
+  made before ascends pairs chains links n part first firsts q musts =
       let chained : chains ≡ map (λ x. chain_from (last_step steps x) (length us)) (range_with_len 0 (length h.opening)) =
-      links
-      ∙ (ap (λ k. map (λ x. chain_from (last_step steps x) k) (range_with_len 0 items)) (sym len)
-      ∙ ap (λ k. map (λ x. chain_from (last_step steps x) (length us)) (range_with_len 0 k)) count) in
+      links ∙ ap (λ k. map (λ x. chain_from (last_step steps x) k) (range_with_len 0 (length h.opening))) (sym len) in
       let within : n ≤ length us = omega (arith, part, len) in
       let most : length us ≤ 65535 = omega (arith, few, len) in
       subst (λ ms. IsOrderAmong h q us (record { commits = commits; before = before; must = ms; chains = chains })) (sym firsts)

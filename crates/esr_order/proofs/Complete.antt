@@ -13,14 +13,13 @@ use Rattle.esr_history.proofs.Membership.{In, In-filter, Contains-In, In-Contain
 use Rattle.esr_history.proofs.Versions.{wrote_by, wrote_parts}
 use Rattle.esr_history.proofs.Words.{values_trace}
 use Rattle.esr_history.proofs.WithinRanges.{legal_items}
-use Rattle.esr_order.specs.declared.steps.Step.{Step}
+use Rattle.esr_order.specs.Steps.{Step}
 use Rattle.esr_order.specs.Turns.{turns}
 use Rattle.esr_order.specs.Listing.{is_pair, IsBelow}
 use Rattle.esr_order.specs.Ties.{IsTied, AreNextPaired}
 use Rattle.esr_order.specs.Chains.{Chain, chain_from, if_written, some_chain, last_of, last_in, last_step, last_among, nth, chain_among}
 use Rattle.esr_order.specs.Orders.{Ordered, chain_at, written_chain, IsClosedAt, IsClosedOn, IsOrderAmong, IsOrderOf}
-use Rattle.esr_order.proofs.Tied.{on}
-use Rattle.esr_order.proofs.Walked.{only_writes}
+use Rattle.esr_order.proofs.Kept.{on, writes_in}
 use Rattle.esr_order.proofs.Fewer.{writes_on, between, wrote_last, last_wrote, next_in}
 use Rattle.esr_order.proofs.Placing.{chain_agree}
 use Rattle.esr_order.proofs.Lists.{in_map, of_map, same_default}
@@ -66,13 +65,10 @@ module _ (d : Distance) (h : Schedule) (q : ℕ) (legal : IsLegal d h) (us : Lis
   all_placed : All (λ s. s.place < length us) steps
   all_placed = placed (operations h) us
 
-  rising : (x : ℕ) → Pairs (λ (a b : Step). a.place ≤ b.place) (only_writes (on x steps))
+  rising : (x : ℕ) → Pairs (λ (a b : Step). a.place ≤ b.place) (writes_in (on x steps))
   rising x = Pairs-filter (λ (a b : Step). a.place ≤ b.place) (λ (s : Step). s.writes) (on x steps) (Pairs-filter (λ (a b : Step). a.place ≤ b.place) (λ (s : Step). eqb s.item x) steps (rises (operations h) 0 us))
 
-  pub rising_writes : (x : ℕ) → AllPairs (λ (a b : Step). a.place ≤ b.place) (only_writes (on x steps))
-  rising_writes x = All-from_pairs (λ (a b : Step). a.place ≤ b.place) (only_writes (on x steps)) (rising x)
-
-  module _ (before : List (ℕ × ℕ)) (ascends : AllPairs IsBelow before) (tied : IsTied steps before) (next : (x : ℕ) → AreNextPaired before (only_writes (on x steps))) (n : ℕ) (part : n ≤ length us) (musts : map (nth us) (range_with_len 0 n) ≡ must h q) (few : length us ≤ 65535) (commits : List TxnId) where
+  module _ (before : List (ℕ × ℕ)) (ascends : AllPairs IsBelow before) (tied : IsTied steps before) (next : (x : ℕ) → AreNextPaired before (writes_in (on x steps))) (n : ℕ) (part : n ≤ length us) (musts : map (nth us) (range_with_len 0 n) ≡ must h q) (few : length us ≤ 65535) (commits : List TxnId) where
     abbrev found : Ordered
     found = record { commits = commits; before = before; must = range_with_len 0 n; chains = map (λ x. chain_from (last_step steps x) (length us)) (range_with_len 0 (length h.opening)) }
 
@@ -159,21 +155,21 @@ module _ (d : Distance) (h : Schedule) (q : ℕ) (legal : IsLegal d h) (us : Lis
         subst (λ l. Contains before (slice_index_or l i 0, slice_index_or l (i + 1) 0)) (sym same)
         (let a = writer_there (slice_index_or ws i 0) (wrote i 0 (omega arith)) in
         let b = writer_there (slice_index_or ws (i + 1) 0) (wrote (i + 1) 0 l) in
-        between (only_writes (on x steps)) before (next x) (rising x)
+        between (writes_in (on x steps)) before (next x) (rising x)
         (slice_index_or ws i 0) (slice_index_or ws (i + 1) 0) (ascending i (i + 1) 0 (omega arith) l) a.0 a.1 a.2 b.0 b.1 b.2
         (λ s j above. next_in ws ascending i l s.place (writer_listed s j) above))
       where
-        last_here : (w : ℕ) → w < length us → last_in (only_writes (on x steps)) w ≡ last_among h us x w
+        last_here : (w : ℕ) → w < length us → last_in (writes_in (on x steps)) w ≡ last_among h us x w
         last_here w l = ap (λ ss. last_in ss w) (writes_on x steps) ∙ last_same x w l
 
-        writer_there : (w : ℕ) → (w < length us) × (is_some (last_among h us x w) ≡ true) → (s : Step) × In s (only_writes (on x steps)) × (s.place ≡ w)
-        writer_there w p = last_wrote (only_writes (on x steps)) w (ap is_some (last_here w p.0) ∙ p.1)
+        writer_there : (w : ℕ) → (w < length us) × (is_some (last_among h us x w) ≡ true) → (s : Step) × In s (writes_in (on x steps)) × (s.place ≡ w)
+        writer_there w p = last_wrote (writes_in (on x steps)) w (ap is_some (last_here w p.0) ∙ p.1)
 
-        writer_listed : (s : Step) → In s (only_writes (on x steps)) → In s.place (filter (λ i. is_some (last_among h us x i)) (range_with_len 0 (length us)))
+        writer_listed : (s : Step) → In s (writes_in (on x steps)) → In s.place (filter (λ i. is_some (last_among h us x i)) (range_with_len 0 (length us)))
         writer_listed s j =
             let at : s.place < length us = All-contains (λ (s : Step). s.place < length us) steps s all_placed (In-Contains steps s (In-of_filter (λ (s : Step). eqb s.item x) steps s (In-of_filter (λ (s : Step). s.writes) (on x steps) s j).0).0) in
             In-filter (λ i. is_some (last_among h us x i)) (range_with_len 0 (length us)) s.place (in_range 0 (length us) s.place (omega arith) (omega arith))
-            (sym (ap is_some (last_here s.place at)) ∙ wrote_last (only_writes (on x steps)) s j)
+            (sym (ap is_some (last_here s.place at)) ∙ wrote_last (writes_in (on x steps)) s j)
 
     pub order_found : map (λ t. t.0) commits ≡ us → IsOrderAmong h q us found
     order_found same =

@@ -5,17 +5,16 @@ use Rattle.std.specs.List.{last_or}
 use Rattle.std.proofs.lemmas.Bool.{true≢false, cases_order, cases_eq, eqb-true, eq-eqb}
 use Rattle.std.proofs.lemmas.List.Elements.{All-contains, All-from_recursion}
 use Rattle.esr_history.proofs.Membership.{In, In-Contains, In-filter, In-of_filter, Pairs, each_in, each_at, filter-some}
-use Rattle.esr_order.specs.declared.steps.Step.{Step}
+use Rattle.esr_order.specs.Steps.{Step}
 use Rattle.esr_order.specs.Ties.{AreNextPaired}
 use Rattle.esr_order.specs.Chains.{Chain, chain_from, last_of, last_in, last_step}
-use Rattle.esr_order.proofs.Tied.{on}
-use Rattle.esr_order.proofs.Walked.{only_writes}
+use Rattle.esr_order.proofs.Kept.{on, writes_in}
 
-pub writes_on : (x : ℕ) (ss : List Step) → only_writes (on x ss) ≡ filter (λ s. s.writes && (s.item == x)) ss
+pub writes_on : (x : ℕ) (ss : List Step) → writes_in (on x ss) ≡ filter (λ s. s.writes && (s.item == x)) ss
 writes_on x [] = refl
 writes_on x (s ∷ ss) = at (eqb s.item x) s.writes (writes_on x ss)
   where
-    at : (b w : Bool) → only_writes (on x ss) ≡ filter (λ s. s.writes && (s.item == x)) ss
+    at : (b w : Bool) → writes_in (on x ss) ≡ filter (λ s. s.writes && (s.item == x)) ss
         → filter (λ (s : Step). s.writes) (cond b (s ∷ on x ss) (on x ss)) ≡ cond (s.writes && b) (s ∷ filter (λ s. s.writes && (s.item == x)) ss) (filter (λ s. s.writes && (s.item == x)) ss)
     at true w rest = ap (λ l. cond s.writes (s ∷ l) l) rest ∙ both s.writes
       where
@@ -27,15 +26,6 @@ writes_on x (s ∷ ss) = at (eqb s.item x) s.writes (writes_on x ss)
         none : (w : Bool) → filter (λ s. s.writes && (s.item == x)) ss ≡ cond (w && false) (s ∷ filter (λ s. s.writes && (s.item == x)) ss) (filter (λ s. s.writes && (s.item == x)) ss)
         none true = refl
         none false = refl
-
--- the chain of a row
-pub row_chain : (steps : List Step) (x n : ℕ) (row : List Step) → row ≡ on x steps → All (λ s. s.place < n) steps → AllPairs (λ a b. a.place ≤ b.place) (only_writes (on x steps)) → (c : Chain)
-    → (All (λ s. s.place < n) row → AllPairs (λ a b. a.place ≤ b.place) (only_writes row) → c ≡ chain_from (last_in (only_writes row)) n) → c ≡ chain_from (last_step steps x) n
-row_chain steps x n row is inside rise c made =
-    made
-    (subst (All (λ (s : Step). s.place < n)) (sym is) (All-from_recursion (λ (s : Step). s.place < n) (on x steps) (each_in (λ (s : Step). s.place < n) (on x steps) (λ s i. All-contains (λ (s : Step). s.place < n) steps s inside (In-Contains steps s (In-of_filter (λ (s : Step). eqb s.item x) steps s i).0)))))
-    (subst (λ l. AllPairs (λ (a b : Step). a.place ≤ b.place) (only_writes l)) (sym is) rise)
-    ∙ ap (λ l. chain_from (last_in l) n) (ap only_writes is ∙ writes_on x steps)
 
 -- of two positions that wrote with none between, the pair is there
 pub between : (ws : List Step) (ps : List (ℕ × ℕ)) → AreNextPaired ps ws → Pairs (λ a b. a.place ≤ b.place) ws → (v w : ℕ) → v < w → (a : Step) → In a ws → a.place ≡ v → (b : Step) → In b ws → b.place ≡ w

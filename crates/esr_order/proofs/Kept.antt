@@ -1,16 +1,18 @@
--- The steps of one item, walked once: the last writer, the readers since, and the pairs so far.
-use Rattle.std.proofs.Common.{◌≡◌, ℕ, ◌+◌, ◌*◌, ◌≤◌, Bool, true, false, cond, not, ◌&&◌, ◌||◌, ◌⊎◌, List, [], ◌∷◌, ◌++◌, length, refl, sym, ◌∙◌, ap, subst, inl, inr, ⊎_elim, arith, filter, eqb, Option, Some, None, map, append-nil}
-use Rattle.std.specs.List.{list_any, last_or}
-use Rattle.std.specs.Bool.{⊤}
-use Rattle.std.proofs.lemmas.Bool.{true≢false, cond_both, cases_eq, and_parts, and_from, or_cases, or_left, or_right, eqb-true, eq-eqb, ne_eqb, not_from_false, cond-true, cond-false, eqb-false}
-use Rattle.std.proofs.lemmas.List.{length-append, map-append}
-use Rattle.std.proofs.lemmas.List.Elements.{filter-append}
-use Rattle.std.proofs.lemmas.List.Folds.{list_any-append}
+-- Steps that are gone through from the last to the first: the pairs of each step with the next write of its item, and of a
+-- write with the reads until then, tie them like all their clashes.
+use Rattle.std.proofs.Common.{◌≡◌, ℕ, suc, ◌+◌, ◌*◌, ◌≤◌, Bool, true, false, cond, not, ◌&&◌, ◌||◌, ◌⊎◌, List, [], ◌∷◌, ◌++◌, length, refl, sym, ◌∙◌, ap, subst, inl, inr, ⊎_elim, arith, filter, eqb, Option, Some, None, map, ℤ, ◌-◌, append_assoc, append-nil}
+use Rattle.std.specs.Prelude.{slice_get, ⊤}
+use Rattle.std.specs.List.{list_any}
+use Rattle.std.proofs.lemmas.Bool.{true≢false, cond_both, cases_eq, and_parts, and_from, or_cases, or_left, or_right, eqb-true, eq-eqb, ne_eqb, not_from_false, cond-false, eqb-false}
+use Rattle.std.proofs.lemmas.List.{length-append, length-map, map-append}
+use Rattle.std.proofs.lemmas.List.Elements.{All-contains, All-from_recursion, filter-append}
 use Rattle.esr_history.specs.Serial.{any_pair}
-use Rattle.esr_history.proofs.Membership.{In, In-append_cases, In-append_left, In-append_right, any-from_In}
-use Rattle.esr_order.specs.declared.steps.Step.{Step}
+use Rattle.esr_history.proofs.Membership.{In, In-Contains, In-append_cases, In-append_left, In-append_right, any-from_In, In-any, each_in}
+use Rattle.esr_order.specs.Steps.{Step}
 use Rattle.esr_order.specs.Listing.{clash, is_pair}
-use Rattle.esr_order.specs.Ties.{pair_of, last_pair, pairs_to}
+use Rattle.esr_order.specs.Ties.{pair_of, pairs_from, IsDownward, IsTied, AreNextPaired}
+use Rattle.esr_order.specs.Chains.{Chain, last_writer, is_writer, with_write}
+use Rattle.esr_order.specs.Later.{chain_back, readers_of, writer_in, ties_of, later_ties, turn_ties}
 
 abbrev pub Pair : Type 0
 Pair = ℕ × ℕ
@@ -22,38 +24,6 @@ Holds S pairs = (p : Pair) → In p pairs → S p.1 ≡ true → S p.0 ≡ true
 pub fewer : (ps qs : List Pair) (S : ℕ → Bool) → Holds S (ps ++ qs) → Holds S ps
 fewer ps qs S h p i = h p (In-append_left ps qs p i)
 
--- a pair of elements of a longer list
-any_pair_keep : {X : Type 0} (r : X → X → Bool) (xs : List X) (y : X) → any_pair r xs ≡ true → any_pair r (xs ++ y ∷ []) ≡ true
-any_pair_keep r [] y h = absurd (true≢false (sym h))
-any_pair_keep r (x ∷ xs) y h =
-    ⊎_elim
-    (λ e. or_left (list_any (r x) (xs ++ y ∷ [])) (any_pair r (xs ++ y ∷ [])) (list_any-append (r x) xs (y ∷ []) ∙ or_left (list_any (r x) xs) (list_any (r x) (y ∷ [])) e))
-    (λ e. or_right (list_any (r x) (xs ++ y ∷ [])) (any_pair r (xs ++ y ∷ [])) (any_pair_keep r xs y e))
-    (or_cases (list_any (r x) xs) (any_pair r xs) h)
-
-any_pair_new : {X : Type 0} (r : X → X → Bool) (xs : List X) (y x : X) → In x xs → r x y ≡ true → any_pair r (xs ++ y ∷ []) ≡ true
-any_pair_new r [] y x i h = absurd i
-any_pair_new r (z ∷ zs) y x i h =
-    ⊎_elim
-    (λ e. or_left (list_any (r z) (zs ++ y ∷ [])) (any_pair r (zs ++ y ∷ [])) (any-from_In (r z) (zs ++ y ∷ []) y (In-append_right zs (y ∷ []) y (inl refl)) (ap (λ w. r w y) e ∙ h)))
-    (λ j. or_right (list_any (r z) (zs ++ y ∷ [])) (any_pair r (zs ++ y ∷ [])) (any_pair_new r zs y x j h))
-    i
-
--- of a list with one more element, a pair is of the list, or ends in that element
-any_pair_push : {X : Type 0} (r : X → X → Bool) (xs : List X) (y : X) → any_pair r (xs ++ y ∷ []) ≡ true → (any_pair r xs ≡ true) ⊎ ((x : X) × In x xs × (r x y ≡ true))
-any_pair_push r [] y h = ⊎_elim (λ e. absurd (true≢false (sym e))) (λ e. absurd (true≢false (sym e))) (or_cases false false h)
-any_pair_push r (x ∷ xs) y h =
-    ⊎_elim
-    (λ e. ⊎_elim
-    (λ a. inl (or_left (list_any (r x) xs) (any_pair r xs) a))
-    (λ b. inr (x, inl refl, ⊎_elim (λ c. c) (λ c. absurd (true≢false (sym c))) (or_cases (r x y) false b)))
-    (or_cases (list_any (r x) xs) (list_any (r x) (y ∷ [])) (sym (list_any-append (r x) xs (y ∷ [])) ∙ e)))
-    (λ e. ⊎_elim
-    (λ a. inl (or_right (list_any (r x) xs) (any_pair r xs) a))
-    (λ b. inr (b.0, inr b.1, b.2))
-    (any_pair_push r xs y e))
-    (or_cases (list_any (r x) (xs ++ y ∷ [])) (any_pair r (xs ++ y ∷ [])) h)
-
 abbrev test : ℕ → ℕ → Step → Step → Bool
 test i j a b = eqb a.place i && (eqb b.place j && clash a b)
 
@@ -64,15 +34,13 @@ clash_parts a b h =
     let q = and_parts (eqb a.item b.item) (a.writes || b.writes) p.1 in
     ((λ e. eqb-false a.place b.place (Rattle.std.proofs.lemmas.Bool.not-true (eqb a.place b.place) p.0) e), q.1)
 
+clash_item : (a b : Step) → clash a b ≡ true → a.item ≡ b.item
+clash_item a b h = eqb-true a.item b.item (and_parts (eqb a.item b.item) (a.writes || b.writes) (and_parts (not (eqb a.place b.place)) (eqb a.item b.item && (a.writes || b.writes)) h).1).0
+
 pub clash_from : (a b : Step) → (a.place ≡ b.place → ⊥) → a.item ≡ b.item → (a.writes || b.writes) ≡ true → clash a b ≡ true
 clash_from a b ne same w =
     and_from (not (eqb a.place b.place)) (eqb a.item b.item && (a.writes || b.writes)) (not_from_false (eqb a.place b.place) (ne_eqb a.place b.place ne))
     (and_from (eqb a.item b.item) (a.writes || b.writes) (eq-eqb a.item b.item same) w)
-
-pair_new : (ss : List Step) (a o : Step) → In a ss → clash a o ≡ true → is_pair (ss ++ o ∷ []) a.place o.place ≡ true
-pair_new ss a o i c =
-    any_pair_new (test a.place o.place) ss o a i
-    (and_from (eqb a.place a.place) (eqb o.place o.place && clash a o) (eq-eqb a.place a.place refl) (and_from (eqb o.place o.place) (clash a o) (eq-eqb o.place o.place refl) c))
 
 -- in and of the pairs that a step adds
 in_pair_of : (i j : ℕ) (p : Pair) → In p (pair_of i j) → (p.0 ≡ i) × (p.1 ≡ j) × (i ≡ j → ⊥)
@@ -84,32 +52,26 @@ in_pair_of i j p =
 pair_there : (i j : ℕ) → (i ≡ j → ⊥) → In (i, j) (pair_of i j)
 pair_there i j ne = subst (λ l. In (i, j) l) (sym (cond-false (eqb i j) [] ((i, j) ∷ []) (ne_eqb i j ne))) (inl refl)
 
--- a pair, or the same update: S with the one has the other
-pair_ties : (i j : ℕ) (S : ℕ → Bool) (ps : List Pair) → ((p : Pair) → In p (pair_of i j) → In p ps) → Holds S ps → S j ≡ true → S i ≡ true
-pair_ties i j S ps f h sj =
-    ⊎_elim (λ e. ap S e ∙ sj) (λ ne. h (i, j) (f (i, j) (pair_there i j ne)) sj) (cases_eq i j)
+pub in_pairs_from : (js : List ℕ) (i j : ℕ) → In j js → (i ≡ j → ⊥) → In (i, j) (pairs_from i js)
+in_pairs_from [] i j h ne = absurd h
+in_pairs_from (z ∷ zs) i j h ne =
+    ⊎_elim (λ e. In-append_left (pair_of i z) (pairs_from i zs) (i, j) (subst (λ w. In (i, j) (pair_of i w)) (sym e) (pair_there i j ne)))
+    (λ m. In-append_right (pair_of i z) (pairs_from i zs) (i, j) (in_pairs_from zs i j m ne)) h
 
-in_pairs_to : (is : List ℕ) (i j : ℕ) (p : Pair) → In i is → In p (pair_of i j) → In p (pairs_to is j)
-in_pairs_to [] i j p h k = absurd h
-in_pairs_to (z ∷ zs) i j p h k =
-    ⊎_elim (λ e. In-append_left (pair_of z j) (pairs_to zs j) p (subst (λ w. In p (pair_of w j)) (sym e) k))
-    (λ m. In-append_right (pair_of z j) (pairs_to zs j) p (in_pairs_to zs i j p m k)) h
-
-of_pairs_to : (is : List ℕ) (j : ℕ) (p : Pair) → In p (pairs_to is j) → (i : ℕ) × In i is × In p (pair_of i j)
-of_pairs_to [] j p h = absurd h
-of_pairs_to (z ∷ zs) j p h =
-    ⊎_elim (λ a. (z, inl refl, a)) (λ b. let f = of_pairs_to zs j p b in (f.0, inr f.1, f.2)) (In-append_cases (pair_of z j) (pairs_to zs j) p h)
+pub of_pairs_from : (js : List ℕ) (i : ℕ) (p : Pair) → In p (pairs_from i js) → (p.0 ≡ i) × In p.1 js × (i ≡ p.1 → ⊥)
+of_pairs_from [] i p h = absurd h
+of_pairs_from (z ∷ zs) i p h =
+    ⊎_elim
+    (λ a. let q = in_pair_of i z p a in (q.0, inl (sym q.1), λ e. q.2 (e ∙ q.1)))
+    (λ b. let f = of_pairs_from zs i p b in (f.0, inr f.1, f.2))
+    (In-append_cases (pair_of i z) (pairs_from i zs) p h)
 
 pair_few : (i j : ℕ) → length (pair_of i j) ≤ 1
 pair_few i j = cond_both (eqb i j) [] ((i, j) ∷ []) (λ l. length l ≤ 1) (λ _. omega arith) (λ _. omega arith)
 
-last_few : (l : Option ℕ) (j : ℕ) → length (last_pair l j) ≤ 1
-last_few None j = omega arith
-last_few (Some i) j = pair_few i j
-
-pairs_few : (is : List ℕ) (j : ℕ) → length (pairs_to is j) ≤ length is
-pairs_few [] j = omega arith
-pairs_few (i ∷ is) j = omega (arith, length-append (pair_of i j) (pairs_to is j), pair_few i j, pairs_few is j)
+pub pairs_few : (js : List ℕ) (i : ℕ) → length (pairs_from i js) ≤ length js
+pairs_few [] i = omega arith
+pairs_few (j ∷ js) i = omega (arith, length-append (pair_of i j) (pairs_from i js), pair_few i j, pairs_few js i)
 
 -- two writes in a row, of two updates, are a pair
 abbrev pub Next : List Step → List Pair → Type 0
@@ -122,181 +84,331 @@ next_more [] ps qs f n = tt
 next_more (a ∷ []) ps qs f n = tt
 next_more (a ∷ b ∷ ss) ps qs f n = ((λ ne. f (a.place, b.place) (n.0 ne)), next_more (b ∷ ss) ps qs f n.1)
 
-next_push : (ss : List Step) (b : Step) (ps : List Pair) → Next ss ps → ((w : ℕ) → last_or None (map (λ (s : Step). s.place) ss) ≡ Some w → (w ≡ b.place → ⊥) → In (w, b.place) ps) → Next (ss ++ b ∷ []) ps
-next_push [] b ps n f = tt
-next_push (a ∷ []) b ps n f = (f a.place refl, tt)
-next_push (a ∷ c ∷ ss) b ps n f = (n.0, next_push (c ∷ ss) b ps n.1 f)
-
-last_more : (o : Option ℕ) (xs : List ℕ) (x : ℕ) → last_or o (xs ++ x ∷ []) ≡ Some x
-last_more o [] x = refl
-last_more o (y ∷ xs) x = last_more (Some y) xs x
+pub next_paired : (ss : List Step) (ps : List Pair) → Next ss ps → AreNextPaired ps ss
+next_paired [] ps n = tt
+next_paired (a ∷ []) ps n = tt
+next_paired (a ∷ b ∷ ss) ps n = ((λ ne. In-Contains ps (a.place, b.place) (n.0 ne)), next_paired (b ∷ ss) ps n.1)
 
 abbrev pub writes_in : List Step → List Step
 writes_in ss = filter (λ (s : Step). s.writes) ss
 
--- of the steps ss, all on item x: the last writer, the readers since, and the pairs
-pub record Kept (x : ℕ) (ss : List Step) (last : Option ℕ) (since : List ℕ) (pairs : List Pair) : Type 0 where
-  pub one : (s : Step) → In s ss → s.item ≡ x
-  pub last_is : last ≡ last_or None (map (λ (s : Step). s.place) (writes_in ss))
-  pub no_writer : (s : Step) → In s ss → s.writes ≡ true → last ≡ None → ⊥
-  pub last_wrote : (w : ℕ) → last ≡ Some w → (s : Step) × In s ss × (s.writes ≡ true) × (s.place ≡ w)
-  pub since_is : (r : ℕ) → In r since → (s : Step) × In s ss × (s.place ≡ r)
-  pub sound : (p : Pair) → In p pairs → is_pair ss p.0 p.1 ≡ true
-  pub writers : (S : ℕ → Bool) → Holds S pairs → (s : Step) → In s ss → s.writes ≡ true → (w : ℕ) → last ≡ Some w → S w ≡ true → S s.place ≡ true
-  pub readers : (S : ℕ → Bool) → Holds S pairs → (s : Step) → In s ss → In s.place since ⊎ ((w : ℕ) × (last ≡ Some w) × (S w ≡ true → S s.place ≡ true))
-  pub covers : (S : ℕ → Bool) → Holds S pairs → (i j : ℕ) → is_pair ss i j ≡ true → S j ≡ true → S i ≡ true
-  pub next : Next (writes_in ss) pairs
-  pub few : length pairs + length since ≤ 2 * length ss
+abbrev pub on : ℕ → List Step → List Step
+on x ss = filter (λ (s : Step). eqb s.item x) ss
 
--- where the new pairs tie each clashing earlier step to the new one, the pairs cover the longer list
-covers_more : (ss : List Step) (o : Step) (S : ℕ → Bool) →
-    ((i j : ℕ) → is_pair ss i j ≡ true → S j ≡ true → S i ≡ true) →
-    ((a : Step) → In a ss → clash a o ≡ true → S o.place ≡ true → S a.place ≡ true) →
-    (i j : ℕ) → is_pair (ss ++ o ∷ []) i j ≡ true → S j ≡ true → S i ≡ true
-covers_more ss o S old tie i j h sj =
-    ⊎_elim (λ e. old i j e sj)
-    (λ f.
-    let p1 = and_parts (eqb f.0.place i) (eqb o.place j && clash f.0 o) f.2 in
-    let p2 = and_parts (eqb o.place j) (clash f.0 o) p1.1 in
-    let ei : f.0.place ≡ i = eqb-true f.0.place i p1.0 in
-    let ej : o.place ≡ j = eqb-true o.place j p2.0 in
-    subst (λ w. S w ≡ true) ei (tie f.0 f.1 p2.1 (ap S ej ∙ sj)))
-    (any_pair_push (test i j) ss o h)
+-- ---- the next writer of an item, and the readers until then
 
-length_push : (ss : List Step) (o : Step) → length (ss ++ o ∷ []) ≡ length ss + 1
-length_push ss o = length-append ss (o ∷ [])
+get_pushed : (xs : List ℕ) (x : ℕ) → slice_get (xs ++ x ∷ []) (length xs) ≡ Some x
+get_pushed [] x = refl
+get_pushed (y ∷ xs) x = get_pushed xs x
 
-last_of_push : {X : Type 0} (xs : List X) (x y : X) → In y (xs ++ x ∷ []) → In y xs ⊎ (x ≡ y)
-last_of_push xs x y i = ⊎_elim (λ j. inl j) (λ j. ⊎_elim (λ e. inr e) (λ b. absurd b) j) (In-append_cases xs (x ∷ []) y i)
+pub last_pushed : (xs : List ℕ) (x : ℕ) → slice_get (xs ++ x ∷ []) (length (xs ++ x ∷ []) - 1) ≡ Some x
+last_pushed xs x = let e : length (xs ++ x ∷ []) - 1 ≡ length xs = omega (arith, length-append xs (x ∷ [])) in ap (slice_get (xs ++ x ∷ [])) e ∙ get_pushed xs x
 
--- a read
-pub kept_read : (x : ℕ) (ss : List Step) (last : Option ℕ) (since : List ℕ) (pairs : List Pair) (o : Step) → Kept x ss last since pairs → o.item ≡ x → o.writes ≡ false
-    → Kept x (ss ++ o ∷ []) last (since ++ o.place ∷ []) (pairs ++ last_pair last o.place)
-kept_read x ss last since pairs o k on rd = record {
-  one = λ s i. ⊎_elim (λ j. k.one s j) (λ e. ap (λ z. z.item) (sym e) ∙ on) (last_of_push ss o s i);
-  last_is = k.last_is ∙ ap (λ l. last_or None (map (λ (s : Step). s.place) l)) (sym same_writes);
-  no_writer = λ s i w e. ⊎_elim (λ j. k.no_writer s j w e) (λ q. true≢false (sym w ∙ (ap (λ z. z.writes) (sym q) ∙ rd))) (last_of_push ss o s i);
-  last_wrote = λ w e. let f = k.last_wrote w e in (f.0, In-append_left ss (o ∷ []) f.0 f.1, f.2, f.3);
-  since_is = λ r i. ⊎_elim
-      (λ j. let f = k.since_is r j in (f.0, In-append_left ss (o ∷ []) f.0 f.1, f.2))
-      (λ e. (o, In-append_right ss (o ∷ []) o (inl refl), e))
-      (last_of_push since o.place r i);
-  sound = λ p i. ⊎_elim
-      (λ j. any_pair_keep (test p.0 p.1) ss o (k.sound p j))
-      (λ j. sound_new last refl p j)
-      (In-append_cases pairs (last_pair last o.place) p i);
-  writers = λ S h s i w z e sz. ⊎_elim
-      (λ j. k.writers S (fewer pairs (last_pair last o.place) S h) s j w z e sz)
-      (λ q. absurd (true≢false (sym w ∙ (ap (λ z. z.writes) (sym q) ∙ rd))))
-      (last_of_push ss o s i);
-  readers = λ S h s i. ⊎_elim
-      (λ j. ⊎_elim
-      (λ m. inl (In-append_left since (o.place ∷ []) s.place m))
-      (λ m. inr m)
-      (k.readers S (fewer pairs (last_pair last o.place) S h) s j))
-      (λ q. inl (In-append_right since (o.place ∷ []) s.place (inl (ap (λ z. z.place) q))))
-      (last_of_push ss o s i);
-  covers = λ S h. covers_more ss o S (k.covers S (fewer pairs (last_pair last o.place) S h)) (λ a i c so. tie S h a i c so last refl);
-  next = subst (λ l. Next l (pairs ++ last_pair last o.place)) (sym same_writes) (next_more (writes_in ss) pairs (pairs ++ last_pair last o.place) (λ p i. In-append_left pairs (last_pair last o.place) p i) k.next);
-  few = omega (arith, k.few, length-append pairs (last_pair last o.place), length-append since (o.place ∷ []), length_push ss o, last_few last o.place);
-}
+pub last_put : (c : Chain) (i : ℕ) (v : ℤ) → last_writer (with_write c i v) ≡ Some i
+last_put c i v = at (last_writer c) refl
   where
-    same_writes : writes_in (ss ++ o ∷ []) ≡ writes_in ss
-    same_writes = filter-append (λ (s : Step). s.writes) ss (o ∷ []) ∙ (ap (λ b. writes_in ss ++ cond b (o ∷ []) []) rd ∙ append-nil (writes_in ss))
-
-    sound_new : (l : Option ℕ) → last ≡ l → (p : Pair) → In p (last_pair l o.place) → is_pair (ss ++ o ∷ []) p.0 p.1 ≡ true
-    sound_new None e p j = absurd j
-    sound_new (Some w) e p j =
-        let q = in_pair_of w o.place p j in
-        let f = k.last_wrote w e in
-        subst (λ z. is_pair (ss ++ o ∷ []) z p.1 ≡ true) (f.3 ∙ sym q.0)
-        (subst (λ z. is_pair (ss ++ o ∷ []) f.0.place z ≡ true) (sym q.1)
-        (pair_new ss f.0 o f.1 (clash_from f.0 o (λ z. q.2 (sym f.3 ∙ z)) (k.one f.0 f.1 ∙ sym on) (or_left f.0.writes o.writes f.2))))
-
-    tie : (S : ℕ → Bool) → Holds S (pairs ++ last_pair last o.place) → (a : Step) → In a ss → clash a o ≡ true → S o.place ≡ true → (l : Option ℕ) → last ≡ l → S a.place ≡ true
-    tie S h a i c so None e = absurd (k.no_writer a i (wrote a c) e)
+    at : (o : Option ℕ) → last_writer c ≡ o → last_writer (cond (is_writer o i) c (record { writers = c.writers ++ i ∷ []; values = c.values ++ v ∷ [] })) ≡ Some i
+    at None is = last_pushed c.writers i
+    at (Some w) is = both (eqb w i) refl
       where
-        wrote : (a : Step) → clash a o ≡ true → a.writes ≡ true
-        wrote a c = ⊎_elim (λ w. w) (λ w. absurd (true≢false (sym w ∙ rd))) (or_cases a.writes o.writes (clash_parts a o c).1)
-    tie S h a i c so (Some w) e =
-        k.writers S (fewer pairs (last_pair last o.place) S h) a i
-        (⊎_elim (λ w. w) (λ w. absurd (true≢false (sym w ∙ rd))) (or_cases a.writes o.writes (clash_parts a o c).1)) w e
-        (pair_ties w o.place S (pairs ++ last_pair last o.place) (λ p j. In-append_right pairs (last_pair last o.place) p (subst (λ l. In p (last_pair l o.place)) (sym e) j)) h so)
+        both : (b : Bool) → eqb w i ≡ b → last_writer (cond b c (record { writers = c.writers ++ i ∷ []; values = c.values ++ v ∷ [] })) ≡ Some i
+        both true same = is ∙ ap Some (eqb-true w i same)
+        both false other = last_pushed c.writers i
 
-abbrev pub write_pairs : Option ℕ → List ℕ → ℕ → List Pair
-write_pairs last since j = last_pair last j ++ pairs_to since j
-
--- a write
-pub kept_write : (x : ℕ) (ss : List Step) (last : Option ℕ) (since : List ℕ) (pairs : List Pair) (o : Step) → Kept x ss last since pairs → o.item ≡ x → o.writes ≡ true
-    → Kept x (ss ++ o ∷ []) (Some o.place) [] (pairs ++ (last_pair last o.place ++ pairs_to since o.place))
-kept_write x ss last since pairs o k on wr = record {
-  one = λ s i. ⊎_elim (λ j. k.one s j) (λ e. ap (λ z. z.item) (sym e) ∙ on) (last_of_push ss o s i);
-  last_is = sym (ap (λ l. last_or None (map (λ (s : Step). s.place) l)) more_writes ∙ (ap (last_or None) (map-append (λ (s : Step). s.place) (writes_in ss) (o ∷ [])) ∙ last_more None (map (λ (s : Step). s.place) (writes_in ss)) o.place));
-  no_writer = λ s i w e. some_none e;
-  last_wrote = λ w e. (o, In-append_right ss (o ∷ []) o (inl refl), wr, some_same e);
-  since_is = λ r i. absurd i;
-  sound = λ p i. ⊎_elim
-      (λ j. any_pair_keep (test p.0 p.1) ss o (k.sound p j))
-      (λ j. ⊎_elim (λ m. sound_last last refl p m) (λ m. sound_since p m) (In-append_cases (last_pair last o.place) (pairs_to since o.place) p j))
-      (In-append_cases pairs (write_pairs last since o.place) p i);
-  writers = λ S h s i w z e sz.
-      let so : S o.place ≡ true = ap S (some_same e) ∙ sz in
-      ⊎_elim (λ j. reach S h s j so) (λ q. ap (λ y. S y.place) (sym q) ∙ so) (last_of_push ss o s i);
-  readers = λ S h s i. inr (o.place, refl, (λ so. ⊎_elim (λ j. reach S h s j so) (λ q. ap (λ y. S y.place) (sym q) ∙ so) (last_of_push ss o s i)));
-  covers = λ S h. covers_more ss o S (k.covers S (fewer pairs (write_pairs last since o.place) S h)) (λ a i c so. reach S h a i so);
-  next = subst (λ l. Next l (pairs ++ (write_pairs last since o.place))) (sym more_writes)
-      (next_push (writes_in ss) o (pairs ++ (write_pairs last since o.place)) (next_more (writes_in ss) pairs (pairs ++ (write_pairs last since o.place)) (λ p i. In-append_left pairs (write_pairs last since o.place) p i) k.next)
-      (λ w e ne. In-append_right pairs (write_pairs last since o.place) (w, o.place) (In-append_left (last_pair last o.place) (pairs_to since o.place) (w, o.place)
-      (subst (λ l. In (w, o.place) (last_pair l o.place)) (sym (k.last_is ∙ e)) (pair_there w o.place ne)))));
-  few = omega (arith, k.few, length-append pairs (write_pairs last since o.place), length-append (last_pair last o.place) (pairs_to since o.place), length_push ss o, last_few last o.place, pairs_few since o.place);
-}
+-- the next writer wrote the item
+writer_from : (x : ℕ) (ss : List Step) (w : ℕ) → last_writer (chain_back x ss) ≡ Some w → (b : Step) × In b ss × (b.item ≡ x) × (b.writes ≡ true) × (b.place ≡ w)
+writer_from x [] w is = absurd (cc)
+writer_from x (z ∷ zs) w is = at (eqb z.item x) refl z.writes refl (writer_from x zs w) is
   where
-    some_none : {A : Type 0} {x : A} → Some x ≡ None → ⊥
-    some_none e = cc
+    Found : List Step → Type 0
+    Found ss = (b : Step) × In b ss × (b.item ≡ x) × (b.writes ≡ true) × (b.place ≡ w)
 
-    some_same : {A : Type 0} {x y : A} → Some x ≡ Some y → x ≡ y
-    some_same e = cc
+    later : Found zs → Found (z ∷ zs)
+    later f = (f.0, inr f.1, f.2, f.3, f.4)
 
-    more_writes : writes_in (ss ++ o ∷ []) ≡ writes_in ss ++ o ∷ []
-    more_writes = filter-append (λ (s : Step). s.writes) ss (o ∷ []) ∙ ap (λ b. writes_in ss ++ cond b (o ∷ []) []) wr
+    at : (here : Bool) → eqb z.item x ≡ here → (writes : Bool) → z.writes ≡ writes → (last_writer (chain_back x zs) ≡ Some w → Found zs) → last_writer (cond here (cond writes (with_write (chain_back x zs) z.place z.value) (chain_back x zs)) (chain_back x zs)) ≡ Some w → Found (z ∷ zs)
+    at true e true wr rest h = let same : Some z.place ≡ Some w = sym (last_put (chain_back x zs) z.place z.value) ∙ h in (z, inl refl, eqb-true z.item x e, wr, some_same same)
+      where
+        some_same : {a b : ℕ} → Some a ≡ Some b → a ≡ b
+        some_same e = cc
+    at true e false wr rest h = later (rest h)
+    at false e writes wr rest h = later (rest h)
 
-    sound_last : (l : Option ℕ) → last ≡ l → (p : Pair) → In p (last_pair l o.place) → is_pair (ss ++ o ∷ []) p.0 p.1 ≡ true
-    sound_last None e p j = absurd j
-    sound_last (Some w) e p j =
-        let q = in_pair_of w o.place p j in
-        let f = k.last_wrote w e in
-        subst (λ z. is_pair (ss ++ o ∷ []) z p.1 ≡ true) (f.3 ∙ sym q.0)
-        (subst (λ z. is_pair (ss ++ o ∷ []) f.0.place z ≡ true) (sym q.1)
-        (pair_new ss f.0 o f.1 (clash_from f.0 o (λ z. q.2 (sym f.3 ∙ z)) (k.one f.0 f.1 ∙ sym on) (or_right f.0.writes o.writes wr))))
+readers_from : (x : ℕ) (ss : List Step) (r : ℕ) → In r (readers_of x ss) → (b : Step) × In b ss × (b.item ≡ x) × (b.place ≡ r)
+readers_from x [] r i = absurd i
+readers_from x (z ∷ zs) r i = at (eqb z.item x) refl z.writes (readers_from x zs r) i
+  where
+    Found : List Step → Type 0
+    Found ss = (b : Step) × In b ss × (b.item ≡ x) × (b.place ≡ r)
 
-    sound_since : (p : Pair) → In p (pairs_to since o.place) → is_pair (ss ++ o ∷ []) p.0 p.1 ≡ true
-    sound_since p j =
-        let g = of_pairs_to since o.place p j in
-        let q = in_pair_of g.0 o.place p g.2 in
-        let f = k.since_is g.0 g.1 in
-        subst (λ z. is_pair (ss ++ o ∷ []) z p.1 ≡ true) (f.2 ∙ sym q.0)
-        (subst (λ z. is_pair (ss ++ o ∷ []) f.0.place z ≡ true) (sym q.1)
-        (pair_new ss f.0 o f.1 (clash_from f.0 o (λ z. q.2 (sym f.2 ∙ z)) (k.one f.0 f.1 ∙ sym on) (or_right f.0.writes o.writes wr))))
+    later : Found zs → Found (z ∷ zs)
+    later f = (f.0, inr f.1, f.2, f.3)
 
-    reach : (S : ℕ → Bool) → Holds S (pairs ++ (write_pairs last since o.place)) → (a : Step) → In a ss → S o.place ≡ true → S a.place ≡ true
-    reach S h a i so =
-        ⊎_elim
-        (λ m. pair_ties a.place o.place S (pairs ++ (write_pairs last since o.place)) (λ p j. In-append_right pairs (write_pairs last since o.place) p (In-append_right (last_pair last o.place) (pairs_to since o.place) p (in_pairs_to since a.place o.place p m j))) h so)
-        (λ m. m.2 (pair_ties m.0 o.place S (pairs ++ (write_pairs last since o.place))
-        (λ p j. In-append_right pairs (write_pairs last since o.place) p (In-append_left (last_pair last o.place) (pairs_to since o.place) p (subst (λ l. In p (last_pair l o.place)) (sym m.1) j))) h so))
-        (k.readers S (fewer pairs (write_pairs last since o.place) S h) a i)
+    at : (here : Bool) → eqb z.item x ≡ here → (writes : Bool) → (In r (readers_of x zs) → Found zs) → In r (cond here (cond writes [] (readers_of x zs ++ z.place ∷ [])) (readers_of x zs)) → Found (z ∷ zs)
+    at true e true rest h = absurd h
+    at true e false rest h = ⊎_elim (λ j. later (rest j)) (λ j. ⊎_elim (λ p. (z, inl refl, eqb-true z.item x e, p)) (λ b. absurd b) j) (In-append_cases (readers_of x zs) (z.place ∷ []) r h)
+    at false e writes rest h = later (rest h)
 
-pub kept_none : (x : ℕ) → Kept x [] None [] []
-kept_none x = record {
-  one = λ s i. absurd i;
-  last_is = refl;
-  no_writer = λ s i w e. i;
-  last_wrote = λ w e. absurd (cc);
-  since_is = λ r i. absurd i;
-  sound = λ p i. absurd i;
-  writers = λ S h s i. absurd i;
-  readers = λ S h s i. absurd i;
-  covers = λ S h i j e. absurd (true≢false (sym e));
-  next = tt;
-  few = omega arith;
+pair_front : (s : Step) (ss : List Step) (b : Step) → In b ss → clash s b ≡ true → is_pair (s ∷ ss) s.place b.place ≡ true
+pair_front s ss b i c =
+    or_left (list_any (test s.place b.place s) ss) (any_pair (test s.place b.place) ss)
+    (any-from_In (test s.place b.place s) ss b i
+    (and_from (eqb s.place s.place) (eqb b.place b.place && clash s b) (eq-eqb s.place s.place refl) (and_from (eqb b.place b.place) (clash s b) (eq-eqb b.place b.place refl) c)))
+
+pair_later : (s : Step) (ss : List Step) (i j : ℕ) → is_pair ss i j ≡ true → is_pair (s ∷ ss) i j ≡ true
+pair_later s ss i j h = or_right (list_any (test i j s) ss) (any_pair (test i j) ss) h
+
+-- the next writer is the step's, or before it
+abbrev Reached : List Step → ℕ → Option ℕ → Type 0
+Reached ss place o = (w : ℕ) × (o ≡ Some w) × ((w ≡ place) ⊎ (is_pair ss w place ≡ true))
+
+-- a step is a read until the next write, or that write is before it
+reach : (x : ℕ) (ss : List Step) (b : Step) → In b ss → b.item ≡ x → (In b.place (readers_of x ss) × (b.writes ≡ false)) ⊎ Reached ss b.place (last_writer (chain_back x ss))
+reach x [] b i own = absurd i
+reach x (z ∷ zs) b i own = at (eqb z.item x) refl z.writes refl (λ k. reach x zs b k own) i
+  where
+    Chained : Bool → Bool → Chain
+    Chained here writes = cond here (cond writes (with_write (chain_back x zs) z.place z.value) (chain_back x zs)) (chain_back x zs)
+
+    Outcome : List Step → List ℕ → Chain → Type 0
+    Outcome ss readers c = (In b.place readers × (b.writes ≡ false)) ⊎ Reached ss b.place (last_writer c)
+
+    Readers : Bool → Bool → List ℕ
+    Readers here writes = cond here (cond writes [] (readers_of x zs ++ z.place ∷ [])) (readers_of x zs)
+
+    further : (o : Option ℕ) → Reached zs b.place o → Reached (z ∷ zs) b.place o
+    further o r = (r.0, r.1, ⊎_elim (λ e. inl e) (λ h. inr (pair_later z zs r.0 b.place h)) r.2)
+
+    at : (here : Bool) → eqb z.item x ≡ here → (writes : Bool) → z.writes ≡ writes → (In b zs → Outcome zs (readers_of x zs) (chain_back x zs)) → In b (z ∷ zs) → Outcome (z ∷ zs) (Readers here writes) (Chained here writes)
+    at true e true wr rest j =
+        inr (z.place, last_put (chain_back x zs) z.place z.value,
+        ⊎_elim (λ same. inl (ap (λ s. s.place) same))
+        (λ k. ⊎_elim (λ p. inl p) (λ ne. inr (pair_front z zs b k (clash_from z b ne (eqb-true z.item x e ∙ sym own) (or_left z.writes b.writes wr)))) (cases_eq z.place b.place)) j)
+    at true e false wr rest j =
+        ⊎_elim (λ same. inl (In-append_right (readers_of x zs) (z.place ∷ []) b.place (inl (ap (λ s. s.place) same)), sym (ap (λ s. s.writes) same) ∙ wr))
+        (λ k. ⊎_elim (λ r. inl (In-append_left (readers_of x zs) (z.place ∷ []) b.place r.0, r.1)) (λ r. inr (further (last_writer (chain_back x zs)) r)) (rest k)) j
+    at false e writes wr rest j =
+        ⊎_elim (λ same. absurd (eqb-false z.item x e (ap (λ s. s.item) same ∙ own)))
+        (λ k. ⊎_elim (λ r. inl r) (λ r. inr (further (last_writer (chain_back x zs)) r)) (rest k)) j
+
+abbrev first_place : List Step → Option ℕ
+first_place [] = None
+first_place (s ∷ ss) = Some s.place
+
+-- the next writer is that of the first write
+first_write : (x : ℕ) (ss : List Step) → last_writer (chain_back x ss) ≡ first_place (writes_in (on x ss))
+first_write x [] = refl
+first_write x (z ∷ zs) = at (eqb z.item x) z.writes (first_write x zs)
+  where
+    at : (here writes : Bool) → last_writer (chain_back x zs) ≡ first_place (writes_in (on x zs))
+        → last_writer (cond here (cond z.writes (with_write (chain_back x zs) z.place z.value) (chain_back x zs)) (chain_back x zs)) ≡ first_place (writes_in (cond here (z ∷ on x zs) (on x zs)))
+    at true writes rest = both z.writes
+      where
+        both : (w : Bool) → last_writer (cond w (with_write (chain_back x zs) z.place z.value) (chain_back x zs)) ≡ first_place (cond w (z ∷ writes_in (on x zs)) (writes_in (on x zs)))
+        both true = last_put (chain_back x zs) z.place z.value
+        both false = rest
+    at false writes rest = rest
+
+-- ---- the pairs of some steps
+
+pub record Kept (ss : List Step) (pairs : List Pair) : Type 0 where
+  pub sound : (p : Pair) → In p pairs → is_pair ss p.0 p.1 ≡ true
+  pub covers : (S : ℕ → Bool) → Holds S pairs → (i j : ℕ) → is_pair ss i j ≡ true → S j ≡ true → S i ≡ true
+  pub next : (x : ℕ) → Next (writes_in (on x ss)) pairs
+
+pub kept_none : Kept [] []
+kept_none = record { sound = λ p i. absurd i; covers = λ S h i j e. absurd (true≢false (sym e)); next = λ x. tt }
+
+-- the same pairs in another order
+pub kept_same : (ss : List Step) (ps qs : List Pair) → ((p : Pair) → In p ps → In p qs) → ((p : Pair) → In p qs → In p ps) → Kept ss ps → Kept ss qs
+kept_same ss ps qs to from k = record {
+  sound = λ p i. k.sound p (from p i);
+  covers = λ S h. k.covers S (λ p i. h p (to p i));
+  next = λ x. next_more (writes_in (on x ss)) ps qs to (k.next x);
+}
+
+-- with one more step before
+module _ (s : Step) (ss : List Step) (pairs : List Pair) (k : Kept ss pairs) where
+  abbrev ties : List ℕ
+  ties = later_ties s ss
+
+  abbrev own : List Pair
+  own = pairs_from s.place (later_ties s ss)
+
+  abbrev writer : Option ℕ
+  writer = last_writer (chain_back s.item ss)
+
+  to_writer : (w : ℕ) → writer ≡ Some w → In w ties
+  to_writer w is = In-append_left (writer_in writer) (cond s.writes (readers_of s.item ss) []) w (subst (λ o. In w (writer_in o)) (sym is) (inl refl))
+
+  to_reader : (r : ℕ) → s.writes ≡ true → In r (readers_of s.item ss) → In r ties
+  to_reader r wr i = In-append_right (writer_in writer) (cond s.writes (readers_of s.item ss) []) r (subst (λ b. In r (cond b (readers_of s.item ss) [])) (sym wr) i)
+
+  of_writer : (o : Option ℕ) (w : ℕ) → In w (writer_in o) → o ≡ Some w
+  of_writer None w i = absurd i
+  of_writer (Some v) w i = ⊎_elim (λ e. ap Some e) (λ b. absurd b) i
+
+  -- S with what the step is tied to has the step
+  holds : (S : ℕ → Bool) → Holds S (own ++ pairs) → (j : ℕ) → In j ties → S j ≡ true → S s.place ≡ true
+  holds S h j i sj = ⊎_elim (λ e. ap S e ∙ sj) (λ ne. h (s.place, j) (In-append_left own pairs (s.place, j) (in_pairs_from ties s.place j i ne)) sj) (cases_eq s.place j)
+
+  later_holds : (S : ℕ → Bool) → Holds S (own ++ pairs) → Holds S pairs
+  later_holds S h p i = h p (In-append_right own pairs p i)
+
+  sound_tie : (j : ℕ) → (s.place ≡ j → ⊥) → In j ties → is_pair (s ∷ ss) s.place j ≡ true
+  sound_tie j ne i =
+      ⊎_elim
+      (λ a. let b = writer_from s.item ss j (of_writer writer j a) in
+      subst (λ z. is_pair (s ∷ ss) s.place z ≡ true) b.4 (pair_front s ss b.0 b.1 (clash_from s b.0 (λ e. ne (e ∙ b.4)) (sym b.2) (or_right s.writes b.0.writes b.3))))
+      (λ a. read s.writes refl a)
+      (In-append_cases (writer_in writer) (cond s.writes (readers_of s.item ss) []) j i)
+    where
+      read : (w : Bool) → s.writes ≡ w → In j (cond w (readers_of s.item ss) []) → is_pair (s ∷ ss) s.place j ≡ true
+      read true wr a =
+          let b = readers_from s.item ss j a in
+          subst (λ z. is_pair (s ∷ ss) s.place z ≡ true) b.3 (pair_front s ss b.0 b.1 (clash_from s b.0 (λ e. ne (e ∙ b.3)) (sym b.2) (or_left s.writes b.0.writes wr)))
+      read false wr a = absurd a
+
+  front : (S : ℕ → Bool) → Holds S (own ++ pairs) → (b : Step) → In b ss → clash s b ≡ true → S b.place ≡ true → S s.place ≡ true
+  front S h b i c sb =
+      ⊎_elim
+      (λ r. holds S h b.place (to_reader b.place (⊎_elim (λ w. w) (λ w. absurd (true≢false (sym w ∙ r.1))) (or_cases s.writes b.writes (clash_parts s b c).1)) r.0) sb)
+      (λ r. holds S h r.0 (to_writer r.0 r.1) (⊎_elim (λ e. ap S e ∙ sb) (λ before. k.covers S (later_holds S h) r.0 b.place before sb) r.2))
+      (reach s.item ss b i (sym (clash_item s b c)))
+
+  pub kept_step : Kept (s ∷ ss) (own ++ pairs)
+  kept_step = record {
+    sound = λ p i. ⊎_elim
+        (λ a. let q = of_pairs_from ties s.place p a in subst (λ z. is_pair (s ∷ ss) z p.1 ≡ true) (sym q.0) (sound_tie p.1 q.2 q.1))
+        (λ b. pair_later s ss p.0 p.1 (k.sound p b))
+        (In-append_cases own pairs p i);
+    covers = λ S h i j c sj. ⊎_elim
+        (λ e.
+        let b = In-any (test i j s) ss e in
+        let p = and_parts (eqb s.place i) (eqb b.0.place j && clash s b.0) b.2 in
+        let q = and_parts (eqb b.0.place j) (clash s b.0) p.1 in
+        subst (λ z. S z ≡ true) (eqb-true s.place i p.0) (front S h b.0 b.1 q.1 (ap S (eqb-true b.0.place j q.0) ∙ sj)))
+        (λ e. k.covers S (later_holds S h) i j e sj)
+        (or_cases (list_any (test i j s) ss) (any_pair (test i j) ss) c);
+    next = λ x. follows x (eqb s.item x) refl s.writes refl;
+  }
+    where
+      kept_next : (x : ℕ) → Next (writes_in (on x ss)) (own ++ pairs)
+      kept_next x = next_more (writes_in (on x ss)) pairs (own ++ pairs) (λ p i. In-append_right own pairs p i) (k.next x)
+
+      first : (ws : List Step) → writer ≡ first_place ws → Next ws (own ++ pairs) → Next (s ∷ ws) (own ++ pairs)
+      first [] is n = tt
+      first (b ∷ ws) is n = ((λ ne. In-append_left own pairs (s.place, b.place) (in_pairs_from ties s.place b.place (to_writer b.place is) ne)), n)
+
+      follows : (x : ℕ) (here : Bool) → eqb s.item x ≡ here → (writes : Bool) → s.writes ≡ writes → Next (writes_in (cond here (s ∷ on x ss) (on x ss))) (own ++ pairs)
+      follows x true e writes wr = subst (λ b. Next (cond b (s ∷ writes_in (on x ss)) (writes_in (on x ss))) (own ++ pairs)) (sym wr) (both writes)
+        where
+          both : (w : Bool) → Next (cond w (s ∷ writes_in (on x ss)) (writes_in (on x ss))) (own ++ pairs)
+          both true = first (writes_in (on x ss)) (ap (λ y. last_writer (chain_back y ss)) (eqb-true s.item x e) ∙ first_write x ss) (kept_next x)
+          both false = kept_next x
+      follows x false e writes wr = kept_next x
+
+pairs_append : (i : ℕ) (js ks : List ℕ) → pairs_from i (js ++ ks) ≡ pairs_from i js ++ pairs_from i ks
+pairs_append i [] ks = refl
+pairs_append i (j ∷ js) ks = ap (λ l. pair_of i j ++ l) (pairs_append i js ks) ∙ sym (append_assoc (pair_of i j) (pairs_from i js) (pairs_from i ks))
+
+-- with the steps of one update before
+pub kept_turn : (i : ℕ) (turn ss : List Step) (pairs : List Pair) → ((s : Step) → In s turn → s.place ≡ i) → Kept ss pairs → Kept (turn ++ ss) (pairs_from i (turn_ties turn ss) ++ pairs)
+kept_turn i [] ss pairs places k = k
+kept_turn i (s ∷ turn) ss pairs places k =
+    subst (λ l. Kept (s ∷ turn ++ ss) (l ++ pairs)) (sym (pairs_append i before own))
+    (kept_same (s ∷ turn ++ ss) (pairs_from i own ++ (pairs_from i before ++ pairs)) ((pairs_from i before ++ pairs_from i own) ++ pairs)
+    (λ p j. ⊎_elim (λ a. left p (In-append_right (pairs_from i before) (pairs_from i own) p a)) (λ a. ⊎_elim (λ b. left p (In-append_left (pairs_from i before) (pairs_from i own) p b)) (λ b. In-append_right (pairs_from i before ++ pairs_from i own) pairs p b) (In-append_cases (pairs_from i before) pairs p a)) (In-append_cases (pairs_from i own) (pairs_from i before ++ pairs) p j))
+    (λ p j. ⊎_elim (λ a. ⊎_elim (λ b. In-append_right (pairs_from i own) (pairs_from i before ++ pairs) p (In-append_left (pairs_from i before) pairs p b)) (λ b. In-append_left (pairs_from i own) (pairs_from i before ++ pairs) p b) (In-append_cases (pairs_from i before) (pairs_from i own) p a)) (λ a. In-append_right (pairs_from i own) (pairs_from i before ++ pairs) p (In-append_right (pairs_from i before) pairs p a)) (In-append_cases (pairs_from i before ++ pairs_from i own) pairs p j))
+    (subst (λ n. Kept (s ∷ turn ++ ss) (pairs_from n own ++ (pairs_from i before ++ pairs))) (places s (inl refl))
+    (kept_step s (turn ++ ss) (pairs_from i before ++ pairs) (kept_turn i turn ss pairs (λ z j. places z (inr j)) k))))
+  where
+    before : List ℕ
+    before = turn_ties turn ss
+
+    own : List ℕ
+    own = later_ties s (turn ++ ss)
+
+    left : (p : Pair) → In p (pairs_from i before ++ pairs_from i own) → In p ((pairs_from i before ++ pairs_from i own) ++ pairs)
+    left p j = In-append_left (pairs_from i before ++ pairs_from i own) pairs p j
+
+-- ---- how many there are
+
+-- the reads that no write of their item comes before
+abbrev pub open_reads : List Step → List Step
+open_reads [] = []
+open_reads (s ∷ ss) = cond s.writes (filter (λ (r : Step). not (eqb r.item s.item)) (open_reads ss)) (open_reads ss ++ s ∷ [])
+
+on_left : (x y : ℕ) (ss : List Step) → on x (filter (λ (r : Step). not (eqb r.item y)) ss) ≡ cond (eqb y x) [] (on x ss)
+on_left x y [] = cond_both (eqb y x) [] [] (λ (l : List Step). [] ≡ l) (λ _. refl) (λ _. refl)
+on_left x y (s ∷ ss) = ⊎_elim
+    (λ e. ap (λ b. on x (cond (not b) (s ∷ kept) kept)) (eq-eqb s.item y e) ∙ (on_left x y ss ∙ same e (eqb y x) refl))
+    (λ ne. ap (λ b. on x (cond (not b) (s ∷ kept) kept)) (ne_eqb s.item y ne) ∙ (ap (λ l. cond (eqb s.item x) (s ∷ l) l) (on_left x y ss) ∙ other ne (eqb y x) refl))
+    (cases_eq s.item y)
+  where
+    kept : List Step
+    kept = filter (λ (r : Step). not (eqb r.item y)) ss
+
+    same : s.item ≡ y → (b : Bool) → eqb y x ≡ b → cond b [] (on x ss) ≡ cond b [] (cond (eqb s.item x) (s ∷ on x ss) (on x ss))
+    same e true is = refl
+    same e false is = ap (λ b. cond b (s ∷ on x ss) (on x ss)) (sym (ap (λ z. eqb z x) e ∙ is))
+
+    other : (s.item ≡ y → ⊥) → (b : Bool) → eqb y x ≡ b → cond (eqb s.item x) (s ∷ cond b [] (on x ss)) (cond b [] (on x ss)) ≡ cond b [] (cond (eqb s.item x) (s ∷ on x ss) (on x ss))
+    other ne true is = ap (λ b. cond b (s ∷ []) []) (ne_eqb s.item x (λ e. ne (e ∙ sym (eqb-true y x is))))
+    other ne false is = refl
+
+readers_open : (x : ℕ) (ss : List Step) → readers_of x ss ≡ map (λ (s : Step). s.place) (on x (open_reads ss))
+readers_open x [] = refl
+readers_open x (s ∷ ss) = at s.writes (readers_open x ss)
+  where
+    places : List Step → List ℕ
+    places ss = map (λ (s : Step). s.place) ss
+
+    at : (w : Bool) → readers_of x ss ≡ places (on x (open_reads ss))
+        → cond (eqb s.item x) (cond w [] (readers_of x ss ++ s.place ∷ [])) (readers_of x ss) ≡ places (on x (cond w (filter (λ (r : Step). not (eqb r.item s.item)) (open_reads ss)) (open_reads ss ++ s ∷ [])))
+    at true rest = here (eqb s.item x) ∙ ap places (sym (on_left x s.item (open_reads ss)))
+      where
+        here : (b : Bool) → cond b [] (readers_of x ss) ≡ places (cond b [] (on x (open_reads ss)))
+        here true = refl
+        here false = rest
+    at false rest = here (eqb s.item x) ∙ ap places (sym (filter-append (λ (s : Step). eqb s.item x) (open_reads ss) (s ∷ [])))
+      where
+        here : (b : Bool) → cond b (readers_of x ss ++ s.place ∷ []) (readers_of x ss) ≡ places (on x (open_reads ss) ++ cond b (s ∷ []) [])
+        here true = ap (λ l. l ++ s.place ∷ []) rest ∙ sym (map-append (λ (s : Step). s.place) (on x (open_reads ss)) (s ∷ []))
+        here false = rest ∙ ap places (sym (append-nil (on x (open_reads ss))))
+
+split_count : (y : ℕ) (ss : List Step) → length (on y ss) + length (filter (λ (r : Step). not (eqb r.item y)) ss) ≡ length ss
+split_count y [] = refl
+split_count y (s ∷ ss) = at (eqb s.item y) (split_count y ss)
+  where
+    at : (b : Bool) → length (on y ss) + length (filter (λ (r : Step). not (eqb r.item y)) ss) ≡ length ss
+        → length (cond b (s ∷ on y ss) (on y ss)) + length (cond (not b) (s ∷ filter (λ (r : Step). not (eqb r.item y)) ss) (filter (λ (r : Step). not (eqb r.item y)) ss)) ≡ suc (length ss)
+    at true rest = omega (arith, rest)
+    at false rest = omega (arith, rest)
+
+one_writer : (o : Option ℕ) → length (writer_in o) ≤ 1
+one_writer None = omega arith
+one_writer (Some w) = omega arith
+
+step_count : (s : Step) (ss : List Step) → length (later_ties s ss) + length (open_reads (s ∷ ss)) ≤ 2 + length (open_reads ss)
+step_count s ss = at s.writes
+  where
+    writer : Option ℕ
+    writer = last_writer (chain_back s.item ss)
+
+    at : (w : Bool) → length (writer_in writer ++ cond w (readers_of s.item ss) []) + length (cond w (filter (λ (r : Step). not (eqb r.item s.item)) (open_reads ss)) (open_reads ss ++ s ∷ [])) ≤ 2 + length (open_reads ss)
+    at true = omega (arith, one_writer writer, length-append (writer_in writer) (readers_of s.item ss), ap length (readers_open s.item ss), length-map (on s.item (open_reads ss)) (λ (s : Step). s.place), split_count s.item (open_reads ss))
+    at false = omega (arith, one_writer writer, ap length (append-nil (writer_in writer)), length-append (open_reads ss) (s ∷ []))
+
+pub turn_count : (turn ss : List Step) → length (turn_ties turn ss) + length (open_reads (turn ++ ss)) ≤ 2 * length turn + length (open_reads ss)
+turn_count [] ss = omega arith
+turn_count (s ∷ turn) ss = omega (arith, turn_count turn ss, step_count s (turn ++ ss), length-append (turn_ties turn ss) (later_ties s (turn ++ ss)))
+
+-- ---- all of them
+
+pub tied_all : (ss : List Step) (pairs : List Pair) → Kept ss pairs → length pairs ≤ 2 * length ss → IsTied ss pairs
+tied_all ss pairs k few = record {
+  sound = All-from_recursion (λ (p : Pair). is_pair ss p.0 p.1 ≡ true) pairs (each_in (λ (p : Pair). is_pair ss p.0 p.1 ≡ true) pairs (λ p i. k.sound p i));
+  closed = λ S d. k.covers S (λ p i. All-contains (λ (p : Pair). S p.1 ≡ true → S p.0 ≡ true) pairs p d (In-Contains pairs p i));
+  few = few;
 }

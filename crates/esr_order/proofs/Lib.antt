@@ -5,8 +5,7 @@ pub mod Ordered
 pub mod Entries
 pub mod Kept
 pub mod Turns
-pub mod Tied
-pub mod Walked
+pub mod Chained
 pub mod Fewer
 pub mod Linked
 pub mod Accessed
@@ -16,10 +15,9 @@ pub mod Commits
 pub mod Amid
 pub mod NearLaws
 pub mod NearFound
+pub mod Gathering
 pub mod Seeking
-pub mod Divided
 pub mod Sorted
-pub mod ChainSteps
 pub mod Placing
 pub mod Early
 pub mod Complete

@@ -1,8 +1,8 @@
 -- Lists: what is in those that are made of others, where an element stands, and two that pass a test together.
-use Rattle.std.proofs.Common.{◌≡◌, ℕ, zero, suc, ◌<◌, Bool, true, false, List, [], ◌∷◌, ◌++◌, take, drop, append-nil, length, get_or, refl, sym, ◌∙◌, ap, arith, inl, inr, ⊎_elim, filter, map, cond, subst, Option, Some, None}
+use Rattle.std.proofs.Common.{◌≡◌, ℕ, zero, suc, ◌+◌, ◌<◌, ◌≤◌, slice_set, arith, Bool, true, false, List, [], ◌∷◌, ◌++◌, take, drop, append-nil, length, get_or, refl, sym, ◌∙◌, ap, inl, inr, ⊎_elim, filter, map, cond, subst, Option, Some, None}
 use Rattle.std.specs.Prelude.{⊤}
 use Rattle.std.specs.List.{list_any, filter_map, cons_option, slice_get, AllByRecursion}
-use Rattle.std.proofs.lemmas.Bool.{true≢false, or_cases}
+use Rattle.std.proofs.lemmas.Bool.{true≢false, or_cases, cond_both}
 use Rattle.std.proofs.lemmas.Option.{same_Some}
 use Rattle.esr_history.specs.Serial.{any_pair}
 use Rattle.esr_history.proofs.Membership.{In, In-any, Pairs, each_at}
@@ -90,3 +90,32 @@ written_back {X} xs ys n is len =
     all : (zs : List X) → take (length zs) zs ≡ zs
     all [] = refl
     all (z ∷ zs) = ap (λ l. z ∷ l) (all zs)
+
+pub filter_shorter : {X : Type 0} (p : X → Bool) (xs : List X) → length (filter p xs) ≤ length xs
+filter_shorter p [] = omega arith
+filter_shorter p (x ∷ xs) = let rest = filter_shorter p xs in cond_both (p x) (x ∷ filter p xs) (filter p xs) (λ l. length l ≤ suc (length xs)) (λ _. omega (arith, rest)) (λ _. omega (arith, rest))
+
+-- a list of which the first n are changed
+abbrev pub changed : {X : Type 0} → (X → X) → List X → ℕ → List X
+changed f [] n = []
+changed f (x ∷ xs) zero = x ∷ xs
+changed f (x ∷ xs) (suc n) = f x ∷ changed f xs n
+
+pub changed_none : {X : Type 0} (f : X → X) (xs : List X) → changed f xs 0 ≡ xs
+changed_none f [] = refl
+changed_none f (x ∷ xs) = refl
+
+pub changed_all : {X : Type 0} (f : X → X) (xs : List X) (n : ℕ) → length xs ≤ n → changed f xs n ≡ map f xs
+changed_all f [] n l = refl
+changed_all f (x ∷ xs) zero l = absurd (omega arith)
+changed_all f (x ∷ xs) (suc n) l = ap (λ ys. f x ∷ ys) (changed_all f xs n (omega arith))
+
+pub changed_more : {X : Type 0} (f : X → X) (xs : List X) (n : ℕ) (d : X) → n < length xs → changed f xs (suc n) ≡ slice_set (changed f xs n) n (f (get_or (changed f xs n) n d))
+changed_more f [] n d l = absurd (omega arith)
+changed_more f (x ∷ xs) zero d l = ap (λ ys. f x ∷ ys) (changed_none f xs)
+changed_more f (x ∷ xs) (suc n) d l = ap (λ ys. f x ∷ ys) (changed_more f xs n d (omega arith))
+
+pub changed_length : {X : Type 0} (f : X → X) (xs : List X) (n : ℕ) → length (changed f xs n) ≡ length xs
+changed_length f [] n = refl
+changed_length f (x ∷ xs) zero = refl
+changed_length f (x ∷ xs) (suc n) = ap suc (changed_length f xs n)

@@ -25,7 +25,7 @@ use Rattle.esr_order.proofs.Early.{must_positions, must_below}
 use Rattle.esr_order.proofs.Complete.{range_below}
 use Rattle.esr_order.proofs.NearLaws.{near_back}
 use Rattle.esr_order.proofs.NearFound.{there, low_must}
-use Rattle.esr_order.proofs.Divided.{no_txn}
+use Rattle.esr_order.proofs.Gathering.{no_txn}
 use Rattle.esr_order.proofs.Turns.{up, ahead, conflict_parts}
 use Rattle.esr_order.proofs.Lists.{in_map, of_map, at_place}
 

@@ -9,7 +9,7 @@ use Rattle.esr_history.specs.Operations.{Operation, operations}
 use Rattle.esr_history.specs.Serial.{any_pair, conflict, is_before}
 use Rattle.esr_history.proofs.Membership.{In, In-Contains, In-append_cases, In-append_left, In-append_right, In-filter, In-of_filter, In-from_any, Pairs, Pairs-append, each_in, each_at, filter_none_in}
 use Rattle.esr_history.proofs.Versions.{wrote_by, conflict_of}
-use Rattle.esr_order.specs.declared.steps.Step.{Step}
+use Rattle.esr_order.specs.Steps.{Step}
 use Rattle.esr_order.specs.Placements.{is_among}
 use Rattle.esr_order.specs.Listing.{clash, is_pair}
 use Rattle.esr_order.specs.Turns.{step_of, turn, turns}

@@ -1,10 +1,10 @@
 -- The versions of an item that the updates of a query leave.
-use Rattle.std.specs.Prelude.{ℕ, ℤ, List, [], ◌∷◌, ◌++◌, if◌then◌else◌, ◌&&◌, ◌==◌, Option, None, Some, is_some, filter, map, length, slice_index_or}
+use Rattle.std.specs.Prelude.{ℕ, ℤ, Bool, false, ◌-◌, List, [], ◌∷◌, ◌++◌, if◌then◌else◌, ◌&&◌, ◌==◌, Option, None, Some, is_some, filter, map, length, reverse, slice_get, slice_index_or}
 use Rattle.std.specs.List.{filter_map, range_with_len, last_or}
 use Rattle.esr_history.specs.Machine.{Schedule}
 use Rattle.esr_history.specs.Serial.{values_by}
 use Rattle.esr_history.specs.Queries.{updates_of}
-use Rattle.esr_order.specs.declared.steps.Step.{Step}
+use Rattle.esr_order.specs.Steps.{Step}
 use Rattle.esr_order.specs.declared.chains.Links.{Links}
 
 -- the updates that wrote an item, by their positions in commit order, and the values that they wrote last
@@ -67,17 +67,24 @@ last_in writes i = last_of (map (λ s. s.value) (filter (λ s. s.place == i) wri
 abbrev pub last_step : List Step → ℕ → ℕ → Option ℤ
 last_step steps x i = last_in (filter (λ s. s.writes && (s.item == x)) steps) i
 
--- a chain with one more writer, and one with the last writer unless it is the next too
-abbrev pub with_write : Chain → Step → Chain
-with_write c w = record { writers = c.writers ++ w.place ∷ []; values = c.values ++ w.value ∷ [] }
+-- A chain that goes back, from the last writer to the first.
 
-abbrev pub with_last : Chain → Option Step → ℕ → Chain
-with_last c None next = c
-with_last c (Some w) next = if w.place == next then c else with_write c w
+-- the writer that it came by last
+abbrev pub last_writer : Chain → Option ℕ
+last_writer c = slice_get c.writers (length c.writers - 1)
 
-abbrev pub with_end : Chain → Option Step → Chain
-with_end c None = c
-with_end c (Some w) = with_write c w
+abbrev pub is_writer : Option ℕ → ℕ → Bool
+is_writer None i = false
+is_writer (Some w) i = w == i
+
+-- with a write of the update at a position, unless a later one of that update is there
+abbrev pub with_write : Chain → ℕ → ℤ → Chain
+with_write c i v =
+    if is_writer (last_writer c) i then c else record { writers = c.writers ++ i ∷ []; values = c.values ++ v ∷ [] }
+
+-- the other way round
+abbrev pub turned : Chain → Chain
+turned c = record { writers = reverse c.writers; values = reverse c.values }
 
 abbrev pub seen_links : Links → Chain
 seen_links l = record { writers = l.writers.items; values = l.values.items }

@@ -2,9 +2,11 @@ pub mod Placements
 pub mod Least
 pub mod Statements
 pub mod Scans
+pub mod Steps
 pub mod Listing
 pub mod Ties
 pub mod Turns
+pub mod Later
 pub mod Seeking
 pub mod Chains
 pub mod Orders

@@ -1,7 +1,7 @@
 -- Steps of updates that conflict, and pairs of positions.
 use Rattle.std.specs.Prelude.{◌≡◌, ◌<◌, ◌⊎◌, ℕ, Bool, not, ◌&&◌, ◌||◌, ◌==◌, List}
 use Rattle.esr_history.specs.Serial.{any_pair}
-use Rattle.esr_order.specs.declared.steps.Step.{Step}
+use Rattle.esr_order.specs.Steps.{Step}
 
 -- of two positions, on one item, and at least one of them writes
 abbrev pub clash : Step → Step → Bool

@@ -1,20 +1,17 @@
 -- Few pairs of positions by which steps are tied like by all their clashes: on each item a step with the last write
 -- before it, and a write with the reads since the write before.
-use Rattle.std.specs.Prelude.{◌≡◌, ◌≢◌, ◌≤◌, ◌*◌, ◌==◌, ℕ, Bool, true, IsTrue, List, [], ◌∷◌, ◌++◌, Option, None, Some, All, Contains, filter, length, if◌then◌else◌, ⊤}
-use Rattle.esr_order.specs.declared.steps.Step.{Step}
+use Rattle.std.specs.Prelude.{◌≡◌, ◌≢◌, ◌≤◌, ◌*◌, ◌==◌, ℕ, Bool, true, IsTrue, List, [], ◌∷◌, ◌++◌, All, Contains, filter, length, if◌then◌else◌, ⊤}
+use Rattle.esr_order.specs.Steps.{Step}
 use Rattle.esr_order.specs.Listing.{is_pair}
 
 -- the pair of two positions, none of a position with itself
 abbrev pub pair_of : ℕ → ℕ → List (ℕ × ℕ)
 pair_of i j = if i == j then [] else (i, j) ∷ []
 
-abbrev pub last_pair : Option ℕ → ℕ → List (ℕ × ℕ)
-last_pair None j = []
-last_pair (Some i) j = pair_of i j
-
-abbrev pub pairs_to : List ℕ → ℕ → List (ℕ × ℕ)
-pairs_to [] j = []
-pairs_to (i ∷ is) j = pair_of i j ++ pairs_to is j
+-- those of a position with each of a list
+abbrev pub pairs_from : ℕ → List ℕ → List (ℕ × ℕ)
+pairs_from i [] = []
+pairs_from i (j ∷ js) = pair_of i j ++ pairs_from i js
 
 -- the steps on item x
 abbrev pub on_item : ℕ → List Step → List Step

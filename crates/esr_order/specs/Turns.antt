@@ -1,10 +1,8 @@
--- What updates did, one update after another in commit order, and row by row for each item.
-use Rattle.std.specs.Prelude.{◌≡◌, ℕ, List, [], ◌∷◌, ◌++◌, ◌+◌, ◌==◌, filter, length, map}
-use Rattle.std.specs.List.{range_with_len}
+-- What updates did, one update after another in commit order.
+use Rattle.std.specs.Prelude.{ℕ, List, [], ◌∷◌, ◌++◌, ◌+◌, ◌==◌, filter, map}
 use Rattle.esr_history.specs.Operations.{Operation}
 use Rattle.esr_order.specs.declared.accesses.Access.{Access}
-use Rattle.esr_order.specs.declared.steps.Step.{Step}
-use Rattle.esr_order.specs.Ties.{on_item}
+use Rattle.esr_order.specs.Steps.{Step}
 
 -- an operation, and an access, of the update at position i
 abbrev pub step_of : ℕ → Operation → Step
@@ -21,7 +19,3 @@ turn os i t = map (step_of i) (filter (λ o. o.txn == t) os)
 abbrev pub turns : List Operation → ℕ → List ℕ → List Step
 turns os i [] = []
 turns os i (t ∷ ts) = turn os i t ++ turns os (i + 1) ts
-
--- a row for each item, with the steps on it
-abbrev pub AreRowsOf : List (List Step) → List Step → Type 0
-AreRowsOf rows steps = rows ≡ map (λ x. on_item x steps) (range_with_len 0 (length rows))

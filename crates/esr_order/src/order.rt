@@ -12,11 +12,10 @@ ghost use Rattle.esr_history.specs.Serial.{is_before};
 ghost use Rattle.esr_history.specs.Machine.{done};
 ghost use Rattle.esr_history.specs.Operations.{commit_order, operations};
 
-use crate::chains::{Links, chains_of};
+use crate::chains::Links;
 use crate::scan::{committed, count_must, is_committed_query, updates_before};
 use crate::search::near_of;
-use crate::steps::rows_of;
-use crate::ties::pairs_of;
+use crate::steps::gather;
 use esr_history::{History, TxnId};
 use esr_items::{ItemId, Metric};
 use std::alloc::{AllocError, Global};
@@ -97,15 +96,13 @@ fn among<M: Metric>(
         (filter (λ p. is_among (map (λ t. t.0) commits.items) p.txn) (operations history.now.schedule))) }
 {
     let _legal = history.log(); // brings the invariant into the proof
-    let rows = rows_of(alloc, history, &commits)?;
-    let before = pairs_of(alloc, &rows)?;
-    let chains = chains_of(alloc, &rows)?;
+    let gathered = gather(alloc, history, &commits)?;
     let must = first_positions(alloc, first)?;
     Ok(Order {
         commits,
-        before,
+        before: gathered.pairs,
         must,
-        chains,
+        chains: gathered.chains,
     })
 }
 

@@ -1,80 +1,129 @@
-//! What updates did, item by item.
-ghost use Rattle.std.specs.Prelude.{◌≡◌, ◌<◌, ◌≤◌, ◌++◌, [], List, IfOk, OnOk, All, length, map};
+//! What updates did, gone through from the last update to the first.
+ghost use Rattle.std.specs.Prelude.{◌≡◌, ◌<◌, ◌≤◌, ◌++◌, [], ℕ, List, IfOk, OnOk, All, AllPairs, if◌then◌else◌, filter, length, map};
 ghost use Rattle.std.specs.List.{range_with_len};
 ghost use Rattle.esr_history.specs.Operations.{operations};
-ghost use Rattle.esr_order.specs.declared.steps.Step.{Step};
-ghost use Rattle.esr_order.specs.Ties.{on_item};
-ghost use Rattle.esr_order.specs.Turns.{step_at, turns, AreRowsOf};
+ghost use Rattle.esr_order.specs.Steps.{Step};
+ghost use Rattle.esr_order.specs.Turns.{step_at, turns};
+ghost use Rattle.esr_order.specs.Listing.{IsBelow};
+ghost use Rattle.esr_order.specs.Ties.{on_item, IsTied, AreNextPaired};
+ghost use Rattle.esr_order.specs.Chains.{chain_from, last_step, seen_links};
+ghost use Rattle.esr_order.specs.Later.{with_step, with_reader, ties_of, turn_ties, AreLater};
 
 use crate::accesses::{Access, list_accesses};
+use crate::chains::{Links, last_writer, put_write, turn_all};
+use crate::ties::{put_in_order, tie_back};
 use esr_history::{History, TxnId};
 use esr_items::Metric;
 use std::alloc::{AllocError, Global};
 
-/// An accepted read or write of an update, which is given by its position in
-/// commit order. The value is the one answered, or the one written.
-#[derive(Clone, Copy)]
-pub struct Step {
-    pub place: u32,
-    pub item: u32,
-    pub writes: bool,
-    pub value: i64,
-}
-
-/// What was done in an access, by the update at a position.
-fn step_at(access: Access, place: u32) -> Step
-    ensures { result ≡ step_at place access }
+/// Puts a step of the update at a position before the later ones of its item, of which the chain and the readers until
+/// the next write are kept, and adds the positions of those to which it is tied.
+fn put_step(
+    links: &mut Links,
+    readers: &mut Vec<u32>,
+    access: Access,
+    place: u32,
+    ties: &mut Vec<u32>,
+) -> Result<(), AllocError>
+    ensures chain { OnOk result (seen_links links.new ≡ with_step (seen_links links.old) (step_at place access)) }
+    ensures readers { OnOk result (readers.new.items ≡ with_reader readers.old.items (step_at place access)) }
+    ensures ties { OnOk result (ties.new.items
+        ≡ ties.old.items ++ ties_of (seen_links links.old) readers.old.items (step_at place access)) }
 {
-    Step {
-        place,
-        item: access.item.0,
-        writes: access.writes,
-        value: access.value,
+    if let Some(writer) = last_writer(links) {
+        ties.push(writer)?;
     }
-}
-
-/// A row without steps for each item.
-fn empty_rows(alloc: Global, items: u32) -> Result<Vec<Vec<Step>>, AllocError>
-    ensures len { IfOk result (λ rows. length rows.items ≡ items) }
-    ensures none { IfOk result (λ rows. AreRowsOf (map (λ r. r.items) rows.items) []) }
-{
-    let mut rows = Vec::new(alloc);
-    for x in 0..items {
-        rows.push(Vec::new(alloc))?;
-    }
-    Ok(rows)
-}
-
-/// Adds what the update at a position did to the rows of its items.
-fn add_turn(rows: &mut [Vec<Step>], accesses: &[Access], place: u32) -> Result<(), AllocError>
-    requires items { All (λ a. a.item.0 < length rows.old) accesses.now }
-    ensures len { OnOk result (length rows.new ≡ length rows.old) }
-    ensures rows { OnOk result ((steps : List Step) → AreRowsOf (map (λ r. r.items) rows.old) steps
-        → AreRowsOf (map (λ r. r.items) rows.new) (steps ++ map (step_at place) accesses.now)) }
-{
-    for access in accesses {
-        rows[access.item.0 as usize].push(step_at(*access, place))?;
+    if access.writes {
+        ties.append(readers)?;
+        put_write(links, place, access.value)?;
+    } else {
+        readers.push(place)?;
     }
     Ok(())
 }
 
-/// The steps of each item, update by update. It goes along the links of the updates.
-pub fn rows_of<M: Metric>(
+/// Puts what the update at a position did before what later ones did, of which the chain and the readers of each item
+/// are kept, and adds the positions of the steps to which it is tied.
+fn put_turn(
+    chains: &mut [Links],
+    readers: &mut [Vec<u32>],
+    accesses: &[Access],
+    place: u32,
+    ties: &mut Vec<u32>,
+) -> Result<(), AllocError>
+    requires linked { All (λ a. a.item.0 < length chains.old) accesses.now }
+    requires read { All (λ a. a.item.0 < length readers.old) accesses.now }
+    ensures chains_len { OnOk result (length chains.new ≡ length chains.old) }
+    ensures readers_len { OnOk result (length readers.new ≡ length readers.old) }
+    ensures later { OnOk result ((steps : List Step)
+        → AreLater (map seen_links chains.old) (map (λ r. r.items) readers.old) steps
+        → AreLater (map seen_links chains.new) (map (λ r. r.items) readers.new)
+            (map (step_at place) accesses.now ++ steps)) }
+    ensures ties { OnOk result ((steps : List Step)
+        → AreLater (map seen_links chains.old) (map (λ r. r.items) readers.old) steps
+        → ties.new.items ≡ ties.old.items ++ turn_ties (map (step_at place) accesses.now) steps) }
+{
+    for i in (0..accesses.len()).rev() {
+        let x = accesses[i].item.0 as usize;
+        put_step(&mut chains[x], &mut readers[x], accesses[i], place, ties)?;
+    }
+    Ok(())
+}
+
+/// A chain without writers for each item, and none that reads it.
+fn nothing_later(alloc: Global, items: u32) -> Result<(Vec<Links>, Vec<Vec<u32>>), AllocError>
+    ensures chains_len { IfOk result (λ r. length r.0.items ≡ items) }
+    ensures readers_len { IfOk result (λ r. length r.1.items ≡ items) }
+    ensures later { IfOk result (λ r. AreLater (map seen_links r.0.items) (map (λ v. v.items) r.1.items) []) }
+{
+    let mut chains = Vec::with_capacity(alloc, items as usize)?;
+    let mut readers = Vec::with_capacity(alloc, items as usize)?;
+    for x in 0..items {
+        chains.push(Links {
+            writers: Vec::new(alloc),
+            values: Vec::new(alloc),
+        })?;
+        readers.push(Vec::new(alloc))?;
+    }
+    Ok((chains, readers))
+}
+
+/// Few pairs of updates that tie them, and the chains of their writes.
+#[derive(Drop)]
+pub struct Gathered {
+    pub pairs: Vec<(u32, u32)>,
+    pub chains: Vec<Links>,
+}
+
+/// Gathers what is needed of updates in one pass back over them. It goes along their links.
+pub fn gather<M: Metric>(
     alloc: Global,
     history: &History<M>,
     updates: &[TxnId],
-) -> Result<Vec<Vec<Step>>, AllocError>
+) -> Result<Gathered, AllocError>
     requires few { length updates.now ≤ 65535 }
-    ensures len { IfOk result (λ rows. length rows.items ≡ length history.now.schedule.opening) }
-    ensures rows { IfOk result (λ rows. AreRowsOf (map (λ r. r.items) rows.items)
-        (turns (operations history.now.schedule) 0 (map (λ t. t.0) updates.now))) }
+    ensures ascending { IfOk result (λ g. AllPairs IsBelow g.pairs.items) }
+    ensures tied { IfOk result (λ g.
+        IsTied (turns (operations history.now.schedule) 0 (map (λ t. t.0) updates.now)) g.pairs.items) }
+    ensures next { IfOk result (λ g. (x : ℕ) → AreNextPaired g.pairs.items (filter (λ s. s.writes)
+        (on_item x (turns (operations history.now.schedule) 0 (map (λ t. t.0) updates.now))))) }
+    ensures chains { IfOk result (λ g. map seen_links g.chains.items ≡ map (λ x. chain_from
+        (last_step (turns (operations history.now.schedule) 0 (map (λ t. t.0) updates.now)) x) (length updates.now))
+        (range_with_len 0 (length history.now.schedule.opening))) }
 {
     let _legal = history.log(); // brings the invariant into the proof
-    let mut rows = empty_rows(alloc, history.items())?;
+    let (mut chains, mut readers) = nothing_later(alloc, history.items())?;
+    let mut pairs = Vec::new(alloc);
     let mut accesses = Vec::new(alloc);
-    for (i, t) in updates.iter().enumerate() {
-        list_accesses(history, *t, &mut accesses)?;
-        add_turn(&mut rows, &accesses, i as u32)?;
+    let mut ties = Vec::new(alloc);
+    for i in (0..updates.len()).rev() {
+        list_accesses(history, updates[i], &mut accesses)?;
+        ties.clear();
+        put_turn(&mut chains, &mut readers, &accesses, i as u32, &mut ties)?;
+        put_in_order(&mut ties);
+        tie_back(&mut pairs, i as u32, &ties)?;
     }
-    Ok(rows)
+    pairs.reverse();
+    turn_all(&mut chains);
+    Ok(Gathered { pairs, chains })
 }
