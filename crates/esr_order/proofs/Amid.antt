@@ -1,5 +1,5 @@
 -- The parts that are gathered make an order among some updates.
-use Rattle.std.proofs.Common.{◌≡◌, ◌≢◌, ℕ, ◌*◌, ◌<◌, ◌≤◌, false, List, length, All, AllPairs, refl, sym, ◌∙◌, ap, subst, arith, map, filter}
+use Rattle.std.proofs.Common.{◌≡◌, ◌≢◌, ℕ, ◌*◌, ◌≤◌, false, List, length, AllPairs, refl, sym, ◌∙◌, ap, subst, arith, map, filter}
 use Rattle.std.specs.List.{range_with_len}
 use Rattle.std.proofs.lemmas.List.{length-map}
 use Rattle.esr_history.specs.declared.event.TxnId.{TxnId}

@@ -1,13 +1,12 @@
 -- Steps of updates in a serial order: writers of an item in a row are pairs.
-use Rattle.std.proofs.Common.{◌≡◌, ℕ, zero, suc, ◌+◌, ◌<◌, ◌≤◌, ℤ, Bool, true, false, List, [], ◌∷◌, length, get_or, refl, sym, ◌∙◌, ap, subst, arith, inl, inr, ⊎_elim, filter, eqb, cond, map, Some, ◌&&◌, ◌==◌, All, AllPairs, Contains}
+use Rattle.std.proofs.Common.{◌≡◌, ℕ, zero, suc, ◌+◌, ◌<◌, ◌≤◌, ℤ, Bool, true, false, List, [], ◌∷◌, length, get_or, refl, sym, ◌∙◌, ap, subst, arith, inl, inr, ⊎_elim, filter, eqb, cond, map, Some, ◌&&◌, ◌==◌, AllPairs, Contains}
 use Rattle.std.specs.Prelude.{is_some}
 use Rattle.std.specs.List.{last_or}
 use Rattle.std.proofs.lemmas.Bool.{true≢false, cases_order, cases_eq, eqb-true, eq-eqb}
-use Rattle.std.proofs.lemmas.List.Elements.{All-contains, All-from_recursion}
-use Rattle.esr_history.proofs.Membership.{In, In-Contains, In-filter, In-of_filter, Pairs, each_in, each_at, filter-some}
+use Rattle.esr_history.proofs.Membership.{In, In-Contains, In-filter, Pairs, each_at, filter-some}
 use Rattle.esr_order.specs.Steps.{Step}
 use Rattle.esr_order.specs.Ties.{AreNextPaired}
-use Rattle.esr_order.specs.Chains.{Chain, chain_from, last_of, last_in, last_step}
+use Rattle.esr_order.specs.Chains.{last_of, last_in}
 use Rattle.esr_order.proofs.Kept.{on, writes_in}
 
 pub writes_on : (x : ℕ) (ss : List Step) → writes_in (on x ss) ≡ filter (λ s. s.writes && (s.item == x)) ss

@@ -10,9 +10,9 @@ use Rattle.esr_history.specs.Serial.{any_pair}
 use Rattle.esr_history.proofs.Membership.{In, In-Contains, In-append_cases, In-append_left, In-append_right, any-from_In, In-any, each_in}
 use Rattle.esr_order.specs.Steps.{Step}
 use Rattle.esr_order.specs.Listing.{clash, is_pair}
-use Rattle.esr_order.specs.Ties.{pair_of, pairs_from, IsDownward, IsTied, AreNextPaired}
+use Rattle.esr_order.specs.Ties.{pair_of, pairs_from, IsTied, AreNextPaired}
 use Rattle.esr_order.specs.Chains.{Chain, last_writer, is_writer, with_write}
-use Rattle.esr_order.specs.Later.{chain_back, readers_of, writer_in, ties_of, later_ties, turn_ties}
+use Rattle.esr_order.specs.Later.{chain_back, readers_of, writer_in, later_ties, turn_ties}
 
 abbrev pub Pair : Type 0
 Pair = ℕ × ℕ
@@ -181,9 +181,12 @@ reach x (z ∷ zs) b i own = at (eqb z.item x) refl z.writes refl (λ k. reach x
 
     at : (here : Bool) → eqb z.item x ≡ here → (writes : Bool) → z.writes ≡ writes → (In b zs → Outcome zs (readers_of x zs) (chain_back x zs)) → In b (z ∷ zs) → Outcome (z ∷ zs) (Readers here writes) (Chained here writes)
     at true e true wr rest j =
-        inr (z.place, last_put (chain_back x zs) z.place z.value,
-        ⊎_elim (λ same. inl (ap (λ s. s.place) same))
-        (λ k. ⊎_elim (λ p. inl p) (λ ne. inr (pair_front z zs b k (clash_from z b ne (eqb-true z.item x e ∙ sym own) (or_left z.writes b.writes wr)))) (cases_eq z.place b.place)) j)
+        inr (
+          z.place,
+          last_put (chain_back x zs) z.place z.value,
+          ⊎_elim (λ same. inl (ap (λ s. s.place) same))
+              (λ k. ⊎_elim (λ p. inl p) (λ ne. inr (pair_front z zs b k (clash_from z b ne (eqb-true z.item x e ∙ sym own) (or_left z.writes b.writes wr)))) (cases_eq z.place b.place)) j,
+        )
     at true e false wr rest j =
         ⊎_elim (λ same. inl (In-append_right (readers_of x zs) (z.place ∷ []) b.place (inl (ap (λ s. s.place) same)), sym (ap (λ s. s.writes) same) ∙ wr))
         (λ k. ⊎_elim (λ r. inl (In-append_left (readers_of x zs) (z.place ∷ []) b.place r.0, r.1)) (λ r. inr (further (last_writer (chain_back x zs)) r)) (rest k)) j

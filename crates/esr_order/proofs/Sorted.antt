@@ -1,5 +1,5 @@
 -- Numbers in order, each once.
-use Rattle.std.proofs.Common.{Ordering, Less, Equal, Greater, is_eq, arith, ◌≡◌, ℕ, ◌<◌, List, ◌∙◌, ap, ⊎_elim, eqb, AllPairs}
+use Rattle.std.proofs.Common.{Less, Equal, Greater, is_eq, arith, ◌≡◌, ℕ, ◌<◌, List, ◌∙◌, ap, ⊎_elim, eqb, AllPairs}
 use Rattle.std.specs.Ordering.{nat_cmp, eq_by_cmp}
 use Rattle.std.specs.Cmp.{nat_cmp_is}
 use Rattle.std.specs.List.{dedup}

@@ -58,7 +58,7 @@ fn put_turn(
     ensures later { OnOk result ((steps : List Step)
         → AreLater (map seen_links chains.old) (map (λ r. r.items) readers.old) steps
         → AreLater (map seen_links chains.new) (map (λ r. r.items) readers.new)
-            (map (step_at place) accesses.now ++ steps)) }
+        (map (step_at place) accesses.now ++ steps)) }
     ensures ties { OnOk result ((steps : List Step)
         → AreLater (map seen_links chains.old) (map (λ r. r.items) readers.old) steps
         → ties.new.items ≡ ties.old.items ++ turn_ties (map (step_at place) accesses.now) steps) }

@@ -1,4 +1,4 @@
-use Rattle.std.proofs.Common.{◌≡◌, length, map, ◌∙◌, ap, filter, subst}
+use Rattle.std.proofs.Common.{length, map, ◌∙◌, ap, filter, subst}
 use Rattle.std.specs.List.{range_with_len}
 use Rattle.esr_history.specs.Operations.{operations}
 use Rattle.esr_order.specs.Turns.{turns}
@@ -19,9 +19,10 @@ returns-clause-order g c = λ q musts.
     let h = c.args.history.now.schedule in
     let pairs = c.in_ok-gathered.gathered.pairs.items in
     let same = c.deref.ensures.value in
-    made g.M.Metric.distance_by h c.log-legal.ensures.legal c.args.commits.items c.requires.once c.requires.keeps c.requires.few pairs c.in_ok-gathered.ensures.ascending
-    (subst (λ commits. IsTied (turns (operations h) 0 (map (λ t. t.0) commits)) pairs) same c.in_ok-gathered.ensures.tied,
-    (λ x. subst (λ commits. AreNextPaired pairs (filter (λ s. s.writes) (on_item x (turns (operations h) 0 (map (λ t. t.0) commits))))) same (c.in_ok-gathered.ensures.next x)))
+    made g.M.Metric.distance_by h c.log-legal.ensures.legal c.args.commits.items c.requires.once c.requires.keeps c.requires.few pairs c.in_ok-gathered.ensures.ascending (
+      subst (λ commits. IsTied (turns (operations h) 0 (map (λ t. t.0) commits)) pairs) same c.in_ok-gathered.ensures.tied,
+      (λ x. subst (λ commits. AreNextPaired pairs (filter (λ s. s.writes) (on_item x (turns (operations h) 0 (map (λ t. t.0) commits))))) same (c.in_ok-gathered.ensures.next x)),
+    )
     (map seen_links c.in_ok-gathered.gathered.chains.items)
     (c.in_ok-gathered.ensures.chains
     ∙ ap (λ commits. map (λ x. chain_from (last_step (turns (operations h) 0 (map (λ t. t.0) commits)) x) (length commits)) (range_with_len 0 (length h.opening))) same)

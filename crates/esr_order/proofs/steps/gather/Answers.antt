@@ -1,4 +1,4 @@
-use Rattle.std.proofs.Common.{◌≡◌, ◌<◌, ◌-◌, ◌++◌, suc, sym, subst, ◌∙◌, ap, length, map, take, drop, get_or, reverse, All, AllPairs, filter, arith}
+use Rattle.std.proofs.Common.{◌≡◌, ◌<◌, ◌-◌, ◌++◌, suc, sym, subst, ◌∙◌, ap, length, map, take, drop, reverse, All, AllPairs, filter, arith}
 use Rattle.std.specs.List.{range_with_len}
 use Rattle.std.proofs.lemmas.List.{length-map}
 use Rattle.esr_history.specs.Operations.{operations}

@@ -19,10 +19,10 @@ loop-i-preserved c =
       length-set chains x c.put_step.new.links ∙ c.loop-i.invariant.0,
       length-set readers x c.put_step.new.readers ∙ c.loop-i.invariant.1,
       λ steps are.
-      let now = c.loop-i.invariant.2 steps are in (
-        turn_later seen_links (λ r. r.items) chains readers place i c.loop-i.i next accesses inside linked read steps now.0 c.index-chains-x.result c.index-readers-x.result
-            c.put_step.new.links c.in_ok-put_step.ensures.chain c.put_step.new.readers c.in_ok-put_step.ensures.readers,
-        turn_tied seen_links (λ r. r.items) chains readers place i c.loop-i.i next accesses inside linked read steps now.0 c.index-chains-x.result c.index-readers-x.result
-            c.args.ties.now.items c.loop-i.ties.items now.1 c.put_step.new.ties.items c.in_ok-put_step.ensures.ties,
-      ),
+          let now = c.loop-i.invariant.2 steps are in (
+            turn_later seen_links (λ r. r.items) chains readers place i c.loop-i.i next accesses inside linked read steps now.0 c.index-chains-x.result c.index-readers-x.result
+                c.put_step.new.links c.in_ok-put_step.ensures.chain c.put_step.new.readers c.in_ok-put_step.ensures.readers,
+            turn_tied seen_links (λ r. r.items) chains readers place i c.loop-i.i next accesses inside linked read steps now.0 c.index-chains-x.result c.index-readers-x.result
+                c.args.ties.now.items c.loop-i.ties.items now.1 c.put_step.new.ties.items c.in_ok-put_step.ensures.ties,
+          ),
     )
