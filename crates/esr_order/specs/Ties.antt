@@ -1,5 +1,5 @@
--- Few pairs of positions by which steps are tied like by all their clashes: on each item a step with the last write
--- before it, and a write with the reads since the write before.
+-- Few pairs of positions by which steps are tied like by all their clashes: on each item a step with the next write, and
+-- a write with the reads until then.
 use Rattle.std.specs.Prelude.{◌≡◌, ◌≢◌, ◌≤◌, ◌*◌, ◌==◌, ℕ, Bool, true, IsTrue, List, [], ◌∷◌, ◌++◌, All, Contains, filter, length, if◌then◌else◌, ⊤}
 use Rattle.esr_order.specs.Steps.{Step}
 use Rattle.esr_order.specs.Listing.{is_pair}

@@ -1,6 +1,8 @@
 -- What updates did, one update after another in commit order.
 use Rattle.std.specs.Prelude.{ℕ, List, [], ◌∷◌, ◌++◌, ◌+◌, ◌==◌, filter, map}
-use Rattle.esr_history.specs.Operations.{Operation}
+use Rattle.esr_history.specs.declared.event.TxnId.{TxnId}
+use Rattle.esr_history.specs.Machine.{Schedule}
+use Rattle.esr_history.specs.Operations.{Operation, operations}
 use Rattle.esr_order.specs.declared.accesses.Access.{Access}
 use Rattle.esr_order.specs.Steps.{Step}
 
@@ -19,3 +21,7 @@ turn os i t = map (step_of i) (filter (λ o. o.txn == t) os)
 abbrev pub turns : List Operation → ℕ → List ℕ → List Step
 turns os i [] = []
 turns os i (t ∷ ts) = turn os i t ++ turns os (i + 1) ts
+
+-- what some updates did
+abbrev pub steps_of : Schedule → List TxnId → List Step
+steps_of h updates = turns (operations h) 0 (map (λ t. t.0) updates)

@@ -1,9 +1,8 @@
 //! What updates did, gone through from the last update to the first.
 ghost use Rattle.std.specs.Prelude.{◌≡◌, ◌<◌, ◌≤◌, ◌++◌, [], ℕ, List, IfOk, OnOk, All, AllPairs, if◌then◌else◌, filter, length, map};
 ghost use Rattle.std.specs.List.{range_with_len};
-ghost use Rattle.esr_history.specs.Operations.{operations};
 ghost use Rattle.esr_order.specs.Steps.{Step};
-ghost use Rattle.esr_order.specs.Turns.{step_at, turns};
+ghost use Rattle.esr_order.specs.Turns.{step_at, steps_of};
 ghost use Rattle.esr_order.specs.Listing.{IsBelow};
 ghost use Rattle.esr_order.specs.Ties.{on_item, IsTied, AreNextPaired};
 ghost use Rattle.esr_order.specs.Chains.{chain_from, last_step, seen_links};
@@ -103,12 +102,11 @@ pub fn gather<M: Metric>(
 ) -> Result<Gathered, AllocError>
     requires few { length updates.now ≤ 65535 }
     ensures ascending { IfOk result (λ g. AllPairs IsBelow g.pairs.items) }
-    ensures tied { IfOk result (λ g.
-        IsTied (turns (operations history.now.schedule) 0 (map (λ t. t.0) updates.now)) g.pairs.items) }
-    ensures next { IfOk result (λ g. (x : ℕ) → AreNextPaired g.pairs.items (filter (λ s. s.writes)
-        (on_item x (turns (operations history.now.schedule) 0 (map (λ t. t.0) updates.now))))) }
-    ensures chains { IfOk result (λ g. map seen_links g.chains.items ≡ map (λ x. chain_from
-        (last_step (turns (operations history.now.schedule) 0 (map (λ t. t.0) updates.now)) x) (length updates.now))
+    ensures tied { IfOk result (λ g. IsTied (steps_of history.now.schedule updates.now) g.pairs.items) }
+    ensures next { IfOk result (λ g. (x : ℕ) → AreNextPaired g.pairs.items
+        (filter (λ s. s.writes) (on_item x (steps_of history.now.schedule updates.now)))) }
+    ensures chains { IfOk result (λ g. map seen_links g.chains.items
+        ≡ map (λ x. chain_from (last_step (steps_of history.now.schedule updates.now) x) (length updates.now))
         (range_with_len 0 (length history.now.schedule.opening))) }
 {
     let _legal = history.log(); // brings the invariant into the proof
