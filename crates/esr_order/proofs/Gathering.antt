@@ -16,7 +16,7 @@ use Rattle.esr_order.specs.Turns.{step_of, step_at, turn, turns}
 use Rattle.esr_order.specs.Ties.{pair_of, pairs_from, IsTied, AreNextPaired, on_item}
 use Rattle.esr_order.specs.Chains.{Chain, chain_from, last_step, turned}
 use Rattle.esr_order.specs.Later.{nobody, chain_back, readers_of, with_step, with_reader, ties_of, turn_ties, AreLater}
-use Rattle.esr_order.proofs.Kept.{Pair, Kept, kept_none, kept_same, kept_turn, open_reads, turn_count, pairs_few, in_pairs_from, of_pairs_from, next_paired, writes_in, on, tied_all}
+use Rattle.esr_order.proofs.Kept.{Pair, Kept, kept_same, kept_turn, open_reads, turn_count, pairs_few, in_pairs_from, of_pairs_from, next_paired, writes_in, on, tied_all}
 use Rattle.esr_order.proofs.Chained.{chain_turned}
 use Rattle.esr_order.proofs.Turns as turns_of
 
@@ -164,17 +164,6 @@ pub record IsGathered (h : Schedule) (updates : List TxnId) (i : ℕ) (links : L
   pub few : length pairs + length (open_reads (rest h updates i)) ≤ 2 * length (rest h updates i)
   pub falling : Pairs (λ p r. IsBelow r p) pairs
   pub above : (p : Pair) → In p pairs → i ≤ p.0
-
-pub gathered_none : (h : Schedule) (updates : List TxnId) (i : ℕ) → i ≡ length updates → (links : List Chain) (rows : List (List ℕ)) → AreLater links rows [] → IsGathered h updates i links rows []
-gathered_none h updates i is links rows are =
-    let none : [] ≡ rest h updates i = sym (ap (λ l. turns (operations h) i (map (λ (t : TxnId). t.0) l)) (ap (λ n. drop n updates) is ∙ drop_whole updates)) in
-    record {
-      later = subst (AreLater links rows) none are;
-      kept = subst (λ ss. Kept ss []) none kept_none;
-      few = subst (λ ss. 0 + length (open_reads ss) ≤ 2 * length ss) none (omega arith);
-      falling = tt;
-      above = λ p j. absurd j;
-    }
 
 below_from : (i : ℕ) (js : List ℕ) → Pairs (λ j k. j < k) js → Pairs IsBelow (pairs_from i js)
 below_from i [] p = tt

@@ -84,11 +84,6 @@ module _ (os : List Operation) where
       let e : 0 + r.0 ≡ s.place = ap (λ (s : Step). s.place) r.5 in
       omega arith))
 
-  pub items_inside : (us : List ℕ) (n : ℕ) → ((o : Operation) → In o os → o.item < n) → All (λ s. s.item < n) (turns os 0 us)
-  items_inside us n inside = All-from_recursion (λ (s : Step). s.item < n) (turns os 0 us) (each_in (λ (s : Step). s.item < n) (turns os 0 us) (λ s i.
-      let r = in_turns 0 us s i in
-      subst (λ x. x < n) (ap (λ (s : Step). s.item) r.5) (inside r.1 r.3)))
-
   -- ---- what the update at a position did
 
   here : (p : Step → Bool) (n u : ℕ) (s : Step) → In s (filter p (turn os n u)) → s.place ≡ n
