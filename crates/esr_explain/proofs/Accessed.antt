@@ -18,7 +18,7 @@ use Rattle.esr_history.specs.Ranges.{IsWithinRanges}
 use Rattle.esr_history.specs.Serial.{state, values_by}
 use Rattle.esr_history.specs.Queries.{reads_by}
 use Rattle.esr_history.proofs.WithinRanges.{legal_within_ranges}
-use Rattle.esr_order.proofs.Tied.{take_more}
+use Rattle.esr_explain.proofs.Prefixes.{take_more}
 use Rattle.esr_order.proofs.Entries.{accepts}
 use Rattle.esr_audit.proofs.Within.{state_in_range}
 use Rattle.esr_order.specs.declared.accesses.Access.{Access}

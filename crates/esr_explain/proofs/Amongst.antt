@@ -8,7 +8,7 @@ use Rattle.std.proofs.lemmas.List.Sorted.{searched}
 use Rattle.std.proofs.lemmas.List.Elements.{filter-append}
 use Rattle.esr_history.specs.declared.event.TxnId.{TxnId}
 use Rattle.esr_order.specs.Placements.{is_among}
-use Rattle.esr_order.proofs.Tied.{take_more}
+use Rattle.esr_explain.proofs.Prefixes.{take_more}
 
 among_at : (xs : List ℕ) (i u : ℕ) → i < length xs → get_or xs i 0 ≡ u → is_among xs u ≡ true
 among_at [] i u l e = absurd (omega arith)

@@ -1,3 +1,4 @@
+pub mod Prefixes
 pub mod Accessed
 pub mod Amongst
 pub mod Replaying

@@ -1,6 +1,6 @@
 use Rattle.std.proofs.Common.{◌≡◌, flat_map, map, arith}
 use Rattle.esr_history.specs.declared.event.TxnId.{TxnId}
-use Rattle.esr_order.proofs.Tied.{take_whole}
+use Rattle.esr_explain.proofs.Prefixes.{take_whole}
 use Rattle.esr_order.specs.Scans.{accesses_in}
 use Rattle.esr_explain.specs.Accesses.{put_all}
 use Rattle.esr_explain.proofs.Accessed.{accesses_valued, left_by, left_in_range, put_update}
