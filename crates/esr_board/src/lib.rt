@@ -7,8 +7,6 @@ mod gate;
 mod hand;
 mod parallel;
 mod rule;
-#[cfg(test)]
-mod tests;
 mod worker;
 
 pub use board::{Board, BoardError, BoardSeat, ClaimsMissing};

@@ -27,6 +27,3 @@ pub use problem::{BundleFault, Chain, Problem};
 pub use rows::{Rows, Span};
 pub use shape::has_shape;
 pub use step::{ShortStep, Step};
-
-#[cfg(test)]
-mod tests;

@@ -3,7 +3,7 @@ use Rattle.std.proofs.Common.{◌≡◌, ℕ, zero, suc, ℤ, pos, ◌+◌, ◌<
 use Rattle.std.specs.List.{filter_map, cons_option, AllByRecursion}
 use Rattle.std.proofs.lemmas.Bool.{cases_eq, cases_lt, eq-eqb, ne_eqb}
 use Rattle.std.proofs.lemmas.Grind.{flat_map-append}
-use Rattle.std.proofs.lemmas.List.{map-append, set_past}
+use Rattle.std.proofs.lemmas.List.{map-append, set_past, take_more}
 use Rattle.std.proofs.lemmas.List.Elements.{filter_map-append, recursion_from_All, All-from_recursion}
 use Rattle.esr_items.specs.Values.{value_at, IsValue}
 use Rattle.esr_history.specs.declared.event.TxnId.{TxnId}
@@ -18,7 +18,6 @@ use Rattle.esr_history.specs.Ranges.{IsWithinRanges}
 use Rattle.esr_history.specs.Serial.{state, values_by}
 use Rattle.esr_history.specs.Queries.{reads_by}
 use Rattle.esr_history.proofs.WithinRanges.{legal_within_ranges}
-use Rattle.esr_explain.proofs.Prefixes.{take_more}
 use Rattle.esr_order.proofs.Entries.{accepts}
 use Rattle.esr_audit.proofs.Within.{state_in_range}
 use Rattle.esr_order.specs.declared.accesses.Access.{Access}

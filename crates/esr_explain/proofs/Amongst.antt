@@ -4,11 +4,11 @@ use Rattle.std.specs.Ordering.{nat_cmp}
 use Rattle.std.specs.Result.{is_ok}
 use Rattle.std.specs.List.Sorted.{IsBinarySearchResult, IsNonDecreasing}
 use Rattle.std.proofs.lemmas.Bool.{or_left, or_right, or_from, cases_lt, eq-eqb, ne_eqb}
+use Rattle.std.proofs.lemmas.List.{take_more}
 use Rattle.std.proofs.lemmas.List.Sorted.{searched}
 use Rattle.std.proofs.lemmas.List.Elements.{filter-append}
 use Rattle.esr_history.specs.declared.event.TxnId.{TxnId}
 use Rattle.esr_order.specs.Placements.{is_among}
-use Rattle.esr_explain.proofs.Prefixes.{take_more}
 
 among_at : (xs : List ℕ) (i u : ℕ) → i < length xs → get_or xs i 0 ≡ u → is_among xs u ≡ true
 among_at [] i u l e = absurd (omega arith)

@@ -1,4 +1,3 @@
-pub mod Prefixes
 pub mod Accessed
 pub mod Amongst
 pub mod Replaying

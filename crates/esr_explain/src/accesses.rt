@@ -11,7 +11,7 @@ use esr_order::{Access, accesses_of};
 use std::alloc::{AllocError, Global};
 
 /// Sets the values of the items to what they are after these accesses.
-#[tactic(auto, using(crate::proofs::Prefixes::take_whole))]
+#[tactic(auto, using(std::proofs::lemmas::List::take_all))]
 fn put_all(values: &mut Vec<i64>, accesses: &[Access])
     requires { All (λ a. IsValue a.value) accesses.now }
     ensures { values.new.items ≡ put_all values.old.items accesses.now }

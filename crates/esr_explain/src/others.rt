@@ -36,7 +36,7 @@ fn is_among(numbers: &[u32], t: TxnId) -> bool
 }
 
 /// Those of the updates whose numbers are not among these.
-#[tactic(auto, using(crate::proofs::Prefixes::take_whole))]
+#[tactic(auto, using(std::proofs::lemmas::List::take_all))]
 fn without(alloc: Global, updates: &[TxnId], numbers: &[u32]) -> Result<Vec<TxnId>, AllocError>
     requires { IsNonDecreasing numbers.now }
     ensures { IfOk result (λ v. v.items ≡ filter (λ t. not (is_among numbers.now t.0)) updates.now) }

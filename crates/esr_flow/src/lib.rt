@@ -11,6 +11,3 @@ mod walk;
 
 pub use network::Network;
 pub use solver::{Solved, solve};
-
-#[cfg(test)]
-mod tests;

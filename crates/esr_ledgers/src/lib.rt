@@ -3,8 +3,6 @@
 
 mod account;
 mod ledgers;
-#[cfg(test)]
-mod tests;
 
 pub use account::Account;
 pub use ledgers::{Ledgers, Quote};

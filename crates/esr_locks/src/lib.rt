@@ -5,8 +5,6 @@ mod held;
 mod lists;
 mod row;
 mod table;
-#[cfg(test)]
-mod tests;
 
 pub use lists::QueryReads;
 pub use table::LockTable;

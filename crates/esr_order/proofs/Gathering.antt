@@ -3,7 +3,7 @@ use Rattle.std.proofs.Common.{◌≡◌, ℕ, zero, suc, ◌+◌, ◌*◌, ◌<�
 use Rattle.std.specs.List.{range_with_len}
 use Rattle.std.proofs.lemmas.Bool.{cases_eq, eq-eqb, ne_eqb}
 use Rattle.std.proofs.lemmas.List.Elements.{All-contains}
-use Rattle.std.proofs.lemmas.List.{length-map, length-append, length-set, length-reverse, map-set, reverse-append, get_or-set_same, get_or-set_other, get_or-map}
+use Rattle.std.proofs.lemmas.List.{drop_more, length-map, length-append, length-set, length-reverse, map-set, reverse-append, get_or-set_same, get_or-set_other, get_or-map}
 use Rattle.esr_history.specs.declared.event.TxnId.{TxnId}
 use Rattle.esr_history.specs.Machine.{Schedule}
 use Rattle.esr_history.specs.Operations.{Operation, operations}
@@ -20,14 +20,9 @@ use Rattle.esr_order.proofs.Kept.{Pair, Kept, kept_same, kept_turn, open_reads, 
 use Rattle.esr_order.proofs.Chained.{chain_turned}
 use Rattle.esr_order.proofs.Turns as turns_of
 
-pub drop_less : {X : Type 0} (xs : List X) (i : ℕ) (d : X) → i < length xs → drop i xs ≡ get_or xs i d ∷ drop (suc i) xs
-drop_less [] i d l = absurd (omega arith)
-drop_less (x ∷ xs) zero d l = refl
-drop_less (x ∷ xs) (suc i) d l = drop_less xs i d (omega arith)
-
-pub drop_whole : {X : Type 0} (xs : List X) → drop (length xs) xs ≡ []
-drop_whole [] = refl
-drop_whole (x ∷ xs) = drop_whole xs
+-- what is left of a list from a position on, with the position's successor
+pub drop_next : {X : Type 0} (xs : List X) (i : ℕ) (d : X) → i < length xs → drop i xs ≡ get_or xs i d ∷ drop (suc i) xs
+drop_next xs i d l = let on : i + 1 ≡ suc i = omega arith in drop_more xs i d l ∙ ap (λ n. get_or xs i d ∷ drop n xs) on
 
 -- ---- reversed lists
 
@@ -95,7 +90,7 @@ module _ {V W : Type 0} (see : V → Chain) (read : W → List ℕ) (chains : Li
   done = map (step_at place) (drop next accesses)
 
   taken : step_at place access ∷ done ≡ map (step_at place) (drop i accesses)
-  taken = sym (ap (map (step_at place)) (drop_less accesses i no_access inside) ∙ ap (λ n. step_at place access ∷ map (step_at place) (drop n accesses)) (sym is))
+  taken = sym (ap (map (step_at place)) (drop_next accesses i no_access inside) ∙ ap (λ n. step_at place access ∷ map (step_at place) (drop n accesses)) (sym is))
 
   module _ (linked : access.item.0 < length chains) (in_rows : access.item.0 < length readers) (steps : List Step) (are : AreLater (map see chains) (map read readers) (done ++ steps)) (d : V) (e : W) where
     abbrev link : Chain
@@ -154,7 +149,7 @@ rest h updates i = turns (operations h) i (map (λ t. t.0) (drop i updates))
 pub rest_more : (h : Schedule) (updates : List TxnId) (i : ℕ) → i < length updates → (d : TxnId) → rest h updates i ≡ map (step_at i) (accesses_in h.entries (get_or updates i d).0) ++ rest h updates (suc i)
 rest_more h updates i inside d =
     let e : i + 1 ≡ suc i = omega arith in
-    ap (λ l. turns (operations h) i (map (λ (t : TxnId). t.0) l)) (drop_less updates i d inside)
+    ap (λ l. turns (operations h) i (map (λ (t : TxnId). t.0) l)) (drop_next updates i d inside)
     ∙ (ap (λ n. turn (operations h) i (get_or updates i d).0 ++ turns (operations h) n (map (λ (t : TxnId). t.0) (drop (suc i) updates))) e
     ∙ ap (λ l. l ++ rest h updates (suc i)) (sym (turn_is h i (get_or updates i d).0)))
 

@@ -25,16 +25,11 @@ use Rattle.esr_order.proofs.Early.{must_positions, must_below}
 use Rattle.esr_order.proofs.Complete.{range_below}
 use Rattle.esr_order.proofs.NearLaws.{near_back}
 use Rattle.esr_order.proofs.NearFound.{there, low_must}
-use Rattle.esr_order.proofs.Gathering.{no_txn}
+use Rattle.esr_order.proofs.Gathering.{no_txn, drop_next}
 use Rattle.esr_order.proofs.Turns.{up, ahead, conflict_parts}
 use Rattle.esr_order.proofs.Lists.{in_map, of_map, at_place}
 
 -- ---- what is left of a list from a place on
-
-pub drop_next : (xs : List ℕ) (i : ℕ) → i < length xs → drop i xs ≡ nth xs i ∷ drop (suc i) xs
-drop_next [] i l = absurd (omega arith)
-drop_next (x ∷ xs) zero l = refl
-drop_next (x ∷ xs) (suc i) l = drop_next xs i (omega arith)
 
 in_drop : (xs : List ℕ) (i j : ℕ) → i ≤ j → j < length xs → In (nth xs j) (drop i xs)
 in_drop [] i j l m = absurd (omega arith)
@@ -162,12 +157,12 @@ module _ (d : Distance) (h : Schedule) (q : ℕ) (legal : IsLegal d h) where
 
     pub miss : (IsNear h q u → ⊥) → IsNearFrom h q i us
     miss far = record {
-      in_order = so_far.in_order ∙ sym (ap (filter (is_among us)) (drop_next (updates_of h q) i inside)
+      in_order = so_far.in_order ∙ sym (ap (filter (is_among us)) (drop_next (updates_of h q) i 0 inside)
           ∙ ap (λ b. cond b (u ∷ filter (is_among us) (drop (suc i) (updates_of h q))) (filter (is_among us) (drop (suc i) (updates_of h q))))
           (false_from_ne_true (is_among us u) (λ t. apart u ((so_far.near u).0 (In-from_any us u t)).0 refl)));
       near = λ w. (
-        (λ j. let r = (so_far.near w).0 j in (subst (In w) (sym (drop_next (updates_of h q) i inside)) (inr r.0), r.1)),
-        (λ r. ⊎_elim (λ e. absurd (far (subst (IsNear h q) (sym e) r.1))) (λ j. (so_far.near w).1 (j, r.1)) (subst (In w) (drop_next (updates_of h q) i inside) r.0)),
+        (λ j. let r = (so_far.near w).0 j in (subst (In w) (sym (drop_next (updates_of h q) i 0 inside)) (inr r.0), r.1)),
+        (λ r. ⊎_elim (λ e. absurd (far (subst (IsNear h q) (sym e) r.1))) (λ j. (so_far.near w).1 (j, r.1)) (subst (In w) (drop_next (updates_of h q) i 0 inside) r.0)),
       );
     }
 
@@ -175,14 +170,14 @@ module _ (d : Distance) (h : Schedule) (q : ℕ) (legal : IsLegal d h) where
     hit n = record {
       in_order =
           ap (λ l. u ∷ l) (so_far.in_order ∙ filter_agree_in (is_among us) (is_among (u ∷ us)) (drop (suc i) (updates_of h q)) (λ w j. sym (ap (λ b. b || is_among us w) (ne_eqb u w (apart w j)))))
-          ∙ sym (ap (filter (is_among (u ∷ us))) (drop_next (updates_of h q) i inside)
+          ∙ sym (ap (filter (is_among (u ∷ us))) (drop_next (updates_of h q) i 0 inside)
           ∙ ap (λ b. cond (b || is_among us u) (u ∷ filter (is_among (u ∷ us)) (drop (suc i) (updates_of h q))) (filter (is_among (u ∷ us)) (drop (suc i) (updates_of h q)))) (eq-eqb u u refl));
       near = λ w. (
         (λ j. ⊎_elim
-            (λ e. (subst (In w) (sym (drop_next (updates_of h q) i inside)) (inl e), subst (IsNear h q) e n))
-            (λ k. let r = (so_far.near w).0 k in (subst (In w) (sym (drop_next (updates_of h q) i inside)) (inr r.0), r.1))
+            (λ e. (subst (In w) (sym (drop_next (updates_of h q) i 0 inside)) (inl e), subst (IsNear h q) e n))
+            (λ k. let r = (so_far.near w).0 k in (subst (In w) (sym (drop_next (updates_of h q) i 0 inside)) (inr r.0), r.1))
             j),
-        (λ r. ⊎_elim (λ e. inl e) (λ j. inr ((so_far.near w).1 (j, r.1))) (subst (In w) (drop_next (updates_of h q) i inside) r.0)),
+        (λ r. ⊎_elim (λ e. inl e) (λ j. inr ((so_far.near w).1 (j, r.1))) (subst (In w) (drop_next (updates_of h q) i 0 inside) r.0)),
       );
     }
 

@@ -8,8 +8,6 @@ mod matching;
 mod naming;
 mod receipt;
 mod session;
-#[cfg(test)]
-mod tests;
 
 pub use engine::{CloseRefused, Closed, Engine};
 pub use locked::{Locked, Pocket, step_on};

@@ -1,6 +1,6 @@
 use Rattle.std.proofs.Common.{◌≡◌, flat_map, map, arith}
 use Rattle.esr_history.specs.declared.event.TxnId.{TxnId}
-use Rattle.esr_explain.proofs.Prefixes.{take_whole}
+use Rattle.std.proofs.lemmas.List.{take_all}
 use Rattle.esr_order.specs.Scans.{accesses_in}
 use Rattle.esr_explain.specs.Accesses.{put_all}
 use Rattle.esr_explain.proofs.Accessed.{accesses_valued, left_by, left_in_range, put_update}
@@ -17,7 +17,7 @@ loop-u-preserved c = grind (arith, put_update)
 
 whole : (c : goal.After-loop-u) → c.loop-u.values.items
     ≡ put_all c.args.history.now.schedule.opening (flat_map (accesses_in c.args.history.now.schedule.entries) (map (λ (t : TxnId). t.0) c.args.updates.now))
-whole c = grind (arith, flat_map, map, take_whole c.args.updates.now c.loop-u.u-index c.loop-u-test.false)
+whole c = grind (arith, flat_map, map, take_all c.loop-u.u-index c.args.updates.now c.loop-u-test.false)
 
 pub returns-clause-values : goal.returns-clause-values
 returns-clause-values c = grind (arith, whole c, left_by, map)

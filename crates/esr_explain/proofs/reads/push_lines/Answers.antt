@@ -2,7 +2,7 @@ use Rattle.std.proofs.Common.{◌≡◌, ◌∙◌, ◌+◌, ◌++◌, Bool, Lis
 use Rattle.std.proofs.lemmas.Int.{to_z-of_z}
 use Rattle.esr_items.specs.Values.{value_at, IsValue}
 use Rattle.esr_items.specs.Weights.{weighted}
-use Rattle.esr_explain.proofs.Prefixes.{take_whole}
+use Rattle.std.proofs.lemmas.List.{take_all}
 use Rattle.esr_audit.proofs.Gathered.{value_fits}
 use Rattle.esr_order.specs.declared.accesses.Access.{Access}
 use Rattle.esr_explain.specs.Accesses.{access_line}
@@ -39,4 +39,4 @@ loop-access-preserved c =
     ]
 
 pub returns : goal.returns
-returns c = grind (arith, flat_map, take_whole c.args.accesses.now c.loop-access.access-index c.loop-access-test.false)
+returns c = grind (arith, flat_map, take_all c.loop-access.access-index c.args.accesses.now c.loop-access-test.false)

@@ -2,9 +2,9 @@ ghost use Rattle.std.specs.Prelude.{◌≡◌, ◌<◌, length, map};
 ghost use Rattle.std.specs.List.{range_with_len};
 ghost use Rattle.esr_locks.specs.Tables.{no_locks, room_for};
 
-use crate::{LockTable, QueryReads};
 use esr_history::TxnId;
 use esr_items::ItemId;
+use esr_locks::{LockTable, QueryReads};
 use std::alloc::Global;
 use std::process::Abort;
 

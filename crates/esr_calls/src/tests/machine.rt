@@ -1,6 +1,7 @@
-use super::*;
-use esr_history::Refusal;
-use esr_items::Plain;
+use esr_core::{Machine, RenewError, StepError, Totals};
+use esr_history::{Event, NoMemory, Refusal, Reply, TxnId};
+use esr_items::{ItemId, Plain, Store};
+use std::alloc::Global;
 use std::process::Abort;
 
 const A: ItemId = ItemId(0);
@@ -67,17 +68,11 @@ fn opened_at_last(rt: &impl Abort, alloc: Global, value: i64) -> Machine<Plain> 
 fn play(rt: &impl Abort, machine: &mut Machine<Plain>, event: Event, reply: Reply) {
     let totals = machine.totals();
     let entries = machine.log().len();
-    assert!(rt; machine.state.items.len() == 1);
-    let current = machine.state.items.read(A);
-    let committed = machine.state.items.committed(A);
     let answer = match machine.step(event) {
         Err(error) => {
             assert!(rt; error == StepError::NoMemory);
             assert!(rt; machine.totals() == totals);
             assert!(rt; machine.log().len() == entries);
-            assert!(rt; machine.state.items.len() == 1);
-            assert!(rt; machine.state.items.read(A) == current);
-            assert!(rt; machine.state.items.committed(A) == committed);
             machine.step(event)
         }
         Ok(answer) => Ok(answer),

@@ -1,7 +1,7 @@
 //! Boards and their seats, by one thread.
 ghost use Rattle.esr_board.specs.Boards.{IsSeatOf};
 
-use crate::{Board, BoardError, BoardSeat, ClaimsMissing};
+use esr_board::{Board, BoardError, BoardSeat, ClaimsMissing};
 use std::alloc::Global;
 use std::process::Abort;
 use std::test::Fail;

@@ -1,4 +1,4 @@
-use crate::{ItemId, ItemsError, Metric, Plain, Store, Weighted};
+use esr_items::{ItemId, ItemsError, Metric, Plain, Store, Weighted};
 use std::test::Fail;
 
 #[test]

@@ -1,10 +1,12 @@
 //! Sessions on threads of their own.
 ghost use Rattle.std.specs.Prelude.{◌≡◌, [], map};
 
-use super::*;
 use esr_core::StepError;
 use esr_history::{Event, Log, Refusal, Reply, TxnId};
 use esr_items::{ItemId, Plain, Store};
+use esr_session::{
+    CloseError, CloseRefused, Closed, Engine, Naming, Receipt, Session, match_receipts,
+};
 use std::alloc::{AllocError, Global};
 use std::marker::Brand;
 use std::process::Abort;

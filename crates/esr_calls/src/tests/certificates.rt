@@ -1,4 +1,4 @@
-use crate::{BundleFault, Certificate, Chain, Fault, Problem, check};
+use esr_cert::{BundleFault, Certificate, Chain, Fault, Problem, check};
 use esr_history::TxnId;
 use esr_items::ItemId;
 use std::alloc::{AllocError, Global};

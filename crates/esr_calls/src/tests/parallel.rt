@@ -1,7 +1,7 @@
 //! Audits by several workers.
 
-use crate::{Board, Gate, NoGate, audit_parallel, work};
 use esr_audit::{AuditError, Book, Finding};
+use esr_board::{Board, Gate, NoGate, audit_parallel, work};
 use esr_core::Machine;
 use esr_history::{Event, History, Reply, TxnId};
 use esr_items::{ItemId, Plain, Store};

@@ -1,5 +1,5 @@
-use crate::{Network, Solved, solve};
 use esr_cert::{Certificate, Chain, Problem};
+use esr_flow::{Network, Solved, solve};
 use esr_history::{NoMemory, TxnId};
 use esr_items::ItemId;
 use std::alloc::Global;

@@ -1,5 +1,5 @@
-use crate::{Ledgers, Quote};
 use esr_history::TxnId;
+use esr_ledgers::{Ledgers, Quote};
 
 #[test]
 fn an_export_limit_bounds_the_sum_over_queries(rt: HostRuntime) {

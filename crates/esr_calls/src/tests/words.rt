@@ -1,5 +1,5 @@
-use crate::{Job, command};
 use clap::error::ErrorKind;
+use esr_cli::{Job, command};
 use std::test::Fail;
 
 #[test]

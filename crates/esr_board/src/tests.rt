@@ -1,2 +1,0 @@
-mod boards;
-mod parallel;

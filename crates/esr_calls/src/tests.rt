@@ -1,0 +1,10 @@
+mod boards;
+mod certificates;
+mod items;
+mod ledgers;
+mod locks;
+mod machine;
+mod parallel;
+mod sessions;
+mod solver;
+mod words;
