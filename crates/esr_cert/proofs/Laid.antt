@@ -7,6 +7,7 @@ use Rattle.esr_cert.specs.declared.network.Arc.{Arc}
 use Rattle.esr_cert.specs.declared.step.Step.{Step}
 use Rattle.esr_cert.specs.declared.step.Step.TheVariants.{Along, Against}
 use Rattle.esr_cert.specs.declared.rows.Span.{Span}
+use Rattle.esr_cert.specs.declared.rows.TheConstants.{MOST_ARCS}
 use Rattle.esr_cert.specs.Network.{arc_at, HaveEnds}
 use Rattle.esr_cert.specs.Steps.{arc_of, order_of, start, step_at, AreOnce}
 use Rattle.esr_cert.specs.Rows.{span_at, row_in, first_steps, steps_from, row_of, AreDegrees, AreRows, AreSteps, lengthen}
@@ -77,8 +78,8 @@ laid_rows {arcs} {nodes} {i} {spans} {steps} e laid =
     filled_all arcs nodes h.degrees spans steps h.are h.filled
 
 -- a step lies in the row of the node where it starts, and there once
-pub laid_steps : {arcs : List Arc} {nodes i : ℕ} {spans : List Span} {steps : List Step} → i ≡ length arcs → Laid arcs nodes i spans steps → AreSteps arcs steps
-laid_steps {arcs} {nodes} {i} {spans} {steps} e laid = record { count = laid_long laid; in_arcs = in_arcs; once = once }
+pub laid_steps : {arcs : List Arc} {nodes i : ℕ} {spans : List Span} {steps : List Step} → length arcs ≤ MOST_ARCS → i ≡ length arcs → Laid arcs nodes i spans steps → AreSteps arcs steps
+laid_steps {arcs} {nodes} {i} {spans} {steps} few e laid = record { few = few; count = laid_long laid; in_arcs = in_arcs; once = once }
   where
     h : Laid arcs nodes (length arcs) spans steps
     h = subst (λ n. Laid arcs nodes n spans steps) e laid

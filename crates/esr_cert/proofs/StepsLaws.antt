@@ -21,12 +21,14 @@ pub steps_other : (arcs : List Arc) (v : ℕ) (done : List Step) (s : Step) → 
 steps_other arcs v done s ne =
     filter-append (λ step. eqb (start arcs step) v) done (s ∷ []) ∙ ap (λ b. steps_from arcs v done ++ cond b (s ∷ []) []) (ne_eqb (start arcs s) v ne) ∙ append-nil (steps_from arcs v done)
 
+pub steps_parts : (arcs : List Arc) (v : ℕ) (done rest : List Step) (s : Step) → start arcs s ≡ v → steps_from arcs v (done ++ s ∷ rest) ≡ steps_from arcs v done ++ s ∷ steps_from arcs v rest
+steps_parts arcs v done rest s e =
+    filter-append (λ step. eqb (start arcs step) v) done (s ∷ rest) ∙ ap (λ b. steps_from arcs v done ++ cond b (s ∷ steps_from arcs v rest) (steps_from arcs v rest)) (eq-eqb (start arcs s) v e)
+
 -- there is room for a step where its row is to have it
 pub room_for : (arcs : List Arc) (v : ℕ) (done rest : List Step) (s : Step) → start arcs s ≡ v → length (steps_from arcs v done) < length (steps_from arcs v (done ++ s ∷ rest))
 room_for arcs v done rest s e =
-    let parts : steps_from arcs v (done ++ s ∷ rest) ≡ steps_from arcs v done ++ s ∷ steps_from arcs v rest =
-    filter-append (λ step. eqb (start arcs step) v) done (s ∷ rest) ∙ ap (λ b. steps_from arcs v done ++ cond b (s ∷ steps_from arcs v rest) (steps_from arcs v rest)) (eq-eqb (start arcs s) v e) in
-    omega (arith, ap length parts, length-append (steps_from arcs v done) (s ∷ steps_from arcs v rest))
+    omega (arith, ap length (steps_parts arcs v done rest s e), length-append (steps_from arcs v done) (s ∷ steps_from arcs v rest))
 
 pub first_within : (arcs : List Arc) (v i n : ℕ) → i ≤ n → length (steps_from arcs v (first_steps i)) ≤ length (steps_from arcs v (first_steps n))
 first_within arcs v i zero l = let e : i ≡ 0 = omega arith in omega (arith, ap (λ m. length (steps_from arcs v (first_steps m))) e)
@@ -60,7 +62,7 @@ first_known (suc n) s c =
       | inr here ↦ let e : n ≡ arc_of s = ap arc_of here in omega arith
     ]
 
-first_all : (n : ℕ) (s : Step) → arc_of s < n → Contains (first_steps n) s
+pub first_all : (n : ℕ) (s : Step) → arc_of s < n → Contains (first_steps n) s
 first_all zero s l = absurd (omega arith)
 first_all (suc n) s l = subst (λ steps. Contains steps s) (first_more n) (at s l (first_all n s))
   where

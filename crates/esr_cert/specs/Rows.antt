@@ -5,6 +5,7 @@ use Rattle.esr_cert.specs.declared.step.Step.{Step}
 use Rattle.esr_cert.specs.declared.step.Step.TheVariants.{Along, Against}
 use Rattle.esr_cert.specs.declared.rows.Span.{Span}
 use Rattle.esr_cert.specs.declared.rows.Rows.{Rows}
+use Rattle.esr_cert.specs.declared.rows.TheConstants.{MOST_ARCS}
 use Rattle.esr_cert.specs.Network.{Network}
 use Rattle.esr_cert.specs.Steps.{arc_of, start, step_at, AreOnce}
 
@@ -47,8 +48,9 @@ pub record AreRows (arcs : List Arc) (n : ℕ) (spans : List Span) (steps : List
   pub inside : (v : ℕ) → v < n → (span_at spans v).end ≤ length steps
   pub row : (v : ℕ) → v < n → row_in steps (span_at spans v) ≡ row_of arcs v
 
--- the two steps of each of some arcs, each once
+-- the two steps of each of some arcs, each once, and few enough for their numbers
 pub record AreSteps (arcs : List Arc) (steps : List Step) : Type 0 where
+  pub few : length arcs ≤ MOST_ARCS
   pub count : length steps ≡ 2 * length arcs
   pub in_arcs : (k : ℕ) → k < length steps → arc_of (step_at steps k) < length arcs
   pub once : AreOnce steps

@@ -66,6 +66,17 @@ module _ {S E : Type 0} (f h : S → E) (steps : List S) (entries : List E) (p q
       let inside : k < length steps = omega (arith, same_length, length-map steps h) in
       each_written are lp lq at_p at_q others k inside ∙ sym (get_or-map h steps k d z inside))
 
+-- the entries of an arc's two steps
+pub along_is : (arcs : List Arc) (flow : List ℕ) (i x : ℕ) (arc : Arc) → arc ≡ arc_at arcs i → x ≡ amount_at flow i → record { to = arc.to; ahead = within 1 (left_of arc.capacity x); back = within 1 (Some x) } ≡ entry_of arcs flow (Along i)
+along_is arcs flow i x arc is x_is =
+    let by : Arc → ℕ → Entry = λ a n. record { to = a.to; ahead = within 1 (left_of a.capacity n); back = within 1 (Some n) } in
+    ap (λ a. by a x) is ∙ ap (by (arc_at arcs i)) x_is
+
+pub against_is : (arcs : List Arc) (flow : List ℕ) (i x : ℕ) (arc : Arc) → arc ≡ arc_at arcs i → x ≡ amount_at flow i → record { to = arc.from; ahead = within 1 (Some x); back = within 1 (left_of arc.capacity x) } ≡ entry_of arcs flow (Against i)
+against_is arcs flow i x arc is x_is =
+    let by : Arc → ℕ → Entry = λ a n. record { to = a.from; ahead = within 1 (Some n); back = within 1 (left_of a.capacity n) } in
+    ap (λ a. by a x) is ∙ ap (by (arc_at arcs i)) x_is
+
 -- the entry of a step of another arc
 same_entry : (arcs : List Arc) (flow : List ℕ) (i x : ℕ) (t : Step) → arc_of t ≢ i → entry_of arcs (set flow i x) t ≡ entry_of arcs flow t
 same_entry arcs flow i x (Along j) ne =

@@ -24,6 +24,7 @@ graph_is p ok g e given few =
       count = laid.rows.count;
       ordered = laid.rows.ordered;
       inside = laid.rows.inside;
+      row = laid.rows.row;
       lists = λ v l. subst (HasSteps (arcs_of g) v) (sym (laid.rows.row v l)) (has_steps (arcs_of g) v);
       ascend = λ v l. subst (IsNonDecreasingBy order_of) (sym (laid.rows.row v l)) (row_ascends (arcs_of g) v);
       steps = laid.steps;

@@ -14,5 +14,6 @@ pub mod MaximumLaws
 pub mod WalkLaws
 pub mod PhaseLaws
 pub mod EntriesLaws
+pub mod FillLaws
 pub mod GraphLaws
 pub mod CertificateLaws

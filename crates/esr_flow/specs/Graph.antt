@@ -9,7 +9,7 @@ use Rattle.esr_flow.specs.declared.entry.Entry.{Entry}
 use Rattle.esr_flow.specs.declared.graph.Graph.{Graph}
 use Rattle.esr_cert.specs.Flow.{within}
 use Rattle.esr_cert.specs.Steps.{arc_of, order_of, start, opposite, step_at, HasSteps}
-use Rattle.esr_cert.specs.Rows.{span_at, row_in, AreSteps}
+use Rattle.esr_cert.specs.Rows.{span_at, row_in, row_of, AreSteps}
 use Rattle.esr_flow.specs.Residual.{finish, room}
 
 abbrev pub arcs_of : Graph → List Arc
@@ -23,6 +23,7 @@ pub record IsGraph (g : Graph) : Type 0 where
   pub count : length g.rows.now.spans.items ≡ g.nodes
   pub ordered : (v : ℕ) → v < g.nodes → (span_at g.rows.now.spans.items v).begin ≤ (span_at g.rows.now.spans.items v).end
   pub inside : (v : ℕ) → v < g.nodes → (span_at g.rows.now.spans.items v).end ≤ length g.rows.now.steps.items
+  pub row : (v : ℕ) → v < g.nodes → row_in g.rows.now.steps.items (span_at g.rows.now.spans.items v) ≡ row_of (arcs_of g) v
   pub lists : (v : ℕ) → v < g.nodes
       → HasSteps (arcs_of g) v (row_in g.rows.now.steps.items (span_at g.rows.now.spans.items v))
   pub ascend : (v : ℕ) → v < g.nodes → IsNonDecreasingBy order_of (row_in g.rows.now.steps.items (span_at g.rows.now.spans.items v))

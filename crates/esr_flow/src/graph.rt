@@ -1,15 +1,15 @@
 //! A problem's network, the steps that start at each node, and for each step an entry of what has room.
-ghost use Rattle.std.specs.Prelude.{◌≡◌, ◌<◌, true, length, set, IfOk, Some, Vec};
+ghost use Rattle.std.specs.Prelude.{◌≡◌, ◌+◌, ◌<◌, true, length, get_or, set, IfOk, Some, Vec};
 ghost use Rattle.std.specs.declared.alloc.Global.{Global};
 ghost use Rattle.esr_cert.specs.declared.step.Step.{Step};
 ghost use Rattle.esr_cert.specs.Flow.{within};
 ghost use Rattle.esr_cert.specs.Network.{network};
 ghost use Rattle.esr_flow.specs.Residual.{left_of, room, finish};
 ghost use Rattle.esr_cert.specs.Steps.{arc_of, step_at};
-ghost use Rattle.esr_flow.specs.Graph.{entry_of};
+ghost use Rattle.esr_cert.specs.Rows.{span_at};
 
 use crate::entry::{Entry, ShortEntry};
-use esr_cert::{Problem, Rows, ShortStep, Step};
+use esr_cert::{Arc, Problem, Rows, ShortStep, Step};
 use std::alloc::{AllocError, Global};
 
 /// The network of a problem, and for each node the steps that start at it.
@@ -45,15 +45,25 @@ impl<'a> Graph<'a> {
         self.rows.row(entries, v)
     }
 
-    /// The entries of all steps, with the residual amounts of a flow.
+    /// The entries of all steps, with the residual amounts of a flow. They are put into their rows arc by arc, as the
+    /// steps were, since the arcs of a chain lie together.
     pub fn entries(&self, alloc: Global, flow: &[u64]) -> Result<Vec<ShortEntry>, AllocError>
         requires graph { IsGraph self.now }
         requires flow { length flow.now ≡ length (arcs_of self.now) }
         ensures { IfOk result (λ entries. AreEntries self.now flow.now entries.items) }
     {
-        let mut entries = Vec::with_capacity(alloc, self.rows.steps.len())?;
-        for step in &self.rows.steps {
-            entries.push(entry_of(self.problem, flow, step.step()))?;
+        let none = ShortEntry::of(Entry {
+            to: 0,
+            ahead: false,
+            back: false,
+        });
+        let mut entries = vec![in alloc; none; self.rows.steps.len()]?;
+        let mut counts = vec![in alloc; 0usize; self.nodes]?;
+        for i in 0..flow.len() {
+            let arc = self.problem.arc(i as u32);
+            let (along, against) = entries_of(arc, flow[i]);
+            put_next(self.rows, &mut counts, &mut entries, arc.from, along);
+            put_next(self.rows, &mut counts, &mut entries, arc.to, against);
         }
         Ok(entries)
     }
@@ -78,17 +88,18 @@ impl<'a> Graph<'a> {
         ensures flow { flow.new ≡ set flow.old arc amount }
         ensures entries { AreEntries self.now flow.new entries.new }
     {
-        let capacity = self.problem.arc(arc).capacity;
-        let (ahead, back) = rooms_of(capacity, flow[arc as usize]);
-        let (ahead_now, back_now) = rooms_of(capacity, amount);
+        let ends = self.problem.arc(arc);
+        let (ahead, back) = rooms_of(ends.capacity, flow[arc as usize]);
+        let (ahead_now, back_now) = rooms_of(ends.capacity, amount);
         flow[arc as usize] = amount;
         if ahead_now == ahead && back_now == back {
             return;
         }
-        let along = self.place_of(Step::Along(arc));
-        entries[along] = entry_of(self.problem, flow, Step::Along(arc));
-        let against = self.place_of(Step::Against(arc));
-        entries[against] = entry_of(self.problem, flow, Step::Against(arc));
+        let (along, against) = entries_of(ends, amount);
+        let place = self.place_of(Step::Along(arc));
+        entries[place] = along;
+        let place = self.place_of(Step::Against(arc));
+        entries[place] = against;
     }
 }
 
@@ -120,27 +131,54 @@ pub fn room_of(problem: &Problem, flow: &[u64], step: Step) -> Option<u64>
     }
 }
 
-/// The entry of a step.
-pub fn entry_of(problem: &Problem, flow: &[u64], step: Step) -> ShortEntry
-    requires arc { arc_of step < length (network problem.now).arcs }
-    requires flow { length flow.now ≡ length (network problem.now).arcs }
-    requires node { finish (network problem.now).arcs step < 1073741824 }
-    ensures { result ≡ entry_of (network problem.now).arcs flow.now step }
+/// The entries of the two steps of an arc that carries an amount.
+fn entries_of(arc: Arc, amount: u64) -> (ShortEntry, ShortEntry)
+    requires nodes { (arc.from < 1073741824) × (arc.to < 1073741824) }
+    ensures along { result.0 ≡ record {
+      to = arc.to;
+      ahead = within 1 (left_of arc.capacity amount);
+      back = within 1 (Some amount);
+    } }
+    ensures against { result.1 ≡ record {
+      to = arc.from;
+      ahead = within 1 (Some amount);
+      back = within 1 (left_of arc.capacity amount);
+    } }
 {
-    let arc = problem.arc(step.arc());
-    let (along, against) = rooms_of(arc.capacity, flow[step.arc() as usize]);
-    ShortEntry::of(match step {
-        Step::Along(_) => Entry {
-            to: arc.to,
-            ahead: along,
-            back: against,
-        },
-        Step::Against(_) => Entry {
-            to: arc.from,
-            ahead: against,
-            back: along,
-        },
-    })
+    let (along, against) = rooms_of(arc.capacity, amount);
+    let ahead = ShortEntry::of(Entry {
+        to: arc.to,
+        ahead: along,
+        back: against,
+    });
+    let back = ShortEntry::of(Entry {
+        to: arc.from,
+        ahead: against,
+        back: along,
+    });
+    (ahead, back)
+}
+
+/// Puts an entry into the next place of a node's row, of which so many are taken.
+fn put_next(
+    rows: &Rows,
+    counts: &mut Vec<usize>,
+    entries: &mut Vec<ShortEntry>,
+    node: u32,
+    entry: ShortEntry,
+)
+    requires span { node < length rows.now.spans.items }
+    requires count { node < length counts.old.items }
+    requires few { get_or counts.old.items node 0 < 4294967296 }
+    requires place { (span_at rows.now.spans.items node).begin + get_or counts.old.items node 0 < length entries.old.items }
+    ensures counts { counts.new.items ≡ set counts.old.items node (get_or counts.old.items node 0 + 1) }
+    ensures entries { entries.new.items
+        ≡ set entries.old.items ((span_at rows.now.spans.items node).begin + get_or counts.old.items node 0) entry }
+{
+    let node = node as usize;
+    let count = counts[node];
+    entries[rows.spans[node].begin + count] = entry;
+    counts[node] = count + 1;
 }
 
 /// The node that a step leads to.

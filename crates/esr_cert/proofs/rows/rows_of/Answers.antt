@@ -19,4 +19,4 @@ pub returns-clause-rows : goal.returns-clause-rows
 returns-clause-rows c = laid_rows (omega arith) c.loop-i.invariant
 
 pub returns-clause-steps : goal.returns-clause-steps
-returns-clause-steps c = laid_steps (omega arith) c.loop-i.invariant
+returns-clause-steps c = laid_steps c.requires.few (omega arith) c.loop-i.invariant

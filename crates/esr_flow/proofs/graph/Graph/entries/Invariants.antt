@@ -1,6 +1,6 @@
-use Rattle.std.proofs.Common.{◌≡◌, take, map}
-use Rattle.esr_flow.specs.Graph.{arcs_of, entry_of}
+use Rattle.esr_cert.specs.Rows.{first_steps}
+use Rattle.esr_flow.proofs.FillLaws.{ArePut}
 use Rattle.esr_flow.proofs.graph.Graph.entries.Given as goal
 
-abbrev pub invariant-loop-step : goal.invariant-loop-step
-invariant-loop-step l = l.entries.items ≡ map (entry_of (arcs_of l.self) l.flow) (take l.step-index l.self.rows.now.steps.items)
+abbrev pub invariant-loop-i : goal.invariant-loop-i
+invariant-loop-i l = ArePut l.self l.flow (first_steps l.i) l.counts.items l.entries.items

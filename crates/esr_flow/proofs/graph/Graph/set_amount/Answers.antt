@@ -1,15 +1,20 @@
-use Rattle.std.proofs.Common.{arith, sym, ◌∙◌}
+use Rattle.std.proofs.Common.{◌≡◌, ℕ, List, arith, get_or, get_or-set_same, set, sym, ◌∙◌}
 use Rattle.std.specs.Cmp.{booleans_Decides}
-use Rattle.esr_flow.proofs.EntriesLaws.{renewed, unchanged}
+use Rattle.esr_flow.specs.Graph.{arcs_of}
+use Rattle.esr_flow.proofs.EntriesLaws.{renewed, unchanged, along_is, against_is}
 use Rattle.esr_flow.proofs.graph.Graph.set_amount.Goals as goal
 
 pub returns-then-back_now-back-clause-entries : goal.returns-then-back_now-back-clause-entries
 returns-then-back_now-back-clause-entries c =
-    unchanged c.args.self.now c.requires.graph c.args.flow.now c.args.entries.now c.args.arc c.args.amount c.arc-capacity.result (omega (arith, c.requires.arc, c.requires.flow)) c.arc-capacity.ensures c.requires.entries
+    unchanged c.args.self.now c.requires.graph c.args.flow.now c.args.entries.now c.args.arc c.args.amount c.arc-ends.result (omega (arith, c.requires.arc, c.requires.flow)) c.arc-ends.ensures c.requires.entries
     (sym c.rooms_of-ahead.ensures.ahead ∙ sym ((booleans_Decides c.rooms_of-ahead_now.result.0 c.rooms_of-ahead.result.0).0 c.if-ahead_now-ahead.true) ∙ c.rooms_of-ahead_now.ensures.ahead)
     (sym c.rooms_of-ahead.ensures.back ∙ sym ((booleans_Decides c.rooms_of-ahead_now.result.1 c.rooms_of-ahead.result.1).0 c.if-back_now-back.true) ∙ c.rooms_of-ahead_now.ensures.back)
 
 pub returns-clause-entries : goal.returns-clause-entries
 returns-clause-entries c =
-    renewed c.args.self.now c.requires.graph c.args.flow.now c.args.entries.now c.args.arc c.args.amount c.place_of-along.result c.place_of-against.result c.entry_of.result c.entry_of-2.result c.requires.entries
-    c.place_of-along.ensures.inside c.place_of-along.ensures.place c.place_of-against.ensures.inside c.place_of-against.ensures.place c.entry_of.ensures c.entry_of-2.ensures
+    let flow : List ℕ = set c.args.flow.now c.args.arc c.args.amount in
+    let now : c.args.amount ≡ get_or flow c.args.arc 0 = sym (get_or-set_same c.args.flow.now c.args.arc c.args.amount 0 (omega (arith, c.requires.arc, c.requires.flow))) in
+    renewed c.args.self.now c.requires.graph c.args.flow.now c.args.entries.now c.args.arc c.args.amount c.place_of-place.result c.place_of-place-2.result c.entries_of-along.result.0 c.entries_of-along.result.1 c.requires.entries
+    c.place_of-place.ensures.inside c.place_of-place.ensures.place c.place_of-place-2.ensures.inside c.place_of-place-2.ensures.place
+    (c.entries_of-along.ensures.along ∙ along_is (arcs_of c.args.self.now) flow c.args.arc c.args.amount c.arc-ends.result c.arc-ends.ensures now)
+    (c.entries_of-along.ensures.against ∙ against_is (arcs_of c.args.self.now) flow c.args.arc c.args.amount c.arc-ends.result c.arc-ends.ensures now)
