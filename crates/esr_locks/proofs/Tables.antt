@@ -13,8 +13,10 @@ use Rattle.esr_history.specs.declared.event.TxnId.{TxnId}
 use Rattle.esr_history.specs.ItemLocks.{ItemLocks}
 use Rattle.esr_history.proofs.Ascending.{any_placed}
 use Rattle.esr_history.proofs.Lists.{any_push, or_false}
-use Rattle.esr_locks.specs.Rows.{RowOf, HeldOf, nothing_held, empty_row, row_at, held_at, IsTable}
-use Rattle.esr_locks.specs.Tables.{no_locks, locks_at, is_writer, is_reader, is_update, is_query, has_lock, with_reader, with_query_read, released, lists_item}
+use Rattle.esr_locks.specs.declared.row.Lock.{Lock}
+use Rattle.esr_locks.specs.declared.row.Lock.TheVariants.{Read, Write, QueryRead}
+use Rattle.esr_locks.specs.Rows.{RowOf, HeldOf, nothing_held, empty_row, row_at, held_at, IsTable, with_lock, has_such}
+use Rattle.esr_locks.specs.Tables.{no_locks, locks_at, is_writer, is_reader, is_query, has_lock, released, lists_item}
 
 -- the locks at an item, by the rows
 pub locks_at-rows : (rows : List RowOf) (x : ℕ) → x < length rows → locks_at (map (λ r. r.locks) rows) x ≡ (row_at rows x).locks
@@ -26,42 +28,21 @@ pub set_row : (rows : List RowOf) (x : ℕ) (row new : RowOf) (f : ItemLocks →
 set_row rows x row new f l is new_is = grind (arith, map-set, set, map, get_or-map)
 
 -- who holds a lock after one more held one before, or is who took it
-pub reader_more : (t u : ℕ) (l : ItemLocks) → has_lock (with_reader t l) u ≡ true → (has_lock l u ≡ true) ⊎ (t ≡ u)
-reader_more t u l is = at (is_writer l u) (is_reader l u) (is_query l u) (t == u) refl (sym (ap (λ b. is_writer l u || (b || is_query l u)) (any_placed (λ v. v) t t (λ v. v) refl (λ v. refl) u l.readers)) ∙ is)
-  where
-    at : (w r q e : Bool) → (t == u) ≡ e → (w || ((r || e) || q)) ≡ true → ((w || (r || q)) ≡ true) ⊎ (t ≡ u)
-    at true r q e is_e h = inl refl
-    at false true q e is_e h = inl refl
-    at false false true e is_e h = inl refl
-    at false false false true is_e h = inr (eqb-true t u is_e)
-    at false false false false is_e h = absurd (false≢true h)
+pub lock_more : (lock : Lock) (t u : ℕ) (l : ItemLocks) → has_lock (with_lock lock t l) u ≡ true → (has_lock l u ≡ true) ⊎ (t ≡ u)
+lock_more Read t u l is = grind (arith, any_placed (λ v. v) t t (λ v. v) refl (λ v. refl) u l.readers, cases_Bool, or_left, or_right, or_cases, eqb-true)
+lock_more Write t u l is = grind (arith, cases_Bool, or_left, or_right, or_cases, eqb-true)
+lock_more QueryRead t u l is = grind (arith, any_placed (λ (r : ℕ × ℕ). r.0) t (t, 1) (λ (r : ℕ × ℕ). (r.0, r.1 + 1)) refl (λ r. refl) u l.queries, cases_Bool, or_left, or_right, or_cases, eqb-true)
 
-pub query_more : (t u : ℕ) (l : ItemLocks) → has_lock (with_query_read t l) u ≡ true → (has_lock l u ≡ true) ⊎ (t ≡ u)
-query_more t u l is = at (is_writer l u) (is_reader l u) (is_query l u) (t == u) refl (sym (ap (λ b. is_writer l u || (is_reader l u || b)) (any_placed (λ (r : ℕ × ℕ). r.0) t (t, 1) (λ (r : ℕ × ℕ). (r.0, r.1 + 1)) refl (λ r. refl) u l.queries)) ∙ is)
-  where
-    at : (w r q e : Bool) → (t == u) ≡ e → (w || (r || (q || e))) ≡ true → ((w || (r || q)) ≡ true) ⊎ (t ≡ u)
-    at true r q e is_e h = inl refl
-    at false true q e is_e h = inl refl
-    at false false true e is_e h = inl refl
-    at false false false true is_e h = inr (eqb-true t u is_e)
-    at false false false false is_e h = absurd (false≢true h)
-
--- an update that has read or written the item holds a lock on it
-pub update_has : (t : ℕ) (l : ItemLocks) → is_update l t ≡ true → has_lock l t ≡ true
-update_has t l is = at (is_writer l t) (is_reader l t) (is_query l t) is
-  where
-    at : (w r q : Bool) → (w || r) ≡ true → (w || (r || q)) ≡ true
-    at true r q is = refl
-    at false true q is = refl
-    at false false q is = absurd (false≢true is)
+-- who holds such a lock on an item holds a lock on it
+pub such_has : (lock : Lock) (t : ℕ) (l : ItemLocks) → has_such lock l t ≡ true → has_lock l t ≡ true
+such_has Read t l is = grind (arith, or_cases, or_left, or_right)
+such_has Write t l is = grind (arith, or_cases, or_left, or_right)
+such_has QueryRead t l is = grind (arith, or_left, or_right)
 
 -- whether the writer is t, by its number
 pub wrote : (w : Option TxnId) (t : ℕ) → unwrap_or (option_map (λ u. u.0 == t) w) false ≡ unwrap_or (option_map (λ u. u == t) (option_map (λ u. u.0) w)) false
 wrote None t = refl
 wrote (Some u) t = refl
-
-pub query_has : (t : ℕ) (l : ItemLocks) → is_query l t ≡ true → has_lock l t ≡ true
-query_has t l is = or_right (is_writer l t) (is_reader l t || is_query l t) (or_right (is_reader l t) (is_query l t) is)
 
 -- the row that was read is that at the place
 pub read_row : (rows : List RowOf) (x : ℕ) (row : RowOf) → x < length rows → row ≡ get_or rows x row → row ≡ row_at rows x

@@ -1,11 +1,13 @@
 -- The locks on one item, as a row of the table.
-use Rattle.std.specs.Prelude.{◌≡◌, ℕ, ◌+◌, ◌<◌, List, [], length, true, All, slice_index_or}
+use Rattle.std.specs.Prelude.{◌≡◌, ℕ, Bool, ◌+◌, ◌<◌, List, [], length, true, All, slice_index_or}
 use Rattle.esr_items.specs.declared.metric.ItemId.{ItemId}
 use Rattle.esr_history.specs.declared.event.TxnId.{TxnId}
 use Rattle.esr_history.specs.ItemLocks.{ItemLocks}
 use Rattle.esr_locks.specs.declared.lists.Reader.{Reader}
 use Rattle.esr_locks.specs.declared.lists.QueryReads.{QueryReads}
-use Rattle.esr_locks.specs.Tables.{no_locks, has_lock, lists_item}
+use Rattle.esr_locks.specs.declared.row.Lock.{Lock}
+use Rattle.esr_locks.specs.declared.row.Lock.TheVariants.{Read, Write, QueryRead}
+use Rattle.esr_locks.specs.Tables.{no_locks, has_lock, is_update, is_query, with_reader, with_writer, with_query_read, lists_item}
 
 -- what a row is to contracts: the locks, and for how many more there is room
 pub record RowOf : Type 0 where
@@ -26,6 +28,17 @@ first_reads q = record { query = q; count = 1 }
 
 abbrev pub more_reads : QueryReads → QueryReads
 more_reads r = record r { count = r.count + 1 }
+
+-- the locks of an item with one more, and whether a transaction holds such a lock: an update's read and write count alike
+abbrev pub with_lock : Lock → ℕ → ItemLocks → ItemLocks
+with_lock Read = with_reader
+with_lock Write = with_writer
+with_lock QueryRead = with_query_read
+
+abbrev pub has_such : Lock → ItemLocks → ℕ → Bool
+has_such Read = is_update
+has_such Write = is_update
+has_such QueryRead = is_query
 
 -- what the items that a transaction has locked are to contracts: the items, and for how many more there is room
 pub record HeldOf : Type 0 where

@@ -1,7 +1,7 @@
 ghost use Rattle.std.specs.Prelude.{◌≡◌, ℕ, ◌<◌, ◌≤◌, ◌==◌, Bool, false, ◌||◌, map, not, All, OnOk, OnErr, unwrap_or, None, if◌then◌else◌};
 ghost use Rattle.std.specs.Option.{option_map};
 ghost use Rattle.esr_history.specs.Ascending.{IsAscendingBy};
-ghost use Rattle.esr_locks.specs.Rows.{RowOf, reads_of};
+ghost use Rattle.esr_locks.specs.Rows.{RowOf, reads_of, with_lock, has_such};
 ghost use Rattle.esr_locks.specs.Tables.{no_locks, is_update, is_query, keeps_from_reading, keeps_from_writing, IsLeast, with_reader, with_writer, with_query_read, released};
 
 use crate::lists::{
@@ -11,6 +11,14 @@ use crate::lists::{
 use esr_history::TxnId;
 use std::alloc::{AllocError, Global};
 use std::marker::Model;
+
+/// The locks that a transaction takes: an update by reading and by writing, a query by reading.
+#[derive(Clone, Copy, PartialEq, Eq, Debug)]
+pub enum Lock {
+    Read,
+    Write,
+    QueryRead,
+}
 
 /// The locks on one item. Updates that have read it and queries that have read it stand in the
 /// order of their numbers.
@@ -127,7 +135,7 @@ impl Row {
 
     /// Adds a read by an update, and answers whether the update had neither read nor written the
     /// item.
-    pub fn add_reader(&mut self, t: TxnId) -> bool
+    fn add_reader(&mut self, t: TxnId) -> bool
         requires { 0 < self.old.room }
         ensures locks { self.new.locks ≡ with_reader t.0 self.old.locks }
         ensures fresh { result ≡ not (is_update self.old.locks t.0) }
@@ -138,7 +146,7 @@ impl Row {
     }
 
     /// Adds a write, and answers whether the update had neither read nor written the item.
-    pub fn add_writer(&mut self, t: TxnId) -> bool
+    fn add_writer(&mut self, t: TxnId) -> bool
         ensures locks { self.new.locks ≡ with_writer t.0 self.old.locks }
         ensures fresh { result ≡ not (is_update self.old.locks t.0) }
     {
@@ -149,13 +157,28 @@ impl Row {
     }
 
     /// Adds a read by a query, and answers whether the query had not read the item.
-    pub fn add_query_read(&mut self, q: TxnId) -> bool
+    fn add_query_read(&mut self, q: TxnId) -> bool
         requires room { 0 < self.old.room }
         requires few { All (λ r. r.0 ≡ q.0 → r.1 < 1000) self.old.locks.queries }
         ensures locks { self.new.locks ≡ with_query_read q.0 self.old.locks }
         ensures fresh { result ≡ not (is_query self.old.locks q.0) }
     {
         count_read(&mut self.queries, q)
+    }
+
+    /// Adds a lock, and answers whether the transaction held none on the item yet.
+    #[inline(always)]
+    pub fn add(&mut self, t: TxnId, lock: Lock) -> bool
+        requires room { 0 < self.old.room }
+        requires few { lock ≡ Lock.QueryRead → All (λ r. r.0 ≡ t.0 → r.1 < 1000) self.old.locks.queries }
+        ensures locks { self.new.locks ≡ with_lock lock t.0 self.old.locks }
+        ensures fresh { result ≡ not (has_such lock self.old.locks t.0) }
+    {
+        match lock {
+            Lock::Read => self.add_reader(t),
+            Lock::Write => self.add_writer(t),
+            Lock::QueryRead => self.add_query_read(t),
+        }
     }
 
     /// Drops the locks of a transaction.

@@ -2,12 +2,12 @@ ghost use Rattle.std.specs.Prelude.{◌≡◌, ℕ, ◌-◌, ◌<◌, ◌≤◌,
 ghost use Rattle.std.specs.List.{range_with_len};
 ghost use Rattle.std.specs.Option.{option_map};
 ghost use Rattle.esr_history.specs.Ascending.{IsAscendingBy};
-ghost use Rattle.esr_locks.specs.Rows.{reads_of, row_at, held_at};
+ghost use Rattle.esr_locks.specs.Rows.{reads_of, row_at, held_at, with_lock};
 ghost use Rattle.esr_locks.specs.Tables.{no_locks, locks_at, room_for, has_lock, lists_item, keeps_from_reading, keeps_from_writing, IsLeast, with_reader, with_writer, with_query_read, released};
 
 use crate::held::Held;
 use crate::lists::QueryReads;
-use crate::row::Row;
+use crate::row::{Lock, Row};
 use esr_history::{NoMemory, TxnId};
 use esr_items::ItemId;
 use std::alloc::{AllocError, Global};
@@ -189,15 +189,26 @@ impl LockTable {
         Ok(())
     }
 
+    /// Adds a lock, and the item to those that the transaction has locked, where it had none there.
+    #[inline(always)]
+    fn add(&mut self, t: TxnId, x: ItemId, lock: Lock)
+        requires item { x.0 < length self.old.locks }
+        requires room { 0 < room_for self.old t.0 x.0 }
+        requires few { lock ≡ Lock.QueryRead → All (λ r. r.0 ≡ t.0 → r.1 < 1000) (locks_at self.old.locks x.0).queries }
+        ensures { self.new.locks ≡ slice_set self.old.locks x.0 (with_lock lock t.0 (locks_at self.old.locks x.0)) }
+    {
+        if self.rows[x.0 as usize].add(t, lock) {
+            self.held[t.0 as usize].push(x);
+        }
+    }
+
     /// Adds the lock of an update that has read the item.
     pub fn add_read_update(&mut self, t: TxnId, x: ItemId)
         requires item { x.0 < length self.old.locks }
         requires room { 0 < room_for self.old t.0 x.0 }
         ensures { self.new.locks ≡ slice_set self.old.locks x.0 (with_reader t.0 (locks_at self.old.locks x.0)) }
     {
-        if self.rows[x.0 as usize].add_reader(t) {
-            self.held[t.0 as usize].push(x);
-        }
+        self.add(t, x, Lock::Read);
     }
 
     /// Adds the lock of an update that has written the item.
@@ -206,9 +217,7 @@ impl LockTable {
         requires room { 0 < room_for self.old t.0 x.0 }
         ensures { self.new.locks ≡ slice_set self.old.locks x.0 (with_writer t.0 (locks_at self.old.locks x.0)) }
     {
-        if self.rows[x.0 as usize].add_writer(t) {
-            self.held[t.0 as usize].push(x);
-        }
+        self.add(t, x, Lock::Write);
     }
 
     /// Adds the lock of a query that has read the item, or counts one more read.
@@ -218,9 +227,7 @@ impl LockTable {
         requires few { All (λ r. r.0 ≡ q.0 → r.1 < 1000) (locks_at self.old.locks x.0).queries }
         ensures { self.new.locks ≡ slice_set self.old.locks x.0 (with_query_read q.0 (locks_at self.old.locks x.0)) }
     {
-        if self.rows[x.0 as usize].add_query_read(q) {
-            self.held[q.0 as usize].push(x);
-        }
+        self.add(q, x, Lock::QueryRead);
     }
 
     /// Drops all locks of a transaction.
