@@ -7,7 +7,7 @@ use Rattle.esr_history.specs.declared.event.Event.TheVariants.{BeginUpdate, Begi
 use Rattle.esr_history.specs.declared.event.Reply.{Reply}
 use Rattle.esr_history.specs.declared.event.Refusal.{Refusal}
 use Rattle.esr_history.specs.declared.event.Refusal.TheVariants.{NoSuchTransaction, NoSuchItem}
-use Rattle.esr_history.specs.Events.{is_refusal, beginnings, is_begun}
+use Rattle.esr_history.specs.Events.{is_refusal, beginning_of, beginnings, is_begun}
 use Rattle.esr_history.specs.Machine.{Distance, Schedule, done, reply_to, reasons, refusal, acceptance, answered, not_begun, no_item, IsLegal}
 use Rattle.esr_history.specs.Legal.{legal_induction}
 use Rattle.esr_history.specs.Links.{item_of, txn_of, ender, begun_by, begun_count, is_key, IsFit, IsNumbered}
@@ -42,6 +42,15 @@ record Keys (h : Schedule) (e : Event) (r : Reply) : Type 0 where
 other : (k m : ℕ) → k < m → eqb k m ≡ false
 other k m l = ne_eqb k m (λ e. absurd (omega (arith, e, l)))
 
+-- an event that begins nothing has the key of one transaction that has begun
+named : (h : Schedule) (e : Event) (r : Reply) (u : ℕ) → u < 1 + begun_count h.entries → beginning_of e ≡ None → is_refusal r ≡ false → ((x : ℕ) → length h.opening ≤ x → is_key (item_of e) x ≡ false)
+    → ((t : ℕ) → eqb u t ≡ false → (is_key (txn_of e r) t ≡ false) × (is_key (ender e) t ≡ false)) → Keys h e r
+named h e r u low begins ok item txn = record {
+  item = item;
+  txn = λ t m. let same : begun_count (h.entries ++ record { event = e; reply = r } ∷ []) ≡ begun_count h.entries = count_same h.entries (record { event = e; reply = r }) ok begins in
+      let no = txn t (other u t (omega (arith, low, same, m))) in (no.0, no.1, omega (arith, same, m));
+}
+
 keys : (d : Distance) (h : Schedule) (e : Event) (r : Reply) → r ≡ reply_to d h e → is_refusal r ≡ false → Keys h e r
 keys d h (BeginUpdate l) r is ok =
     let n : begun_by r ≡ Some (begun_count h.entries + 1) = numbered d h (BeginUpdate l) r is ok in
@@ -63,36 +72,12 @@ keys d h (BeginQuery l s) r is ok =
     }
 keys d h (Read u y) r is ok =
     let p = (accepts d h (Read u y) r is ok).0 in
-    let low : u.0 < 1 + begun_count h.entries = begun_below h u.0 p.0 in
-    let inside : y.0 < length h.opening = item_below h y.0 p.1.1.0 in
-    record {
-      item = λ x m. other y.0 x (omega (arith, inside, m));
-      txn = λ t m. let same : begun_count (h.entries ++ record { event = Read u y; reply = r } ∷ []) ≡ begun_count h.entries = count_same h.entries (record { event = Read u y; reply = r }) ok refl in
-          (other u.0 t (omega (arith, low, same, m)), refl, omega (arith, same, m));
-    }
+    named h (Read u y) r u.0 (begun_below h u.0 p.0) refl ok (λ x m. let inside = item_below h y.0 p.1.1.0 in other y.0 x (omega (arith, inside, m))) (λ t no. (no, refl))
 keys d h (Write u y v) r is ok =
     let p = (accepts d h (Write u y v) r is ok).0 in
-    let low : u.0 < 1 + begun_count h.entries = begun_below h u.0 p.0 in
-    let inside : y.0 < length h.opening = item_below h y.0 p.1.1.0 in
-    record {
-      item = λ x m. other y.0 x (omega (arith, inside, m));
-      txn = λ t m. let same : begun_count (h.entries ++ record { event = Write u y v; reply = r } ∷ []) ≡ begun_count h.entries = count_same h.entries (record { event = Write u y v; reply = r }) ok refl in
-          (other u.0 t (omega (arith, low, same, m)), refl, omega (arith, same, m));
-    }
-keys d h (Commit u) r is ok =
-    let low : u.0 < 1 + begun_count h.entries = begun_below h u.0 (accepts d h (Commit u) r is ok).0.0 in
-    record {
-      item = λ x m. refl;
-      txn = λ t m. let same : begun_count (h.entries ++ record { event = Commit u; reply = r } ∷ []) ≡ begun_count h.entries = count_same h.entries (record { event = Commit u; reply = r }) ok refl in
-          (other u.0 t (omega (arith, low, same, m)), other u.0 t (omega (arith, low, same, m)), omega (arith, same, m));
-    }
-keys d h (Abort u) r is ok =
-    let low : u.0 < 1 + begun_count h.entries = begun_below h u.0 (accepts d h (Abort u) r is ok).0.0 in
-    record {
-      item = λ x m. refl;
-      txn = λ t m. let same : begun_count (h.entries ++ record { event = Abort u; reply = r } ∷ []) ≡ begun_count h.entries = count_same h.entries (record { event = Abort u; reply = r }) ok refl in
-          (other u.0 t (omega (arith, low, same, m)), other u.0 t (omega (arith, low, same, m)), omega (arith, same, m));
-    }
+    named h (Write u y v) r u.0 (begun_below h u.0 p.0) refl ok (λ x m. let inside = item_below h y.0 p.1.1.0 in other y.0 x (omega (arith, inside, m))) (λ t no. (no, refl))
+keys d h (Commit u) r is ok = named h (Commit u) r u.0 (begun_below h u.0 (accepts d h (Commit u) r is ok).0.0) refl ok (λ x m. refl) (λ t no. (no, no))
+keys d h (Abort u) r is ok = named h (Abort u) r u.0 (begun_below h u.0 (accepts d h (Abort u) r is ok).0.0) refl ok (λ x m. refl) (λ t no. (no, no))
 
 fit_next : (d : Distance) (h : Schedule) (e : Event) (r : Reply) → r ≡ reply_to d h e → IsFit (length h.opening) h.entries → IsFit (length h.opening) (h.entries ++ record { event = e; reply = r } ∷ [])
 fit_next d h e r is fit = elim (cases_Bool (is_refusal r)) [ inl refused ↦ at_refusal refused | inr ok ↦ at_accept ok ]

@@ -24,21 +24,19 @@ abbrev export_of : Account → ℕ
 export_of a = if a.query then 0 else a.amount
 
 -- an account that was opened as a query or as an update was opened
-pub query_open : (t : ℕ) (xs : List Account) → is_open_query xs t ≡ true → is_open xs t ≡ true
-query_open t [] is = absurd (false≢true is)
-query_open t (x ∷ xs) is =
+open_where : (p : Account → Bool) (t : ℕ) (xs : List Account) → unwrap_or (option_map p (account_of xs t)) false ≡ true → is_open xs t ≡ true
+open_where p t [] is = absurd (false≢true is)
+open_where p t (x ∷ xs) is =
     elim (cases_Bool (number x == t)) [
       | inl e ↦ or_left (number x == t) (is_open xs t) e
-      | inr ne ↦ or_right (number x == t) (is_open xs t) (query_open t xs (rw ne at is))
+      | inr ne ↦ or_right (number x == t) (is_open xs t) (open_where p t xs (rw ne at is))
     ]
 
+pub query_open : (t : ℕ) (xs : List Account) → is_open_query xs t ≡ true → is_open xs t ≡ true
+query_open = open_where (λ a. a.query)
+
 pub update_open : (t : ℕ) (xs : List Account) → is_open_update xs t ≡ true → is_open xs t ≡ true
-update_open t [] is = absurd (false≢true is)
-update_open t (x ∷ xs) is =
-    elim (cases_Bool (number x == t)) [
-      | inl e ↦ or_left (number x == t) (is_open xs t) e
-      | inr ne ↦ or_right (number x == t) (is_open xs t) (update_open t xs (rw ne at is))
-    ]
+update_open = open_where (λ a. not a.query)
 
 module _ (t n : ℕ) where
   raised_above : (xs : List Account) → AllByRecursion (λ y. t < number y) xs → raised t n xs ≡ xs

@@ -1,8 +1,9 @@
 -- A search through a list from its front.
-use Rattle.std.proofs.Common.{◌≡◌, ℕ, zero, suc, ◌+◌, ◌-◌, ◌<◌, ap, sym, ◌∙◌, List, [], ◌∷◌, length, Bool, true, false, refl, arith, inl, inr, None, Some, get_or, take, add-one}
+use Rattle.std.proofs.Common.{◌≡◌, ℕ, zero, suc, ◌+◌, ◌-◌, ◌<◌, ap, sym, ◌∙◌, List, [], ◌∷◌, length, Bool, true, false, refl, arith, inl, inr, None, Some, get_or, take}
 use Rattle.std.specs.Prelude.{find}
 use Rattle.std.proofs.lemmas.Bool.{cases_Bool, cases_lt}
-use Rattle.std.proofs.lemmas.List.{get_or_default}
+use Rattle.std.proofs.lemmas.List.{get_or_default, take_more}
+use Rattle.std.proofs.lemmas.List.Folds.{find-append}
 use Rattle.esr_history.specs.Ascending.{IsAscendingBy, IsGapFor}
 use Rattle.esr_history.proofs.Ascending.{rises}
 
@@ -16,17 +17,8 @@ find_first p (x ∷ xs) (suc i) d l none is =
       | inr fails ↦ rw fails (find_first p xs i d (omega arith) (rw fails at none) is)
     ]
 
-pub find_none_suc : {X : Type 0} (p : X → Bool) (xs : List X) (i : ℕ) (d : X) → i < length xs → find p (take i xs) ≡ None → p (get_or xs i d) ≡ false → find p (take (suc i) xs) ≡ None
-find_none_suc p [] i d l none is = absurd (omega arith)
-find_none_suc p (x ∷ xs) zero d l none is = rw is refl
-find_none_suc p (x ∷ xs) (suc i) d l none is =
-    elim (cases_Bool (p x)) [
-      | inl passes ↦ let bad : Some x ≡ None = rw passes at none in absurd (cc)
-      | inr fails ↦ rw fails (find_none_suc p xs i d (omega arith) (rw fails at none) is)
-    ]
-
 pub find_none_more : {X : Type 0} (p : X → Bool) (xs : List X) (i : ℕ) (d : X) → i < length xs → find p (take i xs) ≡ None → p (get_or xs i d) ≡ false → find p (take (i + 1) xs) ≡ None
-find_none_more p xs i d l none is = rw (add-one i) (find_none_suc p xs i d l none is)
+find_none_more p xs i d l none is = rw (take_more xs i d l, find-append, none, is) refl
 
 -- a number above the last one of a list that ascends goes at its end
 pub gap_last : {X : Type 0} (key : X → ℕ) (xs : List X) → IsAscendingBy key xs → (t : ℕ) (x : X) → x ≡ get_or xs (length xs - 1) x → key x < t → IsGapFor key xs t (length xs)

@@ -1,4 +1,4 @@
-ghost use Rattle.std.specs.Prelude.{◌≡◌, ◌+◌, ◌<◌, ◌≤◌, ◌==◌, length, filter, find, not, All, IfOk, IfErr, OnOk, OnErr};
+ghost use Rattle.std.specs.Prelude.{◌≡◌, ℕ, ◌+◌, ◌<◌, ◌≤◌, ◌==◌, length, filter, find, not, All, IfOk, IfErr, OnOk, OnErr};
 ghost use Rattle.std.specs.List.{list_any, insert, AllByRecursion};
 ghost use Rattle.std.specs.Option.{option_map};
 ghost use Rattle.smallvec.specs.SmallVec.{HasRoomFor};
@@ -21,6 +21,30 @@ pub struct Reader {
 pub struct QueryReads {
     pub query: TxnId,
     pub count: u32,
+}
+
+/// A row of a list that goes by the numbers of transactions.
+pub trait Numbered {
+    ghost number: { Self → ℕ };
+
+    fn number(&self) -> u32
+        ensures { result ≡ number self.now };
+}
+
+impl Numbered for Reader {
+    ghost number = { λ r. r.update.0 };
+
+    fn number(&self) -> u32 {
+        self.update.0
+    }
+}
+
+impl Numbered for QueryReads {
+    ghost number = { λ r. r.query.0 };
+
+    fn number(&self) -> u32 {
+        self.query.0
+    }
 }
 
 /// The number of no transaction, since they count from 1. It stands in unused places.
@@ -81,22 +105,13 @@ pub fn reserve_one<T: MadeWith<Global> + Drop, const N: usize>(
     grow(list)
 }
 
-/// Where a reader stands among readers, or where it would go.
-fn reader_place(readers: &[Reader], t: TxnId) -> Result<usize, usize>
-    requires { IsAscendingBy (λ r. r.update.0) readers.now }
-    ensures found { IfOk result (IsPlaceOf (λ r. r.update.0) readers.now t.0) }
-    ensures absent { IfErr result (IsGapFor (λ r. r.update.0) readers.now t.0) }
+/// Where the row of a transaction stands in a list, or where it would go.
+fn place_of<R: Numbered>(rows: &[R], t: TxnId) -> Result<usize, usize>
+    requires { IsAscendingBy R.number rows.now }
+    ensures found { IfOk result (IsPlaceOf R.number rows.now t.0) }
+    ensures absent { IfErr result (IsGapFor R.number rows.now t.0) }
 {
-    readers.binary_search_by_key(&t.0, |r| r.update.0)
-}
-
-/// Where a query stands among queries, or where it would go.
-fn query_place(queries: &[QueryReads], q: TxnId) -> Result<usize, usize>
-    requires { IsAscendingBy (λ r. r.query.0) queries.now }
-    ensures found { IfOk result (IsPlaceOf (λ r. r.query.0) queries.now q.0) }
-    ensures absent { IfErr result (IsGapFor (λ r. r.query.0) queries.now q.0) }
-{
-    queries.binary_search_by_key(&q.0, |r| r.query.0)
+    rows.binary_search_by_key(&t.0, |r| r.number())
 }
 
 /// The first reader other than `t`.
@@ -133,7 +148,7 @@ pub fn add_reader(readers: &mut Readers, t: TxnId) -> bool
     ensures items { readers.new.items ≡ placed (λ r. r.update.0) t.0 (reader t) (λ r. r) readers.old.items }
     ensures fresh { result ≡ not (list_any (λ r. r.update.0 == t.0) readers.old.items) }
 {
-    match reader_place(readers, t) {
+    match place_of(readers, t) {
         Ok(_) => false,
         Err(at) => {
             put(readers, at, Reader { update: t });
@@ -152,7 +167,7 @@ pub fn count_read(queries: &mut Queries, q: TxnId) -> bool
     ensures most { AllByRecursion (λ r. r.count ≤ 1000) queries.new.items }
     ensures fresh { result ≡ not (list_any (λ r. r.query.0 == q.0) queries.old.items) }
 {
-    match query_place(queries, q) {
+    match place_of(queries, q) {
         Ok(at) => {
             let reads = &mut queries[at];
             reads.count += 1;
@@ -165,22 +180,15 @@ pub fn count_read(queries: &mut Queries, q: TxnId) -> bool
     }
 }
 
-/// Drops a reader.
-pub fn drop_reader(readers: &mut Readers, t: TxnId)
-    requires { IsAscendingBy (λ r. r.update.0) readers.old.items }
-    ensures { readers.new.items ≡ filter (λ r. not (r.update.0 == t.0)) readers.old.items }
+/// Drops the row of a transaction.
+pub fn drop_row<R: Numbered + MadeWith<Global> + Drop, const N: usize>(
+    rows: &mut SmallVec<R, N>,
+    t: TxnId,
+)
+    requires { IsAscendingBy R.number rows.old.items }
+    ensures { rows.new.items ≡ filter (λ r. not (R.number r == t.0)) rows.old.items }
 {
-    if let Ok(at) = reader_place(readers, t) {
-        let _ = readers.remove(at);
-    }
-}
-
-/// Drops a query.
-pub fn drop_query(queries: &mut Queries, q: TxnId)
-    requires { IsAscendingBy (λ r. r.query.0) queries.old.items }
-    ensures { queries.new.items ≡ filter (λ r. not (r.query.0 == q.0)) queries.old.items }
-{
-    if let Ok(at) = query_place(queries, q) {
-        let _ = queries.remove(at);
+    if let Ok(at) = place_of(rows, t) {
+        let _ = rows.remove(at);
     }
 }

@@ -5,8 +5,8 @@ ghost use Rattle.esr_locks.specs.Rows.{RowOf, reads_of, with_lock, has_such};
 ghost use Rattle.esr_locks.specs.Tables.{no_locks, is_update, is_query, keeps_from_reading, keeps_from_writing, IsLeast, with_reader, with_writer, with_query_read, released};
 
 use crate::lists::{
-    Queries, QueryReads, Readers, add_reader, count_read, drop_query, drop_reader, is_reader,
-    other_reader, reserve_one,
+    Queries, QueryReads, Readers, add_reader, count_read, drop_row, is_reader, other_reader,
+    reserve_one,
 };
 use esr_history::TxnId;
 use std::alloc::{AllocError, Global};
@@ -186,7 +186,7 @@ impl Row {
         ensures { self.new.locks ≡ released t.0 self.old.locks }
     {
         self.writer = other_than(self.writer, t);
-        drop_reader(&mut self.readers, t);
-        drop_query(&mut self.queries, t);
+        drop_row(&mut self.readers, t);
+        drop_row(&mut self.queries, t);
     }
 }
