@@ -6,8 +6,6 @@ use Rattle.esr_history.specs.declared.event.Event.TheVariants.{Read}
 use Rattle.esr_history.specs.Events.{is_active, all_reads_of}
 use Rattle.esr_history.specs.Machine.{done}
 use Rattle.esr_history.proofs.Lawful.{follows}
-use Rattle.esr_ledgers.specs.declared.ledgers.Quote.TheVariants.{Fits}
-use Rattle.esr_ledgers.specs.Books.{AreCharges, quote_of}
 use Rattle.esr_locks.specs.Tables.{locks_at}
 use Rattle.esr_core.specs.States.{read_charge, charged_once}
 use Rattle.esr_core.proofs.Accepted.{read_active, read_few, read_fits, few_here, read_books}
@@ -16,33 +14,22 @@ use Rattle.esr_core.proofs.Ties.{tied-query}
 use Rattle.std.proofs.lemmas.List.{get_or_default}
 use Rattle.esr_core.proofs.state.State.read_as_query.Goals as goal
 
-pub charge_read-requires-clause-charges : goal.charge_read-requires-clause-charges
-charge_read-requires-clause-charges g c =
-    let d = g.M.Metric.distance_by in
-    let h = c.requires.accepted.0 in
-    let s = c.args.self.now in
-    let is : c.charge_of_read-charge.result ≡ read_charge (d h.weights c.args.x.0) (versions_at s.items c.args.x.0) (locks_at s.locks.locks c.args.x.0).writer = rw c.requires.accepted.1 c.charge_of_read-charge.ensures in
-    each c.charge_of_read-charge.result (λ b some.
-    let owed = due_some d h s.items s.transactions.items s.locks.locks s.ledgers c.requires.accepted.2 c.args.q c.args.x b c.requires.accepted.4 c.requires.item (sym is ∙ some) in
-    are_charges-read d h s.items s.transactions.items s.locks.locks s.ledgers c.requires.accepted.2 c.args.q b.0 b.1 c.requires.accepted.4 owed.1)
-  where
-    each : (o : Option (TxnId × ℕ)) → ((b : TxnId × ℕ) → o ≡ Some b → AreCharges c.args.self.now.ledgers b.0 ((c.args.q, b.1) ∷ [])) → IfSome o (λ b. AreCharges c.args.self.now.ledgers b.0 ((c.args.q, b.1) ∷ []))
-    each None f = tt
-    each (Some b) f = f b refl
+each : {P : TxnId × ℕ → Type 0} (o : Option (TxnId × ℕ)) → ((b : TxnId × ℕ) → o ≡ Some b → P b) → IfSome o P
+each None f = tt
+each (Some b) f = f b refl
 
-pub charge_read-requires-clause-fits : goal.charge_read-requires-clause-fits
-charge_read-requires-clause-fits g c =
+pub charge_read-requires : goal.charge_read-requires
+charge_read-requires g c =
     let d = g.M.Metric.distance_by in
     let h = c.requires.accepted.0 in
     let s = c.args.self.now in
+    let query = c.requires.accepted.4 in
     let is : c.charge_of_read-charge.result ≡ read_charge (d h.weights c.args.x.0) (versions_at s.items c.args.x.0) (locks_at s.locks.locks c.args.x.0).writer = rw c.requires.accepted.1 c.charge_of_read-charge.ensures in
-    each c.charge_of_read-charge.result (λ b some.
-    let owed = due_some d h s.items s.transactions.items s.locks.locks s.ledgers c.requires.accepted.2 c.args.q c.args.x b c.requires.accepted.4 c.requires.item (sym is ∙ some) in
-    read_fits d h s.items s.transactions.items s.locks.locks s.ledgers c.requires.accepted.2 c.args.q b.0 c.args.x b.1 c.requires.accepted.3 c.requires.accepted.4 owed.1 owed.0)
-  where
-    each : (o : Option (TxnId × ℕ)) → ((b : TxnId × ℕ) → o ≡ Some b → quote_of c.args.self.now.ledgers b.0 ((c.args.q, b.1) ∷ []) ≡ Fits) → IfSome o (λ b. quote_of c.args.self.now.ledgers b.0 ((c.args.q, b.1) ∷ []) ≡ Fits)
-    each None f = tt
-    each (Some b) f = f b refl
+    let owed = λ (b : TxnId × ℕ) (some : c.charge_of_read-charge.result ≡ Some b). due_some d h s.items s.transactions.items s.locks.locks s.ledgers c.requires.accepted.2 c.args.q c.args.x b query c.requires.item (sym is ∙ some) in
+    record {
+      charges = each c.charge_of_read-charge.result (λ b some. are_charges-read d h s.items s.transactions.items s.locks.locks s.ledgers c.requires.accepted.2 c.args.q b.0 b.1 query (owed b some).1);
+      fits = each c.charge_of_read-charge.result (λ b some. read_fits d h s.items s.transactions.items s.locks.locks s.ledgers c.requires.accepted.2 c.args.q b.0 c.args.x b.1 c.requires.accepted.3 query (owed b some).1 (owed b some).0);
+    }
 
 pub add_read_query-requires-clause-few : goal.add_read_query-requires-clause-few
 add_read_query-requires-clause-few g c =
