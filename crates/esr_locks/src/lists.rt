@@ -106,10 +106,13 @@ pub fn reserve_one<T: MadeWith<Global> + Drop, const N: usize>(
 }
 
 /// Where the row of a transaction stands in a list, or where it would go.
-fn place_of<R: Numbered>(rows: &[R], t: TxnId) -> Result<usize, usize>
-    requires { IsAscendingBy R.number rows.now }
-    ensures found { IfOk result (IsPlaceOf R.number rows.now t.0) }
-    ensures absent { IfErr result (IsGapFor R.number rows.now t.0) }
+fn place_of<R: Numbered + MadeWith<Global>, const N: usize>(
+    rows: &SmallVec<R, N>,
+    t: TxnId,
+) -> Result<usize, usize>
+    requires { IsAscendingBy R.number rows.now.items }
+    ensures found { IfOk result (IsPlaceOf R.number rows.now.items t.0) }
+    ensures absent { IfErr result (IsGapFor R.number rows.now.items t.0) }
 {
     rows.binary_search_by_key(&t.0, |r| r.number())
 }

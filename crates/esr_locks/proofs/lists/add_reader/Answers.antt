@@ -1,23 +1,16 @@
 use Rattle.std.proofs.Common.{sym, ap, not, arith}
-use Rattle.esr_history.specs.Ascending.{IsPlaceOf, IsGapFor}
 use Rattle.esr_history.proofs.Ascending.{placed_same, placed_gap, any_place, any_gap}
 use Rattle.esr_locks.specs.Rows.{reader}
 use Rattle.esr_locks.proofs.lists.add_reader.Goals as goal
 
 pub returns-in-Ok-clause-items : goal.returns-in-Ok-clause-items
-returns-in-Ok-clause-items c =
-    let place : IsPlaceOf (λ r. r.update.0) c.args.readers.now.items c.args.t.0 c.in-Ok.field-0 = rw (← c.deref.ensures) c.in-Ok.ensures.found in
-    sym (placed_same (λ r. r.update.0) c.args.t.0 c.in-Ok.field-0 (reader c.args.t) c.args.readers.now.items c.requires.ascending place)
+returns-in-Ok-clause-items c = sym (placed_same (λ r. r.update.0) c.args.t.0 c.in-Ok.field-0 (reader c.args.t) c.args.readers.now.items c.requires.ascending c.in-Ok.ensures.found)
 
 pub returns-in-Ok-clause-fresh : goal.returns-in-Ok-clause-fresh
-returns-in-Ok-clause-fresh c =
-    let place : IsPlaceOf (λ r. r.update.0) c.args.readers.now.items c.args.t.0 c.in-Ok.field-0 = rw (← c.deref.ensures) c.in-Ok.ensures.found in
-    ap not (sym (any_place (λ r. r.update.0) c.args.t.0 c.in-Ok.field-0 c.args.readers.now.items (reader c.args.t) place))
+returns-in-Ok-clause-fresh c = ap not (sym (any_place (λ r. r.update.0) c.args.t.0 c.in-Ok.field-0 c.args.readers.now.items (reader c.args.t) c.in-Ok.ensures.found))
 
 pub returns-in-Err-clause-items : goal.returns-in-Err-clause-items
 returns-in-Err-clause-items c = grind (arith, placed_gap)
 
 pub returns-in-Err-clause-fresh : goal.returns-in-Err-clause-fresh
-returns-in-Err-clause-fresh c =
-    let gap : IsGapFor (λ r. r.update.0) c.args.readers.now.items c.args.t.0 c.in-Err.at = rw (← c.deref.ensures) c.in-Err.ensures.absent in
-    ap not (sym (any_gap (λ r. r.update.0) c.args.t.0 c.in-Err.at c.args.readers.now.items gap))
+returns-in-Err-clause-fresh c = ap not (sym (any_gap (λ r. r.update.0) c.args.t.0 c.in-Err.at c.args.readers.now.items c.in-Err.ensures.absent))

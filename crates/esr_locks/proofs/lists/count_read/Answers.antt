@@ -1,7 +1,6 @@
 use Rattle.std.proofs.Common.{◌∙◌, sym, ap, not, set, get_or, List, arith}
 use Rattle.std.proofs.Math.ListN.{length-set}
 use Rattle.smallvec.proofs.SmallVecLemmas.{items-with_items}
-use Rattle.esr_history.specs.Ascending.{IsPlaceOf, IsGapFor}
 use Rattle.esr_history.proofs.Ascending.{placed_at, placed_gap, any_gap}
 use Rattle.esr_locks.specs.declared.lists.QueryReads.{QueryReads}
 use Rattle.esr_locks.specs.Rows.{first_reads, more_reads}
@@ -9,17 +8,14 @@ use Rattle.esr_locks.proofs.lists.count_read.Goals as goal
 
 pub returns-in-Ok-clause-items : goal.returns-in-Ok-clause-items
 returns-in-Ok-clause-items c =
-    let place : IsPlaceOf (λ r. r.query.0) c.args.queries.now.items c.args.q.0 c.in-Ok.at = rw (← c.deref.ensures) c.in-Ok.ensures.found in
     let nobody : QueryReads = record { query = record { 0 = 0 }; count = 0 } in
     let reads : List QueryReads = c.args.queries.now.items in
     let counted : List QueryReads = set reads c.in-Ok.at (more_reads (get_or reads c.in-Ok.at nobody)) in
     rw c.deref_mut.ensures.value (items-with_items c.args.queries.now counted (length-set reads c.in-Ok.at (more_reads (get_or reads c.in-Ok.at nobody)))
-    ∙ placed_at (λ r. r.query.0) c.args.q.0 (first_reads c.args.q) more_reads reads c.requires.ascending c.in-Ok.at nobody place)
+    ∙ placed_at (λ r. r.query.0) c.args.q.0 (first_reads c.args.q) more_reads reads c.requires.ascending c.in-Ok.at nobody c.in-Ok.ensures.found)
 
 pub returns-in-Err-clause-items : goal.returns-in-Err-clause-items
 returns-in-Err-clause-items c = grind (arith, placed_gap)
 
 pub returns-in-Err-clause-fresh : goal.returns-in-Err-clause-fresh
-returns-in-Err-clause-fresh c =
-    let gap : IsGapFor (λ r. r.query.0) c.args.queries.now.items c.args.q.0 c.in-Err.at = rw (← c.deref.ensures) c.in-Err.ensures.absent in
-    ap not (sym (any_gap (λ r. r.query.0) c.args.q.0 c.in-Err.at c.args.queries.now.items gap))
+returns-in-Err-clause-fresh c = ap not (sym (any_gap (λ r. r.query.0) c.args.q.0 c.in-Err.at c.args.queries.now.items c.in-Err.ensures.absent))

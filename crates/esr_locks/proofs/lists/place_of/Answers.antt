@@ -6,6 +6,6 @@ use Rattle.esr_locks.proofs.lists.place_of.Goals as goal
 -- the closure gives the number
 pub returns : goal.returns
 returns g c =
-    let by_number = c.binary_search_by_key.ensures.position g.R.Numbered.number (answers_always _ _ _ (λ f a r g called. search rules)) in
-    let place = searched g.R.Numbered.number c.args.rows.now c.requires c.args.t.0 c.binary_search_by_key.result c.binary_search_by_key.ensures.bound by_number in
-    record { found = place.0; absent = place.1 }
+    let by_number = c.binary_search_by_key.ensures.position g.R.Numbered.number (answers_always _ _ _ (λ f a r h called. search rules)) in
+    let place = searched g.R.Numbered.number c.deref.result.now (rw c.deref.ensures c.requires) c.args.t.0 c.binary_search_by_key.result c.binary_search_by_key.ensures.bound by_number in
+    rw (← c.deref.ensures) (record { found = place.0; absent = place.1 })
