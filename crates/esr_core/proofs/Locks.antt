@@ -163,9 +163,11 @@ module _ (done : List Event) (t : TxnId) (x : ItemId) where
   no_other_reads : (u : ℕ) → (u ≡ t.0 → ⊥) → reads u x.0 (Read t x) ≡ false
   no_other_reads u ne = and_left (t.0 == u) (x.0 == x.0) (ne_eqb t.0 u (λ (f : t.0 ≡ u). ne (sym f)))
 
+  writer-read : writer (done ++ Read t x ∷ []) x.0 ≡ writer done x.0
+  writer-read = ap (find (wrote (done ++ Read t x ∷ []) x.0)) (numbers-kept done (Read t x) refl) ∙ find_same (wrote (done ++ Read t x ∷ []) x.0) (wrote done x.0) (λ u. wrote-same done (Read t x) refl (λ v. refl) (λ v. refl) x.0 u refl) (numbers done)
+
   locks-read : is_update done t.0 ≡ true → is_active done t.0 ≡ true → item_locks (done ++ Read t x ∷ []) x.0 ≡ with_reader t.0 (item_locks done x.0)
   locks-read update act =
-      let w : writer (done ++ Read t x ∷ []) x.0 ≡ writer done x.0 = ap (find (wrote (done ++ Read t x ∷ []) x.0)) (numbers-kept done (Read t x) refl) ∙ find_same (wrote (done ++ Read t x ∷ []) x.0) (wrote done x.0) (λ u. wrote-same done (Read t x) refl (λ v. refl) (λ v. refl) x.0 u refl) (numbers done) in
       let r : filter (read_it (done ++ Read t x ∷ []) x.0) (numbers (done ++ Read t x ∷ [])) ≡ placed (λ u. u) t.0 t.0 (λ u. u) (filter (read_it done x.0) (numbers done)) =
       ap (filter (read_it (done ++ Read t x ∷ []) x.0)) (numbers-kept done (Read t x) refl)
       ∙ (filter-filter_map (read_it (done ++ Read t x ∷ []) x.0) (numbers done)
@@ -177,7 +179,7 @@ module _ (done : List Event) (t : TxnId) (x : ItemId) where
       let q : filter_map (query_reads (done ++ Read t x ∷ []) x.0) (numbers (done ++ Read t x ∷ [])) ≡ filter_map (query_reads done x.0) (numbers done) =
       ap (filter_map (query_reads (done ++ Read t x ∷ []) x.0)) (numbers-kept done (Read t x) refl) ∙ filter_map_agree (query_reads (done ++ Read t x ∷ []) x.0) (query_reads done x.0) queries (numbers done) in
       locks_same (writer (done ++ Read t x ∷ []) x.0) (writer done x.0) (filter (read_it (done ++ Read t x ∷ []) x.0) (numbers (done ++ Read t x ∷ []))) (placed (λ u. u) t.0 t.0 (λ u. u) (filter (read_it done x.0) (numbers done)))
-      (filter_map (query_reads (done ++ Read t x ∷ []) x.0) (numbers (done ++ Read t x ∷ []))) (filter_map (query_reads done x.0) (numbers done)) w r q
+      (filter_map (query_reads (done ++ Read t x ∷ []) x.0) (numbers (done ++ Read t x ∷ []))) (filter_map (query_reads done x.0) (numbers done)) writer-read r q
     where
       number : (1 ≤ t.0) × (t.0 < 1 + length (beginnings done))
       number = begun_number done t.0 (update_begun done t.0 update)
@@ -194,20 +196,11 @@ module _ (done : List Event) (t : TxnId) (x : ItemId) where
       was false = refl
 
       queries : (u : ℕ) → query_reads (done ++ Read t x ∷ []) x.0 u ≡ query_reads done x.0 u
-      queries u =
-          elim (cases_eq u t.0) [
-            | inl e ↦
-                let no_query : is_query done u ≡ false = ap (is_query done) e ∙ update_or_query done t.0 update in
-                query-step done (Read t x) refl (λ v. refl) (λ v. refl) x.0 u
-                ∙ (ap (λ b. if b && (is_active done u && (list_any (reads u x.0) done || reads u x.0 (Read t x))) then Some (u, reads_of done u x.0 + (if reads u x.0 (Read t x) then 1 else 0)) else None) no_query
-                ∙ sym (ap (λ b. if b && holds_read done u x.0 then Some (u, reads_of done u x.0) else None) no_query))
-            | inr ne ↦ query-same done (Read t x) refl (λ v. refl) (λ v. refl) x.0 u (no_other_reads u ne)
-          ]
+      queries u = grind (arith, cases_eq u t.0, query-step done (Read t x) refl (λ v. refl) (λ v. refl) x.0 u, query-same done (Read t x) refl (λ v. refl) (λ v. refl) x.0 u, no_other_reads u, update_or_query done t.0 update)
 
   -- a read by a query
   locks-query : is_query done t.0 ≡ true → is_active done t.0 ≡ true → item_locks (done ++ Read t x ∷ []) x.0 ≡ with_query_read t.0 (item_locks done x.0)
   locks-query query act =
-      let w : writer (done ++ Read t x ∷ []) x.0 ≡ writer done x.0 = ap (find (wrote (done ++ Read t x ∷ []) x.0)) (numbers-kept done (Read t x) refl) ∙ find_same (wrote (done ++ Read t x ∷ []) x.0) (wrote done x.0) (λ u. wrote-same done (Read t x) refl (λ v. refl) (λ v. refl) x.0 u refl) (numbers done) in
       let r : filter (read_it (done ++ Read t x ∷ []) x.0) (numbers (done ++ Read t x ∷ [])) ≡ filter (read_it done x.0) (numbers done) =
       ap (filter (read_it (done ++ Read t x ∷ []) x.0)) (numbers-kept done (Read t x) refl) ∙ filter_agree (read_it (done ++ Read t x ∷ []) x.0) (read_it done x.0) readers (numbers done) in
       let q : filter_map (query_reads (done ++ Read t x ∷ []) x.0) (numbers (done ++ Read t x ∷ [])) ≡ placed (λ (p : ℕ × ℕ). p.0) t.0 (t.0, 1) (λ (p : ℕ × ℕ). (p.0, p.1 + 1)) (filter_map (query_reads done x.0) (numbers done)) =
@@ -217,21 +210,13 @@ module _ (done : List Event) (t : TxnId) (x : ItemId) where
       (reads_now ∙ was (list_any (reads t.0 x.0) done) refl)
       1 (length (beginnings done)) number.0 number.1 in
       locks_same (writer (done ++ Read t x ∷ []) x.0) (writer done x.0) (filter (read_it (done ++ Read t x ∷ []) x.0) (numbers (done ++ Read t x ∷ []))) (filter (read_it done x.0) (numbers done))
-      (filter_map (query_reads (done ++ Read t x ∷ []) x.0) (numbers (done ++ Read t x ∷ []))) (placed (λ (p : ℕ × ℕ). p.0) t.0 (t.0, 1) (λ (p : ℕ × ℕ). (p.0, p.1 + 1)) (filter_map (query_reads done x.0) (numbers done))) w r q
+      (filter_map (query_reads (done ++ Read t x ∷ []) x.0) (numbers (done ++ Read t x ∷ []))) (placed (λ (p : ℕ × ℕ). p.0) t.0 (t.0, 1) (λ (p : ℕ × ℕ). (p.0, p.1 + 1)) (filter_map (query_reads done x.0) (numbers done))) writer-read r q
     where
       number : (1 ≤ t.0) × (t.0 < 1 + length (beginnings done))
       number = begun_number done t.0 (active_parts done t.0 act).0
 
       readers : (u : ℕ) → read_it (done ++ Read t x ∷ []) x.0 u ≡ read_it done x.0 u
-      readers u =
-          elim (cases_eq u t.0) [
-            | inl e ↦
-                let no_update : is_update done u ≡ false = ap (is_update done) e ∙ query_not_update done t.0 query in
-                read-step done (Read t x) refl (λ v. refl) (λ v. refl) x.0 u
-                ∙ (ap (λ b. b && (is_active done u && (list_any (reads u x.0) done || reads u x.0 (Read t x)))) no_update
-                ∙ sym (ap (λ b. b && holds_read done u x.0) no_update))
-            | inr ne ↦ read-same done (Read t x) refl (λ v. refl) (λ v. refl) x.0 u (no_other_reads u ne)
-          ]
+      readers u = grind (arith, cases_eq u t.0, read-step done (Read t x) refl (λ v. refl) (λ v. refl) x.0 u, read-same done (Read t x) refl (λ v. refl) (λ v. refl) x.0 u, no_other_reads u, query_not_update done t.0 query)
 
       reads_now : query_reads (done ++ Read t x ∷ []) x.0 t.0 ≡ Some (t.0, reads_of done t.0 x.0 + 1)
       reads_now =

@@ -1,4 +1,4 @@
-use Rattle.std.proofs.Common.{◌≡◌, ◌-◌, ◌<◌, ◌≤◌, ◌∷◌, [], ◌++◌, ◌∙◌, refl, sym, arith, None, length, true}
+use Rattle.std.proofs.Common.{◌≡◌, ◌-◌, ◌<◌, ◌≤◌, ◌∷◌, [], refl, sym, arith, None, length, true}
 use Rattle.esr_history.specs.declared.event.Reply.{Reply}
 use Rattle.esr_history.specs.declared.event.Reply.TheVariants.{Committed, Aborted}
 use Rattle.esr_history.specs.Events.{is_active}
@@ -7,7 +7,7 @@ use Rattle.esr_history.proofs.Allowed.{none_applies, end_allowed}
 use Rattle.esr_history.proofs.Lawful.{not_ended, follows}
 use Rattle.esr_core.specs.declared.state.State.{State}
 use Rattle.esr_core.specs.States.{IsStateOf, end_event}
-use Rattle.esr_core.proofs.Answered.{refused_state, accepted_state}
+use Rattle.esr_core.proofs.Answered.{accepted_state}
 use Rattle.esr_core.proofs.Ties.{by, tied-end}
 use Rattle.esr_core.proofs.state.State.end.Goals as goal
 use Rattle.esr_core.proofs.state.State.end.Goals.{After-end_row}

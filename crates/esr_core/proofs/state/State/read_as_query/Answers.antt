@@ -1,4 +1,4 @@
-use Rattle.std.proofs.Common.{◌≡◌, ℕ, ◌+◌, ◌-◌, ◌<◌, ◌≤◌, ◌∙◌, sym, ap, arith, refl, None, Some, Option, length, get_or, true, ◌∷◌, []}
+use Rattle.std.proofs.Common.{◌≡◌, ℕ, ◌+◌, ◌-◌, ◌<◌, ◌≤◌, ◌∙◌, sym, ap, arith, refl, None, Some, Option, length, get_or, true}
 use Rattle.std.specs.Prelude.{IfSome}
 use Rattle.esr_items.specs.Values.{versions_at}
 use Rattle.esr_history.specs.declared.event.TxnId.{TxnId}
