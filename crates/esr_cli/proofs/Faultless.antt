@@ -291,28 +291,27 @@ job_found o words m is found none = go o (is ∙ ap request_in found) (faultless
 -- ---- words that spell a job
 
 -- the words have no fault, and ask for this
-record IsTaken (words : List Text) (wanted : Request) : Type 0 where
-  pub faultless : fault_of program words ≡ []
-  pub asks : request_in (subcommand_of program words) ≡ Some wanted
+abbrev IsTaken : List Text → Request → Type 0
+IsTaken words wanted = (fault_of program words ≡ []) × (request_in (subcommand_of program words) ≡ Some wanted)
 
 called : (words rest : List Text) (wanted : Request) → IsCall words rest → ((name : Text) → IsTaken (name ∷ rest) wanted) → IsTaken words wanted
 called words rest wanted (name, is) taken = subst (λ w. IsTaken w wanted) (sym is) (taken name)
 
 run_taken : (name : Text) → IsTaken (name ∷ codes "run" ∷ []) asked.run
 unfolding clap_on_literals
-run_taken name = record { faultless = refl; asks = refl }
+run_taken name = (refl, refl)
 
 check_taken : (name : Text) → IsTaken (name ∷ codes "check" ∷ []) asked.check
 unfolding clap_on_literals
-check_taken name = record { faultless = refl; asks = refl }
+check_taken name = (refl, refl)
 
 audit_taken : (name : Text) → IsTaken (name ∷ codes "audit" ∷ []) (asked.audit 4)
 unfolding clap_on_literals
-audit_taken name = record { faultless = refl; asks = refl }
+audit_taken name = (refl, refl)
 
 drive_taken : (name : Text) → IsTaken (name ∷ codes "drive" ∷ []) (asked.drive 4)
 unfolding clap_on_literals
-drive_taken name = record { faultless = refl; asks = refl }
+drive_taken name = (refl, refl)
 
 -- a word that does not begin with `-` is neither `--` nor an option
 not_dashes : (word : Text) → strip_byte 45 word ≡ None → bytes_eq word (45 ∷ 45 ∷ []) ≡ false
@@ -331,31 +330,19 @@ no_short word plain = rw plain refl
 
 certify_taken : (name query : Text) → IsPlainWord query → IsTaken (name ∷ codes "certify" ∷ query ∷ []) (asked.certify query false)
 unfolding clap_on_literals
-certify_taken name query plain = record {
-  faultless = rw (not_dashes query plain, no_long query plain, no_short query plain) refl;
-  asks = rw (not_dashes query plain, no_long query plain, no_short query plain) refl;
-}
+certify_taken name query plain = rw (not_dashes query plain, no_long query plain, no_short query plain) (refl, refl)
 
 steps_taken : (name query : Text) → IsPlainWord query → IsTaken (name ∷ codes "certify" ∷ codes "--steps" ∷ query ∷ []) (asked.certify query true)
 unfolding clap_on_literals
-steps_taken name query plain = record {
-  faultless = rw (not_dashes query plain, no_long query plain, no_short query plain) refl;
-  asks = rw (not_dashes query plain, no_long query plain, no_short query plain) refl;
-}
+steps_taken name query plain = rw (not_dashes query plain, no_long query plain, no_short query plain) (refl, refl)
 
 explain_taken : (name query : Text) → IsPlainWord query → IsTaken (name ∷ codes "explain" ∷ query ∷ []) (asked.explain query)
 unfolding clap_on_literals
-explain_taken name query plain = record {
-  faultless = rw (not_dashes query plain, no_long query plain, no_short query plain) refl;
-  asks = rw (not_dashes query plain, no_long query plain, no_short query plain) refl;
-}
+explain_taken name query plain = rw (not_dashes query plain, no_long query plain, no_short query plain) (refl, refl)
 
 picture_taken : (name query : Text) → IsPlainWord query → IsTaken (name ∷ codes "picture" ∷ query ∷ []) (asked.picture query)
 unfolding clap_on_literals
-picture_taken name query plain = record {
-  faultless = rw (not_dashes query plain, no_long query plain, no_short query plain) refl;
-  asks = rw (not_dashes query plain, no_long query plain, no_short query plain) refl;
-}
+picture_taken name query plain = rw (not_dashes query plain, no_long query plain, no_short query plain) (refl, refl)
 
 -- a number does not begin with `-`
 no_minus : (xs : List ℕ) → is_unsigned_in 1 64 (45 ∷ xs) ≡ true → ⊥
@@ -376,19 +363,13 @@ audit_counted : (name text : Text) → is_unsigned_in 1 64 text ≡ true → IsT
 unfolding clap_on_literals
 audit_counted name text passes =
     let plain = plain_number text passes in
-    record {
-      faultless = rw (not_dashes text plain, no_long text plain, no_short text plain, passes) refl;
-      asks = rw (not_dashes text plain, no_long text plain, no_short text plain, (number text passes).0) refl;
-    }
+    rw (not_dashes text plain, no_long text plain, no_short text plain, passes, (number text passes).0) (refl, refl)
 
 drive_counted : (name text : Text) → is_unsigned_in 1 64 text ≡ true → IsTaken (name ∷ codes "drive" ∷ codes "--workers" ∷ text ∷ []) (asked.drive (digits_value 10 (without_leading_plus text)))
 unfolding clap_on_literals
 drive_counted name text passes =
     let plain = plain_number text passes in
-    record {
-      faultless = rw (not_dashes text plain, no_long text plain, no_short text plain, passes) refl;
-      asks = rw (not_dashes text plain, no_long text plain, no_short text plain, (number text passes).0) refl;
-    }
+    rw (not_dashes text plain, no_long text plain, no_short text plain, passes, (number text passes).0) (refl, refl)
 
 taken : (words : List Text) (wanted : Request) → Spells words wanted → IsTaken words wanted
 taken words asked.run spells = called words _ _ spells run_taken
@@ -405,8 +386,8 @@ taken words (asked.drive n) (inr (text, passes, is, call)) = subst (λ n. IsTake
 -- words that spell a job fail only if allocation fails
 pub spelled : (r : Result Job Error) (words : List Text) (wanted : Request) → Spells words wanted → FailsBy (fault_of program words) r
     → IfOk r (λ job. request_in (subcommand_of program words) ≡ Some (request_of job)) → MatchResult r (λ job. request_of job ≡ wanted) (λ e. kind_of e ≡ kind.OutOfMemory)
-spelled (Ok job) words wanted spells fails is = let same : Some (request_of job) ≡ Some wanted = sym is ∙ (taken words wanted spells).asks in cc
-spelled (Err e) words wanted spells fails is = ⊎_elim (λ memory. memory) (λ among. absurd (subst (IsAmong (kind_of e)) (taken words wanted spells).faultless among)) fails
+spelled (Ok job) words wanted spells fails is = let same : Some (request_of job) ≡ Some wanted = sym is ∙ (taken words wanted spells).1 in cc
+spelled (Err e) words wanted spells fails is = ⊎_elim (λ memory. memory) (λ among. absurd (subst (IsAmong (kind_of e)) (taken words wanted spells).0 among)) fails
 
 pub no_ok : {T : Type 0} (r : Result T Error) (P : Error → Type 0) (Q : T → Type 0) → IsErrAnd r P → IfOk r Q
 no_ok (Ok x) P Q fails = absurd fails
