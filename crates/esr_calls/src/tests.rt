@@ -1,9 +1,11 @@
 mod boards;
 mod certificates;
+mod drives;
 mod items;
 mod ledgers;
 mod locks;
 mod machine;
+mod meeting;
 mod parallel;
 mod sessions;
 mod solver;

@@ -98,10 +98,9 @@ fn refuses_in(alloc: Global, opening: &[i64], events: &[Event], t: u32) -> bool 
     }
 }
 
-#[test]
-fn order_through_a_third_item(rt: HostRuntime) {
-    let alloc = rt.alloc();
-    let events = [
+/// A query reads one item before an update and another behind the next, which read a third that the first wrote.
+fn through_a_third_item() -> [Event; 12] {
+    [
         query(9),
         update(9),
         update(9),
@@ -114,7 +113,30 @@ fn order_through_a_third_item(rt: HostRuntime) {
         commit(3),
         read(1, 1),
         commit(1),
-    ];
+    ]
+}
+
+/// Two updates write over what a report read, before it reads again.
+fn over_a_report() -> [Event; 11] {
+    [
+        query(100),
+        update(100),
+        update(100),
+        read(1, 0),
+        write(2, 0, 10),
+        commit(2),
+        write(3, 0, 1),
+        write(3, 1, 8),
+        commit(3),
+        read(1, 1),
+        commit(1),
+    ]
+}
+
+#[test]
+fn order_through_a_third_item(rt: HostRuntime) {
+    let alloc = rt.alloc();
+    let events = through_a_third_item();
     let order = order_in(alloc, &[0, 0, 0], &events, 1).expect(&rt, "an order");
     assert!(rt; order.commits() == &[TxnId(2), TxnId(3)][..]);
     assert!(rt; order.before() == &[(0, 1)][..]);
@@ -131,40 +153,33 @@ fn order_through_a_third_item(rt: HostRuntime) {
 #[test]
 fn two_updates_over_a_report(rt: HostRuntime) {
     let alloc = rt.alloc();
-    let events = [
-        query(100),
-        update(100),
-        update(100),
-        read(1, 0),
-        write(2, 0, 10),
-        commit(2),
-        write(3, 0, 1),
-        write(3, 1, 8),
-        commit(3),
-        read(1, 1),
-        commit(1),
-    ];
+    let events = over_a_report();
     assert!(rt; refuses_in(alloc, &[0, 0], &events[..10], 1));
     let order = order_in(alloc, &[0, 0], &events, 1).expect(&rt, "an order");
     assert!(rt; order.commits() == &[TxnId(2), TxnId(3)][..]);
     assert!(rt; has_chain(&order, 0, &[0, 1], &[10, 1]));
 }
 
+/// A query begins when an update has committed, and reads what another has written, which aborts.
+fn behind_an_update(strict: bool) -> [Event; 9] {
+    [
+        update(9),
+        write(1, 0, 5),
+        commit(1),
+        Event::BeginQuery { limit: 9, strict },
+        update(9),
+        write(3, 0, 0),
+        read(2, 0),
+        Event::Abort { txn: TxnId(3) },
+        commit(2),
+    ]
+}
+
 #[test]
 fn strict_report(rt: HostRuntime) {
     let alloc = rt.alloc();
     for (strict, must) in [(true, 1), (false, 0)] {
-        let events = [
-            update(9),
-            write(1, 0, 5),
-            commit(1),
-            Event::BeginQuery { limit: 9, strict },
-            update(9),
-            write(3, 0, 0),
-            read(2, 0),
-            Event::Abort { txn: TxnId(3) },
-            commit(2),
-        ];
+        let events = behind_an_update(strict);
         let order = order_in(alloc, &[0], &events, 2).expect(&rt, "an order");
         assert!(rt; order.commits() == &[TxnId(1)][..]);
         assert!(rt; order.must().len() == must);

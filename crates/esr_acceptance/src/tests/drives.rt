@@ -1,5 +1,4 @@
 mod failing;
-mod gates;
 
 use esr_drive::{DriveFault, NoGate, drive};
 use esr_history::Watched;

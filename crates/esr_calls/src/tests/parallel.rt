@@ -1,5 +1,6 @@
 //! Audits by several workers.
 
+use crate::tests::meeting::Meeting;
 use esr_audit::{AuditError, Book, Finding};
 use esr_board::{Board, Gate, NoGate, audit_parallel, work};
 use esr_core::Machine;
@@ -7,12 +8,8 @@ use esr_history::{Event, History, Reply, TxnId};
 use esr_items::{ItemId, Plain, Store};
 use std::alloc::Global;
 use std::process::Abort;
-use std::sync::atomic::Ordering::SeqCst;
-use std::sync::atomic::{AtomicBool, AtomicU64};
 use std::test::Fail;
 use std::thread::Threads;
-
-const MOST_TURNS: u32 = 100_000_000;
 
 /// A report reads a and b, and between its reads two updates commit.
 const TWO_UPDATES_OVER_A_REPORT: [Event; 11] = [
@@ -138,48 +135,16 @@ fn an_empty_history_has_no_findings(rt: HostRuntime) {
     assert!(rt; book.order.is_empty() && book.findings.is_empty());
 }
 
-/// Holds job 0 until job 1 has entered, for so many turns, and counts how often each job came.
-#[derive(Drop)]
-struct Meeting {
-    first: AtomicU64,
-    second: AtomicU64,
-    gave_up: AtomicBool,
-}
-
-impl Gate for Meeting {
-    fn enter(&self, job: u64) {
-        if job == 1 {
-            self.second.fetch_add(1, SeqCst);
-            return;
-        }
-        self.first.fetch_add(1, SeqCst);
-        for _ in 0..MOST_TURNS {
-            if self.second.load(SeqCst) > 0 {
-                return;
-            }
-        }
-        self.gave_up.store(true, SeqCst);
-    }
-}
-
 #[test]
 fn two_workers_at_once(rt: HostRuntime) {
     let mut m = machine(&rt, rt.alloc());
     play(&rt, &mut m, &TWO_UPDATES_OVER_A_REPORT);
     play(&rt, &mut m, &A_SECOND_REPORT);
-    let gate = Meeting {
-        first: AtomicU64::new(0),
-        second: AtomicU64::new(0),
-        gave_up: AtomicBool::new(false),
-    };
+    let gate = Meeting::new();
     let book = audited(&rt, rt.alloc(), m.history(), 2, &gate);
     assert!(rt; book.findings.len() == 2 && is_of_the_first_report(&book.findings[0]));
     assert!(rt; book.findings.len() == 2 && book.findings[1].query == TxnId(4));
-    assert!(rt; !gate.gave_up.load(SeqCst), "no gate ran out of turns");
-    assert!(rt;
-        gate.first.load(SeqCst) == 1 && gate.second.load(SeqCst) == 1,
-        "each job came once"
-    );
+    gate.check(&rt);
 }
 
 #[test]

@@ -44,6 +44,17 @@ fn check_flow(
     assert!(rt; certificate.must_flow.as_slice() == must_flow);
 }
 
+/// The problem of a query with two updates, of which one comes after the other.
+fn one_after_the_other(alloc: Global, chains: Vec<Chain>) -> Result<Problem, Fail> {
+    Ok(Problem::new(
+        alloc,
+        vec![in alloc; TxnId(2), TxnId(3)]?,
+        vec![in alloc; (0, 1)]?,
+        chains,
+        Vec::new(alloc),
+    )?)
+}
+
 #[test]
 fn order_through_a_third_item(rt: HostRuntime) -> Result<(), Fail> {
     let alloc = rt.alloc();
@@ -51,13 +62,7 @@ fn order_through_a_third_item(rt: HostRuntime) -> Result<(), Fail> {
         chain(alloc, 0, &[0], &[0, 6])?,
         chain(alloc, 1, &[1], &[2, 0])?,
     ]?;
-    let problem = Problem::new(
-        alloc,
-        vec![in alloc; TxnId(2), TxnId(3)]?,
-        vec![in alloc; (0, 1)]?,
-        chains,
-        Vec::new(alloc),
-    )?;
+    let problem = one_after_the_other(alloc, chains)?;
     let solved = answer(alloc, &problem)?;
     assert!(rt; solved.certificate.set.is_empty());
     check_flow(&rt, &solved.certificate, &[&[0, 2], &[2, 0]], &[2], &[]);
@@ -73,13 +78,7 @@ fn two_updates_over_a_report(rt: HostRuntime) -> Result<(), Fail> {
         chain(alloc, 0, &[0, 1], &[0, 10, 1])?,
         chain(alloc, 1, &[1], &[8, 0])?,
     ]?;
-    let problem = Problem::new(
-        alloc,
-        vec![in alloc; TxnId(2), TxnId(3)]?,
-        vec![in alloc; (0, 1)]?,
-        chains,
-        Vec::new(alloc),
-    )?;
+    let problem = one_after_the_other(alloc, chains)?;
     let solved = answer(alloc, &problem)?;
     assert!(rt; solved.certificate.set.as_slice() == [0, 1].as_slice());
     assert!(rt; solved.certificate.worth == 1);

@@ -2,7 +2,10 @@
 
 use super::placements::listed;
 use super::plain::agrees;
-use super::{answer, commit, play, query, read, update, write};
+use super::{
+    answer, behind_an_update, commit, over_a_report, play, query, read, through_a_third_item,
+    update, write,
+};
 use esr_audit::{AuditError, Book, Finding, audit_history, audit_query};
 use esr_cert::check;
 use esr_core::{Machine, Totals};
@@ -169,23 +172,6 @@ fn smaller_of_two_sets(rt: HostRuntime) {
     assert!(rt; finds_in(rt.alloc(), &[0], &events, row));
 }
 
-/// Two updates write over what a report read, before it reads again.
-fn over_a_report() -> [Event; 11] {
-    [
-        query(100),
-        update(100),
-        update(100),
-        read(1, 0),
-        write(2, 0, 10),
-        commit(2),
-        write(3, 0, 1),
-        write(3, 1, 8),
-        commit(3),
-        read(1, 1),
-        commit(1),
-    ]
-}
-
 #[test]
 fn two_updates_over_a_report(rt: HostRuntime) {
     let alloc = rt.alloc();
@@ -212,20 +198,7 @@ fn two_updates_over_a_report(rt: HostRuntime) {
 
 #[test]
 fn order_through_a_third_item(rt: HostRuntime) {
-    let events = [
-        query(9),
-        update(9),
-        update(9),
-        read(1, 0),
-        write(2, 0, 6),
-        write(2, 2, 1),
-        commit(2),
-        read(3, 2),
-        write(3, 1, 2),
-        commit(3),
-        read(1, 1),
-        commit(1),
-    ];
+    let events = through_a_third_item();
     let row = Row {
         query: 1,
         distance: 2,
@@ -270,17 +243,7 @@ fn strict_report(rt: HostRuntime) {
     let alloc = rt.alloc();
     let seen: &[TxnId] = &[TxnId(1)];
     for (strict, distance, before) in [(true, 5, seen), (false, 0, &[])] {
-        let events = [
-            update(9),
-            write(1, 0, 5),
-            commit(1),
-            Event::BeginQuery { limit: 9, strict },
-            update(9),
-            write(3, 0, 0),
-            read(2, 0),
-            Event::Abort { txn: TxnId(3) },
-            commit(2),
-        ];
+        let events = behind_an_update(strict);
         let row = Row {
             query: 2,
             distance,

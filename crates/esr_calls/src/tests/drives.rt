@@ -1,0 +1,16 @@
+//! Blocks of a drive run at the same time.
+
+use crate::tests::meeting::Meeting;
+use esr_drive::drive;
+use esr_history::Watched;
+
+#[test]
+fn two_blocks_are_in_the_gate_at_once(rt: HostRuntime) {
+    let gate = Meeting::new();
+    let file = "session\nbegin u update 0\nsession\nbegin v update 0\n";
+    let mut reader = Watched::new(file.as_bytes());
+    let mut writer = Watched::new(Vec::new(rt.alloc()));
+    let ended = drive(&rt, rt.alloc(), &mut reader, &mut writer, 1, &gate);
+    assert!(rt; ended == Ok(()));
+    gate.check(&rt);
+}

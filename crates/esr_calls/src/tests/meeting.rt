@@ -1,0 +1,51 @@
+//! A gate that holds one job until another has come.
+
+use esr_board::Gate;
+use std::process::Abort;
+use std::sync::atomic::Ordering::SeqCst;
+use std::sync::atomic::{AtomicBool, AtomicU64};
+
+const MOST_TURNS: u32 = 100_000_000;
+
+/// Holds job 0 until job 1 has entered, for so many turns, and counts how often each job came.
+#[derive(Drop)]
+pub struct Meeting {
+    first: AtomicU64,
+    second: AtomicU64,
+    gave_up: AtomicBool,
+}
+
+impl Gate for Meeting {
+    fn enter(&self, job: u64) {
+        if job == 1 {
+            self.second.fetch_add(1, SeqCst);
+            return;
+        }
+        self.first.fetch_add(1, SeqCst);
+        for _ in 0..MOST_TURNS {
+            if self.second.load(SeqCst) > 0 {
+                return;
+            }
+        }
+        self.gave_up.store(true, SeqCst);
+    }
+}
+
+impl Meeting {
+    pub fn new() -> Meeting {
+        Meeting {
+            first: AtomicU64::new(0),
+            second: AtomicU64::new(0),
+            gave_up: AtomicBool::new(false),
+        }
+    }
+
+    /// That each job came once, and job 0 was held until job 1 had come.
+    pub fn check(&self, rt: &impl Abort) {
+        assert!(rt; !self.gave_up.load(SeqCst), "no gate ran out of turns");
+        assert!(rt;
+            self.first.load(SeqCst) == 1 && self.second.load(SeqCst) == 1,
+            "each job came once"
+        );
+    }
+}
