@@ -1,8 +1,8 @@
 //! The versions of items.
-ghost use Rattle.std.specs.Prelude.{◌≡◌, OnOk, map};
+ghost use Rattle.std.specs.Prelude.{◌≡◌, [], OnOk, map};
 ghost use Rattle.esr_order.specs.Chains.{last_writer, with_write, turned, seen_links};
 
-use std::alloc::AllocError;
+use std::alloc::{AllocError, Global};
 
 /// The updates that wrote an item, by their positions in commit order, and the
 /// values that they wrote last.
@@ -10,6 +10,18 @@ use std::alloc::AllocError;
 pub struct Links {
     pub writers: Vec<u32>,
     pub values: Vec<i64>,
+}
+
+impl Links {
+    /// The chain of an item that no update wrote.
+    pub fn empty(alloc: Global) -> Links
+        ensures { seen_links result ≡ record { writers = []; values = [] } }
+    {
+        Links {
+            writers: Vec::new(alloc),
+            values: Vec::new(alloc),
+        }
+    }
 }
 
 /// The writer that a chain came by last.

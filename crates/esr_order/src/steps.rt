@@ -78,10 +78,7 @@ fn nothing_later(alloc: Global, items: u32) -> Result<(Vec<Links>, Vec<Vec<u32>>
     let mut chains = Vec::with_capacity(alloc, items as usize)?;
     let mut readers = Vec::with_capacity(alloc, items as usize)?;
     for x in 0..items {
-        chains.push(Links {
-            writers: Vec::new(alloc),
-            values: Vec::new(alloc),
-        })?;
+        chains.push(Links::empty(alloc))?;
         readers.push(Vec::new(alloc))?;
     }
     Ok((chains, readers))
@@ -122,6 +119,7 @@ pub fn gather<M: Metric>(
         tie_back(&mut pairs, i as u32, &ties)?;
     }
     pairs.reverse();
+    pairs.shrink_to_fit();
     turn_all(&mut chains);
     Ok(Gathered { pairs, chains })
 }
