@@ -14,7 +14,7 @@ pub struct Links {
 
 impl Links {
     /// The chain of an item that no update wrote.
-    pub fn empty(alloc: Global) -> Links
+    pub(crate) fn empty(alloc: Global) -> Links
         ensures { seen_links result ≡ record { writers = []; values = [] } }
     {
         Links {
