@@ -108,7 +108,8 @@ pub fn gather<M: Metric>(
 {
     let _legal = history.log(); // brings the invariant into the proof
     let (mut chains, mut readers) = nothing_later(alloc, history.items())?;
-    let mut pairs = Vec::new(alloc);
+    // there are at most two pairs for each operation; the room that is left over is given back
+    let mut pairs = Vec::with_capacity(alloc, history.log().len().saturating_mul(2))?;
     let mut accesses = Vec::new(alloc);
     let mut ties = Vec::new(alloc);
     for i in (0..updates.len()).rev() {
