@@ -26,10 +26,10 @@ loop-x-preserved g c =
             must = ap (λ (o : Ordered). o.must) w.order-is ∙ taken.must ∙ c.loop-x.invariant.must;
           }
       | else-is_read w ↦ record {
-          chains = ap (λ v. map chain_view v.items) w.chains-is ∙ chain_skip chain_view G P c.loop-x.x c.loop-x.chains.items c.loop-x.invariant.chains (sym c.is_read.ensures ∙ w.if-is_read.false);
-          left = λ y later. ap (λ o. chain_at o y) w.order-is ∙ c.loop-x.invariant.left y (omega arith);
-          commits = ap (λ (o : Ordered). o.commits) w.order-is ∙ c.loop-x.invariant.commits;
-          before = ap (λ (o : Ordered). o.before) w.order-is ∙ c.loop-x.invariant.before;
-          must = ap (λ (o : Ordered). o.must) w.order-is ∙ c.loop-x.invariant.must;
-        }
+        chains = ap (λ v. map chain_view v.items) w.chains-is ∙ chain_skip chain_view G P c.loop-x.x c.loop-x.chains.items c.loop-x.invariant.chains (sym c.is_read.ensures ∙ w.if-is_read.false);
+        left = λ y later. ap (λ o. chain_at o y) w.order-is ∙ c.loop-x.invariant.left y (omega arith);
+        commits = ap (λ (o : Ordered). o.commits) w.order-is ∙ c.loop-x.invariant.commits;
+        before = ap (λ (o : Ordered). o.before) w.order-is ∙ c.loop-x.invariant.before;
+        must = ap (λ (o : Ordered). o.must) w.order-is ∙ c.loop-x.invariant.must;
+      }
     ]
