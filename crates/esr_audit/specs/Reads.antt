@@ -30,13 +30,17 @@ abbrev pub values_in : Option orders.Chain → List ℤ
 values_in None = []
 values_in (Some c) = c.values
 
--- the chain of item x, from its writers and values in an order and what was read
-abbrev pub gathered : (ℕ → ℤ → ℤ → ℕ) → List ℤ → Ordered → List Reading → ℕ → Chain
-gathered d opening order readings x = record {
+-- the chain of item x, from those who wrote it with the values that they left, and what was read
+abbrev pub gathered_from : (ℕ → ℤ → ℤ → ℕ) → List ℤ → Option orders.Chain → List Reading → ℕ → Chain
+gathered_from d opening chain readings x = record {
   item = x;
-  writers = writers_in (chain_at order x);
-  costs = map (distance_sum d x (values_of readings x)) (value_at opening x ∷ values_in (chain_at order x));
+  writers = writers_in chain;
+  costs = map (distance_sum d x (values_of readings x)) (value_at opening x ∷ values_in chain);
 }
+
+-- the same of an order
+abbrev pub gathered : (ℕ → ℤ → ℤ → ℕ) → List ℤ → Ordered → List Reading → ℕ → Chain
+gathered d opening order readings x = gathered_from d opening (chain_at order x) readings x
 
 -- the items below n that were read
 abbrev pub items_in : List Reading → ℕ → List ℕ

@@ -8,7 +8,7 @@ ghost use Rattle.esr_cert.specs.Views.{chain_of as chain_view};
 ghost use Rattle.std.specs.Option.{option_map};
 ghost use Rattle.esr_order.specs.Chains.{seen_links};
 ghost use Rattle.esr_order.specs.Chains.{writers_in};
-ghost use Rattle.esr_audit.specs.Reads.{values_of, distance_sum, values_in, gathered, items_in};
+ghost use Rattle.esr_audit.specs.Reads.{values_of, distance_sum, values_in, gathered, gathered_from, items_in};
 
 use crate::reads::Reading;
 use esr_cert::Chain;
@@ -74,42 +74,41 @@ fn costs_of<M: Metric>(
 }
 
 /// The writers and the values of a chain, none where there is none.
-fn writers_and_values<'a>(links: Option<&'a Links>) -> (&'a [u32], &'a [i64])
-    ensures writers { result.0.now ≡ writers_in (option_map (λ l. seen_links l.now) links.entry) }
-    ensures values { result.1.now ≡ values_in (option_map (λ l. seen_links l.now) links.entry) }
+fn writers_and_values(alloc: Global, links: Option<Links>) -> (Vec<u32>, Vec<i64>)
+    ensures writers { result.0.items ≡ writers_in (option_map seen_links links) }
+    ensures values { result.1.items ≡ values_in (option_map seen_links links) }
 {
     match links {
-        None => (&[], &[]),
-        Some(links) => (&links.writers, &links.values),
+        None => (Vec::new(alloc), Vec::new(alloc)),
+        Some(Links { writers, values }) => (writers, values),
     }
 }
 
-/// The chain of an item.
+/// The chain of an item, of those who wrote it and the values that they left.
 fn chain_of<M: Metric>(
     alloc: Global,
     history: &History<M>,
-    order: &Order,
+    links: Option<Links>,
     readings: &[Reading],
     x: ItemId,
 ) -> Result<Chain, AllocError>
     requires item { x.0 < length history.now.schedule.opening }
     requires few { length readings.now ≤ 1000 }
     requires readings { All (λ r. IsValue r.value) readings.now }
-    requires versions { All IsValue (values_in (chain_at order.now x.0)) }
-    ensures { IfOk result (λ c. chain_view c ≡ gathered
-        (M.distance_by history.now.schedule.weights) history.now.schedule.opening order.now readings.now x.0) }
+    requires versions { All IsValue (values_in (option_map seen_links links)) }
+    ensures { IfOk result (λ c. chain_view c ≡ gathered_from (M.distance_by history.now.schedule.weights)
+        history.now.schedule.opening (option_map seen_links links) readings.now x.0) }
 {
     let values = values_read(alloc, readings, x.0)?;
-    let (writers, versions) = writers_and_values(order.chain(x));
+    let (writers, versions) = writers_and_values(alloc, links);
     let costs = costs_of(
         alloc,
         history.metric(),
         x,
         &values,
         history.opening(x),
-        versions,
+        &versions,
     )?;
-    let writers = writers.to_vec(alloc)?;
     Ok(Chain {
         item: x,
         writers,
@@ -117,25 +116,29 @@ fn chain_of<M: Metric>(
     })
 }
 
-/// The chains of the items that were read, ascending.
+/// The chains of the items that were read, ascending. They are taken out of the order, each when its turn comes.
 pub fn chains_of<M: Metric>(
     alloc: Global,
     history: &History<M>,
-    order: &Order,
+    order: &mut Order,
     readings: &[Reading],
 ) -> Result<Vec<Chain>, AllocError>
     requires few { length readings.now ≤ 1000 }
     requires readings { All (λ r. IsValue r.value) readings.now }
-    requires versions { (x : ℕ) → All IsValue (values_in (chain_at order.now x)) }
-    ensures { IfOk result (λ v. map chain_view v.items
+    requires versions { (x : ℕ) → All IsValue (values_in (chain_at order.old x)) }
+    ensures chains { IfOk result (λ v. map chain_view v.items
         ≡ map
-        (gathered (M.distance_by history.now.schedule.weights) history.now.schedule.opening order.now readings.now)
+        (gathered (M.distance_by history.now.schedule.weights) history.now.schedule.opening order.old readings.now)
         (items_in readings.now (length history.now.schedule.opening))) }
+    ensures commits { order.new.commits ≡ order.old.commits }
+    ensures before { order.new.before ≡ order.old.before }
+    ensures must { order.new.must ≡ order.old.must }
 {
     let mut chains = Vec::new(alloc);
     for x in 0..history.items() {
         if is_read(readings, x) {
-            chains.push(chain_of(alloc, history, order, readings, ItemId(x))?)?;
+            let links = order.take_chain(alloc, ItemId(x));
+            chains.push(chain_of(alloc, history, links, readings, ItemId(x))?)?;
         }
     }
     Ok(chains)

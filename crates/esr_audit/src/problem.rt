@@ -19,7 +19,7 @@ use std::alloc::{AllocError, Global};
 pub fn problem_of<M: Metric>(
     alloc: Global,
     history: &History<M>,
-    order: Order,
+    mut order: Order,
     q: TxnId,
 ) -> Result<Problem, AuditError>
     requires order { IsOrderAmong history.now.schedule q.0 (map (λ t. t.0) order.commits) order }
@@ -31,7 +31,7 @@ pub fn problem_of<M: Metric>(
 {
     let _legal = history.log(); // brings the invariant into the proof
     let readings = readings(alloc, history, q)?;
-    let chains = chains_of(alloc, history, &order, &readings)?;
+    let chains = chains_of(alloc, history, &mut order, &readings)?;
     let (updates, before, must) = order.into_parts();
     let problem = Problem::of_sound(alloc, updates, before, chains, must)?;
     Ok(problem)

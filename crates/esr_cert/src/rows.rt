@@ -13,20 +13,20 @@ use std::alloc::{AllocError, Global};
 /// Where the steps of a node lie.
 #[derive(Clone, Copy, Debug)]
 pub struct Span {
-    pub begin: usize,
-    pub end: usize,
+    pub begin: u32,
+    pub end: u32,
 }
 
 /// The most arcs whose steps numbers of 32 bits count.
 pub const MOST_ARCS: usize = 2_147_483_647;
 
 /// How many steps start at each node: the arcs that leave it, and those that come to it.
-fn degrees_of(alloc: Global, nodes: usize, arcs: &Arcs) -> Result<Vec<usize>, AllocError>
+fn degrees_of(alloc: Global, nodes: usize, arcs: &Arcs) -> Result<Vec<u32>, AllocError>
     requires few { length arcs.now ≤ MOST_ARCS }
     requires ends { HaveEnds arcs.now nodes }
     ensures { IfOk result (λ degrees. AreDegrees arcs.now nodes degrees.items) }
 {
-    let mut degrees = vec![in alloc; 0usize; nodes]?;
+    let mut degrees = vec![in alloc; 0u32; nodes]?;
     for i in 0..arcs.len() {
         let arc = arcs.at(i as u32);
         let from = arc.from as usize;
@@ -38,7 +38,7 @@ fn degrees_of(alloc: Global, nodes: usize, arcs: &Arcs) -> Result<Vec<usize>, Al
 }
 
 /// Where rows of some lengths begin, one after another. So far nothing lies in them.
-fn begin_rows(alloc: Global, lengths: &[usize]) -> Result<Vec<Span>, AllocError>
+fn begin_rows(alloc: Global, lengths: &[u32]) -> Result<Vec<Span>, AllocError>
     requires { sum lengths.now ≤ 4294967294 }
     ensures { IfOk result (λ spans. AreBegun lengths.now spans.items) }
 {
@@ -67,7 +67,7 @@ impl Rows {
         ensures { result.now ≡ row_in list.now (span_at self.now.spans.items v) }
     {
         let span = self.spans[v];
-        &list[span.begin..span.end]
+        &list[span.begin as usize..span.end as usize]
     }
 
     /// Where a step lies that starts at a node.
@@ -82,7 +82,7 @@ impl Rows {
     {
         let order = step.order();
         let row = self.row(&self.steps, v);
-        self.spans[v].begin + row.partition_point(|short| short.step().order() < order)
+        self.spans[v].begin as usize + row.partition_point(|short| short.step().order() < order)
     }
 
     /// Adds a step to a node's row.
@@ -90,11 +90,12 @@ impl Rows {
         requires node { node < length self.old.spans.items }
         requires arc { arc_of step < 2147483648 }
         requires room { (span_at self.old.spans.items node).end < length self.old.steps.items }
+        requires few { length self.old.steps.items < 4294967296 }
         ensures spans { self.new.spans.items ≡ lengthen self.old.spans.items node }
         ensures steps { self.new.steps.items ≡ set self.old.steps.items (span_at self.old.spans.items node).end step }
     {
         let place = self.spans[node].end;
-        self.steps[place] = ShortStep::of(step);
+        self.steps[place as usize] = ShortStep::of(step);
         self.spans[node].end = place + 1;
     }
 }

@@ -177,7 +177,7 @@ fn put_next(
 {
     let node = node as usize;
     let count = counts[node];
-    entries[rows.spans[node].begin + count] = entry;
+    entries[rows.spans[node].begin as usize + count] = entry;
     counts[node] = count + 1;
 }
 

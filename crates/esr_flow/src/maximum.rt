@@ -110,7 +110,7 @@ pub struct Progress {
 fn run_phase(
     alloc: Global,
     graph: &Graph,
-    labels: &[usize],
+    labels: &[u32],
     first: Vec<Step>,
     flow: &mut [u64],
     entries: &mut [ShortEntry],

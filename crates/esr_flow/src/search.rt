@@ -12,10 +12,10 @@ use std::alloc::{AllocError, Global};
 /// A node that was reached, by a step from the node of an earlier visit.
 #[derive(Clone, Copy)]
 pub struct Visit {
-    pub node: usize,
-    pub level: usize,
+    pub node: u32,
+    pub level: u32,
     pub step: Step,
-    pub parent: usize,
+    pub parent: u32,
 }
 
 /// Visits each unmarked node that a step of the row leads to, until the sink is visited.
@@ -43,10 +43,10 @@ fn scan(
         if !marks[node] {
             if entry.ahead {
                 visits.push(Visit {
-                    node,
+                    node: entry.to,
                     level,
                     step: steps[i].step(),
-                    parent: head,
+                    parent: head as u32,
                 })?;
                 marks[node] = true;
                 if node == graph.sink {
@@ -74,7 +74,7 @@ fn path_to_last(
     while at != 0 {
         let visit = visits[at];
         path.push(visit.step)?;
-        at = visit.parent;
+        at = visit.parent as usize;
     }
     path.reverse();
     Ok(path)
@@ -86,17 +86,18 @@ fn labels_of(
     graph: &Graph,
     _flow: &[u64],
     visits: &[Visit],
-) -> Result<Vec<usize>, AllocError>
+) -> Result<Vec<u32>, AllocError>
     requires { FoundSink (net_of graph.now) _flow.now visits.now }
     ensures guides { IfOk result (λ labels. Guides (net_of graph.now) _flow.now labels.items) }
     ensures source { IfOk result (λ labels. (visit_at visits.now (length visits.now - 1)).level
         ≤ label_at labels.items graph.now.source) }
 {
     let last = visits[visits.len() - 1].level;
-    let mut labels = vec![in alloc; 0usize; graph.nodes]?;
+    let mut labels = vec![in alloc; 0u32; graph.nodes]?;
     for visit in visits {
         let label = last.saturating_sub(visit.level);
-        labels[visit.node] = labels[visit.node].max(label);
+        let node = visit.node as usize;
+        labels[node] = labels[node].max(label);
     }
     Ok(labels)
 }
@@ -104,7 +105,7 @@ fn labels_of(
 /// What a search found: a shortest path and labels that guide to further ones of its length, or marks of the nodes that the source reaches.
 #[derive(Drop)]
 pub enum Found {
-    Path(Vec<Step>, Vec<usize>),
+    Path(Vec<Step>, Vec<u32>),
     Reach(Vec<bool>),
 }
 
@@ -123,15 +124,16 @@ pub fn search(
     marks[graph.source] = true;
     let mut visits = Vec::with_capacity(alloc, graph.nodes)?;
     visits.push(Visit {
-        node: graph.source,
+        node: graph.source as u32,
         level: 0,
         step: Step::Along(0),
         parent: 0,
     })?;
     let mut head = 0;
     while head < visits.len() {
-        let steps = graph.steps_at(visits[head].node);
-        let row = graph.row(entries, visits[head].node);
+        let node = visits[head].node as usize;
+        let steps = graph.steps_at(node);
+        let row = graph.row(entries, node);
         if scan(graph, flow, steps, row, &mut visits, &mut marks, head)? {
             let path = path_to_last(alloc, graph, flow, &visits)?;
             let labels = labels_of(alloc, graph, flow, &visits)?;

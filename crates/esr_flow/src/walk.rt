@@ -19,7 +19,7 @@ use std::alloc::{AllocError, Global};
 fn next_back(
     graph: &Graph,
     flow: &[u64],
-    labels: &[usize],
+    labels: &[u32],
     at: usize,
     _steps: &[ShortStep],
     row: &[ShortEntry],
@@ -53,7 +53,7 @@ pub fn walk(
     graph: &Graph,
     flow: &[u64],
     entries: &[ShortEntry],
-    labels: &[usize],
+    labels: &[u32],
     next: &mut [usize],
 ) -> Result<Option<Vec<Step>>, AllocError>
     requires graph { IsGraph graph.now }
@@ -63,7 +63,7 @@ pub fn walk(
     requires next { length next.old ≡ graph.now.nodes }
     ensures { IfOk result (λ found. IfSome found (λ path. IsGuided (net_of graph.now) flow.now labels.now path.items)) }
 {
-    let mut path = Vec::with_capacity(alloc, labels[graph.source])?;
+    let mut path = Vec::with_capacity(alloc, labels[graph.source] as usize)?;
     let mut at = graph.sink;
     while at != graph.source {
         let steps = graph.steps_at(at);

@@ -1,8 +1,8 @@
 //! The versions of items.
-ghost use Rattle.std.specs.Prelude.{◌≡◌, OnOk, map};
+ghost use Rattle.std.specs.Prelude.{◌≡◌, [], OnOk, map};
 ghost use Rattle.esr_order.specs.Chains.{last_writer, with_write, turned, seen_links};
 
-use std::alloc::AllocError;
+use std::alloc::{AllocError, Global};
 
 /// The updates that wrote an item, by their positions in commit order, and the
 /// values that they wrote last.
@@ -12,6 +12,18 @@ pub struct Links {
     pub values: Vec<i64>,
 }
 
+impl Links {
+    /// The chain of an item that no update wrote.
+    pub(crate) fn empty(alloc: Global) -> Links
+        ensures { seen_links result ≡ record { writers = []; values = [] } }
+    {
+        Links {
+            writers: Vec::new(alloc),
+            values: Vec::new(alloc),
+        }
+    }
+}
+
 /// The writer that a chain came by last.
 pub fn last_writer(links: &Links) -> Option<u32>
     ensures { result ≡ last_writer (seen_links links.now) }
@@ -19,11 +31,24 @@ pub fn last_writer(links: &Links) -> Option<u32>
     links.writers.last().copied()
 }
 
+/// Makes room for one more, and for a quarter of what there is: the chains of many items grow side by side, and what
+/// each has more than it needs adds up.
+fn make_room<T>(list: &mut Vec<T>) -> Result<(), AllocError>
+    ensures { list.new.items ≡ list.old.items }
+{
+    if list.len() == list.capacity() {
+        list.reserve_exact(list.len() / 4 + 4)?;
+    }
+    Ok(())
+}
+
 /// Adds a write of the update at a position to a chain that goes back, unless a later one of that update is there.
 pub fn put_write(links: &mut Links, place: u32, value: i64) -> Result<(), AllocError>
     ensures { OnOk result (seen_links links.new ≡ with_write (seen_links links.old) place value) }
 {
     if last_writer(links) != Some(place) {
+        make_room(&mut links.writers)?;
+        make_room(&mut links.values)?;
         links.writers.push(place)?;
         links.values.push(value)?;
     }

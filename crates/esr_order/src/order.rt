@@ -20,6 +20,7 @@ use esr_history::{History, TxnId};
 use esr_items::{ItemId, Metric};
 use std::alloc::{AllocError, Global};
 use std::marker::Model;
+use std::mem;
 use thiserror::Error;
 
 /// Why there is no order of a query.
@@ -212,5 +213,21 @@ impl Order {
             Some(links) if !links.writers.is_empty() => Some(links),
             _ => None,
         }
+    }
+
+    /// Takes the updates that wrote the item, and the values that they left, out of the order, if there are any.
+    pub fn take_chain(&mut self, alloc: Global, x: ItemId) -> Option<Links>
+        ensures chain { option_map seen_links result ≡ chain_at self.old x.0 }
+        ensures others { (y : ℕ) → y ≢ x.0 → chain_at self.new y ≡ chain_at self.old y }
+        ensures commits { self.new.commits ≡ self.old.commits }
+        ensures before { self.new.before ≡ self.old.before }
+        ensures must { self.new.must ≡ self.old.must }
+    {
+        let chain = self.chains.get_mut(x.0 as usize)?;
+        let links = mem::replace(chain, Links::empty(alloc));
+        if links.writers.is_empty() {
+            return None;
+        }
+        Some(links)
     }
 }

@@ -78,10 +78,7 @@ fn nothing_later(alloc: Global, items: u32) -> Result<(Vec<Links>, Vec<Vec<u32>>
     let mut chains = Vec::with_capacity(alloc, items as usize)?;
     let mut readers = Vec::with_capacity(alloc, items as usize)?;
     for x in 0..items {
-        chains.push(Links {
-            writers: Vec::new(alloc),
-            values: Vec::new(alloc),
-        })?;
+        chains.push(Links::empty(alloc))?;
         readers.push(Vec::new(alloc))?;
     }
     Ok((chains, readers))
@@ -111,7 +108,8 @@ pub fn gather<M: Metric>(
 {
     let _legal = history.log(); // brings the invariant into the proof
     let (mut chains, mut readers) = nothing_later(alloc, history.items())?;
-    let mut pairs = Vec::new(alloc);
+    // there are at most two pairs for each operation; the room that is left over is given back
+    let mut pairs = Vec::with_capacity(alloc, history.log().len().saturating_mul(2))?;
     let mut accesses = Vec::new(alloc);
     let mut ties = Vec::new(alloc);
     for i in (0..updates.len()).rev() {
@@ -122,6 +120,7 @@ pub fn gather<M: Metric>(
         tie_back(&mut pairs, i as u32, &ties)?;
     }
     pairs.reverse();
+    pairs.shrink_to_fit();
     turn_all(&mut chains);
     Ok(Gathered { pairs, chains })
 }

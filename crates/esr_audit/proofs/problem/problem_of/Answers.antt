@@ -23,10 +23,10 @@ pub of_sound-requires : goal.of_sound-requires
 of_sound-requires g c = record {
   sound = ap is_sound (posed.posed g.M.Metric.distance_by c.args.history.now.schedule c.args.q.0 c.log-legal.ensures.legal c.log-legal.ensures.range (map (λ (t : TxnId). t.0) c.args.order.commits) c.requires.near c.args.order c.requires.order c.deref.result.now (c.deref.ensures.value ∙ c.in_ok-readings.ensures)
       c.into_parts-updates.result.0.items c.into_parts-updates.result.1.items c.in_ok-chains.chains.items c.into_parts-updates.result.2.items
-      c.into_parts-updates.ensures.commits
-      c.into_parts-updates.ensures.before
-      c.into_parts-updates.ensures.must
-      c.in_ok-chains.ensures)
+      (c.into_parts-updates.ensures.commits ∙ c.in_ok-chains.ensures.commits)
+      (c.into_parts-updates.ensures.before ∙ c.in_ok-chains.ensures.before)
+      (c.into_parts-updates.ensures.must ∙ c.in_ok-chains.ensures.must)
+      c.in_ok-chains.ensures.chains)
       ∙ posed.posed_sound g.M.Metric.distance_by c.args.history.now.schedule c.args.q.0 c.log-legal.ensures.legal c.log-legal.ensures.range (map (λ (t : TxnId). t.0) c.args.order.commits) c.requires.near c.args.order c.requires.order c.log-legal.ensures.items c.requires.query g.met.M.Metric.bounded;
 }
 
@@ -36,10 +36,10 @@ returns-clause-stands g c =
     (sym (c.in_ok-problem.ensures
     ∙ posed.posed g.M.Metric.distance_by c.args.history.now.schedule c.args.q.0 c.log-legal.ensures.legal c.log-legal.ensures.range (map (λ (t : TxnId). t.0) c.args.order.commits) c.requires.near c.args.order c.requires.order c.deref.result.now (c.deref.ensures.value ∙ c.in_ok-readings.ensures)
     c.into_parts-updates.result.0.items c.into_parts-updates.result.1.items c.in_ok-chains.chains.items c.into_parts-updates.result.2.items
-    c.into_parts-updates.ensures.commits
-    c.into_parts-updates.ensures.before
-    c.into_parts-updates.ensures.must
-    c.in_ok-chains.ensures))
+    (c.into_parts-updates.ensures.commits ∙ c.in_ok-chains.ensures.commits)
+    (c.into_parts-updates.ensures.before ∙ c.in_ok-chains.ensures.before)
+    (c.into_parts-updates.ensures.must ∙ c.in_ok-chains.ensures.must)
+    c.in_ok-chains.ensures.chains))
     (stands g.M.Metric.distance_by c.args.history.now.schedule c.args.q.0 c.log-legal.ensures.legal (map (λ (t : TxnId). t.0) c.args.order.commits) c.requires.near c.args.order c.requires.order)
 
 pub returns-clause-near : goal.returns-clause-near
@@ -48,8 +48,8 @@ returns-clause-near g c =
     (sym (c.in_ok-problem.ensures
     ∙ posed.posed g.M.Metric.distance_by c.args.history.now.schedule c.args.q.0 c.log-legal.ensures.legal c.log-legal.ensures.range (map (λ (t : TxnId). t.0) c.args.order.commits) c.requires.near c.args.order c.requires.order c.deref.result.now (c.deref.ensures.value ∙ c.in_ok-readings.ensures)
     c.into_parts-updates.result.0.items c.into_parts-updates.result.1.items c.in_ok-chains.chains.items c.into_parts-updates.result.2.items
-    c.into_parts-updates.ensures.commits
-    c.into_parts-updates.ensures.before
-    c.into_parts-updates.ensures.must
-    c.in_ok-chains.ensures))
+    (c.into_parts-updates.ensures.commits ∙ c.in_ok-chains.ensures.commits)
+    (c.into_parts-updates.ensures.before ∙ c.in_ok-chains.ensures.before)
+    (c.into_parts-updates.ensures.must ∙ c.in_ok-chains.ensures.must)
+    c.in_ok-chains.ensures.chains))
     c.requires.near

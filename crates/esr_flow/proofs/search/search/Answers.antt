@@ -31,10 +31,8 @@ scan-requires-clause-row c =
     let v : ℕ = (visit_at c.loop-head.visits.items c.loop-head.head).node in
     let first : c.index.result.now.node ≡ v =
     ap (λ x. x.node) (c.index.ensures ∙ get_or_default c.loop-head.visits.items c.loop-head.head c.index.result.now (record { node = 0; level = 0; step = Along 0; parent = 0 }) (omega arith)) in
-    let second : c.index-in-loop-head.result.now.node ≡ v =
-    ap (λ x. x.node) (c.index-in-loop-head.ensures ∙ get_or_default c.loop-head.visits.items c.loop-head.head c.index-in-loop-head.result.now (record { node = 0; level = 0; step = Along 0; parent = 0 }) (omega arith)) in
     let steps : c.steps_at-steps.result.now ≡ row_in g.rows.now.steps.items (span_at g.rows.now.spans.items v) = c.steps_at-steps.ensures ∙ ap (λ n. row_in g.rows.now.steps.items (span_at g.rows.now.spans.items n)) first in
-    let row : c.row-row.result.now ≡ row_in c.args.entries.now (span_at g.rows.now.spans.items v) = c.row-row.ensures ∙ ap (λ n. row_in c.args.entries.now (span_at g.rows.now.spans.items n)) second in
+    let row : c.row-row.result.now ≡ row_in c.args.entries.now (span_at g.rows.now.spans.items v) = c.row-row.ensures ∙ ap (λ n. row_in c.args.entries.now (span_at g.rows.now.spans.items n)) first in
     lists_read g c.requires.graph c.args.flow.now c.args.entries.now c.requires.entries v (h.nodes c.loop-head.head (omega arith)) c.steps_at-steps.result.now c.row-row.result.now steps row
 
 pub loop-head-preserved : goal.loop-head-preserved

@@ -55,15 +55,15 @@ loop-i-preserved g c =
     )
 
 pub returns-clause-ascending : goal.returns-clause-ascending
-returns-clause-ascending g c = subst (AllPairs IsBelow) (sym c.reverse.ensures.items)
+returns-clause-ascending g c = subst (AllPairs IsBelow) (sym (c.shrink_to_fit.ensures.items ∙ c.reverse.ensures.items))
     (gathered_ascending c.args.history.now.schedule c.args.updates.now c.loop-i.i (omega (arith, c.loop-i-test.false)) (map seen_links c.loop-i.chains.items) (map (λ r. r.items) c.loop-i.readers.items) c.loop-i.pairs.items c.loop-i.invariant.2)
 
 pub returns-clause-tied : goal.returns-clause-tied
-returns-clause-tied g c = subst (IsTied (turns (operations c.args.history.now.schedule) 0 (map (λ t. t.0) c.args.updates.now))) (sym c.reverse.ensures.items)
+returns-clause-tied g c = subst (IsTied (turns (operations c.args.history.now.schedule) 0 (map (λ t. t.0) c.args.updates.now))) (sym (c.shrink_to_fit.ensures.items ∙ c.reverse.ensures.items))
     (gathered_tied c.args.history.now.schedule c.args.updates.now c.loop-i.i (omega (arith, c.loop-i-test.false)) (map seen_links c.loop-i.chains.items) (map (λ r. r.items) c.loop-i.readers.items) c.loop-i.pairs.items c.loop-i.invariant.2)
 
 pub returns-clause-next : goal.returns-clause-next
-returns-clause-next g c = λ x. subst (λ l. AreNextPaired l (filter (λ s. s.writes) (on_item x (turns (operations c.args.history.now.schedule) 0 (map (λ t. t.0) c.args.updates.now))))) (sym c.reverse.ensures.items)
+returns-clause-next g c = λ x. subst (λ l. AreNextPaired l (filter (λ s. s.writes) (on_item x (turns (operations c.args.history.now.schedule) 0 (map (λ t. t.0) c.args.updates.now))))) (sym (c.shrink_to_fit.ensures.items ∙ c.reverse.ensures.items))
     (gathered_next c.args.history.now.schedule c.args.updates.now c.loop-i.i (omega (arith, c.loop-i-test.false)) (map seen_links c.loop-i.chains.items) (map (λ r. r.items) c.loop-i.readers.items) c.loop-i.pairs.items c.loop-i.invariant.2 x)
 
 pub returns-clause-chains : goal.returns-clause-chains
