@@ -1,9 +1,8 @@
 //! Draws a query of a script, from a reader to a writer.
 
-ghost use Rattle.std.specs.Prelude.{◌≡◌, ℕ, List, Some, false, IfOk};
-ghost use Rattle.std.specs.Io.KnownBytes.{Appends};
-ghost use Rattle.esr_history.specs.Watch.{inner, failed};
-ghost use Rattle.esr_script.specs.Parts.{is_read_fault, is_write_fault};
+ghost use Rattle.std.specs.Prelude.{◌≡◌, false, IfOk};
+ghost use Rattle.esr_history.specs.Watch.{failed};
+ghost use Rattle.esr_script.specs.ReaderToWriter.{ReadsAndWrites};
 ghost use Rattle.esr_picture.specs.Picture.{IsDrawnBy, IsSvg};
 
 use esr_history::Watched;
@@ -33,11 +32,8 @@ pub fn picture<R: Read, W: Write>(
 ) -> Result<(), RunFault>
     requires reader { failed reader.old ≡ false }
     requires writer { failed writer.old ≡ false }
-    ensures text { (input : List ℕ) → R.remaining (inner reader.old) ≡ Some input → (written : List ℕ)
-        × Appends (W.contents (inner writer.old)) (W.contents (inner writer.new)) written
-        × IsDrawnBy input name.now (R.remaining (inner reader.new)) result written }
-    ensures reader { failed reader.new ≡ is_read_fault result }
-    ensures writer { failed writer.new ≡ is_write_fault result }
+    ensures { ReadsAndWrites R.remaining W.contents reader.old reader.new writer.old writer.new
+        (λ input. IsDrawnBy input name.now) result }
 {
     tell(alloc, reader, writer, name, |asked| draw(alloc, &asked))
 }
