@@ -4,6 +4,7 @@ pub mod Blanks
 pub mod Laws
 pub mod Steps
 pub mod Held
+pub mod ReaderToWriter
 pub mod Replays
 pub mod Ends
 pub mod Spelling

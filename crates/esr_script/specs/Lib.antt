@@ -11,4 +11,5 @@ pub mod Audit
 pub mod Replays
 pub mod Stages
 pub mod Parts
+pub mod ReaderToWriter
 pub mod Worked

@@ -2,11 +2,11 @@
 //! and the totals are written.
 
 ghost use Rattle.std.specs.Prelude.{◌≡◌, ◌≤◌, ℕ, List, Some, false};
-ghost use Rattle.std.specs.Io.KnownBytes.{Appends};
 ghost use Rattle.esr_history.specs.Watch.{inner, failed};
 ghost use Rattle.esr_script.specs.Audit.{IsAuditedBy, audit_output};
 ghost use Rattle.esr_script.specs.Parts.{is_read_fault, is_write_fault};
 ghost use Rattle.esr_script.specs.Ends.{IsReachedBy};
+ghost use Rattle.esr_script.specs.ReaderToWriter.{ReadsAndWrites};
 ghost use Rattle.esr_script.specs.Text.{final};
 
 use crate::fault::RunFault;
@@ -58,11 +58,8 @@ pub fn audit<T: Threads + Sync, R: Read, W: Write>(
     requires reader { failed reader.old ≡ false }
     requires writer { failed writer.old ≡ false }
     requires workers { (1 ≤ workers) × (workers ≤ 64) }
-    ensures text { (input : List ℕ) → R.remaining (inner reader.old) ≡ Some input → (written : List ℕ)
-        × Appends (W.contents (inner writer.old)) (W.contents (inner writer.new)) written
-        × IsAuditedBy input (R.remaining (inner reader.new)) result written }
-    ensures reader { failed reader.new ≡ is_read_fault result }
-    ensures writer { failed writer.new ≡ is_write_fault result }
+    ensures { ReadsAndWrites R.remaining W.contents reader.old reader.new writer.old writer.new
+        IsAuditedBy result }
 {
     let mut out = match prepare(rt, alloc, reader, workers) {
         Ok(out) => out,

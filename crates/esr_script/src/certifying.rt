@@ -1,13 +1,12 @@
 //! Certifies a query of a script: the whole script is run without its output, and the query's bundle is written.
 
-ghost use Rattle.std.specs.Prelude.{◌≡◌, ℕ, List, [], ◌∷◌, ◌++◌, Some, true, false, IfOk};
-ghost use Rattle.std.specs.Io.KnownBytes.{Appends};
-ghost use Rattle.esr_history.specs.Watch.{inner, failed};
+ghost use Rattle.std.specs.Prelude.{◌≡◌, [], ◌∷◌, ◌++◌, true, false, IfOk};
+ghost use Rattle.esr_history.specs.Watch.{failed};
 ghost use Rattle.esr_cert.specs.Views.{certificate_of};
 ghost use Rattle.esr_bundle.specs.Bundle.{bundle};
 ghost use Rattle.esr_script.specs.Certify.{IsCertifiedBy};
 ghost use Rattle.esr_script.specs.Replays.{told};
-ghost use Rattle.esr_script.specs.Parts.{is_read_fault, is_write_fault};
+ghost use Rattle.esr_script.specs.ReaderToWriter.{ReadsAndWrites};
 
 use crate::fault::RunFault;
 use crate::telling::tell;
@@ -44,31 +43,6 @@ fn bundle_line(alloc: Global, finding: Finding, steps: bool) -> Result<Vec<u8>, 
     Ok(text)
 }
 
-/// Writes the bundle of the query of that name, with the count of augmentations or without.
-fn certify_with<R: Read, W: Write>(
-    alloc: Global,
-    reader: &mut Watched<R>,
-    writer: &mut Watched<W>,
-    name: &str,
-    steps: bool,
-) -> Result<(), RunFault>
-    requires reader { failed reader.old ≡ false }
-    requires writer { failed writer.old ≡ false }
-    ensures text { (input : List ℕ) → R.remaining (inner reader.old) ≡ Some input → (written : List ℕ)
-        × Appends (W.contents (inner writer.old)) (W.contents (inner writer.new)) written
-        × IsCertifiedBy steps input name.now (R.remaining (inner reader.new)) result written }
-    ensures reader { failed reader.new ≡ is_read_fault result }
-    ensures writer { failed writer.new ≡ is_write_fault result }
-{
-    tell(
-        alloc,
-        reader,
-        writer,
-        name,
-        |asked| bundle_line(alloc, asked.finding, steps),
-    )
-}
-
 /// Runs a script without writing its output, and writes the bundle of its query of that name, and a line feed.
 ///
 /// `NotACommittedQuery` exactly where the run has no fault and the name is that of no committed query. After a fault
@@ -81,13 +55,16 @@ pub fn certify<R: Read, W: Write>(
 ) -> Result<(), RunFault>
     requires reader { failed reader.old ≡ false }
     requires writer { failed writer.old ≡ false }
-    ensures text { (input : List ℕ) → R.remaining (inner reader.old) ≡ Some input → (written : List ℕ)
-        × Appends (W.contents (inner writer.old)) (W.contents (inner writer.new)) written
-        × IsCertifiedBy false input name.now (R.remaining (inner reader.new)) result written }
-    ensures reader { failed reader.new ≡ is_read_fault result }
-    ensures writer { failed writer.new ≡ is_write_fault result }
+    ensures { ReadsAndWrites R.remaining W.contents reader.old reader.new writer.old writer.new
+        (λ input. IsCertifiedBy false input name.now) result }
 {
-    certify_with(alloc, reader, writer, name, false)
+    tell(
+        alloc,
+        reader,
+        writer,
+        name,
+        |asked| bundle_line(alloc, asked.finding, false),
+    )
 }
 
 /// The same with the count of augmentations.
@@ -99,11 +76,14 @@ pub fn certify_steps<R: Read, W: Write>(
 ) -> Result<(), RunFault>
     requires reader { failed reader.old ≡ false }
     requires writer { failed writer.old ≡ false }
-    ensures text { (input : List ℕ) → R.remaining (inner reader.old) ≡ Some input → (written : List ℕ)
-        × Appends (W.contents (inner writer.old)) (W.contents (inner writer.new)) written
-        × IsCertifiedBy true input name.now (R.remaining (inner reader.new)) result written }
-    ensures reader { failed reader.new ≡ is_read_fault result }
-    ensures writer { failed writer.new ≡ is_write_fault result }
+    ensures { ReadsAndWrites R.remaining W.contents reader.old reader.new writer.old writer.new
+        (λ input. IsCertifiedBy true input name.now) result }
 {
-    certify_with(alloc, reader, writer, name, true)
+    tell(
+        alloc,
+        reader,
+        writer,
+        name,
+        |asked| bundle_line(alloc, asked.finding, true),
+    )
 }

@@ -6,6 +6,7 @@ ghost use Rattle.esr_history.specs.Watch.{inner, failed, BeginsWith};
 ghost use Rattle.esr_script.specs.Text.{start};
 ghost use Rattle.esr_script.specs.Run.{IsRunBy};
 ghost use Rattle.esr_script.specs.Parts.{IsHeldRun, is_read_fault, is_write_fault};
+ghost use Rattle.esr_script.specs.ReaderToWriter.{ReadsAndWrites};
 
 use crate::ahead::{answer_last, answer_next};
 use crate::fault::RunFault;
@@ -32,11 +33,8 @@ pub fn run<R: Read, W: Write>(
 ) -> Result<(), RunFault>
     requires reader { failed reader.old ≡ false }
     requires writer { failed writer.old ≡ false }
-    ensures text { (input : List ℕ) → R.remaining (inner reader.old) ≡ Some input → (written : List ℕ)
-        × Appends (W.contents (inner writer.old)) (W.contents (inner writer.new)) written
-        × IsRunBy input (R.remaining (inner reader.new)) result written }
-    ensures reader { failed reader.new ≡ is_read_fault result }
-    ensures writer { failed writer.new ≡ is_write_fault result }
+    ensures { ReadsAndWrites R.remaining W.contents reader.old reader.new writer.old writer.new
+        IsRunBy result }
 {
     let Ok(mut pending) = Pending::new(alloc) else {
         return Err(RunFault::NoMemory);

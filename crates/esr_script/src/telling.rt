@@ -1,11 +1,10 @@
 //! Tells of a query of a script: the whole script is run without its output, and a text of the query is written.
 
-ghost use Rattle.std.specs.Prelude.{◌≡◌, ℕ, List, Some, false};
-ghost use Rattle.std.specs.Io.KnownBytes.{Appends};
-ghost use Rattle.esr_history.specs.Watch.{inner, failed};
+ghost use Rattle.std.specs.Prelude.{◌≡◌, false};
+ghost use Rattle.esr_history.specs.Watch.{failed};
 ghost use Rattle.esr_script.specs.Ask.{IsMadeBy};
 ghost use Rattle.esr_script.specs.Ends.{IsToldBy};
-ghost use Rattle.esr_script.specs.Parts.{is_read_fault, is_write_fault};
+ghost use Rattle.esr_script.specs.ReaderToWriter.{ReadsAndWrites};
 ghost use Rattle.esr_script.specs.Text.{final};
 
 use crate::asked::{Asked, ask};
@@ -31,12 +30,8 @@ pub fn tell<R: Read, W: Write, E: Drop, F: FnOnce(Asked) -> Result<Vec<u8>, E> +
     requires callable { F.IsAlwaysCallable text_of }
     requires reader { failed reader.old ≡ false }
     requires writer { failed writer.old ≡ false }
-    ensures text { (input : List ℕ) → R.remaining (inner reader.old) ≡ Some input → (written : List ℕ)
-        × Appends (W.contents (inner writer.old)) (W.contents (inner writer.new)) written
-        × IsToldBy (IsMadeBy (F.post text_of) (final input) name.now)
-        input name.now (R.remaining (inner reader.new)) result written }
-    ensures reader { failed reader.new ≡ is_read_fault result }
-    ensures writer { failed writer.new ≡ is_write_fault result }
+    ensures { ReadsAndWrites R.remaining W.contents reader.old reader.new writer.old writer.new
+        (λ input. IsToldBy (IsMadeBy (F.post text_of) (final input) name.now) input name.now) result }
 {
     let asked = match ask(alloc, reader, name) {
         Ok(asked) => asked,

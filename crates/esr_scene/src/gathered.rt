@@ -27,14 +27,14 @@ pub struct Gathered {
     query: TxnId,
     lane_of_item: Vec<Option<usize>>,
     slot_of_txn: Vec<u8>,
-    written: Vec<i64>,
-    writes: Vec<bool>,
+    /// The last value that the update of each slot wrote in each lane, where it wrote there.
+    written: Vec<Option<i64>>,
     readings: Vec<Reading>,
     committed: u64,
     ended: bool,
 }
 
-/// The place of a lane and a slot in the tables of writes.
+/// The place of a lane and a slot in the table of what was written.
 fn cell(lane: usize, slot: u8) -> usize {
     lane.saturating_mul(SLOTS).saturating_add(slot as usize)
 }
@@ -42,13 +42,11 @@ fn cell(lane: usize, slot: u8) -> usize {
 impl Gathered {
     /// Nothing yet.
     fn new(alloc: Global, query: TxnId, items: u32, lanes: usize) -> Result<Gathered, AllocError> {
-        let cells = cell(lanes, 0);
         Ok(Gathered {
             query,
             lane_of_item: vec![in alloc; None; items as usize]?,
             slot_of_txn: vec![in alloc; 0u8; MOST_NUMBERS]?,
-            written: vec![in alloc; 0i64; cells]?,
-            writes: vec![in alloc; false; cells]?,
+            written: vec![in alloc; None; cell(lanes, 0)]?,
             readings: Vec::new(alloc),
             committed: 0,
             ended: false,
@@ -88,10 +86,8 @@ impl Gathered {
         let Some(lane) = self.lane_of(item) else {
             return;
         };
-        let at = cell(lane, slot);
-        if let (Some(place), Some(mark)) = (self.written.get_mut(at), self.writes.get_mut(at)) {
-            *place = value;
-            *mark = true;
+        if let Some(place) = self.written.get_mut(cell(lane, slot)) {
+            *place = Some(value);
         }
     }
 
@@ -133,11 +129,7 @@ impl Gathered {
 
     /// The last value that the update of a slot wrote in a lane, if it wrote there.
     pub fn value(&self, lane: usize, slot: u8) -> Option<i64> {
-        let at = cell(lane, slot);
-        if self.writes.get(at) == Some(&true) {
-            return self.written.get(at).copied();
-        }
-        None
+        self.written.get(cell(lane, slot)).copied().flatten()
     }
 
     /// What the query read in the lanes, in order.

@@ -146,31 +146,47 @@ fn those_off(
     Ok((lanes, drawn))
 }
 
+/// The lanes and the updates that are drawn: all of them, or where a query has too many updates those that are off.
+fn drawn(
+    alloc: Global,
+    problem: &Problem,
+    crossings: &[Crossing],
+) -> Result<(Vec<usize>, Vec<u32>), AllocError> {
+    let count = problem.updates().len();
+    let ranked = ranked(alloc, crossings)?;
+    if count > MOST_UPDATES {
+        return those_off(alloc, problem.chains(), crossings, &ranked);
+    }
+    let lanes = ranked.iter().take(MOST_LANES).copied().collect(alloc)?;
+    let updates = (0..count as u32).collect(alloc)?;
+    Ok((lanes, updates))
+}
+
+/// Those of the updates that are before the line, or those that are not.
+fn on_side(
+    alloc: Global,
+    updates: &[u32],
+    inside: &[bool],
+    before: bool,
+) -> Result<Vec<u32>, AllocError> {
+    let mut side = Vec::new(alloc);
+    for update in updates {
+        if is_marked(inside, *update) == before {
+            side.push(*update)?;
+        }
+    }
+    Ok(side)
+}
+
 /// The lanes and the updates to draw of a problem with such a set.
 pub fn choose(alloc: Global, problem: &Problem, set: &[u32]) -> Result<Choice, AllocError> {
-    let count = problem.updates().len();
-    let chains = problem.chains();
-    let inside = marked(alloc, count, set)?;
-    let crossings = crossings(alloc, chains, &inside)?;
-    let ranked = ranked(alloc, &crossings)?;
-    let (mut lanes, mut drawn) = if count > MOST_UPDATES {
-        those_off(alloc, chains, &crossings, &ranked)?
-    } else {
-        let lanes = ranked.iter().take(MOST_LANES).copied().collect(alloc)?;
-        (lanes, (0..count as u32).collect(alloc)?)
-    };
+    let inside = marked(alloc, problem.updates().len(), set)?;
+    let crossings = crossings(alloc, problem.chains(), &inside)?;
+    let (mut lanes, mut updates) = drawn(alloc, problem, &crossings)?;
     lanes.sort_unstable();
-    drawn.sort_unstable();
-    let before = drawn
-        .iter()
-        .copied()
-        .filter(|u| is_marked(&inside, *u))
-        .collect(alloc)?;
-    let after = drawn
-        .iter()
-        .copied()
-        .filter(|u| !is_marked(&inside, *u))
-        .collect(alloc)?;
+    updates.sort_unstable();
+    let before = on_side(alloc, &updates, &inside, true)?;
+    let after = on_side(alloc, &updates, &inside, false)?;
     Ok(Choice {
         crossings,
         lanes,

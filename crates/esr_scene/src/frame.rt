@@ -74,24 +74,50 @@ pub fn is_straight(from: u8, to: u8, line: u8) -> bool {
     span < 2 || (span == 2 && to == line.saturating_add(1))
 }
 
+/// The width of the boxes: of the longest name of an update.
+fn box_width(scene: &Scene<'_>) -> u16
+    ensures { result ≤ 340 }
+{
+    let widest = scene.updates.iter().map(|u| width_of(u.name.len())).max();
+    widest.unwrap_or(0).min(320) + 20
+}
+
+/// How high the arrows arch over boxes.
+fn arches(scene: &Scene<'_>) -> u16 {
+    let highest = scene
+        .arrows
+        .iter()
+        .filter(|a| !is_straight(a.from, a.to, scene.line))
+        .map(|a| arch(a.from, a.to))
+        .max();
+    highest.unwrap_or(0)
+}
+
+/// The width of what is written before the lanes.
+fn labels_width(scene: &Scene<'_>) -> u16
+    ensures { result ≤ 320 }
+{
+    let widest = scene.lanes.iter().map(label_width).max();
+    widest.unwrap_or(0).min(320)
+}
+
+/// The width of the widest value.
+fn values_width(scene: &Scene<'_>) -> u16
+    ensures { result ≤ 320 }
+{
+    let widest = scene.lanes.iter().map(value_width).max();
+    widest.unwrap_or(0).min(320)
+}
+
 impl Frame {
     /// The sizes of a scene.
     pub fn of(scene: &Scene<'_>) -> Frame {
-        let names = scene.updates.iter().map(|u| width_of(u.name.len())).max();
-        let box_width = names.unwrap_or(0).min(320) + 20;
-        let values = scene.lanes.iter().map(value_width).max();
-        let arches = scene
-            .arrows
-            .iter()
-            .filter(|a| !is_straight(a.from, a.to, scene.line))
-            .map(|a| arch(a.from, a.to))
-            .max();
-        let labels = scene.lanes.iter().map(label_width).max();
+        let box_width = box_width(scene);
         Frame {
-            left: labels.unwrap_or(0).min(320) + 40,
-            pitch: (box_width + 32).max(values.unwrap_or(0).min(320) + 24),
+            left: labels_width(scene) + 40,
+            pitch: (box_width + 32).max(values_width(scene) + 24),
             box_width,
-            arches: arches.unwrap_or(0),
+            arches: arches(scene),
             last: (scene.updates.len().min(MOST_UPDATES) as u8) + 2,
             lanes: scene.lanes.len().min(MOST_LANES) as u8,
         }

@@ -1,0 +1,73 @@
+//! The elements that a picture has many of.
+
+use std::alloc::AllocError;
+
+/// The start of a text: its words and its end follow.
+pub fn open_text(out: &mut String, class: &str, x: u32, y: u32) -> Result<(), AllocError> {
+    write!(out, "<text class='{class}' x='{x}' y='{y}'>")
+}
+
+/// A text.
+pub fn push_text(
+    out: &mut String,
+    class: &str,
+    x: u32,
+    y: u32,
+    words: &str,
+) -> Result<(), AllocError> {
+    open_text(out, class, x, y)?;
+    out.push_str(words)?;
+    out.push_str("</text>")
+}
+
+/// A text with its middle at x, and a line feed.
+pub fn push_centred(
+    out: &mut String,
+    class: &str,
+    x: u32,
+    y: u32,
+    words: &str,
+) -> Result<(), AllocError> {
+    write!(
+        out,
+        "<text class='{class}' x='{x}' y='{y}' text-anchor='middle'>"
+    )?;
+    out.push_str(words)?;
+    out.push_str("</text>\n")
+}
+
+/// A line from the left to the right.
+pub fn push_horizontal(
+    out: &mut String,
+    class: &str,
+    y: u32,
+    left: u32,
+    right: u32,
+) -> Result<(), AllocError> {
+    write!(out, "<path class='{class}' d='M{left} {y}H{right}'/>")
+}
+
+/// A line from the top to the bottom.
+pub fn push_vertical(
+    out: &mut String,
+    class: &str,
+    x: u32,
+    top: u32,
+    bottom: u32,
+) -> Result<(), AllocError> {
+    write!(out, "<path class='{class}' d='M{x} {top}V{bottom}'/>")
+}
+
+/// An arrow from the left to the right.
+pub fn push_straight(
+    out: &mut String,
+    query: &str,
+    y: u32,
+    left: u32,
+    right: u32,
+) -> Result<(), AllocError> {
+    write!(
+        out,
+        "<path class='w' marker-end='url(#{query}-tip)' d='M{left} {y}H{right}'/>"
+    )
+}

@@ -1,0 +1,18 @@
+//! What is drawn of the audit of a committed query, and the elements that draw it: a lane for each item that it read,
+//! cut into the versions of the item; the updates above, with arrows for the order that every placement keeps; and the
+//! nearest placement as a line across the lanes.
+#![tactic(auto)]
+
+mod boxes;
+mod choice;
+mod elements;
+mod frame;
+mod gathered;
+mod head;
+mod lanes;
+mod order;
+mod scene;
+mod svg;
+mod words;
+
+pub use svg::body_of;
