@@ -1,5 +1,5 @@
 //! The versions of items.
-ghost use Rattle.std.specs.Prelude.{◌≡◌, [], OnOk, map};
+ghost use Rattle.std.specs.Prelude.{◌≡◌, [], IfOk, OnOk, map};
 ghost use Rattle.esr_order.specs.Chains.{last_writer, with_write, turned, seen_links};
 
 use std::alloc::{AllocError, Global};
@@ -22,6 +22,17 @@ impl Links {
             values: Vec::new(alloc),
         }
     }
+
+    /// The same, with room for so many writers: the chains of many items are filled side by side, and what each has more
+    /// than it needs adds up.
+    pub(crate) fn with_room(alloc: Global, writers: usize) -> Result<Links, AllocError>
+        ensures { IfOk result (λ links. seen_links links ≡ record { writers = []; values = [] }) }
+    {
+        Ok(Links {
+            writers: Vec::with_capacity(alloc, writers)?,
+            values: Vec::with_capacity(alloc, writers)?,
+        })
+    }
 }
 
 /// The writer that a chain came by last.
@@ -31,24 +42,11 @@ pub fn last_writer(links: &Links) -> Option<u32>
     links.writers.last().copied()
 }
 
-/// Makes room for one more, and for a quarter of what there is: the chains of many items grow side by side, and what
-/// each has more than it needs adds up.
-fn make_room<T>(list: &mut Vec<T>) -> Result<(), AllocError>
-    ensures { list.new.items ≡ list.old.items }
-{
-    if list.len() == list.capacity() {
-        list.reserve_exact(list.len() / 4 + 4)?;
-    }
-    Ok(())
-}
-
 /// Adds a write of the update at a position to a chain that goes back, unless a later one of that update is there.
 pub fn put_write(links: &mut Links, place: u32, value: i64) -> Result<(), AllocError>
     ensures { OnOk result (seen_links links.new ≡ with_write (seen_links links.old) place value) }
 {
     if last_writer(links) != Some(place) {
-        make_room(&mut links.writers)?;
-        make_room(&mut links.values)?;
         links.writers.push(place)?;
         links.values.push(value)?;
     }

@@ -79,12 +79,14 @@ fn first_positions(alloc: Global, n: usize) -> Result<Vec<u32>, AllocError>
     (0..n).map(|i| i as u32).collect(alloc)
 }
 
-/// The order among these updates, of which the first must be seen.
+/// The order among these updates, of which the first must be seen. For each item there may be a count of writers to
+/// make room for.
 fn among<M: Metric>(
     alloc: Global,
     history: &History<M>,
     commits: Vec<TxnId>,
     first: usize,
+    writers: &[u32],
 ) -> Result<Order, AllocError>
     requires once { AllPairs (λ t u. t ≢ u) (map (λ t. t.0) commits.items) }
     requires few { length commits.items ≤ 65535 }
@@ -97,7 +99,7 @@ fn among<M: Metric>(
         (filter (λ p. is_among (map (λ t. t.0) commits.items) p.txn) (operations history.now.schedule))) }
 {
     let _legal = history.log(); // brings the invariant into the proof
-    let gathered = gather(alloc, history, &commits)?;
+    let gathered = gather(alloc, history, &commits, writers)?;
     let must = first_positions(alloc, first)?;
     Ok(Order {
         commits,
@@ -122,7 +124,7 @@ impl Order {
         let committed = committed(alloc, history)?;
         let commits = updates_before(alloc, history, &committed, q)?;
         let first = count_must(alloc, history, &commits, q)?;
-        let order = among(alloc, history, commits, first)?;
+        let order = among(alloc, history, commits, first, &[])?;
         Ok(order)
     }
 
@@ -167,7 +169,7 @@ impl Order {
         let updates = updates_before(alloc, history, committed, q)?;
         let first = count_must(alloc, history, &updates, q)?;
         let near = near_of(alloc, history, &updates, first, q)?;
-        let order = among(alloc, history, near, first)?;
+        let order = among(alloc, history, near.updates, first, &near.writes)?;
         Ok(order)
     }
 

@@ -32,6 +32,17 @@ fn mark(flags: &mut [bool], accesses: &[Access], writes: bool)
     }
 }
 
+/// Counts the writes of each item among these accesses.
+fn count_writes(counts: &mut [u32], accesses: &[Access]) {
+    for access in accesses {
+        if access.writes {
+            if let Some(count) = counts.get_mut(access.item.0 as usize) {
+                *count = count.saturating_add(1);
+            }
+        }
+    }
+}
+
 /// The items that a query and the near updates found so far have read, and those that these updates have written.
 #[derive(Drop)]
 struct Items {
@@ -87,6 +98,14 @@ impl Items {
     }
 }
 
+/// The near updates of a query, and how often they wrote each item, by which room is made for chains. Of these counts
+/// nothing is promised: a chain that needs more room takes it.
+#[derive(Drop)]
+pub struct Near {
+    pub updates: Vec<TxnId>,
+    pub writes: Vec<u32>,
+}
+
 /// The near ones among the updates of a query, of which it must have seen the first. The search goes back in commit
 /// order: an update is near where what it did conflicts with what the query, or a near update after it, did.
 pub fn near_of<M: Metric>(
@@ -95,22 +114,27 @@ pub fn near_of<M: Metric>(
     updates: &[TxnId],
     first: usize,
     q: TxnId,
-) -> Result<Vec<TxnId>, AllocError>
+) -> Result<Near, AllocError>
     requires updates { map (λ t. t.0) updates.now ≡ updates_of history.now.schedule q.0 }
     requires first { first ≡ length (must history.now.schedule q.0) }
-    ensures near { IfOk result (λ v. AreNear history.now.schedule q.0 (map (λ t. t.0) v.items)) }
+    ensures near { IfOk result (λ n. AreNear history.now.schedule q.0 (map (λ t. t.0) n.updates.items)) }
 {
     let _legal = history.log(); // brings the invariant into the proof
     let mut items = Items::of_query(alloc, history, q)?;
+    let mut writes = vec![in alloc; 0u32; history.items() as usize]?;
     let mut near = Vec::new(alloc);
     let mut accesses = Vec::new(alloc);
     for i in (0..updates.len()).rev() {
         list_accesses(history, updates[i], &mut accesses)?;
         if i < first || items.conflict(&accesses) {
             items.add(&accesses);
+            count_writes(&mut writes, &accesses);
             near.push(updates[i])?;
         }
     }
     near.reverse();
-    Ok(near)
+    Ok(Near {
+        updates: near,
+        writes,
+    })
 }

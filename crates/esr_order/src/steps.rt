@@ -69,8 +69,12 @@ fn put_turn(
     Ok(())
 }
 
-/// A chain without writers for each item, and none that reads it.
-fn nothing_later(alloc: Global, items: u32) -> Result<(Vec<Links>, Vec<Vec<u32>>), AllocError>
+/// A chain without writers for each item, with room for so many, and none that reads it.
+fn nothing_later(
+    alloc: Global,
+    items: u32,
+    writers: &[u32],
+) -> Result<(Vec<Links>, Vec<Vec<u32>>), AllocError>
     ensures chains_len { IfOk result (λ r. length r.0.items ≡ items) }
     ensures readers_len { IfOk result (λ r. length r.1.items ≡ items) }
     ensures later { IfOk result (λ r. AreLater (map seen_links r.0.items) (map (λ v. v.items) r.1.items) []) }
@@ -78,7 +82,9 @@ fn nothing_later(alloc: Global, items: u32) -> Result<(Vec<Links>, Vec<Vec<u32>>
     let mut chains = Vec::with_capacity(alloc, items as usize)?;
     let mut readers = Vec::with_capacity(alloc, items as usize)?;
     for x in 0..items {
-        chains.push(Links::empty(alloc))?;
+        let room = writers.get(x as usize).copied().unwrap_or(0);
+        let links = Links::with_room(alloc, room as usize)?;
+        chains.push(links)?;
         readers.push(Vec::new(alloc))?;
     }
     Ok((chains, readers))
@@ -91,11 +97,13 @@ pub struct Gathered {
     pub chains: Vec<Links>,
 }
 
-/// Gathers what is needed of updates in one pass back over them. It goes along their links.
+/// Gathers what is needed of updates in one pass back over them. It goes along their links. For each item there may be
+/// a count of writers to make room for.
 pub fn gather<M: Metric>(
     alloc: Global,
     history: &History<M>,
     updates: &[TxnId],
+    writers: &[u32],
 ) -> Result<Gathered, AllocError>
     requires few { length updates.now ≤ 65535 }
     ensures ascending { IfOk result (λ g. AllPairs IsBelow g.pairs.items) }
@@ -107,9 +115,9 @@ pub fn gather<M: Metric>(
         (range_with_len 0 (length history.now.schedule.opening))) }
 {
     let _legal = history.log(); // brings the invariant into the proof
-    let (mut chains, mut readers) = nothing_later(alloc, history.items())?;
-    // there are at most two pairs for each operation; the room that is left over is given back
-    let mut pairs = Vec::with_capacity(alloc, history.log().len().saturating_mul(2))?;
+    let (mut chains, mut readers) = nothing_later(alloc, history.items(), writers)?;
+    // a write is mostly tied to the next of its item alone; the room that is left over is given back
+    let mut pairs = Vec::with_capacity(alloc, history.log().len())?;
     let mut accesses = Vec::new(alloc);
     let mut ties = Vec::new(alloc);
     for i in (0..updates.len()).rev() {

@@ -5,6 +5,7 @@ use Rattle.esr_order.specs.Orders.{IsOrderAmong}
 use Rattle.esr_order.proofs.Commits.{updates_are, query_begun}
 use Rattle.esr_order.proofs.NearFound.{IsNearRun, near_run}
 use Rattle.esr_order.proofs.order.Order.near_in.Goals as goal
+use Rattle.esr_order.proofs.order.Order.near_in.Goals.{After-deref-3}
 
 pub count_must-requires-clause-begun : goal.count_must-requires-clause-begun
 count_must-requires-clause-begun g c = query_begun c.args.history.now.schedule c.args.q.0 (sym c.is_committed_query.ensures ∙ c.if-not-is_committed_query.false)
@@ -19,8 +20,8 @@ near_of-requires-clause-updates g c =
     ap (map (λ t. t.0)) c.deref-2.ensures.value
     ∙ updates_are c.args.history.now.schedule c.args.q.0 c.args.committed.now c.requires c.in_ok-updates.updates.items c.in_ok-updates.ensures
 
-run : (g : Rattle.esr_order.proofs.order.Order.near_in.Given.Over) (c : goal.In_ok-near g) → IsNearRun c.args.history.now.schedule c.args.q.0 c.in_ok-first.first c.in_ok-near.near.items
-run g c = near_run g.M.Metric.distance_by c.args.history.now.schedule c.args.q.0 c.log-legal.ensures.legal c.in_ok-near.near.items c.in_ok-near.ensures.near c.in_ok-first.first c.in_ok-first.ensures
+run : (g : Rattle.esr_order.proofs.order.Order.near_in.Given.Over) (c : After-deref-3 g) → IsNearRun c.args.history.now.schedule c.args.q.0 c.in_ok-first.first c.in_ok-near.near.updates.items
+run g c = near_run g.M.Metric.distance_by c.args.history.now.schedule c.args.q.0 c.log-legal.ensures.legal c.in_ok-near.near.updates.items c.in_ok-near.ensures.near c.in_ok-first.first c.in_ok-first.ensures
 
 pub among-requires-clause-once : goal.among-requires-clause-once
 among-requires-clause-once g c = (run g c).once
@@ -39,6 +40,6 @@ returns-clause-near g c = subst (λ ts. AreNear c.args.history.now.schedule c.ar
 
 pub returns-clause-ok : goal.returns-clause-ok
 returns-clause-ok g c =
-    let r : IsNearRun c.args.history.now.schedule c.args.q.0 c.in_ok-first.first c.in_ok-near.near.items =
-    near_run g.M.Metric.distance_by c.args.history.now.schedule c.args.q.0 c.log-legal.ensures.legal c.in_ok-near.near.items c.in_ok-near.ensures.near c.in_ok-first.first c.in_ok-first.ensures in
+    let r : IsNearRun c.args.history.now.schedule c.args.q.0 c.in_ok-first.first c.in_ok-near.near.updates.items =
+    near_run g.M.Metric.distance_by c.args.history.now.schedule c.args.q.0 c.log-legal.ensures.legal c.in_ok-near.near.updates.items c.in_ok-near.ensures.near c.in_ok-first.first c.in_ok-first.ensures in
     subst (λ ts. IsOrderAmong c.args.history.now.schedule c.args.q.0 (map (λ (t : TxnId). t.0) ts) c.in_ok-order.order) (sym c.in_ok-order.ensures.commits) (c.in_ok-order.ensures.order c.args.q.0 r.musts)
