@@ -90,6 +90,15 @@ fn nothing_later(
     Ok((chains, readers))
 }
 
+/// The sum of counts, by which room is made.
+fn total_of(counts: &[u32]) -> usize {
+    let mut total = 0usize;
+    for count in counts {
+        total = total.saturating_add(*count as usize);
+    }
+    total
+}
+
 /// Few pairs of updates that tie them, and the chains of their writes.
 #[derive(Drop)]
 pub struct Gathered {
@@ -116,8 +125,8 @@ pub fn gather<M: Metric>(
 {
     let _legal = history.log(); // brings the invariant into the proof
     let (mut chains, mut readers) = nothing_later(alloc, history.items(), writers)?;
-    // a write is mostly tied to the next of its item alone; the room that is left over is given back
-    let mut pairs = Vec::with_capacity(alloc, history.log().len())?;
+    // a write is mostly tied to the next of its item alone
+    let mut pairs = Vec::with_capacity(alloc, total_of(writers))?;
     let mut accesses = Vec::new(alloc);
     let mut ties = Vec::new(alloc);
     for i in (0..updates.len()).rev() {
