@@ -1,7 +1,9 @@
 -- Positions of names, seen through the keys that hold them, and a name more.
-use Rattle.std.proofs.Common.{◌≡◌, ℕ, suc, ◌+◌, ◌≤◌, List, [], ◌∷◌, ◌++◌, ◌⊎◌, inl, inr, Bool, true, false, ◌||◌, ◌&&◌, not, cond, nat_lt, map, length, refl, sym, ◌∙◌, ap, arith, Some, None, ltb-false}
+use Rattle.std.proofs.Common.{◌≡◌, ℕ, suc, ◌+◌, ◌<◌, ◌≤◌, List, [], ◌∷◌, ◌++◌, ◌⊎◌, inl, inr, Bool, true, false, ◌||◌, ◌&&◌, not, cond, nat_lt, map, length, All, refl, sym, ◌∙◌, ap, arith, rules, Some, None, ltb-false}
+use Rattle.std.proofs.lemmas.Bool.{le-ltb}
 use Rattle.std.specs.List.{position, position_or_len, list_any}
 use Rattle.std.specs.Str.{bytes_eq}
+use Rattle.std.proofs.lemmas.List.Elements.{All-append}
 use Rattle.std.proofs.lemmas.List.Folds.{list_any-append}
 use Rattle.std.proofs.lemmas.Slice.Eq.{bytes_eq-Decides}
 use Rattle.esr_report.specs.Names.{position_of, all_distinct}
@@ -31,6 +33,30 @@ module _ {X : Type 0} (g : X → List ℕ) where
   pub any_seen : (p : List ℕ → Bool) (xs : List X) → list_any (λ k. p (g k)) xs ≡ list_any p (map g xs)
   any_seen p [] = refl
   any_seen p (x ∷ xs) = ap (λ b. p (g x) || b) (any_seen p xs)
+
+module _ {X : Type 0} (g : X → List ℕ) where
+  all_differ : (xs : List X) (name : List ℕ) (most : ℕ) → All (λ x. length (g x) ≤ most) xs → most < length name → length xs ≤ position_or_len (λ x. bytes_eq name (g x)) xs
+  all_differ [] name most h l = omega arith
+  all_differ (x ∷ xs) name most h l = elim (which (bytes_eq name (g x))) [
+    | inl same ↦
+        let short : length (g x) ≤ most = h 0 x (omega arith) in
+        absurd (omega (arith, l, short, ap length ((bytes_eq-Decides name (g x)).0 same)))
+    | inr other ↦
+        let later : position_or_len (λ y. bytes_eq name (g y)) (x ∷ xs) ≡ 1 + position_or_len (λ y. bytes_eq name (g y)) xs = rw other refl in
+        omega (arith, later, all_differ xs name most (λ k d i. h (suc k) d (omega (arith, i))) l)
+  ]
+
+  -- a name that is longer than all names is none of them
+  pub longer : (xs : List X) (name : List ℕ) (most : ℕ) → All (λ x. length (g x) ≤ most) xs → most < length name → position_of (map g xs) name ≡ None
+  longer xs name most h l =
+      sym (position_seen g (bytes_eq name) xs)
+      ∙ ap (λ v. cond v (Some (position_or_len (λ x. bytes_eq name (g x)) xs)) None) (le-ltb (position_or_len (λ x. bytes_eq name (g x)) xs) (length xs) (all_differ xs name most h l))
+
+  -- names of at most so many bytes, and one more of them
+  pub short_push : (xs : List X) (x : X) (most : ℕ) → All (λ y. length (g y) ≤ most) xs → length (g x) ≤ most → All (λ y. length (g y) ≤ most) (xs ++ x ∷ [])
+  short_push xs x most h l =
+      let one : All (λ y. length (g y) ≤ most) (x ∷ []) = search rules in
+      All-append (λ y. length (g y) ≤ most) xs (x ∷ []) h one
 
 chosen_none : (v : Bool) (n : ℕ) → cond v (Some n) None ≡ None → v ≡ false
 chosen_none true n e = cc

@@ -1,6 +1,7 @@
-ghost use Rattle.std.specs.Prelude.{◌≡◌, ℕ, ◌+◌, ◌<◌, ◌≤◌, ◌^◌, List, [], ◌∷◌, ◌++◌, map, length, string_bytes, IfOk, OnOk, OnErr, slice_get, option_map, Option, None, true};
+ghost use Rattle.std.specs.Prelude.{◌≡◌, ℕ, ◌+◌, ◌<◌, ◌≤◌, ◌^◌, List, [], ◌∷◌, ◌++◌, map, length, All, IfOk, OnOk, OnErr, slice_get, option_map, Option, None, true};
 ghost use Rattle.esr_report.specs.Names.{position_of, all_distinct};
 
+use arrayvec::ArrayString;
 use indexmap::IndexSet;
 use std::alloc::{AllocError, Global};
 use std::marker::Model;
@@ -15,19 +16,22 @@ pub trait TransactionNames {
         ensures { option_map (λ name. name.now) result ≡ slice_get (names self.now) position };
 }
 
+/// A name, which lies in the table itself: a spelling has at most 16 bytes.
+type Name = ArrayString<16>;
+
 /// A table of names, in the order in which they were bound. No name is bound twice.
 #[derive(Drop)]
 pub struct Names {
-    alloc: Global,
-    names: IndexSet<String>,
+    names: IndexSet<Name>,
 }
 
 impl Model for Names {
     ghost Value = { List (List ℕ) };
 
-    ghost view = { λ n. map string_bytes n.names.keys };
+    ghost view = { λ n. map (λ name. name.bytes) n.names.keys };
 
-    ghost invariant = { λ n. (length n.names.keys ≤ 2 ^ 32) × (all_distinct (map string_bytes n.names.keys) ≡ true) };
+    ghost invariant = { λ n. (length n.names.keys ≤ 2 ^ 32) × (all_distinct (map (λ name. name.bytes) n.names.keys) ≡ true)
+        × All (λ name. length name.bytes ≤ 16) n.names.keys };
 }
 
 impl Names {
@@ -35,7 +39,6 @@ impl Names {
         ensures { result ≡ [] }
     {
         Names {
-            alloc,
             names: IndexSet::new(alloc),
         }
     }
@@ -53,7 +56,11 @@ impl Names {
     pub fn number_of(&self, name: &str) -> Option<u32>
         ensures { result ≡ position_of self.now name.now }
     {
-        match self.names.get_index_of(name) {
+        let names = &self.names;
+        let Ok(key) = Name::from(name) else {
+            return None;
+        };
+        match names.get_index_of(&key) {
             Some(position) => Some(position as u32),
             None => None,
         }
@@ -70,6 +77,10 @@ impl Names {
     }
 
     /// Binds the name to the next position.
+    ///
+    /// # Errors
+    /// Where memory was refused. A name of more than 16 bytes, which no line spells, has no room in the table and is
+    /// refused too. Then nothing has changed.
     pub fn bind(&mut self, name: &str) -> Result<u32, AllocError>
         requires unbound { position_of self.old name.now ≡ None }
         requires room { length self.old < 2 ^ 32 }
@@ -78,8 +89,10 @@ impl Names {
         ensures err { OnErr result (self.new ≡ self.old) }
     {
         let position = self.names.len();
-        let text = String::from_str(self.alloc, name)?;
-        self.names.insert(text)?;
+        let Ok(key) = Name::from(name) else {
+            return Err(AllocError);
+        };
+        self.names.insert(key)?;
         Ok(position as u32)
     }
 }

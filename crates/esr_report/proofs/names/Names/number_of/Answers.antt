@@ -1,15 +1,27 @@
-use Rattle.std.proofs.Common.{◌∙◌, string_bytes, ap}
+use Rattle.std.proofs.Common.{◌<◌, length, ◌∙◌, sym, ap, rules}
 use Rattle.std.specs.List.{position}
 use Rattle.std.specs.Str.{bytes_eq}
-use Rattle.esr_report.proofs.Positions.{position_seen}
+use Rattle.arrayvec.specs.declared.array_string.ArrayString.{ArrayString}
+use Rattle.esr_report.specs.Names.{position_of}
+use Rattle.esr_report.proofs.Positions.{position_seen, longer}
 use Rattle.esr_report.proofs.names.Names.number_of.Goals as goal
+
+pub returns-in_default : goal.returns-in_default
+returns-in_default c =
+    let long : 16 < length c.args.name.now = search rules in
+    sym (longer (λ (k : ArrayString 16). k.bytes) c.self.inside.names.keys c.args.name.now 16 c.self.invariant.2 long)
+    ∙ ap (λ names. position_of names c.args.name.now) c.self.view_is
 
 pub returns-in-Some : goal.returns-in-Some
 returns-in-Some c =
-    let keys = c.self.inside.names.keys in
-    c.in-Some.ensures.index ∙ position_seen string_bytes (bytes_eq c.args.name.now) keys ∙ ap (position (bytes_eq c.args.name.now)) c.self.view_is
+    c.in-Some.ensures.index
+    ∙ position_seen (λ (k : ArrayString 16). k.bytes) (bytes_eq c.in-Ok.key.bytes) c.self.inside.names.keys
+    ∙ ap (position (bytes_eq c.in-Ok.key.bytes)) c.self.view_is
+    ∙ ap (position_of c.args.self.now) c.in-Ok.ensures.ok
 
 pub returns-in-None : goal.returns-in-None
 returns-in-None c =
-    let keys = c.self.inside.names.keys in
-    c.in-None.ensures.index ∙ position_seen string_bytes (bytes_eq c.args.name.now) keys ∙ ap (position (bytes_eq c.args.name.now)) c.self.view_is
+    c.in-None.ensures.index
+    ∙ position_seen (λ (k : ArrayString 16). k.bytes) (bytes_eq c.in-Ok.key.bytes) c.self.inside.names.keys
+    ∙ ap (position (bytes_eq c.in-Ok.key.bytes)) c.self.view_is
+    ∙ ap (position_of c.args.self.now) c.in-Ok.ensures.ok
