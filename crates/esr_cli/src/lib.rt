@@ -3,7 +3,7 @@
 
 ghost use Rattle.std.specs.Prelude.{◌≡◌, IfOk, MatchResult, Some, codes, false, option_map};
 ghost use Rattle.clap.specs.Words.{app_of, fault_of, first_of, found_of, kind_of, rows_of};
-ghost use Rattle.clap.specs.Words.{subcommand_of, subcommand_rows_of, FailsBy};
+ghost use Rattle.clap.specs.Words.{subcommand_of, subcommand_rows_of, with_subcommand, FailsBy};
 ghost use Rattle.clap.specs.Walk.{texts};
 ghost use Rattle.clap.specs.declared.builder.command.Command.TheViews.{out-Command};
 ghost use Rattle.clap.specs.declared.error.kind.ErrorKind.TheVariants.{OutOfMemory};
@@ -89,6 +89,19 @@ fn named<'a>(alloc: Global, name: &'a str, about: &'a str) -> Result<Command<'a>
     Command::new(alloc, name).about(about).arg(query)
 }
 
+/// Adds `name NAME` to a program.
+fn with_named<'a>(
+    alloc: Global,
+    commands: Command<'a>,
+    name: &'a str,
+    about: &'a str,
+) -> Result<Command<'a>, AllocError>
+    ensures { IfOk result (λ c. app_of c ≡ with_subcommand (app_of commands.entry) (named name.entry.now).top) }
+{
+    let command = named(alloc, name, about)?;
+    commands.subcommand(command)
+}
+
 /// `name [--workers W]`
 fn parallel<'a>(alloc: Global, name: &'a str, about: &'a str) -> Result<Command<'a>, AllocError>
     ensures app { IfOk result (λ c. app_of c ≡ parallel name.entry.now) }
@@ -101,6 +114,19 @@ fn parallel<'a>(alloc: Global, name: &'a str, about: &'a str) -> Result<Command<
         .default_value("4")
         .help("How many threads audit, 1 to 64");
     Command::new(alloc, name).about(about).arg(workers)
+}
+
+/// Adds `name [--workers W]` to a program.
+fn with_parallel<'a>(
+    alloc: Global,
+    commands: Command<'a>,
+    name: &'a str,
+    about: &'a str,
+) -> Result<Command<'a>, AllocError>
+    ensures { IfOk result (λ c. app_of c ≡ with_subcommand (app_of commands.entry) (parallel name.entry.now).top) }
+{
+    let command = parallel(alloc, name, about)?;
+    commands.subcommand(command)
 }
 
 /// The program with the jobs that need one thread.
@@ -127,33 +153,21 @@ fn scripts<'a>(alloc: Global) -> Result<Command<'a>, AllocError>
 fn queries<'a>(alloc: Global) -> Result<Command<'a>, AllocError>
     ensures { IfOk result (λ c. app_of c ≡ queries) }
 {
-    let explain = named(
-        alloc,
-        "explain",
-        "Runs a script from standard input and tells what a query read and was charged",
-    )?;
-    let picture = named(
-        alloc,
-        "picture",
-        "Runs a script from standard input and writes a picture of a query, an SVG",
-    )?;
-    scripts(alloc)?.subcommand(explain)?.subcommand(picture)
+    let explain = "Runs a script from standard input and tells what a query read and was charged";
+    let picture = "Runs a script from standard input and writes a picture of a query, an SVG";
+    let commands = scripts(alloc)?;
+    let commands = with_named(alloc, commands, "explain", explain)?;
+    with_named(alloc, commands, "picture", picture)
 }
 
 fn program<'a>(alloc: Global) -> Result<Command<'a>, AllocError>
     ensures { IfOk result (λ c. app_of c ≡ program) }
 {
-    let audit = parallel(
-        alloc,
-        "audit",
-        "Runs a script from standard input and audits each committed query",
-    )?;
-    let drive = parallel(
-        alloc,
-        "drive",
-        "Runs the sessions of a drive file from standard input, each on a thread",
-    )?;
-    queries(alloc)?.subcommand(audit)?.subcommand(drive)
+    let audit = "Runs a script from standard input and audits each committed query";
+    let drive = "Runs the sessions of a drive file from standard input, each on a thread";
+    let commands = queries(alloc)?;
+    let commands = with_parallel(alloc, commands, "audit", audit)?;
+    with_parallel(alloc, commands, "drive", drive)
 }
 
 fn query<'a>(given: &ArgMatches<'a>) -> Option<&'a str>
