@@ -8,7 +8,7 @@ ghost use Rattle.esr_script.specs.View.{view, command_in, IsReadingOf};
 use crate::words::{cut_word, four_words, int, limit, name, one_word, three_words, two_words};
 
 /// A command, with its names as text of the line that spells it.
-#[derive(Clone, Copy, Debug, PartialEq, Eq)]
+#[derive(Clone, Copy, Debug)]
 pub enum Line<'a> {
     /// `item NAME INT`
     Item {
@@ -64,7 +64,7 @@ pub enum Line<'a> {
 }
 
 /// What a line of a script is.
-#[derive(Clone, Copy, Debug, PartialEq, Eq)]
+#[derive(Clone, Copy, Debug)]
 pub enum Parsed<'a> {
     /// An empty line or a comment.
     Skipped,
