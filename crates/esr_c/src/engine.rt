@@ -1,5 +1,5 @@
 // Engines as C holds them.
-ghost use Rattle.std.specs.Prelude.{◌⊎◌, ◌<◌, ◌≤◌, Any, IsTrue, true, IsErrOf, ◌≡◌, ◌≢◌, IfOk, IfErr, ◌↔◌, length, is_some, None, Some, IsSome, MatchOption};
+ghost use Rattle.std.specs.Prelude.{◌⊎◌, ◌<◌, ◌≤◌, All, Any, IsTrue, true, IsErrOf, ◌≡◌, ◌≢◌, IfOk, IfErr, ◌↔◌, length, is_some, None, Some, IsSome, MatchOption};
 ghost use Rattle.esr_items.specs.Values.{IsValue};
 ghost use Rattle.esr_core.specs.Renewed.{committed_values, has_active};
 ghost use Rattle.esr_c.specs.Answers.{fresh, status_number, IsEventCall, IsOpenStatus, IsRenewStatus, IsSound, GoesOn};
@@ -82,14 +82,13 @@ fn is_value(v: i64) -> bool
     v.unsigned_abs() <= LARGEST_VALUE
 }
 
-/// A machine of these opening values on the heap.
-#[tactic(auto, using(esr_core::proofs::Replayed::opened_values))]
-fn made(alloc: Global, opening: &[i64]) -> Result<Box<Machine<Plain>, Global>, Status>
-    ensures ok { IfOk result (λ b. b.value ≡ fresh opening.now) }
+/// Refuses opening values of which there are too many, or one is out of range.
+fn check_opening(opening: &[i64]) -> Result<(), Status>
+    ensures ok { IfOk result (λ _. (length opening.now ≤ MOST_ITEMS) × All IsValue opening.now) }
     ensures many { IsErrOf result Status.TooManyItems ↔ (MOST_ITEMS < length opening.now) }
     ensures range { IsErrOf result Status.OutOfRange ↔
         ((length opening.now ≤ MOST_ITEMS) × Any (λ v. ¬ IsValue v) opening.now) }
-    ensures err { IfErr result (λ e. (e ≡ Status.TooManyItems) ⊎ ((e ≡ Status.OutOfRange) ⊎ (e ≡ Status.NoMemory))) }
+    ensures err { IfErr result (λ e. (e ≡ Status.TooManyItems) ⊎ (e ≡ Status.OutOfRange)) }
 {
     if opening.len() > MOST_ITEMS {
         return Err(Status::TooManyItems);
@@ -97,6 +96,17 @@ fn made(alloc: Global, opening: &[i64]) -> Result<Box<Machine<Plain>, Global>, S
     if !opening.iter().all(|v| is_value(*v)) {
         return Err(Status::OutOfRange);
     }
+    Ok(())
+}
+
+/// A machine of these opening values on the heap.
+#[tactic(auto, using(esr_core::proofs::Replayed::opened_values))]
+fn machine_of(alloc: Global, opening: &[i64]) -> Result<Box<Machine<Plain>, Global>, Status>
+    requires few { length opening.now ≤ MOST_ITEMS }
+    requires range { All IsValue opening.now }
+    ensures ok { IfOk result (λ b. b.value ≡ fresh opening.now) }
+    ensures err { IfErr result (λ e. e ≡ Status.NoMemory) }
+{
     let Ok(values) = opening.to_vec(alloc) else {
         return Err(Status::NoMemory);
     };
@@ -110,6 +120,18 @@ fn made(alloc: Global, opening: &[i64]) -> Result<Box<Machine<Plain>, Global>, S
         Ok(machine) => Ok(machine),
         Err(_) => Err(Status::NoMemory),
     }
+}
+
+/// A machine of these opening values on the heap, where they may be such.
+fn made(alloc: Global, opening: &[i64]) -> Result<Box<Machine<Plain>, Global>, Status>
+    ensures ok { IfOk result (λ b. b.value ≡ fresh opening.now) }
+    ensures many { IsErrOf result Status.TooManyItems ↔ (MOST_ITEMS < length opening.now) }
+    ensures range { IsErrOf result Status.OutOfRange ↔
+        ((length opening.now ≤ MOST_ITEMS) × Any (λ v. ¬ IsValue v) opening.now) }
+    ensures err { IfErr result (λ e. (e ≡ Status.TooManyItems) ⊎ ((e ≡ Status.OutOfRange) ⊎ (e ≡ Status.NoMemory))) }
+{
+    check_opening(opening)?;
+    machine_of(alloc, opening)
 }
 
 /// Opens a closed engine.
