@@ -10,11 +10,13 @@ use crate::checked::{certificate_of, problem_of};
 use crate::solved::{line, scattered};
 use anyhow::{Result, anyhow};
 use esr_bundle::{from_json, to_json};
-use esr_cert::{Problem, check};
+use esr_cert::{Certificate, Problem, check};
 use esr_flow::{Network, solve};
 use std::alloc::Global;
 use std::io::Read;
 use std::rt::Clock;
+use std::sync::Wait;
+use std::thread::Threads;
 use std::time::Instant;
 
 const USAGE: &str = "usage: esr_bench check UPDATES ROUNDS, with 100 to 60000 updates
@@ -28,22 +30,24 @@ fn main(rt: HostRuntime) -> Result<()> {
     for word in std::env::args(&rt)?.skip(1) {
         owned.push(word)?;
     }
+    measure(&rt, alloc, &owned)
+}
+
+/// Measures what the words ask for.
+fn measure<R: Input + Print + Eprint + Clock + Threads + Wait + Sync>(
+    rt: &R,
+    alloc: Global,
+    owned: &[String],
+) -> Result<()> {
     let mut words = Vec::new(alloc);
-    for word in &owned {
+    for word in owned {
         words.push(word.as_str())?;
     }
     match words.as_slice() {
-        ["check", updates, rounds] => measure_check(&rt, alloc, updates.parse()?, rounds.parse()?),
-        ["solve", "line", updates] => {
-            let problem = line(alloc, updates.parse()?)?;
-            measure_solve(&rt, alloc, &problem)
-        }
-        ["solve", "scattered", updates] => {
-            let problem = scattered(alloc, updates.parse()?)?;
-            measure_solve(&rt, alloc, &problem)
-        }
-        ["bundle"] => measure_bundle(&rt, alloc),
-        ["sessions", transactions] => sessions::measure(&rt, alloc, transactions.parse()?),
+        ["check", updates, rounds] => measure_check(rt, alloc, updates.parse()?, rounds.parse()?),
+        ["solve", kind, updates] => measure_solve(rt, alloc, kind, updates.parse()?),
+        ["bundle"] => measure_bundle(rt, alloc),
+        ["sessions", transactions] => sessions::measure(rt, alloc, transactions.parse()?),
         _ => Err(anyhow!("{USAGE}")),
     }
 }
@@ -57,7 +61,7 @@ fn arc_count(problem: &Problem) -> usize {
     count
 }
 
-/// Checks a certificate so many times, and tells how long one check took.
+/// Checks the certificate of a problem so many times, and tells how long one check took.
 fn measure_check(
     rt: &(impl Print + Eprint + Clock),
     alloc: Global,
@@ -71,24 +75,46 @@ fn measure_check(
         return Err(anyhow!("no problem"));
     };
     let certificate = certificate_of(alloc, updates)?;
+    check_often(rt, &problem, &certificate, rounds)
+}
+
+/// Checks a certificate so many times, and tells how long one check took.
+fn check_often(
+    rt: &(impl Print + Eprint + Clock),
+    problem: &Problem,
+    certificate: &Certificate,
+    rounds: u32,
+) -> Result<()> {
     let start = Instant::now(rt)?;
     let mut valid = true;
     for _ in 0..rounds {
-        valid = valid && check(&problem, &certificate).is_ok();
+        valid = valid && check(problem, certificate).is_ok();
     }
-    let each = start.elapsed(rt)?.as_micros() / u128::from(rounds);
-    let arcs = arc_count(&problem);
+    let each = start.elapsed(rt)?.as_micros() / u128::from(rounds.max(1));
+    let updates = problem.updates().len();
+    let arcs = arc_count(problem);
     println!(rt; "updates {updates} arcs {arcs} valid {valid}")?;
     eprintln!(rt; "microseconds {each}")?;
     Ok(())
 }
 
-/// Solves the problem, says what was found, and how long it took.
+/// Solves a problem of so many updates, and tells what was found, and how long it took.
 fn measure_solve(
     rt: &(impl Print + Eprint + Clock),
     alloc: Global,
-    problem: &Problem,
+    kind: &str,
+    updates: u32,
 ) -> Result<()> {
+    let problem = match kind {
+        "line" => line(alloc, updates)?,
+        "scattered" => scattered(alloc, updates)?,
+        _ => return Err(anyhow!("{USAGE}")),
+    };
+    solve_once(rt, alloc, &problem)
+}
+
+/// Solves the problem, says what was found, and how long it took.
+fn solve_once(rt: &(impl Print + Eprint + Clock), alloc: Global, problem: &Problem) -> Result<()> {
     let start = Instant::now(rt)?;
     let network = Network::build(alloc, problem).map_err(|_| anyhow!("out of memory"))?;
     let built = start.elapsed(rt)?;

@@ -50,6 +50,40 @@ fn costs(
     Ok(costs)
 }
 
+/// The numbers of so many updates.
+fn numbers(alloc: Global, updates: u32) -> Result<Vec<TxnId>> {
+    let mut numbers = Vec::new(alloc);
+    for u in 0..updates.min(65535) {
+        numbers.push(TxnId(u + 1))?;
+    }
+    Ok(numbers)
+}
+
+/// The chains of items with these writers, of random costs.
+fn chains(alloc: Global, rows: Vec<Vec<u32>>, reads: u32, values: u32) -> Result<Vec<Chain>> {
+    let mut draws = Draws { state: 12345 };
+    let mut chains = Vec::new(alloc);
+    let mut item = 0u32;
+    for writers in rows {
+        let costs = costs(alloc, &mut draws, writers.len(), reads, values)?;
+        chains.push(Chain {
+            item: ItemId(item),
+            writers,
+            costs,
+        })?;
+        item = item.saturating_add(1);
+    }
+    Ok(chains)
+}
+
+/// The pairs of neighbours among writers.
+fn add_neighbours(pairs: &mut Vec<(u32, u32)>, writers: &[u32]) -> Result<()> {
+    for (u, v) in writers.iter().zip(writers.iter().skip(1)) {
+        pairs.push((*u, *v))?;
+    }
+    Ok(())
+}
+
 /// A problem of these writers for each item, each two neighbours of which are a pair,
 /// beside the pairs given.
 fn problem(
@@ -60,27 +94,13 @@ fn problem(
     reads: u32,
     values: u32,
 ) -> Result<Problem> {
-    let mut draws = Draws { state: 12345 };
-    let mut numbers = Vec::new(alloc);
-    for u in 0..updates.min(65535) {
-        numbers.push(TxnId(u + 1))?;
-    }
-    let mut chains = Vec::new(alloc);
-    let mut item = 0u32;
-    for writers in rows {
-        for (u, v) in writers.iter().zip(writers.iter().skip(1)) {
-            pairs.push((*u, *v))?;
-        }
-        let costs = costs(alloc, &mut draws, writers.len(), reads, values)?;
-        chains.push(Chain {
-            item: ItemId(item),
-            writers,
-            costs,
-        })?;
-        item = item.saturating_add(1);
+    for writers in &rows {
+        add_neighbours(&mut pairs, writers)?;
     }
     pairs.sort()?;
     pairs.dedup();
+    let chains = chains(alloc, rows, reads, values)?;
+    let numbers = numbers(alloc, updates)?;
     match Problem::new(alloc, numbers, pairs, chains, Vec::new(alloc)) {
         Ok(problem) => Ok(problem),
         Err(fault) => Err(anyhow::anyhow!("no problem: {fault:?}")),
