@@ -302,6 +302,9 @@ impl Script {
             Err(AuditError::NoMemory) => return Err(RunFault::NoMemory),
             Err(AuditError::WorkersOutOfRange) => unreachable!(),
         };
+        // let go before the line is made, which may be long
+        drop(found.problem);
+        drop(found.certificate);
         said(audit_line(
             out,
             &self.transactions,
