@@ -1,5 +1,5 @@
 -- The tree of a bundle: it has no float, it is not deep, and it stands for what it was made of.
-use Rattle.std.proofs.Common.{◌≡◌, ℕ, suc, ◌≤◌, ◌<◌, ◌^◌, max, List, [], ◌∷◌, Bool, true, false, ◌||◌, Option, Some, None, Result, Ok, Err, map, refl, sym, ap, ◌∙◌, arith, codes}
+use Rattle.std.proofs.Common.{◌≡◌, ℕ, ◌≤◌, max, List, [], ◌∷◌, true, false, Option, Some, None, Ok, map, refl, ap, ◌∙◌, arith, codes}
 use Rattle.std.specs.List.{list_all}
 use Rattle.serde_json.specs.Data.{Data, Members, no_members, member, depth, items_depth, members_depth}
 use Rattle.serde_json.specs.View.{items_of}
@@ -7,8 +7,8 @@ use Rattle.serde_json.specs.Written.{has_float, items_have_float, members_have_f
 use Rattle.esr_cert.specs.Problem.{Chain, Problem}
 use Rattle.esr_cert.specs.Certificate.{Certificate}
 use Rattle.esr_cert.specs.Faults.{problem_fault}
-use Rattle.esr_bundle.specs.Fields.{number_of, each, numbers_of, pair_of, list_of}
-use Rattle.esr_bundle.specs.Bundle.{number_data, numbers_data, pair_data, pairs_data, rows_data, chain_data, chains_data, list_member, number_member, problem_data, certificate_data, bundle_data, chain_of, problem_of, certificate_of, parts_of, stands_for, judged_parts, is_position}
+use Rattle.esr_bundle.specs.Fields.{number_of, each, numbers_of, pair_of}
+use Rattle.esr_bundle.specs.Bundle.{number_data, numbers_data, pair_data, rows_data, chain_data, list_member, number_member, problem_data, certificate_data, bundle_data, chain_of, problem_of, certificate_of, parts_of, stands_for, judged_parts, is_position}
 use Rattle.esr_bundle.proofs.Judged.{judged_ok}
 
 -- ---- it stands for what it was made of

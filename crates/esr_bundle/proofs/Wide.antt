@@ -1,9 +1,9 @@
 -- In a sound problem all numbers are positions, so a number that is none is out of its range.
-use Rattle.std.proofs.Common.{◌^◌, List, [], ◌∷◌, suc, get_or, Fits, w32, ◌≡◌, ℕ, ◌≤◌, ◌<◌, Bool, true, false, ◌&&◌, not, leb, ltb, Some, refl, sym, ap, ◌∙◌, inl, inr, arith, true≢false, ltb-true, leb-true, nat_le}
+use Rattle.std.proofs.Common.{List, [], ◌∷◌, suc, get_or, Fits, w32, ◌≡◌, ℕ, ◌≤◌, ◌<◌, true, false, ◌&&◌, leb, ltb, Some, refl, sym, ◌∙◌, inl, inr, arith, true≢false, ltb-true, leb-true}
 use Rattle.std.specs.List.{list_all}
 use Rattle.std.proofs.lemmas.Bool.{and_parts, and_from, cases_Bool}
 use Rattle.std.proofs.lemmas.Bool.Decides.{nat_tests}
-use Rattle.esr_cert.specs.Problem.{Chain, Problem, size, has_shape, is_in_range, is_sound, chain_is_in_range, max_item, max_txn}
+use Rattle.esr_cert.specs.Problem.{Problem, size, has_shape, is_in_range, is_sound, chain_is_in_range, max_item, max_txn}
 use Rattle.esr_cert.specs.Faults.{problem_fault}
 use Rattle.esr_cert.specs.declared.problem.BundleFault.TheVariants.{Range}
 use Rattle.esr_cert.proofs.Sound.{all_in, all_from, few, range_facts, InRange}

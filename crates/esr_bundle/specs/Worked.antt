@@ -1,7 +1,7 @@
 -- Trees of bundles with what they stand for.
-use Rattle.std.specs.Prelude.{◌≡◌, ℕ, List, [], ◌∷◌, Some, None, Ok, Err, codes, refl}
-use Rattle.serde_json.specs.Data.{Data, object, no_members, array, no_items}
-use Rattle.esr_cert.specs.Problem.{Problem, Chain}
+use Rattle.std.specs.Prelude.{◌≡◌, [], ◌∷◌, Some, None, Ok, Err, refl}
+use Rattle.serde_json.specs.Data.{object, no_members, array, no_items}
+use Rattle.esr_cert.specs.Problem.{Problem}
 use Rattle.esr_cert.specs.Certificate.{Certificate}
 use Rattle.esr_cert.specs.declared.problem.BundleFault.TheVariants.{Shape, Range}
 use Rattle.esr_bundle.specs.Bundle.{bundle_data, stands_for}

@@ -8,9 +8,9 @@ use Rattle.esr_history.specs.declared.event.TxnId.{TxnId}
 use Rattle.esr_history.specs.declared.event.Event.{Event}
 use Rattle.esr_history.specs.declared.event.Event.TheVariants as event
 use Rattle.esr_history.specs.declared.event.Reply.{Reply}
-use Rattle.esr_history.specs.declared.event.Reply.TheVariants.{Begun, Value, Wrote, Committed, Aborted, Refused}
+use Rattle.esr_history.specs.declared.event.Reply.TheVariants.{Begun}
 use Rattle.esr_report.specs.Names.{position_of}
-use Rattle.esr_script.specs.Command.{Command, item, weighted_item, begin_update, begin_query, begin_strict_query, read, write, commit, abort, audit, totals}
+use Rattle.esr_script.specs.Command.{Command, begin_update, begin_query, begin_strict_query, read, write, commit, abort}
 use Rattle.esr_script.specs.Text.{max_items}
 use Rattle.esr_session.specs.declared.receipt.Receipt.{Receipt}
 use Rattle.esr_session.specs.Receipts.{is_blocked}

@@ -6,7 +6,7 @@ use Rattle.esr_items.specs.Values.{is_value}
 use Rattle.esr_items.specs.Weights.{is_weight}
 use Rattle.esr_report.specs.Names.{is_bound}
 use Rattle.esr_script.specs.Lines.{lines}
-use Rattle.esr_script.specs.Command.{Command, item, weighted_item, begin_update, begin_query, begin_strict_query, read, write, commit, abort, audit, totals, is_skipped}
+use Rattle.esr_script.specs.Command.{Command, item, weighted_item, begin_update, begin_query, begin_strict_query, audit, totals, is_skipped}
 use Rattle.esr_script.specs.Reading.{reading}
 use Rattle.esr_script.specs.Text.{max_lines, max_line_bytes, max_items}
 use Rattle.esr_drive.specs.declared.fault.DriveFault.{DriveFault}

@@ -1,4 +1,4 @@
-use Rattle.std.proofs.Common.{◌≡◌, ◌∙◌, ◌==◌, sym, ap}
+use Rattle.std.proofs.Common.{◌∙◌, ◌==◌, sym, ap}
 use Rattle.serde_json.proofs.Views.{members_len-members_view}
 use Rattle.esr_bundle.proofs.fields.has_keys.Goals as goal
 

@@ -1,4 +1,4 @@
-use Rattle.std.proofs.Common.{◌≡◌, ◌≤◌, ℕ, List, Some, length, sym, ◌∙◌, subst}
+use Rattle.std.proofs.Common.{◌≤◌, ℕ, List, Some, length, sym, ◌∙◌, subst}
 use Rattle.std.specs.Io.KnownBytes.{Consumes}
 use Rattle.esr_history.specs.Watch.{inner}
 use Rattle.esr_bundle.specs.Judge.{IsVerdictOf}

@@ -1,4 +1,4 @@
-use Rattle.std.proofs.Common.{rules, ◌≡◌, ◌++◌, [], length, drop, arith, length-append, ◌∙◌, sym, ap, refl}
+use Rattle.std.proofs.Common.{rules, ◌≡◌, [], length, drop, arith, ◌∙◌, ap, refl}
 use Rattle.std.proofs.KnownBytes.{Consumes-trans, Consumes-nil}
 use Rattle.esr_bundle.proofs.Verdicts.{no_more, room_kept}
 use Rattle.esr_bundle.proofs.judging.read_all.Goals as goal

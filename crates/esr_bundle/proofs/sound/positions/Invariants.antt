@@ -1,4 +1,4 @@
-use Rattle.std.proofs.Common.{◌≡◌, take, drop, map}
+use Rattle.std.proofs.Common.{◌≡◌, take, drop}
 use Rattle.std.specs.List.{list_all}
 use Rattle.esr_bundle.specs.Bundle.{is_position}
 use Rattle.esr_bundle.proofs.sound.positions.Given as goal
