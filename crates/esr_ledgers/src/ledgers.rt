@@ -154,15 +154,6 @@ impl Ledgers {
         find_account(&self.accounts, t).query
     }
 
-    /// What has been charged to the account of a transaction: the import of a query, the export
-    /// of an update.
-    pub fn amount(&self, t: TxnId) -> u64
-        requires { is_open self.now t.0 ≡ true }
-        ensures { result ≡ amount_at self.now t.0 }
-    {
-        find_account(&self.accounts, t).amount
-    }
-
     /// Whether the charges of an update fit all limits.
     pub fn quote(&self, u: TxnId, charges: &[(TxnId, u64)]) -> Quote
         requires { AreCharges self.now u charges.now }

@@ -27,6 +27,6 @@ impl<M: Metric> Machine<M> {
         if facts.query {
             return 0;
         }
-        self.state.ledgers.amount(u)
+        self.state.ledgers.export(u)
     }
 }

@@ -5,7 +5,6 @@ use Rattle.esr_history.specs.declared.links.Facts.{Facts}
 use Rattle.esr_history.specs.Events.{is_update}
 use Rattle.esr_history.specs.Links.{facts_of}
 use Rattle.esr_history.specs.Machine.{Schedule, done}
-use Rattle.esr_ledgers.proofs.Books.{update_open}
 use Rattle.esr_core.proofs.Accounts.{export_is, open_update_is}
 use Rattle.esr_core.proofs.Exports.{kind_of, exports_nothing}
 use Rattle.esr_core.proofs.machine.Machine.export.Goals as goal
@@ -22,8 +21,8 @@ returns-in_default g c = grind (arith, kind_of, exports_nothing)
 pub returns-then-facts : goal.returns-then-facts
 returns-then-facts g c = grind (arith, kind_of, exports_nothing)
 
-pub amount-requires : goal.amount-requires
-amount-requires g c = grind (arith, update_open, open_update_is, update)
+pub export-requires : goal.export-requires
+export-requires g c = grind (arith, open_update_is, update)
 
 pub returns : goal.returns
 returns g c = grind (arith, export_is, update)
