@@ -1,5 +1,5 @@
 -- In a sound problem all numbers are positions, so a number that is none is out of its range.
-use Rattle.std.proofs.Common.{List, [], ◌∷◌, suc, get_or, Fits, w32, ◌≡◌, ℕ, ◌≤◌, ◌<◌, true, false, ◌&&◌, leb, ltb, Some, refl, sym, ◌∙◌, inl, inr, arith, true≢false, ltb-true, leb-true}
+use Rattle.std.proofs.Common.{List, [], ◌∷◌, suc, get_or, Fits, w32, ◌≡◌, ℕ, ◌≤◌, ◌<◌, Bool, true, false, ◌&&◌, leb, ltb, Some, refl, sym, ◌∙◌, inl, inr, arith, true≢false, ltb-true, leb-true}
 use Rattle.std.specs.List.{list_all}
 use Rattle.std.proofs.lemmas.Bool.{and_parts, and_from, cases_Bool}
 use Rattle.std.proofs.lemmas.Bool.Decides.{nat_tests}
@@ -44,17 +44,8 @@ out_of_range p s unsound = elim (cases_Bool (is_in_range p)) [
   | inr r ↦ rw (s, r) refl
 ]
 
-pub wide_updates : (p : Problem) → has_shape p ≡ true → list_all is_position p.updates ≡ false → problem_fault p ≡ Some Range
-wide_updates p s n = out_of_range p s (λ h. true≢false (sym (positions p h).updates ∙ n))
-
-pub wide_before : (p : Problem) → has_shape p ≡ true → list_all is_pair_of_positions p.before ≡ false → problem_fault p ≡ Some Range
-wide_before p s n = out_of_range p s (λ h. true≢false (sym (positions p h).before ∙ n))
-
-pub wide_chains : (p : Problem) → has_shape p ≡ true → list_all is_chain_of_positions p.chains ≡ false → problem_fault p ≡ Some Range
-wide_chains p s n = out_of_range p s (λ h. true≢false (sym (positions p h).chains ∙ n))
-
-pub wide_must : (p : Problem) → has_shape p ≡ true → list_all is_position p.must ≡ false → problem_fault p ≡ Some Range
-wide_must p s n = out_of_range p s (λ h. true≢false (sym (positions p h).must ∙ n))
+pub wide : (p : Problem) (fits : Bool) → (ArePositions p → fits ≡ true) → has_shape p ≡ true → fits ≡ false → problem_fault p ≡ Some Range
+wide p fits all s n = out_of_range p s (λ h. true≢false (sym (all (positions p h)) ∙ n))
 
 fits_position : (n : ℕ) → Fits w32 n → is_position n ≡ true
 fits_position n h = let l : n < 4294967296 = omega arith in grind (arith, nat_tests)

@@ -80,17 +80,17 @@ links_out test sink from (w ∷ writers) (c ∷ costs) f s b =
     backed_out true y k e = absurd (true≢false (sym (k refl) ∙ e))
     backed_out false y k e = refl
 
+crossing : (x y : Bool) → x ≡ true → y ≡ false → (x && not y) ≡ true
+crossing true false p q = refl
+crossing true true p q = cc
+crossing false y p q = cc
+
 -- from a member, the one arc that crosses is that of the version
 links_in : (test : ℕ → Bool) (sink : ℕ) (from : ℕ) (writers costs : List ℕ) → test from ≡ true → test sink ≡ false → Backed test from writers → length costs ≡ length writers + 1 → across test (links from sink writers costs) ≡ get_or costs (version test writers) 0
 links_in test sink from writers [] f s b e = absurd (omega arith)
 links_in test sink from [] (c ∷ costs) f s b e =
     let all : crosses test (record { from = from; to = sink; capacity = Some c }) ≡ true = crossing (test from) (test sink) f s in
     omega (arith, ap (λ x. pick x c) all)
-  where
-    crossing : (x y : Bool) → x ≡ true → y ≡ false → (x && not y) ≡ true
-    crossing true false p q = refl
-    crossing true true p q = cc
-    crossing false y p q = cc
 links_in test sink from (w ∷ writers) (c ∷ costs) f s b e =
     let inside : test w ≡ true → across test (links w sink writers costs) ≡ get_or costs (version test writers) 0 = λ t. links_in test sink w writers costs t s b.1 (omega arith) in
     elim (cases_Bool (test w)) [
@@ -107,11 +107,6 @@ links_in test sink from (w ∷ writers) (c ∷ costs) f s b e =
           omega (arith, ap (λ x. pick x c) all)
     ]
   where
-    crossing : (x y : Bool) → x ≡ true → y ≡ false → (x && not y) ≡ true
-    crossing true false p q = refl
-    crossing true true p q = cc
-    crossing false y p q = cc
-
     staying : (x y : Bool) → y ≡ true → (x && not y) ≡ false
     staying true true q = refl
     staying false y q = refl

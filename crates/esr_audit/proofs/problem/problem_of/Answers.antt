@@ -1,10 +1,12 @@
-use Rattle.std.proofs.Common.{map, ap, ◌∙◌, sym, subst}
+use Rattle.std.proofs.Common.{◌≡◌, map, ap, ◌∙◌, sym, subst}
 use Rattle.esr_history.specs.declared.event.TxnId.{TxnId}
 use Rattle.esr_order.specs.Near.{AreNear}
 use Rattle.esr_cert.specs.Problem.{is_sound}
+use Rattle.esr_cert.specs.Views.{problem_of}
 use Rattle.esr_audit.specs.Problems.{StandsFor}
-use Rattle.esr_audit.proofs.Standing.{stands}
+use Rattle.esr_audit.proofs.Standing.{problem_from, stands}
 use Rattle.esr_audit.proofs.Posed as posed
+use Rattle.esr_audit.proofs.problem.problem_of.Given.{Over}
 use Rattle.esr_audit.proofs.problem.problem_of.Goals as goal
 
 pub chains_of-requires-clause-few : goal.chains_of-requires-clause-few
@@ -19,10 +21,21 @@ pub chains_of-requires-clause-versions : goal.chains_of-requires-clause-versions
 chains_of-requires-clause-versions g c =
     posed.versions_in_range g.M.Metric.distance_by c.args.history.now.schedule c.args.q.0 c.log-legal.ensures.legal c.log-legal.ensures.range (map (λ (t : TxnId). t.0) c.args.order.commits) c.requires.near c.args.order c.requires.order
 
+-- the parts of the problem are those gathered from the order
+posed_here : (g : Over) (c : goal.After-drop-readings-2 g) → problem_of c.into_parts-updates.result.0.items c.into_parts-updates.result.1.items c.in_ok-chains.chains.items c.into_parts-updates.result.2.items
+    ≡ problem_from g.M.Metric.distance_by c.args.history.now.schedule c.args.q.0 c.args.order
+posed_here g c =
+    posed.posed g.M.Metric.distance_by c.args.history.now.schedule c.args.q.0 c.log-legal.ensures.legal c.log-legal.ensures.range (map (λ (t : TxnId). t.0) c.args.order.commits) c.requires.near c.args.order c.requires.order c.deref.result.now (c.deref.ensures.value ∙ c.in_ok-readings.ensures)
+    _ _ _ _
+    (c.into_parts-updates.ensures.commits ∙ c.in_ok-chains.ensures.commits)
+    (c.into_parts-updates.ensures.before ∙ c.in_ok-chains.ensures.before)
+    (c.into_parts-updates.ensures.must ∙ c.in_ok-chains.ensures.must)
+    c.in_ok-chains.ensures.chains
+
 pub of_sound-requires : goal.of_sound-requires
 of_sound-requires g c = record {
   sound = ap is_sound (posed.posed g.M.Metric.distance_by c.args.history.now.schedule c.args.q.0 c.log-legal.ensures.legal c.log-legal.ensures.range (map (λ (t : TxnId). t.0) c.args.order.commits) c.requires.near c.args.order c.requires.order c.deref.result.now (c.deref.ensures.value ∙ c.in_ok-readings.ensures)
-      c.into_parts-updates.result.0.items c.into_parts-updates.result.1.items c.in_ok-chains.chains.items c.into_parts-updates.result.2.items
+      _ _ _ _
       (c.into_parts-updates.ensures.commits ∙ c.in_ok-chains.ensures.commits)
       (c.into_parts-updates.ensures.before ∙ c.in_ok-chains.ensures.before)
       (c.into_parts-updates.ensures.must ∙ c.in_ok-chains.ensures.must)
@@ -32,24 +45,8 @@ of_sound-requires g c = record {
 
 pub returns-clause-stands : goal.returns-clause-stands
 returns-clause-stands g c =
-    subst (StandsFor g.M.Metric.distance_by c.args.history.now.schedule c.args.q.0)
-    (sym (c.in_ok-problem.ensures
-    ∙ posed.posed g.M.Metric.distance_by c.args.history.now.schedule c.args.q.0 c.log-legal.ensures.legal c.log-legal.ensures.range (map (λ (t : TxnId). t.0) c.args.order.commits) c.requires.near c.args.order c.requires.order c.deref.result.now (c.deref.ensures.value ∙ c.in_ok-readings.ensures)
-    c.into_parts-updates.result.0.items c.into_parts-updates.result.1.items c.in_ok-chains.chains.items c.into_parts-updates.result.2.items
-    (c.into_parts-updates.ensures.commits ∙ c.in_ok-chains.ensures.commits)
-    (c.into_parts-updates.ensures.before ∙ c.in_ok-chains.ensures.before)
-    (c.into_parts-updates.ensures.must ∙ c.in_ok-chains.ensures.must)
-    c.in_ok-chains.ensures.chains))
+    subst (StandsFor g.M.Metric.distance_by c.args.history.now.schedule c.args.q.0) (sym (c.in_ok-problem.ensures ∙ posed_here g c))
     (stands g.M.Metric.distance_by c.args.history.now.schedule c.args.q.0 c.log-legal.ensures.legal (map (λ (t : TxnId). t.0) c.args.order.commits) c.requires.near c.args.order c.requires.order)
 
 pub returns-clause-near : goal.returns-clause-near
-returns-clause-near g c =
-    subst (λ p. AreNear c.args.history.now.schedule c.args.q.0 p.updates)
-    (sym (c.in_ok-problem.ensures
-    ∙ posed.posed g.M.Metric.distance_by c.args.history.now.schedule c.args.q.0 c.log-legal.ensures.legal c.log-legal.ensures.range (map (λ (t : TxnId). t.0) c.args.order.commits) c.requires.near c.args.order c.requires.order c.deref.result.now (c.deref.ensures.value ∙ c.in_ok-readings.ensures)
-    c.into_parts-updates.result.0.items c.into_parts-updates.result.1.items c.in_ok-chains.chains.items c.into_parts-updates.result.2.items
-    (c.into_parts-updates.ensures.commits ∙ c.in_ok-chains.ensures.commits)
-    (c.into_parts-updates.ensures.before ∙ c.in_ok-chains.ensures.before)
-    (c.into_parts-updates.ensures.must ∙ c.in_ok-chains.ensures.must)
-    c.in_ok-chains.ensures.chains))
-    c.requires.near
+returns-clause-near g c = subst (λ p. AreNear c.args.history.now.schedule c.args.q.0 p.updates) (sym (c.in_ok-problem.ensures ∙ posed_here g c)) c.requires.near

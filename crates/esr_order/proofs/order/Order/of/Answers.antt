@@ -1,6 +1,5 @@
 use Rattle.std.proofs.Common.{◌≡◌, ◌≢◌, ◌*◌, ◌≤◌, length, map, filter, sym, ◌∙◌, ap, subst, AllPairs, false}
 use Rattle.std.specs.List.{range_with_len}
-use Rattle.esr_history.specs.Machine.{Schedule}
 use Rattle.esr_history.specs.Queries.{updates_of}
 use Rattle.esr_history.specs.Serial.{is_before}
 use Rattle.esr_history.proofs.Membership.{All-from_pairs}
@@ -13,67 +12,49 @@ use Rattle.esr_order.proofs.Early.{must_below, must_positions}
 use Rattle.esr_order.proofs.Complete.{order_whole}
 use Rattle.esr_order.proofs.Gathered.{commits_few, commits_length}
 use Rattle.esr_order.proofs.Commits.{updates_are, query_begun}
+use Rattle.esr_order.proofs.order.Order.of.Given.{Over}
 use Rattle.esr_order.proofs.order.Order.of.Goals as goal
+
+-- the updates that were listed are those of the query
+same : (g : Over) (c : goal.After-among-arg-2-1 g) → map (λ t. t.0) c.in_ok-commits.commits.items ≡ updates_of c.args.history.now.schedule c.args.q.0
+same g c = updates_are c.args.history.now.schedule c.args.q.0 c.deref.result.now (ap (map (λ t. t.0)) c.deref.ensures.value ∙ c.in_ok-committed.ensures) c.in_ok-commits.commits.items c.in_ok-commits.ensures
 
 pub among-requires-clause-once : goal.among-requires-clause-once
 among-requires-clause-once g c =
-    let h : Schedule = c.args.history.now.schedule in
-    let d = g.M.Metric.distance_by in
-    let q = c.args.q.0 in
-    let commits = c.in_ok-commits.commits.items in
-    let same : map (λ t. t.0) commits ≡ updates_of h q = updates_are h q c.deref.result.now (ap (map (λ t. t.0)) c.deref.ensures.value ∙ c.in_ok-committed.ensures) commits c.in_ok-commits.ensures in
-    subst (λ us. AllPairs (λ u v. u ≢ v) us) (sym same) (All-from_pairs (λ u v. u ≢ v) (updates_of h q) (in_order d h q c.log-legal.ensures.legal).once)
+    let us = updates_of c.args.history.now.schedule c.args.q.0 in
+    subst (AllPairs (λ u v. u ≢ v)) (sym (same g c)) (All-from_pairs (λ u v. u ≢ v) us (in_order g.M.Metric.distance_by c.args.history.now.schedule c.args.q.0 c.log-legal.ensures.legal).once)
 
 pub among-requires-clause-few : goal.among-requires-clause-few
-among-requires-clause-few g c =
-    let h : Schedule = c.args.history.now.schedule in
-    let d = g.M.Metric.distance_by in
-    let q = c.args.q.0 in
-    let commits = c.in_ok-commits.commits.items in
-    let same : map (λ t. t.0) commits ≡ updates_of h q = updates_are h q c.deref.result.now (ap (map (λ t. t.0)) c.deref.ensures.value ∙ c.in_ok-committed.ensures) commits c.in_ok-commits.ensures in
-    commits_few d h q c.log-legal.ensures.legal commits same
+among-requires-clause-few g c = commits_few g.M.Metric.distance_by c.args.history.now.schedule c.args.q.0 c.log-legal.ensures.legal c.in_ok-commits.commits.items (same g c)
 
 pub among-requires-clause-keeps : goal.among-requires-clause-keeps
 among-requires-clause-keeps g c =
-    let h : Schedule = c.args.history.now.schedule in
-    let d = g.M.Metric.distance_by in
-    let q = c.args.q.0 in
-    let commits = c.in_ok-commits.commits.items in
-    let same : map (λ t. t.0) commits ≡ updates_of h q = updates_are h q c.deref.result.now (ap (map (λ t. t.0)) c.deref.ensures.value ∙ c.in_ok-committed.ensures) commits c.in_ok-commits.ensures in
-    subst (λ us. AllPairs (λ u v. is_before h v u ≡ false) us) (sym same) (All-from_pairs (λ u v. is_before h v u ≡ false) (updates_of h q) (in_order d h q c.log-legal.ensures.legal).keeps)
+    let h = c.args.history.now.schedule in
+    subst (AllPairs (λ u v. is_before h v u ≡ false)) (sym (same g c)) (All-from_pairs (λ u v. is_before h v u ≡ false) (updates_of h c.args.q.0) (in_order g.M.Metric.distance_by h c.args.q.0 c.log-legal.ensures.legal).keeps)
 
 pub among-requires-clause-first : goal.among-requires-clause-first
 among-requires-clause-first g c =
-    let h : Schedule = c.args.history.now.schedule in
+    let h = c.args.history.now.schedule in
     let d = g.M.Metric.distance_by in
-    let q = c.args.q.0 in
-    let commits = c.in_ok-commits.commits.items in
-    let same : map (λ t. t.0) commits ≡ updates_of h q = updates_are h q c.deref.result.now (ap (map (λ t. t.0)) c.deref.ensures.value ∙ c.in_ok-committed.ensures) commits c.in_ok-commits.ensures in
-    subst (λ n. c.in_ok-first.first ≤ n) (sym (commits_length d h q c.log-legal.ensures.legal commits same)) (subst (λ n. n ≤ length (updates_of h q)) (sym c.in_ok-first.ensures) (must_below d h q c.log-legal.ensures.legal))
+    subst (λ n. c.in_ok-first.first ≤ n) (sym (commits_length d h c.args.q.0 c.log-legal.ensures.legal c.in_ok-commits.commits.items (same g c)))
+    (subst (λ n. n ≤ length (updates_of h c.args.q.0)) (sym c.in_ok-first.ensures) (must_below d h c.args.q.0 c.log-legal.ensures.legal))
 
 pub returns-clause-ok : goal.returns-clause-ok
 returns-clause-ok g c =
-    let h : Schedule = c.args.history.now.schedule in
-    let d = g.M.Metric.distance_by in
+    let h = c.args.history.now.schedule in
     let q = c.args.q.0 in
-    let commits = c.in_ok-commits.commits.items in
-    let same : map (λ t. t.0) commits ≡ updates_of h q = updates_are h q c.deref.result.now (ap (map (λ t. t.0)) c.deref.ensures.value ∙ c.in_ok-committed.ensures) commits c.in_ok-commits.ensures in
+    let same : map (λ t. t.0) c.in_ok-commits.commits.items ≡ updates_of h q = updates_are h q c.deref.result.now (ap (map (λ t. t.0)) c.deref.ensures.value ∙ c.in_ok-committed.ensures) c.in_ok-commits.commits.items c.in_ok-commits.ensures in
     order_whole h q c.in_ok-order.order
     (subst (λ us. IsOrderAmong h q us c.in_ok-order.order) same
-    (c.in_ok-order.ensures.order q (ap (λ us. map (nth us) (range_with_len 0 c.in_ok-first.first)) same ∙ must_positions d h q c.log-legal.ensures.legal c.in_ok-first.first c.in_ok-first.ensures)))
+    (c.in_ok-order.ensures.order q (ap (λ us. map (nth us) (range_with_len 0 c.in_ok-first.first)) same ∙ must_positions g.M.Metric.distance_by h q c.log-legal.ensures.legal c.in_ok-first.first c.in_ok-first.ensures)))
 
 pub returns-clause-sparse : goal.returns-clause-sparse
 returns-clause-sparse g c =
-    let h : Schedule = c.args.history.now.schedule in
-    let q = c.args.q.0 in
-    let commits = c.in_ok-commits.commits.items in
-    let same : map (λ t. t.0) commits ≡ updates_of h q = updates_are h q c.deref.result.now (ap (map (λ t. t.0)) c.deref.ensures.value ∙ c.in_ok-committed.ensures) commits c.in_ok-commits.ensures in
-    subst (λ us. length c.in_ok-order.order.before ≤ 2 * length (filter (λ p. is_among us p.txn) (operations h))) same c.in_ok-order.ensures.sparse
+    let same : map (λ t. t.0) c.in_ok-commits.commits.items ≡ updates_of c.args.history.now.schedule c.args.q.0 = updates_are c.args.history.now.schedule c.args.q.0 c.deref.result.now (ap (map (λ t. t.0)) c.deref.ensures.value ∙ c.in_ok-committed.ensures) c.in_ok-commits.commits.items c.in_ok-commits.ensures in
+    subst (λ us. length c.in_ok-order.order.before ≤ 2 * length (filter (λ p. is_among us p.txn) (operations c.args.history.now.schedule))) same c.in_ok-order.ensures.sparse
 
 pub count_must-requires-clause-begun : goal.count_must-requires-clause-begun
 count_must-requires-clause-begun g c = query_begun c.args.history.now.schedule c.args.q.0 (sym c.is_committed_query.ensures ∙ c.if-not-is_committed_query.false)
 
 pub count_must-requires-clause-updates : goal.count_must-requires-clause-updates
-count_must-requires-clause-updates g c =
-    ap (map (λ t. t.0)) c.deref-2.ensures.value
-    ∙ updates_are c.args.history.now.schedule c.args.q.0 c.deref.result.now (ap (map (λ t. t.0)) c.deref.ensures.value ∙ c.in_ok-committed.ensures) c.in_ok-commits.commits.items c.in_ok-commits.ensures
+count_must-requires-clause-updates g c = ap (map (λ t. t.0)) c.deref-2.ensures.value ∙ updates_are c.args.history.now.schedule c.args.q.0 c.deref.result.now (ap (map (λ t. t.0)) c.deref.ensures.value ∙ c.in_ok-committed.ensures) c.in_ok-commits.commits.items c.in_ok-commits.ensures
