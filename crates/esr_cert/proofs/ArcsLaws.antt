@@ -1,7 +1,6 @@
 -- The arcs of a problem's network, from the lists of the problem.
 use Rattle.std.proofs.Common.{◌≡◌, ℕ, zero, suc, ◌+◌, ◌-◌, ◌<◌, ◌≤◌, List, [], ◌∷◌, ◌++◌, length, length-append, get_or, take, map, flat_map, sum_by, refl, true, inl, inr, sym, ap, ◌∙◌, subst, arith, Some}
 use Rattle.std.proofs.lemmas.List.{length-map, get_or-map, get_or_default}
-use Rattle.std.specs.List.Sorted.{IsNonDecreasingBy}
 use Rattle.std.proofs.lemmas.Bool.{cases_lt}
 use Rattle.std.proofs.lemmas.List.Sums.{sum_by-cons}
 use Rattle.esr_cert.specs.declared.network.Arc.{Arc}
@@ -13,7 +12,7 @@ use Rattle.esr_history.specs.declared.event.TxnId.{TxnId}
 use Rattle.esr_cert.specs.Views.{chain_of, problem_of}
 use Rattle.esr_cert.proofs.Sound.{here, there, facts, few, are_few, IsProblem}
 use Rattle.esr_cert.proofs.Matched.{AreWhole, links_length}
-use Rattle.esr_cert.proofs.StartsLaws.{starts_long, starts_rise, row_ends, in_row, in_backs, in_musts, rows_end}
+use Rattle.esr_cert.proofs.StartsLaws.{starts_long, row_ends, in_row, in_backs, in_musts, rows_end}
 
 -- the costs of the code's chains are as many as those of the chains that contracts see
 pub costs_count : (chains : List code.Chain) → sum_by (λ (chain : Chain). length chain.costs) (map chain_of chains) ≡ sum_by (λ (chain : code.Chain). length chain.costs.items) chains
@@ -129,12 +128,6 @@ module _ (updates : List TxnId) (before : List (ℕ × ℕ)) (chains : List code
 
   pub count_is : length starts ≡ length chains + 1
   count_is = omega (arith, starts_are.count, length-map parts.chains (chain_links (size parts)), length-map chains chain_of)
-
-  pub starts_at_zero : get_or starts 0 0 ≡ 0
-  starts_at_zero = omega (arith, starts_are.at 0 (omega arith))
-
-  pub starts_ascend : IsNonDecreasingBy (λ n. n) starts
-  starts_ascend = starts_rise starts (map (chain_links (size parts)) parts.chains) starts_are
 
   abbrev links_end : ℕ
   links_end = get_or starts (length chains) 0

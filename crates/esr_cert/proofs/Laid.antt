@@ -56,9 +56,6 @@ module _ {arcs : List Arc} {nodes i : ℕ} {spans : List Span} {steps : List Ste
     pub within_against : (span_at spans_along to).end < length steps_along
     within_against = place_within arcs h.degrees (first_steps i ++ Along i ∷ []) spans_along steps_along (Against i) to refl known_to room_to filled_along
 
-    pub long_along : length steps_along ≡ 2 * length arcs
-    long_along = filled_along.total ∙ h.are.both
-
     filled_against : Filled arcs h.degrees (first_steps (i + 1)) (lengthen spans_along to) (set steps_along (span_at spans_along to).end (Against i))
     filled_against =
         subst (λ done. Filled arcs h.degrees done (lengthen spans_along to) (set steps_along (span_at spans_along to).end (Against i))) (first_next i)

@@ -2,10 +2,7 @@
 use Rattle.std.proofs.Common.{◌*◌, ◌≡◌, ℕ, zero, suc, ◌+◌, ◌<◌, ◌≤◌, Bool, true, false, not, ◌&&◌, ◌||◌, eqb, ltb, leb, List, [], ◌∷◌, length, get_or, map, sum_by, Contains, refl, sym, ap, ◌∙◌, subst, arith, true≢false, inl, inr}
 use Rattle.std.specs.List.{list_all, list_any}
 use Rattle.std.proofs.lemmas.Bool.{and_parts, and_from, or_cases, ltb-true, leb-true, eqb-true, lt-ltb}
-use Rattle.std.specs.List.{All}
-use Rattle.std.proofs.lemmas.List.{length-map, get_or-map, get_or_default}
-use Rattle.esr_cert.specs.declared.problem.Chain as code
-use Rattle.esr_cert.specs.Views.{chain_of}
+use Rattle.std.proofs.lemmas.List.{length-map}
 use Rattle.esr_cert.specs.Problem.{Chain, Problem, size, is_closed, is_ascending, pair_lt, are_pairs_ascending, has_pair, are_linked, is_distinct, chain_has_shape, has_shape, max_txn, max_item, greatest, max_cost, chain_is_in_range, is_in_range, is_sound}
 use Rattle.esr_cert.proofs.Distinct.{distinct_few, ascending_few, all_at}
 
@@ -217,24 +214,3 @@ are_few p h =
         and_from (ltb chain.item 4096) (list_all (λ t. ltb t 4096) (map (λ (chain : Chain). chain.item) chains)) (lt-ltb chain.item 4096 (omega (arith, leb-true chain.item max_item f.0))) (items_small chains b.1)
 
 -- ---- positions are below the count of updates, read from the lists of the code
-
-pub pairs_known : (p : Problem) → IsProblem p → (n : ℕ) (before : List (ℕ × ℕ)) → size p ≡ n → before ≡ p.before → All (λ pair. (pair.0 < n) × (pair.1 < n)) before
-pairs_known p ok n before size_is is k d l =
-    let pair : ℕ × ℕ = get_or before k d in
-    let at : get_or p.before k pair ≡ pair = ap (λ (xs : List (ℕ × ℕ)). get_or xs k pair) (sym is) ∙ get_or_default before k pair d l in
-    let both : (pair.0 < size p) × (pair.1 < size p) = ok.pairs pair.0 pair.1 (k, omega (arith, ap length is), at) in
-    (omega (arith, both.0, size_is), omega (arith, both.1, size_is))
-
-pub musts_known : (p : Problem) → IsProblem p → (n : ℕ) (must : List ℕ) → size p ≡ n → must ≡ p.must → All (λ u. u < n) must
-musts_known p ok n must size_is is k d l =
-    let u : ℕ = get_or must k d in
-    let at : get_or p.must k u ≡ u = ap (λ (xs : List ℕ). get_or xs k u) (sym is) ∙ get_or_default must k u d l in
-    omega (arith, ok.musts u (k, omega (arith, ap length is), at), size_is)
-
-pub writers_known : (p : Problem) → IsProblem p → (n : ℕ) (chains : List code.Chain) → size p ≡ n → map chain_of chains ≡ p.chains → All (λ chain. All (λ u. u < n) chain.writers.items) chains
-writers_known p ok n chains size_is is k d l j e m =
-    let chain : code.Chain = get_or chains k d in
-    let inside : k < length p.chains = omega (arith, ap length is, length-map chains chain_of) in
-    let here : get_or p.chains k (chain_of chain) ≡ chain_of chain = ap (λ (xs : List Chain). get_or xs k (chain_of chain)) (sym is) ∙ get_or-map chain_of chains k d (chain_of chain) l in
-    let u : ℕ = get_or chain.writers.items j e in
-    omega (arith, (ok.chains (chain_of chain) (k, inside, here)).writers u (j, m, get_or_default chain.writers.items j u e m), size_is)

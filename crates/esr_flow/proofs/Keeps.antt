@@ -47,9 +47,6 @@ module _ (net : Network) (ok : IsNetwork net) (flow : List ℕ) (f : IsFlow net 
       let split : (amount_at flow i ≡ 0) ⊎ (1 ≤ amount_at flow i) = grind arith in
       elim split [ inl e ↦ e | inr m ↦ absurd (none m) ]
 
-  pub keeps_limited : Keeps net flow has → AreLimited has net.arcs
-  keeps_limited keeps i l c = (keeps_full keeps i l c).0
-
   -- the worth is the capacity of such a cut
   pub strong : has net.source ≡ true → has net.sink ≡ false → Keeps net flow has → worth net flow ≡ across has net.arcs
   strong at_source at_sink keeps =

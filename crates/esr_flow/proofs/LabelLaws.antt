@@ -75,7 +75,3 @@ module _ (net : Network) (flow : List ℕ) (visits : List Visit) (f : FoundSink 
     falls = falls;
     at_sink = elim (h.some_visit net.sink) [ inl z ↦ z | inr (i, l, e, q) ↦ omega (arith, f.only i l e) ];
   }
-
-  pub source_label : (visit_at visits (length visits - 1)).level ≤ label_at labels net.source
-  source_label =
-      omega (arith, h.at_least 0 (omega (arith, f.searched.some)), f.searched.first_level, ap (label_at labels) f.searched.first_node)

@@ -1,13 +1,13 @@
 -- From the last visit back to the source, and the start of a search.
-use Rattle.std.proofs.Common.{◌≡◌, ℕ, zero, suc, ◌+◌, ◌-◌, ◌<◌, true, false, List, [], ◌∷◌, ◌++◌, length, set, reverse, replicate, refl, sym, ap, ◌∙◌, subst, inl, inr, arith, true≢false, length-set, get_or-set_other, get_or-set_same}
+use Rattle.std.proofs.Common.{◌≡◌, ℕ, zero, suc, ◌+◌, ◌-◌, ◌<◌, true, false, List, [], ◌∷◌, ◌++◌, length, set, reverse, replicate, refl, sym, ◌∙◌, subst, inl, inr, arith, true≢false, length-set, get_or-set_other, get_or-set_same}
 use Rattle.std.proofs.lemmas.Bool.{cases_eq}
-use Rattle.std.proofs.lemmas.List.{length_push, reverse-append, length-reverse, length-replicate}
+use Rattle.std.proofs.lemmas.List.{length_push, reverse-append, length-replicate}
 use Rattle.esr_cert.specs.declared.step.Step.{Step}
 use Rattle.esr_cert.specs.declared.step.Step.TheVariants.{Along}
 use Rattle.esr_flow.specs.declared.search.Visit.{Visit}
 use Rattle.esr_flow.specs.Residual.{IsPath}
 use Rattle.esr_cert.specs.Network.{Network, IsNetwork}
-use Rattle.esr_flow.specs.Search.{visit_at, is_marked, unmarked, Comes, Searched, FoundSink, IsShortestPath}
+use Rattle.esr_flow.specs.Search.{visit_at, is_marked, unmarked, Comes, Searched, FoundSink}
 use Rattle.esr_flow.proofs.SearchLaws.{start_search, unmarked_mark}
 
 -- the steps so far, the last first, lead from the node of a visit to the sink
@@ -17,9 +17,6 @@ pub record Back (net : Network) (flow : List ℕ) (visits : List Visit) (path : 
   pub steps : length path + (visit_at visits at).level ≡ (visit_at visits (length visits - 1)).level
 
 module _ (net : Network) (flow : List ℕ) (visits : List Visit) (f : FoundSink net flow visits) where
-  pub back_start : Back net flow visits [] (length visits - 1)
-  back_start = record { in_visits = omega (arith, f.searched.some); is_path = f.at_sink; steps = omega arith }
-
   pub back_more : (path : List Step) (at : ℕ) → 0 < at → Back net flow visits path at → Back net flow visits (path ++ (visit_at visits at).step ∷ []) (visit_at visits at).parent
   back_more path at l b =
       let c : Comes net.arcs flow visits at = f.searched.comes at l b.in_visits in
@@ -28,14 +25,6 @@ module _ (net : Network) (flow : List ℕ) (visits : List Visit) (f : FoundSink 
         is_path = subst (λ p. IsPath net.arcs flow (visit_at visits (visit_at visits at).parent).node p net.sink) (sym (reverse-append path ((visit_at visits at).step ∷ [])))
             (c.begins, c.residual, subst (λ n. IsPath net.arcs flow n (reverse path) net.sink) (sym c.ends) b.is_path);
         steps = omega (arith, length_push path (visit_at visits at).step, c.next_level, b.steps);
-      }
-
-  pub back_end : (path : List Step) (at : ℕ) → at ≡ 0 → Back net flow visits path at → IsShortestPath net flow (reverse path)
-  back_end path at z b =
-      let level : (visit_at visits at).level ≡ 0 = ap (λ n. (visit_at visits n).level) z ∙ f.searched.first_level in
-      record {
-        is_path = subst (λ n. IsPath net.arcs flow n (reverse path) net.sink) (ap (λ n. (visit_at visits n).node) z ∙ f.searched.first_node) b.is_path;
-        is_shortest = λ other p. omega (arith, length-reverse path, b.steps, level, f.nearest other p);
       }
 
 none_marked : (n v : ℕ) → is_marked (replicate n false) v ≡ false

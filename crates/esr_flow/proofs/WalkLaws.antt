@@ -39,9 +39,6 @@ end_in net ok (Along i) k = (ok.ends i k).1
 end_in net ok (Against i) k = (ok.ends i k).0
 
 module _ (net : Network) (ok : IsNetwork net) (flow labels : List ℕ) where
-  pub walk_start : net.sink < net.nodes → Walk net flow labels [] net.sink
-  walk_start l = record { is_path = refl; steps = omega arith; node = l }
-
   pub walk_push : (path : List Step) (at : ℕ) (s : Step) → Walk net flow labels path at → finish net.arcs s ≡ at → IsResidual net.arcs flow s → label_at labels (finish net.arcs s) < label_at labels (start net.arcs s) → Walk net flow labels (path ++ s ∷ []) (start net.arcs s)
   walk_push path at s w e r l = record {
     is_path = subst (λ p. IsPath net.arcs flow (start net.arcs s) p net.sink) (sym (reverse-append path (s ∷ [])))

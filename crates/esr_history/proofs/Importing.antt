@@ -22,7 +22,7 @@ use Rattle.esr_history.proofs.Allowed.{NoneApplies}
 use Rattle.esr_history.proofs.Lawful.{when_none}
 use Rattle.esr_history.proofs.Membership.{Each-append}
 use Rattle.esr_history.proofs.Charges.{import-push, legal_within_limits}
-use Rattle.esr_history.proofs.Linking.{accepted_push, accepted_refused, count_refused, count_same, count_more, mapped_get, mapped_past}
+use Rattle.esr_history.proofs.Linking.{accepted_push, accepted_refused, count_same, count_more, mapped_get, mapped_past}
 use Rattle.esr_history.proofs.Fitting.{accepts}
 
 -- a table by its values
@@ -93,12 +93,6 @@ module _ (d : Distance) (h : Schedule) (legal : IsLegal d h) (e : Event) (r : Re
   pub import_fits : (table : List ℕ) → AreImports d h table → (charges : List (TxnId × ℕ)) → AreDue d h e r charges → is_refusal r ≡ false → (t : ℕ) → slice_index_or table t 0 + imported charges t < 2 ^ 64
   import_fits table are charges due ok t =
       grind (arith, import_low d (extended h e r) (IsLegal-extended d h e r legal is) t, import_at d h legal table are t, more ok t)
-
-  pub imports_refused : is_refusal r ≡ true → (table : List ℕ) → AreImports d h table → AreImports d (extended h e r) table
-  imports_refused refused table are =
-      are
-      ∙ (ap (λ (es : List Event). map (λ t. import_in (charges (distance_in d h) h.opening es) t) (range_with_len 0 (begun_count h.entries + 1))) (sym (accepted_refused h.entries (record { event = e; reply = r }) refused))
-      ∙ ap (λ n. map (λ t. import_in (charges_in d (extended h e r)) t) (range_with_len 0 (n + 1))) (sym (count_refused h.entries (record { event = e; reply = r }) refused)))
 
   pub imports_accepted : is_refusal r ≡ false → (table raised : List ℕ) (charges : List (TxnId × ℕ)) → AreDue d h e r charges → AreImports d h table → length raised ≡ length (with_number table e)
       → ((t : ℕ) → t < length (with_number table e) → slice_index_or raised t 0 ≡ slice_index_or (with_number table e) t 0 + imported charges t) → AreImports d (extended h e r) raised

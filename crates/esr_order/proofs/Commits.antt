@@ -1,5 +1,5 @@
 -- Who committed, in what order, and what of it a strict query must have seen, by where transactions began and ended.
-use Rattle.std.proofs.Common.{◌≡◌, ℕ, zero, suc, ◌+◌, ◌<◌, ◌≤◌, Bool, true, false, not, ◌==◌, List, [], ◌∷◌, ◌++◌, length, take, refl, sym, ◌∙◌, ap, subst, arith, inl, inr, ⊎_elim, Option, Some, None, Contains, filter, map, eqb, if◌then◌else◌}
+use Rattle.std.proofs.Common.{◌≡◌, ℕ, zero, suc, ◌+◌, ◌<◌, ◌≤◌, Bool, true, false, ◌==◌, List, [], ◌∷◌, ◌++◌, length, take, refl, sym, ◌∙◌, ap, subst, arith, inl, inr, ⊎_elim, Option, Some, None, Contains, filter, map, eqb, if◌then◌else◌}
 use Rattle.std.specs.Prelude.{count_by, is_some, nat_lt, unwrap_or}
 use Rattle.std.specs.List.{filter_map, slice_get, list_any, before_first}
 use Rattle.std.specs.List.Sorted.{IsStrictlyIncreasing}
@@ -50,12 +50,6 @@ module _ (es : List Entry) (t : ℕ) where
       at (Some b) is e =
           let s : f ≡ record { query = b.query; limit = b.limit; end = last_place accepted_end t es } = same_Some f (record { query = b.query; limit = b.limit; end = last_place accepted_end t es }) e in
           (b, is, ap (λ (g : Facts). g.query) s, ap (λ (g : Facts). g.end) s)
-
-  pub update_none : None ≡ facts_of es t → false ≡ is_update (accepted es) t
-  update_none none = sym (ap (λ (b : Option Beginning). unwrap_or (option_map (λ c. not c.query) b) false) (facts_none none))
-
-  pub update_some : (f : Facts) → Some f ≡ facts_of es t → not f.query ≡ is_update (accepted es) t
-  update_some f some = let s = facts_some f some in ap not s.2 ∙ sym (ap (λ (b : Option Beginning). unwrap_or (option_map (λ c. not c.query) b) false) s.1)
 
   pub query_none : None ≡ facts_of es t → false ≡ is_query (accepted es) t
   query_none none = sym (ap (λ (b : Option Beginning). unwrap_or (option_map (λ c. c.query) b) false) (facts_none none))

@@ -219,9 +219,6 @@ pub record Kept (ss : List Step) (pairs : List Pair) : Type 0 where
   pub covers : (S : ℕ → Bool) → Holds S pairs → (i j : ℕ) → is_pair ss i j ≡ true → S j ≡ true → S i ≡ true
   pub next : (x : ℕ) → Next (writes_in (on x ss)) pairs
 
-pub kept_none : Kept [] []
-kept_none = record { sound = λ p i. absurd i; covers = λ S h i j e. absurd (true≢false (sym e)); next = λ x. tt }
-
 -- the same pairs in another order
 pub kept_same : (ss : List Step) (ps qs : List Pair) → ((p : Pair) → In p ps → In p qs) → ((p : Pair) → In p qs → In p ps) → Kept ss ps → Kept ss qs
 kept_same ss ps qs to from k = record {

@@ -58,9 +58,6 @@ module _ (d : Distance) (h : Schedule) (q : ℕ) (legal : IsLegal d h) where
     pub near_updates : (u : ℕ) → Contains us u → Contains (updates_of h q) u
     near_updates u c = ((near.near u).0 c).0
 
-    pub near_musts : (u : ℕ) → Contains (updates_of h q) u → Contains (must h q) u → Contains us u
-    near_musts u cu m = (near.near u).1 (cu, inr (inr m))
-
     among : (u : ℕ) → Contains us u → is_among us u ≡ true
     among u c = any-from_number us u (Contains-In us u c)
 

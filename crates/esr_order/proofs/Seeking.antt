@@ -9,7 +9,7 @@ use Rattle.esr_history.specs.Machine.{Distance, Schedule, IsLegal}
 use Rattle.esr_history.specs.Operations.{Operation, operations}
 use Rattle.esr_history.specs.Serial.{is_before}
 use Rattle.esr_history.specs.Queries.{updates_of, must, reads_by}
-use Rattle.esr_history.proofs.Membership.{In, In-Contains, Contains-In, In-any, In-filter, In-of_filter, In-from_any, any-from_In, any-from_number, All-from_pairs, filter_agree_in}
+use Rattle.esr_history.proofs.Membership.{In, In-Contains, Contains-In, In-any, In-filter, In-of_filter, In-from_any, any-from_In, All-from_pairs, filter_agree_in}
 use Rattle.esr_history.proofs.Traces.{writes_item}
 use Rattle.esr_history.proofs.Versions.{wrote_by, wrote_parts}
 use Rattle.esr_history.proofs.Words.{wrote_trace}
@@ -128,11 +128,6 @@ near_all h q us n = record {
 drop_all : (xs : List ℕ) → drop (length xs) xs ≡ []
 drop_all [] = refl
 drop_all (x ∷ xs) = drop_all xs
-
-pub near_none : (h : Schedule) (q i : ℕ) → i ≡ length (updates_of h q) → IsNearFrom h q i []
-near_none h q i is =
-    let none : drop i (updates_of h q) ≡ [] = ap (λ n. drop n (updates_of h q)) is ∙ drop_all (updates_of h q) in
-    record { in_order = sym (ap (filter (is_among [])) none); near = λ u. ((λ i. absurd i), (λ r. subst (In u) none r.0)) }
 
 module _ (d : Distance) (h : Schedule) (q : ℕ) (legal : IsLegal d h) where
   once : AllPairs (λ u v. u ≢ v) (updates_of h q)

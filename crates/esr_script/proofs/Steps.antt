@@ -92,10 +92,6 @@ module _ (input : List ℕ) (n : ℕ) (s : State) (w : List ℕ) where
       let text : outcome_of_lines p.answered ≡ record { text = w; fault = None } = ap outcome_of_lines (sym (append-nil p.answered)) ∙ p.ran [] ∙ behind-done w n s in
       (length p.answered, (omega (arith, lengths)), ap outcome_of_lines front ∙ text)
 
-  -- where no line is left
-  pub done_state : (unread : List ℕ) → Progress input unread n s w → lines unread ≡ [] → final input ≡ s
-  done_state unread p e = ap final p.split ∙ ap (state_after start) (p.cut unread ∙ ap (λ m. p.answered ++ m) e ∙ append-nil p.answered) ∙ p.reached
-
   -- where one line is left
   pub last_state : (unread line : List ℕ) → Progress input unread n s w → lines unread ≡ line ∷ [] → (s' : State) (t : List ℕ) → answer s line ≡ Ok (s', t) → final input ≡ s'
   last_state unread line p e s' t is = ap final p.split ∙ ap (state_after start) (p.cut unread ∙ ap (λ m. p.answered ++ m) e) ∙ state-more start s s' p.answered line t p.reached is
@@ -150,15 +146,6 @@ module _ (input : List ℕ) (left : Option (List ℕ)) (bytes : List ℕ) (n : �
   -- at the end of the input
   pub all_read : Standing input left bytes n s w → IsAtEnd left → Consumes (Some input) left input
   all_read here end = consumed left here.rest input here.known (sym (append-nil input) ∙ ap (λ r. input ++ r) (sym (at_end left here.rest here.known end)))
-
-  pub at_done : Standing input left bytes n s w → IsAtEnd left → bytes ≡ [] → outcome input ≡ record { text = w; fault = None }
-  at_done here end none =
-      grind (arith, at_end left here.rest here.known end, whole input n s w (bytes ++ here.rest), behind-done w n s)
-
-  pub state_at_done : Standing input left bytes n s w → IsAtEnd left → bytes ≡ [] → final input ≡ s
-  state_at_done here end none =
-      let nothing : bytes ++ here.rest ≡ [] = ap (λ b. b ++ here.rest) none ∙ at_end left here.rest here.known end in
-      done_state input n s w (bytes ++ here.rest) here.progress (ap lines nothing)
 
   pub state_at_last : Standing input left bytes n s w → IsAtEnd left → line_len bytes ≡ length bytes → 0 < length bytes → (s' : State) (t : List ℕ) → answer s bytes ≡ Ok (s', t) → final input ≡ s'
   state_at_last here end plain some s' t is =
