@@ -14,7 +14,7 @@ in_set_at [] i u e = absurd (cc)
 in_set_at (w ∷ us) zero u e = or_left (eqb w u) (in_set us u) (eq-eqb w u (same_Some w u e))
 in_set_at (w ∷ us) (suc i) u e = or_right (eqb w u) (in_set us u) (in_set_at us i u e)
 
--- where no number stands twice, it has one place
+-- where no number occurs twice, it has one place
 same_place : (us : List ℕ) (i j u : ℕ) → is_distinct us ≡ true → slice_get us i ≡ Some u → slice_get us j ≡ Some u → i ≡ j
 same_place [] i j u dist a b = absurd (cc)
 same_place (w ∷ us) zero zero u dist a b = refl

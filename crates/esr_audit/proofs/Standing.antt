@@ -36,7 +36,7 @@ problem_from d h q o = record {
   must = o.must;
 }
 
--- each element of a list in which none stands twice has one place
+-- each element of a list in which none occurs twice has one place
 one_place : (us : List ℕ) → AllPairs (λ u v. u ≢ v) us → (i j u : ℕ) → slice_get us i ≡ Some u → slice_get us j ≡ Some u → i ≡ j
 one_place us once i j u a b = go us (Pairs-from_all (λ u v. u ≢ v) us once) i j a b
   where

@@ -86,8 +86,8 @@ fn find<M: Metric>(
 
 /// The least distance of what a committed query read from any serial placement, with a
 /// certificate. It stays the answer however the history goes on. The problem has exactly the
-/// near updates of the query: those that wrote an item that it read, those from which a row of
-/// befores leads to such an update, and those that it must have seen.
+/// near updates of the query: those that wrote an item that it read, those from which a chain of
+/// conflicts leads to such an update, and those that it must have seen.
 ///
 /// # Errors
 /// `NotACommittedQuery` exactly where the transaction is no query, or has not committed.

@@ -67,7 +67,7 @@ pub record IsFindingOf (h : Schedule) (q : ℕ) (f : Finding) : Type 0 where
 abbrev pub IsTold : Schedule → ℕ → EsrFinding → List ℕ → Type 0
 IsTold h q f before = IsAnswer plain h q f.distance f.import before × (f.count ≡ length before)
 
--- the same, where they stand at the head of a room
+-- the same, where they are at the head of a room
 abbrev pub IsFound : Schedule → ℕ → EsrFinding → List ℕ → Type 0
 IsFound h q f room = IsTold h q f (take f.count room)
 
@@ -85,7 +85,7 @@ pub record IsBundleOf (h : Schedule) (q : ℕ) (bytes : List ℕ) : Type 0 where
   pub found : IsFindingOf h q finding
   pub text : bytes ≡ bundle finding.problem (untold (certificate_of finding.certificate))
 
--- such bytes stand at the head of a room
+-- such bytes are at the head of a room
 abbrev pub IsBundleIn : Schedule → ℕ → ℕ → List ℕ → Type 0
 IsBundleIn h q count room = IsBundleOf h q (take count room) × (count ≡ length (take count room))
 
@@ -93,7 +93,7 @@ IsBundleIn h q count room = IsBundleOf h q (take count room) × (count ≡ lengt
 abbrev pub IsBundleLong : Schedule → ℕ → ℕ → Type 0
 IsBundleLong h q count = (bytes : List ℕ) × IsBundleOf h q bytes × (count ≡ length bytes)
 
--- the committed values stand at the head of a room
+-- the committed values are at the head of a room
 abbrev pub AreValuesIn : Schedule → ℕ → List ℤ → Type 0
 AreValuesIn h count room = (take count room ≡ committed_values h) × (count ≡ length h.opening)
 

@@ -1,4 +1,4 @@
-//! Engines for C programs. An engine stands in a variable of its caller, who gives it to one call at a time: it is closed, or
+//! Engines for C programs. An engine lives in a variable of its caller, who gives it to one call at a time: closed, or
 //! holds a machine. `bindings/c/esr.h` declares what is here.
 #![tactic(auto)]
 

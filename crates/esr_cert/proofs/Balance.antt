@@ -5,8 +5,8 @@ use Rattle.std.proofs.lemmas.List.{take_more, take_all, length-take-le}
 use Rattle.std.proofs.lemmas.List.Elements.{filter-append}
 use Rattle.std.proofs.lemmas.List.Sums.{sum_by-append}
 use Rattle.esr_cert.specs.declared.network.Arc.{Arc}
-use Rattle.esr_cert.specs.declared.step.Step.{Step}
-use Rattle.esr_cert.specs.declared.step.Step.TheVariants.{Along, Against}
+use Rattle.esr_cert.specs.declared.residual.ResidualArc.{ResidualArc}
+use Rattle.esr_cert.specs.declared.residual.ResidualArc.TheVariants.{Forward, Backward}
 use Rattle.esr_cert.specs.Network.{arc_at, network}
 use Rattle.esr_cert.specs.Flow.{amount_at, carried, inflow, outflow, is_conserved_at, is_conserved}
 use Rattle.esr_cert.specs.Steps.{start}
@@ -21,33 +21,33 @@ use Rattle.esr_cert.proofs.Flows.{carried_append, conserved_each, conserved_from
 
 module _ (arcs : List Arc) (flow : List ℕ) (same : length flow ≡ length arcs) (v : ℕ) where
   -- a sum over the steps at a node and a sum over arcs agree on each arc
-  abbrev Agree : (Step → ℕ) → (Arc → Bool) → Type 0
+  abbrev Agree : (ResidualArc → ℕ) → (Arc → Bool) → Type 0
   Agree f q =
-      (i : ℕ) → pick (eqb (arc_at arcs i).from v) (f (Along i)) + pick (eqb (arc_at arcs i).to v) (f (Against i)) ≡ pick (q (arc_at arcs i)) (amount_at flow i)
+      (i : ℕ) → pick (eqb (arc_at arcs i).from v) (f (Forward i)) + pick (eqb (arc_at arcs i).to v) (f (Backward i)) ≡ pick (q (arc_at arcs i)) (amount_at flow i)
 
-  one_step : (f : Step → ℕ) (s : Step) → sum_by f (steps_from arcs v (s ∷ [])) ≡ pick (eqb (start arcs s) v) (f s)
+  one_step : (f : ResidualArc → ℕ) (s : ResidualArc) → sum_by f (steps_from arcs v (s ∷ [])) ≡ pick (eqb (start arcs s) v) (f s)
   one_step f s = go (eqb (start arcs s) v)
     where
       go : (b : Bool) → sum_by f (cond b (s ∷ []) []) ≡ pick b (f s)
       go true = omega arith
       go false = refl
 
-  sums : (f : Step → ℕ) (q : Arc → Bool) → Agree f q → (n : ℕ) → n ≤ length arcs → sum_by f (steps_from arcs v (first_steps n)) ≡ carried q (take n arcs) (take n flow)
+  sums : (f : ResidualArc → ℕ) (q : Arc → Bool) → Agree f q → (n : ℕ) → n ≤ length arcs → sum_by f (steps_from arcs v (first_steps n)) ≡ carried q (take n arcs) (take n flow)
   sums f q agree zero l = refl
   sums f q agree (suc n) l =
-      let split : steps_from arcs v (first_steps (suc n)) ≡ steps_from arcs v (first_steps n) ++ steps_from arcs v (Along n ∷ []) ++ steps_from arcs v (Against n ∷ []) =
-      filter-append (λ step. eqb (start arcs step) v) (first_steps n) (Along n ∷ Against n ∷ [])
-      ∙ ap (λ xs. steps_from arcs v (first_steps n) ++ xs) (filter-append (λ step. eqb (start arcs step) v) (Along n ∷ []) (Against n ∷ []))
-      ∙ sym (append_assoc (steps_from arcs v (first_steps n)) (steps_from arcs v (Along n ∷ [])) (steps_from arcs v (Against n ∷ []))) in
+      let split : steps_from arcs v (first_steps (suc n)) ≡ steps_from arcs v (first_steps n) ++ steps_from arcs v (Forward n ∷ []) ++ steps_from arcs v (Backward n ∷ []) =
+      filter-append (λ step. eqb (start arcs step) v) (first_steps n) (Forward n ∷ Backward n ∷ [])
+      ∙ ap (λ xs. steps_from arcs v (first_steps n) ++ xs) (filter-append (λ step. eqb (start arcs step) v) (Forward n ∷ []) (Backward n ∷ []))
+      ∙ sym (append_assoc (steps_from arcs v (first_steps n)) (steps_from arcs v (Forward n ∷ [])) (steps_from arcs v (Backward n ∷ []))) in
       let more_arcs : take (suc n) arcs ≡ take n arcs ++ arc_at arcs n ∷ [] = ap (λ m. take m arcs) (sym (add-one n)) ∙ take_more arcs n (record { from = 0; to = 0; capacity = Some 0 }) (omega arith) in
       let more_flow : take (suc n) flow ≡ take n flow ++ amount_at flow n ∷ [] = ap (λ m. take m flow) (sym (add-one n)) ∙ take_more flow n 0 (omega arith) in
       omega (
         arith,
         ap (sum_by f) split,
-        sum_by-append f (steps_from arcs v (first_steps n) ++ steps_from arcs v (Along n ∷ [])) (steps_from arcs v (Against n ∷ [])),
-        sum_by-append f (steps_from arcs v (first_steps n)) (steps_from arcs v (Along n ∷ [])),
-        one_step f (Along n),
-        one_step f (Against n),
+        sum_by-append f (steps_from arcs v (first_steps n) ++ steps_from arcs v (Forward n ∷ [])) (steps_from arcs v (Backward n ∷ [])),
+        sum_by-append f (steps_from arcs v (first_steps n)) (steps_from arcs v (Forward n ∷ [])),
+        one_step f (Forward n),
+        one_step f (Backward n),
         agree n,
         sums f q agree n (omega arith),
         ap (λ xs. carried q xs (take (suc n) flow)) more_arcs,
@@ -55,7 +55,7 @@ module _ (arcs : List Arc) (flow : List ℕ) (same : length flow ≡ length arcs
         carried_append q (take n arcs) (arc_at arcs n ∷ []) (take n flow) (amount_at flow n ∷ []) (omega (arith, length-take-le n arcs (omega arith), length-take-le n flow (omega arith))),
       )
 
-  whole : (f : Step → ℕ) (q : Arc → Bool) → Agree f q → sum_by f (row_of arcs v) ≡ carried q arcs flow
+  whole : (f : ResidualArc → ℕ) (q : Arc → Bool) → Agree f q → sum_by f (row_of arcs v) ≡ carried q arcs flow
   whole f q agree =
       sums f q agree (length arcs) (omega arith) ∙ ap (λ xs. carried q xs (take (length arcs) flow)) (take_all (length arcs) arcs (omega arith)) ∙ ap (carried q arcs) (take_all (length arcs) flow (omega arith))
 

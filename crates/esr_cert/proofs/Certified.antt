@@ -4,7 +4,7 @@ use Rattle.std.proofs.lemmas.Bool.{and_parts, eqb-true}
 use Rattle.esr_cert.specs.Problem.{Problem, in_set, is_ascending, is_closed, cost, is_sound}
 use Rattle.esr_cert.specs.Network.{network}
 use Rattle.esr_cert.specs.Flow.{are_within, is_conserved, worth, IsFlow}
-use Rattle.esr_cert.specs.Certificate.{Certificate, amounts, is_known, are_rows_matched, is_within, is_tight, is_short, Certifies}
+use Rattle.esr_cert.specs.Certificate.{Certificate, amounts, is_known, are_rows_matched, is_within, worth_matches, is_count_in_bound, Certifies}
 use Rattle.esr_cert.specs.declared.certificate.Fault.{Fault}
 use Rattle.esr_cert.proofs.Flows.{flow_facts}
 use Rattle.esr_cert.proofs.Sound.{facts}
@@ -33,8 +33,8 @@ pub record IsFaultless (p : Problem) (c : Certificate) : Type 0 where
   pub closed : is_closed p (in_set c.set) ≡ true
   pub within : is_within p c ≡ true
   pub conserved : is_conserved (network p) (amounts c) ≡ true
-  pub tight : is_tight p c ≡ true
-  pub short : is_short p c.augmentations ≡ true
+  pub tight : worth_matches p c ≡ true
+  pub short : is_count_in_bound p c.augmentations ≡ true
 
 unless : (b : Bool) (f : Fault) (o : Option Fault) → cond (not b) (Some f) o ≡ None → (b ≡ true) × (o ≡ None)
 unless true f o h = (refl, h)
@@ -47,8 +47,8 @@ faultless p c h =
     let d = unless (is_closed p (in_set c.set)) _ _ b.1 in
     let e = unless (is_within p c) _ _ d.1 in
     let f = unless (is_conserved (network p) (amounts c)) _ _ e.1 in
-    let g = unless (is_tight p c) _ _ f.1 in
-    let i = unless (is_short p c.augmentations) _ _ g.1 in
+    let g = unless (worth_matches p c) _ _ f.1 in
+    let i = unless (is_count_in_bound p c.augmentations) _ _ g.1 in
     record { ascending = a.0; known = b.0; closed = d.0; within = e.0; conserved = f.0; tight = g.0; short = i.0 }
 
 pub certifies_from : (p : Problem) (c : Certificate) → IsFaultless p c → Certifies p c

@@ -1,4 +1,4 @@
--- Numbers of which none stands twice: a sorted copy ascends, and there are no more than the greatest.
+-- Numbers of which none occurs twice: a sorted copy ascends, and there are no more than the greatest.
 use Rattle.std.proofs.Common.{◌≡◌, ℕ, zero, suc, ◌+◌, ◌≤◌, ◌<◌, List, [], ◌∷◌, Bool, true, false, not, ◌&&◌, eqb, ltb, leb, refl, sym, ap, ◌∙◌, inl, inr, arith, length, get_or, sum_by, true≢false, lt-ltb, ltb-true, leb-true, eq-eqb}
 use Rattle.std.specs.List.{list_all}
 use Rattle.std.specs.List.Sorted.{IsPermutation, IsNonDecreasingBy}
@@ -20,7 +20,7 @@ all_at p [] h i d l = absurd (omega arith)
 all_at p (x ∷ xs) h zero d l = (and_parts (p x) (list_all p xs) h).0
 all_at p (x ∷ xs) h (suc i) d l = all_at p xs (and_parts (p x) (list_all p xs) h).1 i d (omega arith)
 
--- how often a number stands in a list
+-- how often a number occurs in a list
 abbrev times : ℕ → List ℕ → ℕ
 times u [] = 0
 times u (x ∷ xs) = pick (eqb x u) 1 + times u xs
@@ -87,7 +87,7 @@ distinct_moved xs ys p =
     (λ h. times_distinct ys (λ u. omega (arith, same u, distinct_times xs h u)))
     (λ h. times_distinct xs (λ u. omega (arith, same u, distinct_times ys h u)))
 
--- a sorted copy ascends exactly where no number stands twice
+-- a sorted copy ascends exactly where no number occurs twice
 pub sorted_copy : (xs ys : List ℕ) → IsPermutation xs ys → IsNonDecreasingBy (λ x. x) ys → is_ascending ys ≡ is_distinct xs
 sorted_copy xs ys p r = same_tests (is_ascending ys) (is_distinct ys) (ascending_distinct ys) (distinct_ascending ys r) ∙ sym (distinct_moved xs ys p)
 

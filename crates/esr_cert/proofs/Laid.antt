@@ -4,8 +4,8 @@ use Rattle.std.specs.List.Sorted.{IsNonDecreasingBy, IsPartitionPoint}
 use Rattle.std.proofs.lemmas.Bool.{cases_lt, ltb-true, ltb-false}
 use Rattle.std.proofs.lemmas.List.{get_or_default}
 use Rattle.esr_cert.specs.declared.network.Arc.{Arc}
-use Rattle.esr_cert.specs.declared.step.Step.{Step}
-use Rattle.esr_cert.specs.declared.step.Step.TheVariants.{Along, Against}
+use Rattle.esr_cert.specs.declared.residual.ResidualArc.{ResidualArc}
+use Rattle.esr_cert.specs.declared.residual.ResidualArc.TheVariants.{Forward, Backward}
 use Rattle.esr_cert.specs.declared.rows.Span.{Span}
 use Rattle.esr_cert.specs.declared.rows.TheConstants.{MOST_ARCS}
 use Rattle.esr_cert.specs.Network.{arc_at, HaveEnds}
@@ -15,16 +15,16 @@ use Rattle.esr_cert.proofs.StepsLaws.{first_next, has_steps}
 use Rattle.esr_cert.proofs.RowsLaws.{row_length, at_row, Filled, filled_more, place_within, room_along, room_against, filled_all, step_with}
 
 -- the rows after the first i arcs
-pub record Laid (arcs : List Arc) (nodes i : ℕ) (spans : List Span) (steps : List Step) : Type 0 where
+pub record Laid (arcs : List Arc) (nodes i : ℕ) (spans : List Span) (steps : List ResidualArc) : Type 0 where
   pub degrees : List ℕ
   pub are : AreDegrees arcs nodes degrees
   pub filled : Filled arcs degrees (first_steps i) spans steps
 
-pub laid_long : {arcs : List Arc} {nodes i : ℕ} {spans : List Span} {steps : List Step} → Laid arcs nodes i spans steps → length steps ≡ 2 * length arcs
+pub laid_long : {arcs : List Arc} {nodes i : ℕ} {spans : List Span} {steps : List ResidualArc} → Laid arcs nodes i spans steps → length steps ≡ 2 * length arcs
 laid_long h = h.filled.total ∙ h.are.both
 
 -- the two steps of an arc are put into the rows of its ends
-module _ {arcs : List Arc} {nodes i : ℕ} {spans : List Span} {steps : List Step} (l : i < length arcs) (ends : HaveEnds arcs nodes) (h : Laid arcs nodes i spans steps) where
+module _ {arcs : List Arc} {nodes i : ℕ} {spans : List Span} {steps : List ResidualArc} (l : i < length arcs) (ends : HaveEnds arcs nodes) (h : Laid arcs nodes i spans steps) where
   abbrev from : ℕ
   from = (arc_at arcs i).from
 
@@ -40,28 +40,28 @@ module _ {arcs : List Arc} {nodes i : ℕ} {spans : List Span} {steps : List Ste
   room_from : length (steps_from arcs from (first_steps i)) < get_or h.degrees from 0
   room_from = room_along arcs nodes h.degrees i from h.are l (ends i l).0 refl
 
-  room_to : length (steps_from arcs to (first_steps i ++ Along i ∷ [])) < get_or h.degrees to 0
+  room_to : length (steps_from arcs to (first_steps i ++ Forward i ∷ [])) < get_or h.degrees to 0
   room_to = room_against arcs nodes h.degrees i to h.are l (ends i l).1 refl
 
   pub within_along : (span_at spans from).end < length steps
-  within_along = place_within arcs h.degrees (first_steps i) spans steps (Along i) from refl known_from room_from h.filled
+  within_along = place_within arcs h.degrees (first_steps i) spans steps (Forward i) from refl known_from room_from h.filled
 
-  module _ (spans_along : List Span) (steps_along : List Step) (e : spans_along ≡ lengthen spans from) (q : steps_along ≡ set steps (span_at spans from).end (Along i)) where
-    filled_along : Filled arcs h.degrees (first_steps i ++ Along i ∷ []) spans_along steps_along
+  module _ (spans_along : List Span) (steps_along : List ResidualArc) (e : spans_along ≡ lengthen spans from) (q : steps_along ≡ set steps (span_at spans from).end (Forward i)) where
+    filled_along : Filled arcs h.degrees (first_steps i ++ Forward i ∷ []) spans_along steps_along
     filled_along =
-        subst (λ list. Filled arcs h.degrees (first_steps i ++ Along i ∷ []) list steps_along) (sym e)
-        (subst (Filled arcs h.degrees (first_steps i ++ Along i ∷ []) (lengthen spans from)) (sym q)
-        (filled_more arcs h.degrees (first_steps i) spans steps (Along i) from refl known_from room_from h.filled))
+        subst (λ list. Filled arcs h.degrees (first_steps i ++ Forward i ∷ []) list steps_along) (sym e)
+        (subst (Filled arcs h.degrees (first_steps i ++ Forward i ∷ []) (lengthen spans from)) (sym q)
+        (filled_more arcs h.degrees (first_steps i) spans steps (Forward i) from refl known_from room_from h.filled))
 
     pub within_against : (span_at spans_along to).end < length steps_along
-    within_against = place_within arcs h.degrees (first_steps i ++ Along i ∷ []) spans_along steps_along (Against i) to refl known_to room_to filled_along
+    within_against = place_within arcs h.degrees (first_steps i ++ Forward i ∷ []) spans_along steps_along (Backward i) to refl known_to room_to filled_along
 
-    filled_against : Filled arcs h.degrees (first_steps (i + 1)) (lengthen spans_along to) (set steps_along (span_at spans_along to).end (Against i))
+    filled_against : Filled arcs h.degrees (first_steps (i + 1)) (lengthen spans_along to) (set steps_along (span_at spans_along to).end (Backward i))
     filled_against =
-        subst (λ done. Filled arcs h.degrees done (lengthen spans_along to) (set steps_along (span_at spans_along to).end (Against i))) (first_next i)
-        (filled_more arcs h.degrees (first_steps i ++ Along i ∷ []) spans_along steps_along (Against i) to refl known_to room_to filled_along)
+        subst (λ done. Filled arcs h.degrees done (lengthen spans_along to) (set steps_along (span_at spans_along to).end (Backward i))) (first_next i)
+        (filled_more arcs h.degrees (first_steps i ++ Forward i ∷ []) spans_along steps_along (Backward i) to refl known_to room_to filled_along)
 
-    pub laid_more : (spans_against : List Span) (steps_against : List Step) → spans_against ≡ lengthen spans_along to → steps_against ≡ set steps_along (span_at spans_along to).end (Against i) → Laid arcs nodes (i + 1) spans_against steps_against
+    pub laid_more : (spans_against : List Span) (steps_against : List ResidualArc) → spans_against ≡ lengthen spans_along to → steps_against ≡ set steps_along (span_at spans_along to).end (Backward i) → Laid arcs nodes (i + 1) spans_against steps_against
     laid_more spans_against steps_against u v = record {
       degrees = h.degrees;
       are = h.are;
@@ -69,13 +69,13 @@ module _ {arcs : List Arc} {nodes i : ℕ} {spans : List Span} {steps : List Ste
           (subst (Filled arcs h.degrees (first_steps (i + 1)) (lengthen spans_along to)) (sym v) filled_against);
     }
 
-pub laid_rows : {arcs : List Arc} {nodes i : ℕ} {spans : List Span} {steps : List Step} → i ≡ length arcs → Laid arcs nodes i spans steps → AreRows arcs nodes spans steps
+pub laid_rows : {arcs : List Arc} {nodes i : ℕ} {spans : List Span} {steps : List ResidualArc} → i ≡ length arcs → Laid arcs nodes i spans steps → AreRows arcs nodes spans steps
 laid_rows {arcs} {nodes} {i} {spans} {steps} e laid =
     let h : Laid arcs nodes (length arcs) spans steps = subst (λ n. Laid arcs nodes n spans steps) e laid in
     filled_all arcs nodes h.degrees spans steps h.are h.filled
 
 -- a step lies in the row of the node where it starts, and there once
-pub laid_steps : {arcs : List Arc} {nodes i : ℕ} {spans : List Span} {steps : List Step} → length arcs ≤ MOST_ARCS → i ≡ length arcs → Laid arcs nodes i spans steps → AreSteps arcs steps
+pub laid_steps : {arcs : List Arc} {nodes i : ℕ} {spans : List Span} {steps : List ResidualArc} → length arcs ≤ MOST_ARCS → i ≡ length arcs → Laid arcs nodes i spans steps → AreSteps arcs steps
 laid_steps {arcs} {nodes} {i} {spans} {steps} few e laid = record { few = few; count = laid_long laid; in_arcs = in_arcs; once = once }
   where
     h : Laid arcs nodes (length arcs) spans steps
@@ -95,27 +95,27 @@ laid_steps {arcs} {nodes} {i} {spans} {steps} few e laid = record { few = few; c
         (has_steps arcs v).once a b in_row (omega (arith, ap (λ w. length (row_of arcs w)) node)) (sym is_j ∙ same ∙ is_k ∙ ap (λ w. step_at (row_of arcs w) b) (sym node)) in
         omega (arith, at_j, at_k, place, ap (λ w. sum (take w h.degrees)) node)
 
-same_order : (s t : Step) → order_of s ≡ order_of t → s ≡ t
-same_order (Along i) (Along j) e = ap (λ n. Along n) (omega arith)
-same_order (Along i) (Against j) e = absurd (omega arith)
-same_order (Against i) (Along j) e = absurd (omega arith)
-same_order (Against i) (Against j) e = ap (λ n. Against n) (omega arith)
+same_order : (s t : ResidualArc) → order_of s ≡ order_of t → s ≡ t
+same_order (Forward i) (Forward j) e = ap (λ n. Forward n) (omega arith)
+same_order (Forward i) (Backward j) e = absurd (omega arith)
+same_order (Backward i) (Forward j) e = absurd (omega arith)
+same_order (Backward i) (Backward j) e = ap (λ n. Backward n) (omega arith)
 
 -- where the steps before a step end, there the step lies
-found_at : (row : List Step) (step : Step) (k : ℕ) → IsNonDecreasingBy order_of row → Contains row step → IsPartitionPoint (λ t. ltb (order_of t) (order_of step) ≡ true) (λ t. ltb (order_of t) (order_of step) ≡ false) row k → (k < length row) × (step_at row k ≡ step)
+found_at : (row : List ResidualArc) (step : ResidualArc) (k : ℕ) → IsNonDecreasingBy order_of row → Contains row step → IsPartitionPoint (λ t. ltb (order_of t) (order_of step) ≡ true) (λ t. ltb (order_of t) (order_of step) ≡ false) row k → (k < length row) × (step_at row k ≡ step)
 found_at row step k rise (j, l, at) (before, after) =
-    let is : order_of (step_at row j) ≡ order_of step = ap order_of (get_or_default row j (Along 0) step l ∙ at) in
+    let is : order_of (step_at row j) ≡ order_of step = ap order_of (get_or_default row j (Forward 0) step l ∙ at) in
     let low : k ≤ j = elim (cases_lt j k) [
-      | inl m ↦ absurd (omega (arith, is, ltb-true (order_of (step_at row j)) (order_of step) (before j (Along 0) (omega arith) m)))
+      | inl m ↦ absurd (omega (arith, is, ltb-true (order_of (step_at row j)) (order_of step) (before j (Forward 0) (omega arith) m)))
       | inr m ↦ m
     ] in
-    let at_most : order_of (step_at row k) ≤ order_of (step_at row j) = rise k j (Along 0) low l in
-    let at_least : order_of step ≤ order_of (step_at row k) = ltb-false (order_of (step_at row k)) (order_of step) (after k (Along 0) (omega arith) (omega arith)) in
+    let at_most : order_of (step_at row k) ≤ order_of (step_at row j) = rise k j (Forward 0) low l in
+    let at_least : order_of step ≤ order_of (step_at row k) = ltb-false (order_of (step_at row k)) (order_of step) (after k (Forward 0) (omega arith) (omega arith)) in
     (omega arith, same_order (step_at row k) step (omega arith))
 
 -- what the search for a step in the row of its node finds
-pub found_place : (steps row : List Step) (span : Span) (step : Step) (k : ℕ) → row ≡ row_in steps span → span.end ≤ length steps → IsNonDecreasingBy order_of (row_in steps span) → Contains (row_in steps span) step → IsPartitionPoint (λ t. ltb (order_of t) (order_of step) ≡ true) (λ t. ltb (order_of t) (order_of step) ≡ false) row k → (span.begin + k < length steps) × (step_at steps (span.begin + k) ≡ step)
+pub found_place : (steps row : List ResidualArc) (span : Span) (step : ResidualArc) (k : ℕ) → row ≡ row_in steps span → span.end ≤ length steps → IsNonDecreasingBy order_of (row_in steps span) → Contains (row_in steps span) step → IsPartitionPoint (λ t. ltb (order_of t) (order_of step) ≡ true) (λ t. ltb (order_of t) (order_of step) ≡ false) row k → (span.begin + k < length steps) × (step_at steps (span.begin + k) ≡ step)
 found_place steps row span step k e inside rise has point =
     let (l, at) = found_at (row_in steps span) step k rise has (subst (λ list. IsPartitionPoint (λ t. ltb (order_of t) (order_of step) ≡ true) (λ t. ltb (order_of t) (order_of step) ≡ false) list k) e point) in
     let short : k < span.end - span.begin = omega (arith, row_length steps span inside) in
-    (omega arith, sym (at_row steps span k (Along 0) short) ∙ at)
+    (omega arith, sym (at_row steps span k (Forward 0) short) ∙ at)

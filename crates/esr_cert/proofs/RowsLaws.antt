@@ -4,8 +4,8 @@ use Rattle.std.proofs.lemmas.Bool.{cases_eq, cases_lt}
 use Rattle.std.proofs.lemmas.List.{get_or-take, get_or-drop, take-take, ext_get_or, length_push, get_or_read}
 use Rattle.std.proofs.lemmas.List.Sums.{sum_by_more, sum_by-take-le, sum_by-cons, sum_by_more_le, sum_by-set, get_or-le-sum_by}
 use Rattle.esr_cert.specs.declared.network.Arc.{Arc}
-use Rattle.esr_cert.specs.declared.step.Step.{Step}
-use Rattle.esr_cert.specs.declared.step.Step.TheVariants.{Along, Against}
+use Rattle.esr_cert.specs.declared.residual.ResidualArc.{ResidualArc}
+use Rattle.esr_cert.specs.declared.residual.ResidualArc.TheVariants.{Forward, Backward}
 use Rattle.esr_cert.specs.declared.rows.Span.{Span}
 use Rattle.esr_cert.specs.Steps.{start}
 use Rattle.esr_cert.specs.Rows.{row_in, span_at}
@@ -22,15 +22,15 @@ at_row list span k d l =
     get_or-take (span.end - span.begin) (drop span.begin list) k d l ∙ get_or-drop span.begin list k d
 
 -- how many of some steps start at each node
-pub record Counted (arcs : List Arc) (nodes : ℕ) (done : List Step) (counts : List ℕ) : Type 0 where
+pub record Counted (arcs : List Arc) (nodes : ℕ) (done : List ResidualArc) (counts : List ℕ) : Type 0 where
   pub count : length counts ≡ nodes
   pub each : (v : ℕ) → v < nodes → get_or counts v 0 ≡ length (steps_from arcs v done)
   pub both : sum counts ≡ length done
 
-pub counted_at : {arcs : List Arc} {nodes : ℕ} {done : List Step} {counts : List ℕ} {u x : ℕ} → u < nodes → x ≡ get_or counts u x → Counted arcs nodes done counts → x ≤ length done
+pub counted_at : {arcs : List Arc} {nodes : ℕ} {done : List ResidualArc} {counts : List ℕ} {u x : ℕ} → u < nodes → x ≡ get_or counts u x → Counted arcs nodes done counts → x ≤ length done
 counted_at {arcs} {nodes} {done} {counts} {u} {x} l read h = omega (arith, get_or-le-sum_by (λ n. n) counts u x (omega (arith, h.count)), h.both)
 
-pub counted_more : {arcs : List Arc} {nodes : ℕ} {done : List Step} {counts : List ℕ} (s : Step) {u x : ℕ} → start arcs s ≡ u → u < nodes → x ≡ get_or counts u x → Counted arcs nodes done counts → Counted arcs nodes (done ++ s ∷ []) (set counts u (x + 1))
+pub counted_more : {arcs : List Arc} {nodes : ℕ} {done : List ResidualArc} {counts : List ℕ} (s : ResidualArc) {u x : ℕ} → start arcs s ≡ u → u < nodes → x ≡ get_or counts u x → Counted arcs nodes done counts → Counted arcs nodes (done ++ s ∷ []) (set counts u (x + 1))
 counted_more {arcs} {nodes} {done} {counts} s {u} {x} e l read h = record {
   count = length-set counts u (x + 1) ∙ h.count;
   each = λ v m. elim (cases_eq v u) [
@@ -70,7 +70,7 @@ row_with (n ∷ lengths) k l =
     ]
 
 -- some steps lie in their rows, which have room for these lengths
-pub record Filled (arcs : List Arc) (lengths : List ℕ) (done : List Step) (spans : List Span) (steps : List Step) : Type 0 where
+pub record Filled (arcs : List Arc) (lengths : List ℕ) (done : List ResidualArc) (spans : List Span) (steps : List ResidualArc) : Type 0 where
   pub count : length spans ≡ length lengths
   pub total : length steps ≡ sum lengths
   pub begin : (v : ℕ) → v < length lengths → (span_at spans v).begin ≡ sum (take v lengths)
@@ -78,7 +78,7 @@ pub record Filled (arcs : List Arc) (lengths : List ℕ) (done : List Step) (spa
   pub fits : (v : ℕ) → v < length lengths → length (steps_from arcs v done) ≤ get_or lengths v 0
   pub step : (v k : ℕ) → v < length lengths → k < length (steps_from arcs v done) → step_at steps (sum (take v lengths) + k) ≡ step_at (steps_from arcs v done) k
 
-module _ (arcs : List Arc) (lengths : List ℕ) (done : List Step) (spans : List Span) (steps : List Step) (s : Step) (u : ℕ) (e : start arcs s ≡ u) (l : u < length lengths) (room : length (steps_from arcs u done) < get_or lengths u 0) (h : Filled arcs lengths done spans steps) where
+module _ (arcs : List Arc) (lengths : List ℕ) (done : List ResidualArc) (spans : List Span) (steps : List ResidualArc) (s : ResidualArc) (u : ℕ) (e : start arcs s ≡ u) (l : u < length lengths) (room : length (steps_from arcs u done) < get_or lengths u 0) (h : Filled arcs lengths done spans steps) where
   pub place_within : (span_at spans u).end < length steps
   place_within = omega (arith, h.end u l, h.total, sum_by_more_le (λ x. x) lengths u 0 l)
 
@@ -95,7 +95,7 @@ module _ (arcs : List Arc) (lengths : List ℕ) (done : List Step) (spans : List
   one_more = ap length (steps_here arcs u done s e) ∙ length_push (steps_from arcs u done) s
 
   kept : (k : ℕ) → k ≢ (span_at spans u).end → step_at (set steps (span_at spans u).end s) k ≡ step_at steps k
-  kept k ne = get_or-set_other steps (span_at spans u).end k s (Along 0) ne
+  kept k ne = get_or-set_other steps (span_at spans u).end k s (Forward 0) ne
 
   step_here : (k : ℕ) → k < length (steps_from arcs u (done ++ s ∷ [])) → step_at (set steps (span_at spans u).end s) (sum (take u lengths) + k) ≡ step_at (steps_from arcs u (done ++ s ∷ [])) k
   step_here k m =
@@ -106,7 +106,7 @@ module _ (arcs : List Arc) (lengths : List ℕ) (done : List Step) (spans : List
             ∙ sym (not_last (steps_from arcs u done) s k before) ∙ ap (λ list. step_at list k) (sym row)
         | inr last ↦
             let place : sum (take u lengths) + k ≡ (span_at spans u).end = omega (arith, h.end u l) in
-            ap (step_at (set steps (span_at spans u).end s)) place ∙ get_or-set_same steps (span_at spans u).end s (Along 0) place_within
+            ap (step_at (set steps (span_at spans u).end s)) place ∙ get_or-set_same steps (span_at spans u).end s (Forward 0) place_within
             ∙ sym (at_last (steps_from arcs u done) s k last) ∙ ap (λ list. step_at list k) (sym row)
       ]
 
@@ -150,23 +150,23 @@ module _ (arcs : List Arc) (lengths : List ℕ) (done : List Step) (spans : List
   }
 
 -- there is room for the steps of an arc that is not laid yet
-pub room_along : (arcs : List Arc) (nodes : ℕ) (degrees : List ℕ) (i u : ℕ) → AreDegrees arcs nodes degrees → i < length arcs → u < nodes → start arcs (Along i) ≡ u → length (steps_from arcs u (first_steps i)) < get_or degrees u 0
+pub room_along : (arcs : List Arc) (nodes : ℕ) (degrees : List ℕ) (i u : ℕ) → AreDegrees arcs nodes degrees → i < length arcs → u < nodes → start arcs (Forward i) ≡ u → length (steps_from arcs u (first_steps i)) < get_or degrees u 0
 room_along arcs nodes degrees i u are l m e =
-    let here : length (steps_from arcs u (first_steps i)) < length (steps_from arcs u (first_steps (suc i))) = room_for arcs u (first_steps i) (Against i ∷ []) (Along i) e in
+    let here : length (steps_from arcs u (first_steps i)) < length (steps_from arcs u (first_steps (suc i))) = room_for arcs u (first_steps i) (Backward i ∷ []) (Forward i) e in
     omega (arith, here, first_within arcs u (suc i) (length arcs) (omega arith), are.degree u m)
 
-pub room_against : (arcs : List Arc) (nodes : ℕ) (degrees : List ℕ) (i u : ℕ) → AreDegrees arcs nodes degrees → i < length arcs → u < nodes → start arcs (Against i) ≡ u → length (steps_from arcs u (first_steps i ++ Along i ∷ [])) < get_or degrees u 0
+pub room_against : (arcs : List Arc) (nodes : ℕ) (degrees : List ℕ) (i u : ℕ) → AreDegrees arcs nodes degrees → i < length arcs → u < nodes → start arcs (Backward i) ≡ u → length (steps_from arcs u (first_steps i ++ Forward i ∷ [])) < get_or degrees u 0
 room_against arcs nodes degrees i u are l m e =
-    let here : length (steps_from arcs u (first_steps i ++ Along i ∷ [])) < length (steps_from arcs u ((first_steps i ++ Along i ∷ []) ++ Against i ∷ [])) = room_for arcs u (first_steps i ++ Along i ∷ []) [] (Against i) e in
+    let here : length (steps_from arcs u (first_steps i ++ Forward i ∷ [])) < length (steps_from arcs u ((first_steps i ++ Forward i ∷ []) ++ Backward i ∷ [])) = room_for arcs u (first_steps i ++ Forward i ∷ []) [] (Backward i) e in
     omega (arith, here, ap (λ list. length (steps_from arcs u list)) (first_more i), first_within arcs u (suc i) (length arcs) (omega arith), are.degree u m)
 
-pub filled_all : (arcs : List Arc) (nodes : ℕ) (degrees : List ℕ) (spans : List Span) (steps : List Step) → AreDegrees arcs nodes degrees → Filled arcs degrees (first_steps (length arcs)) spans steps → AreRows arcs nodes spans steps
+pub filled_all : (arcs : List Arc) (nodes : ℕ) (degrees : List ℕ) (spans : List Span) (steps : List ResidualArc) → AreDegrees arcs nodes degrees → Filled arcs degrees (first_steps (length arcs)) spans steps → AreRows arcs nodes spans steps
 filled_all arcs nodes degrees spans steps are h = record {
   count = h.count ∙ are.count;
   ordered = λ v l. omega (arith, h.begin v (known v l), h.end v (known v l));
   inside = inside;
-  row = λ v l. ext_get_or (Along 0) (row_in steps (span_at spans v)) (row_of arcs v) (long v l)
-      (λ k m. at_row steps (span_at spans v) k (Along 0) (omega (arith, long v l, h.begin v (known v l), h.end v (known v l)))
+  row = λ v l. ext_get_or (Forward 0) (row_in steps (span_at spans v)) (row_of arcs v) (long v l)
+      (λ k m. at_row steps (span_at spans v) k (Forward 0) (omega (arith, long v l, h.begin v (known v l), h.end v (known v l)))
       ∙ ap (λ n. step_at steps (n + k)) (h.begin v (known v l)) ∙ h.step v k (known v l) (omega (arith, long v l)));
 }
   where
@@ -180,7 +180,7 @@ filled_all arcs nodes degrees spans steps are h = record {
     long v l = omega (arith, row_length steps (span_at spans v) (inside v l), h.begin v (known v l), h.end v (known v l))
 
 -- the row of a place of the filled list, and the step there
-pub step_with : (arcs : List Arc) (nodes : ℕ) (degrees : List ℕ) (spans : List Span) (steps : List Step) → AreDegrees arcs nodes degrees → Filled arcs degrees (first_steps (length arcs)) spans steps → (k : ℕ) → k < length steps
+pub step_with : (arcs : List Arc) (nodes : ℕ) (degrees : List ℕ) (spans : List Span) (steps : List ResidualArc) → AreDegrees arcs nodes degrees → Filled arcs degrees (first_steps (length arcs)) spans steps → (k : ℕ) → k < length steps
     → (v : ℕ) × (j : ℕ) × (v < length degrees) × (j < length (row_of arcs v)) × (sum (take v degrees) + j ≡ k) × (step_at steps k ≡ step_at (row_of arcs v) j)
 step_with arcs nodes degrees spans steps are h k l =
     let (v, a, b, c) = row_with degrees k (omega (arith, h.total)) in

@@ -7,26 +7,26 @@ use Rattle.std.proofs.lemmas.List.Kept.{IsNonDecreasingBy-filter}
 use Rattle.std.proofs.lemmas.List.Sorted.{IsNonDecreasingBy-short, IsNonDecreasingBy-push}
 use Rattle.std.proofs.lemmas.List.Elements.{filter-append, Contains-append_left, Contains-push, Contains-push_cases}
 use Rattle.esr_cert.specs.declared.network.Arc.{Arc}
-use Rattle.esr_cert.specs.declared.step.Step.{Step}
-use Rattle.esr_cert.specs.declared.step.Step.TheVariants.{Along, Against}
+use Rattle.esr_cert.specs.declared.residual.ResidualArc.{ResidualArc}
+use Rattle.esr_cert.specs.declared.residual.ResidualArc.TheVariants.{Forward, Backward}
 use Rattle.esr_cert.specs.Steps.{arc_of, order_of, start, HasSteps, AreOnce, step_at, same_step, has_step}
 use Rattle.esr_cert.specs.Rows.{first_steps, steps_from, row_of}
 
 -- a step more, at the node where it starts and at another
-pub steps_here : (arcs : List Arc) (v : ℕ) (done : List Step) (s : Step) → start arcs s ≡ v → steps_from arcs v (done ++ s ∷ []) ≡ steps_from arcs v done ++ s ∷ []
+pub steps_here : (arcs : List Arc) (v : ℕ) (done : List ResidualArc) (s : ResidualArc) → start arcs s ≡ v → steps_from arcs v (done ++ s ∷ []) ≡ steps_from arcs v done ++ s ∷ []
 steps_here arcs v done s e =
     filter-append (λ step. eqb (start arcs step) v) done (s ∷ []) ∙ ap (λ b. steps_from arcs v done ++ cond b (s ∷ []) []) (eq-eqb (start arcs s) v e)
 
-pub steps_other : (arcs : List Arc) (v : ℕ) (done : List Step) (s : Step) → (start arcs s ≡ v → ⊥) → steps_from arcs v (done ++ s ∷ []) ≡ steps_from arcs v done
+pub steps_other : (arcs : List Arc) (v : ℕ) (done : List ResidualArc) (s : ResidualArc) → (start arcs s ≡ v → ⊥) → steps_from arcs v (done ++ s ∷ []) ≡ steps_from arcs v done
 steps_other arcs v done s ne =
     filter-append (λ step. eqb (start arcs step) v) done (s ∷ []) ∙ ap (λ b. steps_from arcs v done ++ cond b (s ∷ []) []) (ne_eqb (start arcs s) v ne) ∙ append-nil (steps_from arcs v done)
 
-pub steps_parts : (arcs : List Arc) (v : ℕ) (done rest : List Step) (s : Step) → start arcs s ≡ v → steps_from arcs v (done ++ s ∷ rest) ≡ steps_from arcs v done ++ s ∷ steps_from arcs v rest
+pub steps_parts : (arcs : List Arc) (v : ℕ) (done rest : List ResidualArc) (s : ResidualArc) → start arcs s ≡ v → steps_from arcs v (done ++ s ∷ rest) ≡ steps_from arcs v done ++ s ∷ steps_from arcs v rest
 steps_parts arcs v done rest s e =
     filter-append (λ step. eqb (start arcs step) v) done (s ∷ rest) ∙ ap (λ b. steps_from arcs v done ++ cond b (s ∷ steps_from arcs v rest) (steps_from arcs v rest)) (eq-eqb (start arcs s) v e)
 
 -- there is room for a step where its row is to have it
-pub room_for : (arcs : List Arc) (v : ℕ) (done rest : List Step) (s : Step) → start arcs s ≡ v → length (steps_from arcs v done) < length (steps_from arcs v (done ++ s ∷ rest))
+pub room_for : (arcs : List Arc) (v : ℕ) (done rest : List ResidualArc) (s : ResidualArc) → start arcs s ≡ v → length (steps_from arcs v done) < length (steps_from arcs v (done ++ s ∷ rest))
 room_for arcs v done rest s e =
     omega (arith, ap length (steps_parts arcs v done rest s e), length-append (steps_from arcs v done) (s ∷ steps_from arcs v rest))
 
@@ -35,76 +35,76 @@ first_within arcs v i zero l = let e : i ≡ 0 = omega arith in omega (arith, ap
 first_within arcs v i (suc n) l =
     let split : (i ≡ suc n) ⊎ (i ≤ n) = grind arith in
     let rest : i ≤ n → length (steps_from arcs v (first_steps i)) ≤ length (steps_from arcs v (first_steps n)) = first_within arcs v i n in
-    let more : steps_from arcs v (first_steps (suc n)) ≡ steps_from arcs v (first_steps n) ++ steps_from arcs v (Along n ∷ Against n ∷ []) = filter-append (λ step. eqb (start arcs step) v) (first_steps n) (Along n ∷ Against n ∷ []) in
+    let more : steps_from arcs v (first_steps (suc n)) ≡ steps_from arcs v (first_steps n) ++ steps_from arcs v (Forward n ∷ Backward n ∷ []) = filter-append (λ step. eqb (start arcs step) v) (first_steps n) (Forward n ∷ Backward n ∷ []) in
     elim split [
       | inl e ↦ omega (arith, ap (λ m. length (steps_from arcs v (first_steps m))) e)
-      | inr m ↦ omega (arith, rest m, ap length more, length-append (steps_from arcs v (first_steps n)) (steps_from arcs v (Along n ∷ Against n ∷ [])))
+      | inr m ↦ omega (arith, rest m, ap length more, length-append (steps_from arcs v (first_steps n)) (steps_from arcs v (Forward n ∷ Backward n ∷ [])))
     ]
 
-pub first_more : (n : ℕ) → (first_steps n ++ Along n ∷ []) ++ Against n ∷ [] ≡ first_steps (suc n)
-first_more n = append_assoc (first_steps n) (Along n ∷ []) (Against n ∷ [])
+pub first_more : (n : ℕ) → (first_steps n ++ Forward n ∷ []) ++ Backward n ∷ [] ≡ first_steps (suc n)
+first_more n = append_assoc (first_steps n) (Forward n ∷ []) (Backward n ∷ [])
 
-pub first_next : (n : ℕ) → (first_steps n ++ Along n ∷ []) ++ Against n ∷ [] ≡ first_steps (n + 1)
+pub first_next : (n : ℕ) → (first_steps n ++ Forward n ∷ []) ++ Backward n ∷ [] ≡ first_steps (n + 1)
 first_next n = first_more n ∙ ap first_steps (sym (add-one n))
 
 pub first_count : (n : ℕ) → length (first_steps n) ≡ n + n
 first_count zero = refl
-first_count (suc n) = omega (arith, first_count n, length-append (first_steps n) (Along n ∷ Against n ∷ []))
+first_count (suc n) = omega (arith, first_count n, length-append (first_steps n) (Forward n ∷ Backward n ∷ []))
 
-first_known : (n : ℕ) (s : Step) → Contains (first_steps n) s → arc_of s < n
+first_known : (n : ℕ) (s : ResidualArc) → Contains (first_steps n) s → arc_of s < n
 first_known zero s c = absurd (omega (arith, c.1))
 first_known (suc n) s c =
-    elim (Contains-push_cases (first_steps n ++ Along n ∷ []) (Against n) s (subst (λ steps. Contains steps s) (sym (first_more n)) c)) [
-      | inl before ↦ elim (Contains-push_cases (first_steps n) (Along n) s before) [
+    elim (Contains-push_cases (first_steps n ++ Forward n ∷ []) (Backward n) s (subst (λ steps. Contains steps s) (sym (first_more n)) c)) [
+      | inl before ↦ elim (Contains-push_cases (first_steps n) (Forward n) s before) [
         | inl old ↦ let l : arc_of s < n = first_known n s old in omega arith
         | inr here ↦ let e : n ≡ arc_of s = ap arc_of here in omega arith
       ]
       | inr here ↦ let e : n ≡ arc_of s = ap arc_of here in omega arith
     ]
 
-pub first_all : (n : ℕ) (s : Step) → arc_of s < n → Contains (first_steps n) s
+pub first_all : (n : ℕ) (s : ResidualArc) → arc_of s < n → Contains (first_steps n) s
 first_all zero s l = absurd (omega arith)
 first_all (suc n) s l = subst (λ steps. Contains steps s) (first_more n) (at s l (first_all n s))
   where
-    at : (s : Step) → arc_of s < suc n → (arc_of s < n → Contains (first_steps n) s) → Contains ((first_steps n ++ Along n ∷ []) ++ Against n ∷ []) s
-    at (Along i) l old =
+    at : (s : ResidualArc) → arc_of s < suc n → (arc_of s < n → Contains (first_steps n) s) → Contains ((first_steps n ++ Forward n ∷ []) ++ Backward n ∷ []) s
+    at (Forward i) l old =
         let split : (i < n) ⊎ (i ≡ n) = grind arith in
-        Contains-append_left (first_steps n ++ Along n ∷ []) (Against n ∷ []) (Along i) (elim split [
-          | inl m ↦ Contains-append_left (first_steps n) (Along n ∷ []) (Along i) (old m)
-          | inr e ↦ subst (λ j. Contains (first_steps n ++ Along n ∷ []) (Along j)) (sym e) (Contains-push (first_steps n) (Along n))
+        Contains-append_left (first_steps n ++ Forward n ∷ []) (Backward n ∷ []) (Forward i) (elim split [
+          | inl m ↦ Contains-append_left (first_steps n) (Forward n ∷ []) (Forward i) (old m)
+          | inr e ↦ subst (λ j. Contains (first_steps n ++ Forward n ∷ []) (Forward j)) (sym e) (Contains-push (first_steps n) (Forward n))
         ])
-    at (Against i) l old =
+    at (Backward i) l old =
         let split : (i < n) ⊎ (i ≡ n) = grind arith in
         elim split [
-          | inl m ↦ Contains-append_left (first_steps n ++ Along n ∷ []) (Against n ∷ []) (Against i) (Contains-append_left (first_steps n) (Along n ∷ []) (Against i) (old m))
-          | inr e ↦ subst (λ j. Contains ((first_steps n ++ Along n ∷ []) ++ Against n ∷ []) (Against j)) (sym e) (Contains-push (first_steps n ++ Along n ∷ []) (Against n))
+          | inl m ↦ Contains-append_left (first_steps n ++ Forward n ∷ []) (Backward n ∷ []) (Backward i) (Contains-append_left (first_steps n) (Forward n ∷ []) (Backward i) (old m))
+          | inr e ↦ subst (λ j. Contains ((first_steps n ++ Forward n ∷ []) ++ Backward n ∷ []) (Backward j)) (sym e) (Contains-push (first_steps n ++ Forward n ∷ []) (Backward n))
         ]
 
 -- a row has those of some steps that start at its node, each once, and no others
-record Row (arcs : List Arc) (done : List Step) (v : ℕ) (row : List Step) : Type 0 where
+record Row (arcs : List Arc) (done : List ResidualArc) (v : ℕ) (row : List ResidualArc) : Type 0 where
   starts : (k : ℕ) → k < length row → start arcs (step_at row k) ≡ v
   known : (k : ℕ) → k < length row → Contains done (step_at row k)
   once : AreOnce row
-  all : (step : Step) → Contains done step → start arcs step ≡ v → Contains row step
+  all : (step : ResidualArc) → Contains done step → start arcs step ≡ v → Contains row step
 
-pub last_or_not : (row : List Step) (s : Step) (k : ℕ) → k < length (row ++ s ∷ []) → (k < length row) ⊎ (k ≡ length row)
+pub last_or_not : (row : List ResidualArc) (s : ResidualArc) (k : ℕ) → k < length (row ++ s ∷ []) → (k < length row) ⊎ (k ≡ length row)
 last_or_not row s k l = let m : k < length row + 1 = omega (arith, length_push row s) in grind arith
 
-pub not_last : (row : List Step) (s : Step) (k : ℕ) → k < length row → step_at (row ++ s ∷ []) k ≡ step_at row k
-not_last row s k l = get_or_append_left row (s ∷ []) (Along 0) k l
+pub not_last : (row : List ResidualArc) (s : ResidualArc) (k : ℕ) → k < length row → step_at (row ++ s ∷ []) k ≡ step_at row k
+not_last row s k l = get_or_append_left row (s ∷ []) (Forward 0) k l
 
-pub at_last : (row : List Step) (s : Step) (k : ℕ) → k ≡ length row → step_at (row ++ s ∷ []) k ≡ s
-at_last row s k e = get_or_push row s (Along 0) k (sym e)
+pub at_last : (row : List ResidualArc) (s : ResidualArc) (k : ℕ) → k ≡ length row → step_at (row ++ s ∷ []) k ≡ s
+at_last row s k e = get_or_push row s (Forward 0) k (sym e)
 
 -- what holds of the steps of a row and of one more
-each_push : (P : Step → Type 0) (row : List Step) (s : Step) → P s → ((k : ℕ) → k < length row → P (step_at row k)) → (k : ℕ) → k < length (row ++ s ∷ []) → P (step_at (row ++ s ∷ []) k)
+each_push : (P : ResidualArc → Type 0) (row : List ResidualArc) (s : ResidualArc) → P s → ((k : ℕ) → k < length row → P (step_at row k)) → (k : ℕ) → k < length (row ++ s ∷ []) → P (step_at (row ++ s ∷ []) k)
 each_push P row s p h k l =
     elim (last_or_not row s k l) [
       | inl m ↦ subst P (sym (not_last row s k m)) (h k m)
       | inr q ↦ subst P (sym (at_last row s k q)) p
     ]
 
-once_push : (row : List Step) (s : Step) → ((k : ℕ) → k < length row → step_at row k ≡ s → ⊥) → AreOnce row → AreOnce (row ++ s ∷ [])
+once_push : (row : List ResidualArc) (s : ResidualArc) → ((k : ℕ) → k < length row → step_at row k ≡ s → ⊥) → AreOnce row → AreOnce (row ++ s ∷ [])
 once_push row s other once j k jl kl e =
     elim (last_or_not row s j jl) [
       | inl a ↦ elim (last_or_not row s k kl) [
@@ -117,7 +117,7 @@ once_push row s other once j k jl kl e =
       ]
     ]
 
-row_more : (arcs : List Arc) (done : List Step) (v : ℕ) (s : Step) → (Contains done s → ⊥) → Row arcs done v (steps_from arcs v done) → Row arcs (done ++ s ∷ []) v (steps_from arcs v (done ++ s ∷ []))
+row_more : (arcs : List Arc) (done : List ResidualArc) (v : ℕ) (s : ResidualArc) → (Contains done s → ⊥) → Row arcs done v (steps_from arcs v done) → Row arcs (done ++ s ∷ []) v (steps_from arcs v (done ++ s ∷ []))
 row_more arcs done v s new old =
     elim (cases_eq (start arcs s) v) [
       | inl e ↦ subst (Row arcs (done ++ s ∷ []) v) (sym (steps_here arcs v done s e)) (record {
@@ -149,15 +149,15 @@ first_row arcs zero v = record {
 }
 first_row arcs (suc n) v =
     subst (λ done. Row arcs done v (steps_from arcs v done)) (first_more n)
-    (row_more arcs (first_steps n ++ Along n ∷ []) v (Against n) apart (row_more arcs (first_steps n) v (Along n) (λ c. let l : n < n = first_known n (Along n) c in omega arith) (first_row arcs n v)))
+    (row_more arcs (first_steps n ++ Forward n ∷ []) v (Backward n) apart (row_more arcs (first_steps n) v (Forward n) (λ c. let l : n < n = first_known n (Forward n) c in omega arith) (first_row arcs n v)))
   where
-    other : Along n ≡ Against n → ⊥
+    other : Forward n ≡ Backward n → ⊥
     other e = cc
 
-    apart : Contains (first_steps n ++ Along n ∷ []) (Against n) → ⊥
+    apart : Contains (first_steps n ++ Forward n ∷ []) (Backward n) → ⊥
     apart c =
-        elim (Contains-push_cases (first_steps n) (Along n) (Against n) c) [
-          | inl old ↦ let l : n < n = first_known n (Against n) old in omega arith
+        elim (Contains-push_cases (first_steps n) (Forward n) (Backward n) c) [
+          | inl old ↦ let l : n < n = first_known n (Backward n) old in omega arith
           | inr same ↦ other same
         ]
 
@@ -165,11 +165,11 @@ first_row arcs (suc n) v =
 pub row_known : (arcs : List Arc) (n v k : ℕ) → k < length (steps_from arcs v (first_steps n)) → arc_of (step_at (steps_from arcs v (first_steps n)) k) < n
 row_known arcs n v k l = first_known n (step_at (steps_from arcs v (first_steps n)) k) ((first_row arcs n v).known k l)
 
-same_itself : (s : Step) → same_step s s ≡ true
-same_itself (Along i) = eq-eqb i i refl
-same_itself (Against i) = eq-eqb i i refl
+same_itself : (s : ResidualArc) → same_step s s ≡ true
+same_itself (Forward i) = eq-eqb i i refl
+same_itself (Backward i) = eq-eqb i i refl
 
-has_from : (steps : List Step) (s : Step) → Contains steps s → has_step steps s ≡ true
+has_from : (steps : List ResidualArc) (s : ResidualArc) → Contains steps s → has_step steps s ≡ true
 has_from [] s c = absurd (omega (arith, c.1))
 has_from (t ∷ steps) s c = at (has_from steps s) c.0 c.1 c.2
   where
@@ -186,23 +186,23 @@ has_steps arcs v =
       all = λ step a e. has_from (row_of arcs v) step (row.all step (first_all (length arcs) step a) e);
     }
 
-below : (n : ℕ) (s : Step) → arc_of s < n → order_of s ≤ order_of (Along n)
-below n (Along i) l = omega arith
-below n (Against i) l = omega arith
+below : (n : ℕ) (s : ResidualArc) → arc_of s < n → order_of s ≤ order_of (Forward n)
+below n (Forward i) l = omega arith
+below n (Backward i) l = omega arith
 
 first_ascend : (n : ℕ) → IsNonDecreasingBy order_of (first_steps n)
 first_ascend zero = IsNonDecreasingBy-short order_of [] (omega arith)
 first_ascend (suc n) =
     subst (IsNonDecreasingBy order_of) (first_more n)
-    (IsNonDecreasingBy-push order_of (first_steps n ++ Along n ∷ []) (Against n) (IsNonDecreasingBy-push order_of (first_steps n) (Along n) (first_ascend n) (λ d l. low d l)) (λ d l. last d l))
+    (IsNonDecreasingBy-push order_of (first_steps n ++ Forward n ∷ []) (Backward n) (IsNonDecreasingBy-push order_of (first_steps n) (Forward n) (first_ascend n) (λ d l. low d l)) (λ d l. last d l))
   where
-    low : (d : Step) → 0 < length (first_steps n) → order_of (get_or (first_steps n) (length (first_steps n) - 1) d) ≤ order_of (Along n)
+    low : (d : ResidualArc) → 0 < length (first_steps n) → order_of (get_or (first_steps n) (length (first_steps n) - 1) d) ≤ order_of (Forward n)
     low d l =
-        let s : Step = get_or (first_steps n) (length (first_steps n) - 1) d in
+        let s : ResidualArc = get_or (first_steps n) (length (first_steps n) - 1) d in
         below n s (first_known n s (length (first_steps n) - 1, omega arith, get_or_default (first_steps n) (length (first_steps n) - 1) s d (omega arith)))
 
-    last : (d : Step) → 0 < length (first_steps n ++ Along n ∷ []) → order_of (get_or (first_steps n ++ Along n ∷ []) (length (first_steps n ++ Along n ∷ []) - 1) d) ≤ order_of (Against n)
-    last d l = omega (arith, ap order_of (get_or_push (first_steps n) (Along n) d (length (first_steps n ++ Along n ∷ []) - 1) (omega (arith, length_push (first_steps n) (Along n)))))
+    last : (d : ResidualArc) → 0 < length (first_steps n ++ Forward n ∷ []) → order_of (get_or (first_steps n ++ Forward n ∷ []) (length (first_steps n ++ Forward n ∷ []) - 1) d) ≤ order_of (Backward n)
+    last d l = omega (arith, ap order_of (get_or_push (first_steps n) (Forward n) d (length (first_steps n ++ Forward n ∷ []) - 1) (omega (arith, length_push (first_steps n) (Forward n)))))
 
 -- the steps of a row ascend
 pub row_ascends : (arcs : List Arc) (v : ℕ) → IsNonDecreasingBy order_of (row_of arcs v)

@@ -8,7 +8,7 @@ use Rattle.esr_cert.specs.Certificate.{Certificate, amounts, fault}
 use Rattle.esr_cert.specs.Rows.{row_of}
 use Rattle.esr_cert.specs.Starts.{starts_from}
 use Rattle.esr_cert.specs.Balance.{is_balanced}
-use Rattle.esr_cert.specs.declared.step.Step.TheVariants.{Along, Against}
+use Rattle.esr_cert.specs.declared.residual.ResidualArc.TheVariants.{Forward, Backward}
 use Rattle.esr_cert.specs.declared.certificate.Fault.TheVariants.{SetNotAscending, UnknownUpdate, SetNotClosed, OverCapacity, NotConserved, WorthNotCost, TooManyAugmentations}
 
 -- two updates in a row, and two items that a query read: the second wrote both, the first one of them
@@ -58,7 +58,7 @@ out_at_the_second : outflow (network report).arcs (amounts after_both) 1 ≡ 1
 out_at_the_second = refl
 
 -- the second update is a writer of each item, and the second of the pair
-five_steps : row_of (network report).arcs 1 ≡ Against 1 ∷ Along 2 ∷ Against 3 ∷ Along 4 ∷ Along 5 ∷ []
+five_steps : row_of (network report).arcs 1 ≡ Backward 1 ∷ Forward 2 ∷ Backward 3 ∷ Forward 4 ∷ Forward 5 ∷ []
 five_steps = refl
 
 second_is_balanced : is_balanced (amounts after_both) (row_of (network report).arcs 1) ≡ true

@@ -38,13 +38,13 @@ is_within p c =
     && (length c.must_flow == length p.must) && are_within (network p).arcs (amounts c)
 
 -- the worth is the flow's and the set's cost
-abbrev pub is_tight : Problem → Certificate → Bool
-is_tight p c = (c.worth == worth (network p) (amounts c)) && (c.worth == cost p (in_set c.set))
+abbrev pub worth_matches : Problem → Certificate → Bool
+worth_matches p c = (c.worth == worth (network p) (amounts c)) && (c.worth == cost p (in_set c.set))
 
 -- a count that is given is at most nodes times arcs
-abbrev pub is_short : Problem → Option ℕ → Bool
-is_short p None = true
-is_short p (Some count) = nat_le count ((network p).nodes * length (network p).arcs)
+abbrev pub is_count_in_bound : Problem → Option ℕ → Bool
+is_count_in_bound p None = true
+is_count_in_bound p (Some count) = nat_le count ((network p).nodes * length (network p).arcs)
 
 -- the first fault that applies
 abbrev pub fault : Problem → Certificate → Option Fault
@@ -54,8 +54,8 @@ fault p c =
     if not (is_closed p (in_set c.set)) then Some SetNotClosed else (
     if not (is_within p c) then Some OverCapacity else (
     if not (is_conserved (network p) (amounts c)) then Some NotConserved else (
-    if not (is_tight p c) then Some WorthNotCost else (
-    if not (is_short p c.augmentations) then Some TooManyAugmentations else None))))))
+    if not (worth_matches p c) then Some WorthNotCost else (
+    if not (is_count_in_bound p c.augmentations) then Some TooManyAugmentations else None))))))
 
 abbrev pub Certifies : Problem → Certificate → Type 0
 Certifies p c = fault p c ≡ None

@@ -73,7 +73,7 @@ are_linked before [] = true
 are_linked before (w ∷ []) = true
 are_linked before (w ∷ x ∷ rest) = has_pair before w x && are_linked before (x ∷ rest)
 
--- no number stands twice
+-- no number occurs twice
 abbrev pub is_distinct : List ℕ → Bool
 is_distinct [] = true
 is_distinct (x ∷ xs) = not (in_set xs x) && is_distinct xs

@@ -1,8 +1,8 @@
 -- For each node the steps that start at it, in rows that lie one after another.
 use Rattle.std.specs.Prelude.{◌≡◌, ℕ, zero, suc, ◌+◌, ◌*◌, ◌-◌, ◌<◌, ◌≤◌, ◌==◌, List, [], ◌∷◌, ◌++◌, length, get_or, set, take, drop, filter, sum}
 use Rattle.esr_cert.specs.declared.network.Arc.{Arc}
-use Rattle.esr_cert.specs.declared.step.Step.{Step}
-use Rattle.esr_cert.specs.declared.step.Step.TheVariants.{Along, Against}
+use Rattle.esr_cert.specs.declared.residual.ResidualArc.{ResidualArc}
+use Rattle.esr_cert.specs.declared.residual.ResidualArc.TheVariants.{Forward, Backward}
 use Rattle.esr_cert.specs.declared.rows.Span.{Span}
 use Rattle.esr_cert.specs.declared.rows.Rows.{Rows}
 use Rattle.esr_cert.specs.declared.rows.TheConstants.{MOST_ARCS}
@@ -17,16 +17,16 @@ abbrev pub row_in : {X : Type 0} → List X → Span → List X
 row_in list span = take (span.end - span.begin) (drop span.begin list)
 
 -- both steps of each of the first n arcs
-abbrev pub first_steps : ℕ → List Step
+abbrev pub first_steps : ℕ → List ResidualArc
 first_steps zero = []
-first_steps (suc n) = first_steps n ++ Along n ∷ Against n ∷ []
+first_steps (suc n) = first_steps n ++ Forward n ∷ Backward n ∷ []
 
 -- those of some steps that start at a node
-abbrev pub steps_from : List Arc → ℕ → List Step → List Step
+abbrev pub steps_from : List Arc → ℕ → List ResidualArc → List ResidualArc
 steps_from arcs v steps = filter (λ step. start arcs step == v) steps
 
 -- all steps that start at a node, by the numbers of their arcs
-abbrev pub row_of : List Arc → ℕ → List Step
+abbrev pub row_of : List Arc → ℕ → List ResidualArc
 row_of arcs v = steps_from arcs v (first_steps (length arcs))
 
 -- how many steps start at each node, and how many there are
@@ -42,14 +42,14 @@ pub record AreBegun (lengths : List ℕ) (spans : List Span) : Type 0 where
       → span_at spans v ≡ record { begin = sum (take v lengths); end = sum (take v lengths) }
 
 -- the rows of n nodes
-pub record AreRows (arcs : List Arc) (n : ℕ) (spans : List Span) (steps : List Step) : Type 0 where
+pub record AreRows (arcs : List Arc) (n : ℕ) (spans : List Span) (steps : List ResidualArc) : Type 0 where
   pub count : length spans ≡ n
   pub ordered : (v : ℕ) → v < n → (span_at spans v).begin ≤ (span_at spans v).end
   pub inside : (v : ℕ) → v < n → (span_at spans v).end ≤ length steps
   pub row : (v : ℕ) → v < n → row_in steps (span_at spans v) ≡ row_of arcs v
 
 -- the two steps of each of some arcs, each once, and few enough for their numbers
-pub record AreSteps (arcs : List Arc) (steps : List Step) : Type 0 where
+pub record AreSteps (arcs : List Arc) (steps : List ResidualArc) : Type 0 where
   pub few : length arcs ≤ MOST_ARCS
   pub count : length steps ≡ 2 * length arcs
   pub in_arcs : (k : ℕ) → k < length steps → arc_of (step_at steps k) < length arcs

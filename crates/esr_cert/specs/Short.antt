@@ -2,19 +2,19 @@
 use Rattle.std.specs.Prelude.{◌≡◌, ℕ, ◌+◌, ◌-◌, nat_lt, if◌then◌else◌}
 use Rattle.std.proofs.Common.{ap, ◌∙◌, inl, inr, arith, cond}
 use Rattle.std.proofs.lemmas.Bool.{cases_lt, lt-ltb, le-ltb}
-use Rattle.esr_cert.specs.declared.step.Step.{Step}
-use Rattle.esr_cert.specs.declared.step.Step.TheVariants.{Along, Against}
+use Rattle.esr_cert.specs.declared.residual.ResidualArc.{ResidualArc}
+use Rattle.esr_cert.specs.declared.residual.ResidualArc.TheVariants.{Forward, Backward}
 
-abbrev pub step_of : ℕ → Step
-step_of n = if nat_lt n 2147483648 then Along n else Against (n - 2147483648)
+abbrev pub step_of : ℕ → ResidualArc
+step_of n = if nat_lt n 2147483648 then Forward n else Backward (n - 2147483648)
 
-abbrev pub number_of : Step → ℕ
-number_of (Along i) = i
-number_of (Against i) = i + 2147483648
+abbrev pub number_of : ResidualArc → ℕ
+number_of (Forward i) = i
+number_of (Backward i) = i + 2147483648
 
 pub number_of-step_of : (n : ℕ) → number_of (step_of n) ≡ n
 number_of-step_of n =
     elim (cases_lt n 2147483648) [
-      | inl l ↦ ap (λ b. number_of (cond b (Along n) (Against (n - 2147483648)))) (lt-ltb n 2147483648 l)
-      | inr m ↦ let back : n - 2147483648 + 2147483648 ≡ n = omega arith in ap (λ b. number_of (cond b (Along n) (Against (n - 2147483648)))) (le-ltb n 2147483648 m) ∙ back
+      | inl l ↦ ap (λ b. number_of (cond b (Forward n) (Backward (n - 2147483648)))) (lt-ltb n 2147483648 l)
+      | inr m ↦ let back : n - 2147483648 + 2147483648 ≡ n = omega arith in ap (λ b. number_of (cond b (Forward n) (Backward (n - 2147483648)))) (le-ltb n 2147483648 m) ∙ back
     ]

@@ -1,49 +1,49 @@
--- Steps over the arcs of a network: along an arc, or back against it.
+-- Residual arcs, the steps of paths: forward over an arc of a network, or backward over it.
 use Rattle.std.specs.Prelude.{◌≡◌, ℕ, ◌+◌, ◌*◌, ◌<◌, ◌||◌, ◌==◌, Bool, true, false, List, [], ◌∷◌, length, get_or}
 use Rattle.esr_cert.specs.declared.network.Arc.{Arc}
-use Rattle.esr_cert.specs.declared.step.Step.{Step}
-use Rattle.esr_cert.specs.declared.step.Step.TheVariants.{Along, Against}
+use Rattle.esr_cert.specs.declared.residual.ResidualArc.{ResidualArc}
+use Rattle.esr_cert.specs.declared.residual.ResidualArc.TheVariants.{Forward, Backward}
 use Rattle.esr_cert.specs.Network.{arc_at}
 
-abbrev pub arc_of : Step → ℕ
-arc_of (Along i) = i
-arc_of (Against i) = i
+abbrev pub arc_of : ResidualArc → ℕ
+arc_of (Forward i) = i
+arc_of (Backward i) = i
 
--- the place of a step among all: by its arc, and along an arc before against it
-abbrev pub order_of : Step → ℕ
-order_of (Along i) = 2 * i
-order_of (Against i) = 2 * i + 1
+-- the position of a step among all: by its arc, forward before backward
+abbrev pub order_of : ResidualArc → ℕ
+order_of (Forward i) = 2 * i
+order_of (Backward i) = 2 * i + 1
 
 -- the node at which a step starts
-abbrev pub start : List Arc → Step → ℕ
-start arcs (Along i) = (arc_at arcs i).from
-start arcs (Against i) = (arc_at arcs i).to
+abbrev pub start : List Arc → ResidualArc → ℕ
+start arcs (Forward i) = (arc_at arcs i).from
+start arcs (Backward i) = (arc_at arcs i).to
 
 -- the step back over the same arc
-abbrev pub opposite : Step → Step
-opposite (Along i) = Against i
-opposite (Against i) = Along i
+abbrev pub opposite : ResidualArc → ResidualArc
+opposite (Forward i) = Backward i
+opposite (Backward i) = Forward i
 
-abbrev pub step_at : List Step → ℕ → Step
-step_at steps k = get_or steps k (Along 0)
+abbrev pub step_at : List ResidualArc → ℕ → ResidualArc
+step_at steps k = get_or steps k (Forward 0)
 
-abbrev pub same_step : Step → Step → Bool
-same_step (Along i) (Along j) = i == j
-same_step (Along i) (Against j) = false
-same_step (Against i) (Along j) = false
-same_step (Against i) (Against j) = i == j
+abbrev pub same_step : ResidualArc → ResidualArc → Bool
+same_step (Forward i) (Forward j) = i == j
+same_step (Forward i) (Backward j) = false
+same_step (Backward i) (Forward j) = false
+same_step (Backward i) (Backward j) = i == j
 
-abbrev pub has_step : List Step → Step → Bool
+abbrev pub has_step : List ResidualArc → ResidualArc → Bool
 has_step [] s = false
 has_step (t ∷ steps) s = same_step t s || has_step steps s
 
--- no step stands twice
-abbrev pub AreOnce : List Step → Type 0
+-- no step occurs twice
+abbrev pub AreOnce : List ResidualArc → Type 0
 AreOnce steps = (j k : ℕ) → j < length steps → k < length steps → step_at steps j ≡ step_at steps k → j ≡ k
 
 -- a list of steps has those that start at a node, each once, and no others
-pub record HasSteps (arcs : List Arc) (v : ℕ) (steps : List Step) : Type 0 where
+pub record HasSteps (arcs : List Arc) (v : ℕ) (steps : List ResidualArc) : Type 0 where
   pub starts : (k : ℕ) → k < length steps
       → (arc_of (step_at steps k) < length arcs) × (start arcs (step_at steps k) ≡ v)
   pub once : AreOnce steps
-  pub all : (step : Step) → arc_of step < length arcs → start arcs step ≡ v → has_step steps step ≡ true
+  pub all : (step : ResidualArc) → arc_of step < length arcs → start arcs step ≡ v → has_step steps step ≡ true

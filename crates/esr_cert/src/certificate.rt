@@ -14,7 +14,7 @@ pub struct Certificate {
     pub back_flow: Vec<u64>,
     /// For each update that a set must hold the amount on the arc from the source.
     pub must_flow: Vec<u64>,
-    /// The worth of the flow, and the cost of the set.
+    /// The value of the flow, which is the cost of the set.
     pub worth: u64,
     /// How many augmentations led to the flow, where that is told.
     pub augmentations: Option<u64>,

@@ -1,11 +1,11 @@
-//! The check of a certificate. It goes over each arc a fixed number of times, and takes no memory. Members of the set
+//! The check of a certificate. It goes over each arc a fixed number of times, and allocates nothing. Members of the set
 //! are found by binary search.
 ghost use Rattle.std.specs.Prelude.{◌≡◌, ℕ, ◌+◌, ◌*◌, ◌<◌, ◌≤◌, ◌||◌, not, length, get_or, map, Bool, true, IsOk};
 ghost use Rattle.std.specs.List.{list_all, sum, sum_by};
 ghost use Rattle.esr_cert.specs.Problem.{size, in_set, is_ascending, is_closed, version, chain_cost, cost};
 ghost use Rattle.esr_cert.specs.Network.{network};
 ghost use Rattle.esr_cert.specs.Flow.{amount_at, is_conserved_at, is_conserved};
-ghost use Rattle.esr_cert.specs.Certificate.{amounts, is_within, is_tight, is_short, fault, or_fault};
+ghost use Rattle.esr_cert.specs.Certificate.{amounts, is_within, worth_matches, is_count_in_bound, fault, or_fault};
 ghost use Rattle.esr_cert.specs.Balance.{is_balanced};
 ghost use Rattle.esr_cert.specs.Starts.{AreStarts};
 ghost use Rattle.esr_cert.specs.Parts.{is_row_within, are_rows_within};
@@ -15,8 +15,8 @@ use crate::arcs::arc_count;
 use crate::certificate::{Certificate, Fault};
 use crate::lists::{are_below, contains, is_ascending};
 use crate::problem::{Chain, Problem};
+use crate::residual::{ResidualArc, ShortArc};
 use crate::starts::row_at;
-use crate::step::{ShortStep, Step};
 
 fn keeps_before(before: &[(u32, u32)], set: &[u32]) -> bool
     requires { is_ascending set.now ≡ true }
@@ -114,7 +114,7 @@ fn amount_on(certificate: &Certificate, starts: &[u32], arc: u32) -> u64
 }
 
 /// Whether as much comes to a node as leaves it, by the steps that start there.
-fn is_balanced(certificate: &Certificate, starts: &[u32], steps: &[ShortStep]) -> bool
+fn is_balanced(certificate: &Certificate, starts: &[u32], steps: &[ShortArc]) -> bool
     requires starts { AreStarts starts.now (rows_of certificate.now.chain_flow.items) }
     ensures { result ≡ is_balanced (amounts (certificate_of certificate.now)) steps.now }
 {
@@ -122,8 +122,8 @@ fn is_balanced(certificate: &Certificate, starts: &[u32], steps: &[ShortStep]) -
     let mut from: u128 = 0;
     for step in steps {
         match step.step() {
-            Step::Along(arc) => from += u128::from(amount_on(certificate, starts, arc)),
-            Step::Against(arc) => into += u128::from(amount_on(certificate, starts, arc)),
+            ResidualArc::Forward(arc) => from += u128::from(amount_on(certificate, starts, arc)),
+            ResidualArc::Backward(arc) => into += u128::from(amount_on(certificate, starts, arc)),
         }
     }
     into == from
@@ -200,10 +200,10 @@ fn total(amounts: &[u64]) -> u128
 }
 
 /// Whether the worth is the flow's, which is all that leaves the source, and the cost of the set.
-fn is_tight(problem: &Problem, certificate: &Certificate) -> bool
+fn worth_matches(problem: &Problem, certificate: &Certificate) -> bool
     requires ascending { is_ascending certificate.now.set.items ≡ true }
     requires within { is_within problem.now (certificate_of certificate.now) ≡ true }
-    ensures { result ≡ is_tight problem.now (certificate_of certificate.now) }
+    ensures { result ≡ worth_matches problem.now (certificate_of certificate.now) }
 {
     let chains = problem.chains();
     let worth = u128::from(certificate.worth);
@@ -214,8 +214,8 @@ fn is_tight(problem: &Problem, certificate: &Certificate) -> bool
 }
 
 /// Whether a count of augmentations that is given is at most nodes times arcs.
-fn is_short(problem: &Problem, augmentations: Option<u64>) -> bool
-    ensures { result ≡ is_short problem.now augmentations }
+fn is_count_in_bound(problem: &Problem, augmentations: Option<u64>) -> bool
+    ensures { result ≡ is_count_in_bound problem.now augmentations }
 {
     let Some(count) = augmentations else {
         return true;
@@ -251,10 +251,10 @@ pub fn check(problem: &Problem, certificate: &Certificate) -> Result<(), Fault>
     if !is_conserved(problem, certificate) {
         return Err(Fault::NotConserved);
     }
-    if !is_tight(problem, certificate) {
+    if !worth_matches(problem, certificate) {
         return Err(Fault::WorthNotCost);
     }
-    if !is_short(problem, certificate.augmentations) {
+    if !is_count_in_bound(problem, certificate.augmentations) {
         return Err(Fault::TooManyAugmentations);
     }
     Ok(())

@@ -14,16 +14,16 @@ mod network;
 mod parts;
 mod problem;
 mod range;
+mod residual;
 mod rows;
 mod shape;
 mod starts;
-mod step;
 
 pub use certificate::{Certificate, Fault};
 pub use checker::check;
 pub use draft::{ChainDraft, ProblemDraft};
 pub use network::Arc;
 pub use problem::{BundleFault, Chain, Problem};
+pub use residual::{ResidualArc, ShortArc};
 pub use rows::{Rows, Span};
 pub use shape::has_shape;
-pub use step::{ShortStep, Step};

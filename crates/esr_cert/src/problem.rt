@@ -66,7 +66,7 @@ impl From<AllocError> for BundleFault {
 
 /// Updates, the order that a closed set keeps among them, and the items whose versions a closed set decides.
 ///
-/// No rule of shape or range is broken. Shape: no number stands twice in `updates`; the pairs of `before` ascend, by
+/// No rule of shape or range is broken. Shape: no number occurs twice in `updates`; the pairs of `before` ascend, by
 /// their first and then by their second, and the first of each is below the second; the items of the chains ascend;
 /// in each chain the writers ascend, each two neighbours are a pair of `before`, and the costs are one more than the
 /// writers; `must` ascends. Range: an update's number is 1 to 65,535; an item's number is at most 4,095; the positions

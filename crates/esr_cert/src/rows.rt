@@ -7,7 +7,7 @@ ghost use Rattle.esr_cert.specs.Network.{HaveEnds};
 ghost use Rattle.esr_cert.specs.declared.rows.TheConstants.{MOST_ARCS};
 
 use crate::arcs::Arcs;
-use crate::step::{ShortStep, Step};
+use crate::residual::{ResidualArc, ShortArc};
 use std::alloc::{AllocError, Global};
 
 /// Where the steps of a node lie.
@@ -55,7 +55,7 @@ fn begin_rows(alloc: Global, lengths: &[u32]) -> Result<Vec<Span>, AllocError>
 #[derive(Debug, Drop)]
 pub struct Rows {
     pub spans: Vec<Span>,
-    pub steps: Vec<ShortStep>,
+    pub steps: Vec<ShortArc>,
 }
 
 impl Rows {
@@ -71,7 +71,7 @@ impl Rows {
     }
 
     /// Where a step lies that starts at a node.
-    pub fn place_of(&self, v: usize, step: Step) -> usize
+    pub fn place_of(&self, v: usize, step: ResidualArc) -> usize
         requires node { v < length self.now.spans.items }
         requires ordered { (span_at self.now.spans.items v).begin ≤ (span_at self.now.spans.items v).end }
         requires inside { (span_at self.now.spans.items v).end ≤ length self.now.steps.items }
@@ -86,7 +86,7 @@ impl Rows {
     }
 
     /// Adds a step to a node's row.
-    fn add_step(&mut self, node: usize, step: Step)
+    fn add_step(&mut self, node: usize, step: ResidualArc)
         requires node { node < length self.old.spans.items }
         requires arc { arc_of step < 2147483648 }
         requires room { (span_at self.old.spans.items node).end < length self.old.steps.items }
@@ -95,7 +95,7 @@ impl Rows {
         ensures steps { self.new.steps.items ≡ set self.old.steps.items (span_at self.old.spans.items node).end step }
     {
         let place = self.spans[node].end;
-        self.steps[place as usize] = ShortStep::of(step);
+        self.steps[place as usize] = ShortArc::of(step);
         self.spans[node].end = place + 1;
     }
 }
@@ -108,13 +108,13 @@ pub fn rows_of(alloc: Global, nodes: usize, arcs: &Arcs) -> Result<Rows, AllocEr
     ensures steps { IfOk result (λ rows. AreSteps arcs.now rows.steps.items) }
 {
     let spans = begin_rows(alloc, &degrees_of(alloc, nodes, arcs)?)?;
-    let steps = vec![in alloc; ShortStep::of(Step::Along(0)); 2 * arcs.len()]?;
+    let steps = vec![in alloc; ShortArc::of(ResidualArc::Forward(0)); 2 * arcs.len()]?;
     let mut rows = Rows { spans, steps };
     for i in 0..arcs.len() {
         let number = i as u32;
         let arc = arcs.at(number);
-        rows.add_step(arc.from as usize, Step::Along(number));
-        rows.add_step(arc.to as usize, Step::Against(number));
+        rows.add_step(arc.from as usize, ResidualArc::Forward(number));
+        rows.add_step(arc.to as usize, ResidualArc::Backward(number));
     }
     Ok(rows)
 }

@@ -43,7 +43,7 @@ event_by replies (call.Write txn x value) = event.Write (number_by replies txn.b
 event_by replies (call.Commit txn) = event.Commit (number_by replies txn.begin)
 event_by replies (call.Abort txn) = event.Abort (number_by replies txn.begin)
 
--- where the name's begin stands among the calls
+-- where the name's begin is among the calls
 abbrev pub place_of : List Call → List ℕ → Option ℕ
 place_of calls name = position (λ c. begins name (command_of c)) calls
 

@@ -1,4 +1,4 @@
--- The certificate of a greatest flow.
+-- The certificate of a maximum flow.
 use Rattle.std.proofs.Common.{◌≡◌, ℕ, ◌+◌, ◌-◌, ◌*◌, ◌≤◌, Bool, true, false, List, [], ◌∷◌, ◌++◌, length, take, drop, map, flat_map, sum_by, Contains, Vec, Global, Some, refl, sym, ap, ◌∙◌, subst, arith, eq-eqb, le-leb, append-nil, length-append, length-take, length-drop, take-add, take-append-drop}
 use Rattle.std.specs.Prelude.{◌==◌, nat_lt}
 use Rattle.std.specs.List.{concat, list_all}

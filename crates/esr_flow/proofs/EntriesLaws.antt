@@ -4,26 +4,26 @@ use Rattle.std.proofs.lemmas.Bool.{cases_eq, eqb-true, or_cases}
 use Rattle.std.proofs.lemmas.List.{ext_get_or, get_or-map, length-map, take-map, drop-map}
 use Rattle.esr_cert.specs.declared.network.Arc.{Arc}
 use Rattle.esr_cert.specs.Network.{arc_at}
-use Rattle.esr_cert.specs.declared.step.Step.{Step}
-use Rattle.esr_cert.specs.declared.step.Step.TheVariants.{Along, Against}
-use Rattle.esr_flow.specs.declared.entry.Entry.{Entry}
+use Rattle.esr_cert.specs.declared.residual.ResidualArc.{ResidualArc}
+use Rattle.esr_cert.specs.declared.residual.ResidualArc.TheVariants.{Forward, Backward}
+use Rattle.esr_flow.specs.declared.entry.AdjacencyEntry.{AdjacencyEntry}
 use Rattle.esr_cert.specs.declared.rows.Span.{Span}
 use Rattle.esr_flow.specs.declared.graph.Graph.{Graph}
 use Rattle.esr_cert.specs.Flow.{within, amount_at}
 use Rattle.esr_cert.specs.Steps.{arc_of, start}
-use Rattle.esr_flow.specs.Residual.{room, left_of}
+use Rattle.esr_flow.specs.Residual.{residual_capacity, left_of}
 use Rattle.esr_flow.specs.Graph.{arcs_of, net_of, IsGraph, entry_of, entry_at, AreEntries, IsEntry, Lists}
 use Rattle.esr_cert.specs.Steps.{step_at, same_step, has_step, HasSteps}
 use Rattle.esr_cert.specs.Rows.{span_at, row_in}
 use Rattle.esr_flow.proofs.WalkLaws.{start_in}
 
-same_is : (t s : Step) → same_step t s ≡ true → t ≡ s
-same_is (Along i) (Along j) h = ap (λ n. Along n) (eqb-true i j h)
-same_is (Along i) (Against j) h = cc
-same_is (Against i) (Along j) h = cc
-same_is (Against i) (Against j) h = ap (λ n. Against n) (eqb-true i j h)
+same_is : (t s : ResidualArc) → same_step t s ≡ true → t ≡ s
+same_is (Forward i) (Forward j) h = ap (λ n. Forward n) (eqb-true i j h)
+same_is (Forward i) (Backward j) h = cc
+same_is (Backward i) (Forward j) h = cc
+same_is (Backward i) (Backward j) h = ap (λ n. Backward n) (eqb-true i j h)
 
-contains_from : (steps : List Step) (s : Step) → has_step steps s ≡ true → Contains steps s
+contains_from : (steps : List ResidualArc) (s : ResidualArc) → has_step steps s ≡ true → Contains steps s
 contains_from [] s h = cc
 contains_from (t ∷ steps) s h =
     let rest : has_step steps s ≡ true → Contains steps s = contains_from steps s in
@@ -33,12 +33,12 @@ contains_from (t ∷ steps) s h =
     ]
 
 -- the entries of a node's steps
-lists_from : (arcs : List Arc) (flow : List ℕ) (v : ℕ) (steps : List Step) → HasSteps arcs v steps → Lists arcs flow v steps (map (entry_of arcs flow) steps)
+lists_from : (arcs : List Arc) (flow : List ℕ) (v : ℕ) (steps : List ResidualArc) → HasSteps arcs v steps → Lists arcs flow v steps (map (entry_of arcs flow) steps)
 lists_from arcs flow v steps h = record {
   count = length-map steps (entry_of arcs flow);
   entries = λ k l.
       let inside : k < length steps = omega (arith, length-map steps (entry_of arcs flow)) in
-      let is : entry_at (map (entry_of arcs flow) steps) k ≡ entry_of arcs flow (step_at steps k) = get_or-map (entry_of arcs flow) steps k (Along 0) (entry_at [] 0) inside in
+      let is : entry_at (map (entry_of arcs flow) steps) k ≡ entry_of arcs flow (step_at steps k) = get_or-map (entry_of arcs flow) steps k (Forward 0) (entry_at [] 0) inside in
       let (a, s) = h.starts k inside in
       subst (IsEntry arcs flow v (step_at steps k)) (sym is) (record { in_arcs = a; starts = s; leads = refl; ahead = refl; back = refl });
   all = λ step l e. contains_from steps step (h.all step l e);
@@ -67,26 +67,26 @@ module _ {S E : Type 0} (f h : S → E) (steps : List S) (entries : List E) (p q
       each_written are lp lq at_p at_q others k inside ∙ sym (get_or-map h steps k d z inside))
 
 -- the entries of an arc's two steps
-pub along_is : (arcs : List Arc) (flow : List ℕ) (i x : ℕ) (arc : Arc) → arc ≡ arc_at arcs i → x ≡ amount_at flow i → record { to = arc.to; ahead = within 1 (left_of arc.capacity x); back = within 1 (Some x) } ≡ entry_of arcs flow (Along i)
+pub along_is : (arcs : List Arc) (flow : List ℕ) (i x : ℕ) (arc : Arc) → arc ≡ arc_at arcs i → x ≡ amount_at flow i → record { to = arc.to; ahead = within 1 (left_of arc.capacity x); back = within 1 (Some x) } ≡ entry_of arcs flow (Forward i)
 along_is arcs flow i x arc is x_is =
-    let by : Arc → ℕ → Entry = λ a n. record { to = a.to; ahead = within 1 (left_of a.capacity n); back = within 1 (Some n) } in
+    let by : Arc → ℕ → AdjacencyEntry = λ a n. record { to = a.to; ahead = within 1 (left_of a.capacity n); back = within 1 (Some n) } in
     ap (λ a. by a x) is ∙ ap (by (arc_at arcs i)) x_is
 
-pub against_is : (arcs : List Arc) (flow : List ℕ) (i x : ℕ) (arc : Arc) → arc ≡ arc_at arcs i → x ≡ amount_at flow i → record { to = arc.from; ahead = within 1 (Some x); back = within 1 (left_of arc.capacity x) } ≡ entry_of arcs flow (Against i)
+pub against_is : (arcs : List Arc) (flow : List ℕ) (i x : ℕ) (arc : Arc) → arc ≡ arc_at arcs i → x ≡ amount_at flow i → record { to = arc.from; ahead = within 1 (Some x); back = within 1 (left_of arc.capacity x) } ≡ entry_of arcs flow (Backward i)
 against_is arcs flow i x arc is x_is =
-    let by : Arc → ℕ → Entry = λ a n. record { to = a.from; ahead = within 1 (Some n); back = within 1 (left_of a.capacity n) } in
+    let by : Arc → ℕ → AdjacencyEntry = λ a n. record { to = a.from; ahead = within 1 (Some n); back = within 1 (left_of a.capacity n) } in
     ap (λ a. by a x) is ∙ ap (by (arc_at arcs i)) x_is
 
 -- the entry of a step of another arc
-same_entry : (arcs : List Arc) (flow : List ℕ) (i x : ℕ) (t : Step) → arc_of t ≢ i → entry_of arcs (set flow i x) t ≡ entry_of arcs flow t
-same_entry arcs flow i x (Along j) ne =
-    let by : ℕ → Entry = λ n. record { to = (arc_at arcs j).to; ahead = within 1 (left_of (arc_at arcs j).capacity n); back = within 1 (Some n) } in
+same_entry : (arcs : List Arc) (flow : List ℕ) (i x : ℕ) (t : ResidualArc) → arc_of t ≢ i → entry_of arcs (set flow i x) t ≡ entry_of arcs flow t
+same_entry arcs flow i x (Forward j) ne =
+    let by : ℕ → AdjacencyEntry = λ n. record { to = (arc_at arcs j).to; ahead = within 1 (left_of (arc_at arcs j).capacity n); back = within 1 (Some n) } in
     ap by (get_or-set_other flow i j x 0 ne)
-same_entry arcs flow i x (Against j) ne =
-    let by : ℕ → Entry = λ n. record { to = (arc_at arcs j).from; ahead = within 1 (Some n); back = within 1 (left_of (arc_at arcs j).capacity n) } in
+same_entry arcs flow i x (Backward j) ne =
+    let by : ℕ → AdjacencyEntry = λ n. record { to = (arc_at arcs j).from; ahead = within 1 (Some n); back = within 1 (left_of (arc_at arcs j).capacity n) } in
     ap by (get_or-set_other flow i j x 0 ne)
 
-abbrev entry : ℕ → Bool → Bool → Entry
+abbrev entry : ℕ → Bool → Bool → AdjacencyEntry
 entry n ahead back = record { to = n; ahead = ahead; back = back }
 
 same_rooms : (n : ℕ) {a b c d : Bool} → a ≡ b → c ≡ d → entry n a c ≡ entry n b d
@@ -98,12 +98,12 @@ map_same f h e (s ∷ steps) = ap (λ x. x ∷ map f steps) (e s) ∙ ap (λ xs.
 
 module _ (g : Graph) (ok : IsGraph g) where
   -- the row of the node where a step starts has it
-  pub in_row : (s : Step) → arc_of s < length (arcs_of g) → Contains (row_in g.rows.now.steps.items (span_at g.rows.now.spans.items (start (arcs_of g) s))) s
+  pub in_row : (s : ResidualArc) → arc_of s < length (arcs_of g) → Contains (row_in g.rows.now.steps.items (span_at g.rows.now.spans.items (start (arcs_of g) s))) s
   in_row s l =
       contains_from (row_in g.rows.now.steps.items (span_at g.rows.now.spans.items (start (arcs_of g) s))) s
       ((ok.lists (start (arcs_of g) s) (start_in (net_of g) ok.is_network s l)).all s l refl)
 
-  row_lists : (flow : List ℕ) (entries : List Entry) → AreEntries g flow entries → (v : ℕ) → v < g.nodes → Lists (arcs_of g) flow v (row_in g.rows.now.steps.items (span_at g.rows.now.spans.items v)) (row_in entries (span_at g.rows.now.spans.items v))
+  row_lists : (flow : List ℕ) (entries : List AdjacencyEntry) → AreEntries g flow entries → (v : ℕ) → v < g.nodes → Lists (arcs_of g) flow v (row_in g.rows.now.steps.items (span_at g.rows.now.spans.items v)) (row_in entries (span_at g.rows.now.spans.items v))
   row_lists flow entries are v l =
       let span : Span = span_at g.rows.now.spans.items v in
       let same : row_in entries span ≡ map (entry_of (arcs_of g) flow) (row_in g.rows.now.steps.items span) =
@@ -111,29 +111,29 @@ module _ (g : Graph) (ok : IsGraph g) where
       subst (Lists (arcs_of g) flow v (row_in g.rows.now.steps.items span)) (sym same) (lists_from (arcs_of g) flow v (row_in g.rows.now.steps.items span) (ok.lists v l))
 
   -- the steps and the entries of a node as they were read
-  pub lists_read : (flow : List ℕ) (entries : List Entry) → AreEntries g flow entries → (v : ℕ) → v < g.nodes → (steps : List Step) (row : List Entry) → steps ≡ row_in g.rows.now.steps.items (span_at g.rows.now.spans.items v) → row ≡ row_in entries (span_at g.rows.now.spans.items v) → Lists (arcs_of g) flow v steps row
+  pub lists_read : (flow : List ℕ) (entries : List AdjacencyEntry) → AreEntries g flow entries → (v : ℕ) → v < g.nodes → (steps : List ResidualArc) (row : List AdjacencyEntry) → steps ≡ row_in g.rows.now.steps.items (span_at g.rows.now.spans.items v) → row ≡ row_in entries (span_at g.rows.now.spans.items v) → Lists (arcs_of g) flow v steps row
   lists_read flow entries are v l steps row steps_are row_is =
       subst (λ list. Lists (arcs_of g) flow v list row) (sym steps_are)
       (subst (Lists (arcs_of g) flow v (row_in g.rows.now.steps.items (span_at g.rows.now.spans.items v))) (sym row_is) (row_lists flow entries are v l))
 
   -- a step that lies at no place of an arc's two steps is of another arc
-  other_arc : (i k p q : ℕ) → k < length g.rows.now.steps.items → p < length g.rows.now.steps.items → q < length g.rows.now.steps.items → step_at g.rows.now.steps.items p ≡ Along i → step_at g.rows.now.steps.items q ≡ Against i → k ≢ p → k ≢ q
-      → (t : Step) → step_at g.rows.now.steps.items k ≡ t → arc_of t ≢ i
-  other_arc i k p q l lp lq at_p at_q np nq (Along j) is e = np (ok.steps.once k p l lp (is ∙ ap (λ n. Along n) e ∙ sym at_p))
-  other_arc i k p q l lp lq at_p at_q np nq (Against j) is e = nq (ok.steps.once k q l lq (is ∙ ap (λ n. Against n) e ∙ sym at_q))
+  other_arc : (i k p q : ℕ) → k < length g.rows.now.steps.items → p < length g.rows.now.steps.items → q < length g.rows.now.steps.items → step_at g.rows.now.steps.items p ≡ Forward i → step_at g.rows.now.steps.items q ≡ Backward i → k ≢ p → k ≢ q
+      → (t : ResidualArc) → step_at g.rows.now.steps.items k ≡ t → arc_of t ≢ i
+  other_arc i k p q l lp lq at_p at_q np nq (Forward j) is e = np (ok.steps.once k p l lp (is ∙ ap (λ n. Forward n) e ∙ sym at_p))
+  other_arc i k p q l lp lq at_p at_q np nq (Backward j) is e = nq (ok.steps.once k q l lq (is ∙ ap (λ n. Backward n) e ∙ sym at_q))
 
-  pub renewed : (flow : List ℕ) (entries : List Entry) (i x p q : ℕ) (a b : Entry) → AreEntries g flow entries
-      → p < length g.rows.now.steps.items → step_at g.rows.now.steps.items p ≡ Along i → q < length g.rows.now.steps.items → step_at g.rows.now.steps.items q ≡ Against i
-      → a ≡ entry_of (arcs_of g) (set flow i x) (Along i) → b ≡ entry_of (arcs_of g) (set flow i x) (Against i) → AreEntries g (set flow i x) (set (set entries p a) q b)
+  pub renewed : (flow : List ℕ) (entries : List AdjacencyEntry) (i x p q : ℕ) (a b : AdjacencyEntry) → AreEntries g flow entries
+      → p < length g.rows.now.steps.items → step_at g.rows.now.steps.items p ≡ Forward i → q < length g.rows.now.steps.items → step_at g.rows.now.steps.items q ≡ Backward i
+      → a ≡ entry_of (arcs_of g) (set flow i x) (Forward i) → b ≡ entry_of (arcs_of g) (set flow i x) (Backward i) → AreEntries g (set flow i x) (set (set entries p a) q b)
   renewed flow entries i x p q a b are lp at_p lq at_q along against =
-      let f : Step → Entry = entry_of (arcs_of g) flow in
-      let h : Step → Entry = entry_of (arcs_of g) (set flow i x) in
-      ap (λ e. set (set entries p e) q b) along ∙ ap (λ e. set (set entries p (h (Along i))) q e) against
-      ∙ written f h g.rows.now.steps.items entries p q (Along i) (Against i) (Along 0) (entry_at [] 0) are lp lq at_p at_q
+      let f : ResidualArc → AdjacencyEntry = entry_of (arcs_of g) flow in
+      let h : ResidualArc → AdjacencyEntry = entry_of (arcs_of g) (set flow i x) in
+      ap (λ e. set (set entries p e) q b) along ∙ ap (λ e. set (set entries p (h (Forward i))) q e) against
+      ∙ written f h g.rows.now.steps.items entries p q (Forward i) (Backward i) (Forward 0) (entry_at [] 0) are lp lq at_p at_q
       (λ k l np nq. same_entry (arcs_of g) flow i x (step_at g.rows.now.steps.items k) (other_arc i k p q l lp lq at_p at_q np nq (step_at g.rows.now.steps.items k) refl))
 
-  -- where an arc's two steps have room as before, so do all steps
-  pub unchanged : (flow : List ℕ) (entries : List Entry) (i x : ℕ) (arc : Arc) → i < length flow → arc ≡ arc_at (arcs_of g) i → AreEntries g flow entries
+  -- where an arc's two steps have residual capacity as before, so do all steps
+  pub unchanged : (flow : List ℕ) (entries : List AdjacencyEntry) (i x : ℕ) (arc : Arc) → i < length flow → arc ≡ arc_at (arcs_of g) i → AreEntries g flow entries
       → within 1 (left_of arc.capacity (amount_at flow i)) ≡ within 1 (left_of arc.capacity x) → within 1 (Some (amount_at flow i)) ≡ within 1 (Some x) → AreEntries g (set flow i x) entries
   unchanged flow entries i x arc l is are same_ahead same_back =
       are ∙ map_same (entry_of (arcs_of g) flow) (entry_of (arcs_of g) (set flow i x)) (λ s. elim (cases_eq (arc_of s) i) [
@@ -144,14 +144,14 @@ module _ (g : Graph) (ok : IsGraph g) where
       now : x ≡ amount_at (set flow i x) i
       now = sym (get_or-set_same flow i x 0 l)
 
-      ahead : within 1 (room (arcs_of g) flow (Along i)) ≡ within 1 (room (arcs_of g) (set flow i x) (Along i))
+      ahead : within 1 (residual_capacity (arcs_of g) flow (Forward i)) ≡ within 1 (residual_capacity (arcs_of g) (set flow i x) (Forward i))
       ahead =
           subst (λ (a : Arc). within 1 (left_of a.capacity (amount_at flow i)) ≡ within 1 (left_of a.capacity x)) is same_ahead
           ∙ ap (λ n. within 1 (left_of (arc_at (arcs_of g) i).capacity n)) now
 
-      back : within 1 (room (arcs_of g) flow (Against i)) ≡ within 1 (room (arcs_of g) (set flow i x) (Against i))
+      back : within 1 (residual_capacity (arcs_of g) flow (Backward i)) ≡ within 1 (residual_capacity (arcs_of g) (set flow i x) (Backward i))
       back = same_back ∙ ap (λ n. within 1 (Some n)) now
 
-      here : (s : Step) → arc_of s ≡ i → entry_of (arcs_of g) flow s ≡ entry_of (arcs_of g) (set flow i x) s
-      here (Along j) e = subst (λ n. entry_of (arcs_of g) flow (Along n) ≡ entry_of (arcs_of g) (set flow i x) (Along n)) (sym e) (same_rooms (arc_at (arcs_of g) i).to ahead back)
-      here (Against j) e = subst (λ n. entry_of (arcs_of g) flow (Against n) ≡ entry_of (arcs_of g) (set flow i x) (Against n)) (sym e) (same_rooms (arc_at (arcs_of g) i).from back ahead)
+      here : (s : ResidualArc) → arc_of s ≡ i → entry_of (arcs_of g) flow s ≡ entry_of (arcs_of g) (set flow i x) s
+      here (Forward j) e = subst (λ n. entry_of (arcs_of g) flow (Forward n) ≡ entry_of (arcs_of g) (set flow i x) (Forward n)) (sym e) (same_rooms (arc_at (arcs_of g) i).to ahead back)
+      here (Backward j) e = subst (λ n. entry_of (arcs_of g) flow (Backward n) ≡ entry_of (arcs_of g) (set flow i x) (Backward n)) (sym e) (same_rooms (arc_at (arcs_of g) i).from back ahead)

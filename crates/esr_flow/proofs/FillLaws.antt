@@ -5,49 +5,49 @@ use Rattle.std.proofs.lemmas.Bool.{cases_eq}
 use Rattle.std.proofs.lemmas.List.{ext_get_or, get_or-map, get_or_default, length-map}
 use Rattle.std.proofs.lemmas.List.Elements.{Contains-push_cases}
 use Rattle.esr_cert.specs.declared.network.Arc.{Arc}
-use Rattle.esr_cert.specs.declared.step.Step.{Step}
-use Rattle.esr_cert.specs.declared.step.Step.TheVariants.{Along, Against}
+use Rattle.esr_cert.specs.declared.residual.ResidualArc.{ResidualArc}
+use Rattle.esr_cert.specs.declared.residual.ResidualArc.TheVariants.{Forward, Backward}
 use Rattle.esr_cert.specs.Network.{arc_at}
 use Rattle.esr_cert.specs.Flow.{within, amount_at}
 use Rattle.esr_cert.specs.Steps.{start, step_at}
 use Rattle.esr_cert.specs.Rows.{span_at, first_steps, steps_from, row_of}
 use Rattle.esr_cert.proofs.StepsLaws.{steps_parts, room_for, first_all, first_next}
 use Rattle.esr_cert.proofs.RowsLaws.{row_length, at_row, Counted, counted_more}
-use Rattle.esr_flow.specs.declared.entry.Entry.{Entry}
+use Rattle.esr_flow.specs.declared.entry.AdjacencyEntry.{AdjacencyEntry}
 use Rattle.esr_flow.specs.declared.graph.Graph.{Graph}
 use Rattle.esr_flow.specs.Residual.{left_of}
 use Rattle.esr_flow.specs.Graph.{arcs_of, IsGraph, entry_of, entry_at, AreEntries}
 use Rattle.esr_flow.proofs.EntriesLaws.{along_is, against_is}
 
 -- the first steps are those before an arc, its two, and later ones
-pub first_split : (i n : ℕ) → i < n → (rest : List Step) × (first_steps n ≡ first_steps i ++ Along i ∷ Against i ∷ rest)
+pub first_split : (i n : ℕ) → i < n → (rest : List ResidualArc) × (first_steps n ≡ first_steps i ++ Forward i ∷ Backward i ∷ rest)
 first_split i zero l = absurd (omega arith)
 first_split i (suc n) l =
-    let again : i < n → (rest : List Step) × (first_steps n ≡ first_steps i ++ Along i ∷ Against i ∷ rest) = first_split i n in
+    let again : i < n → (rest : List ResidualArc) × (first_steps n ≡ first_steps i ++ Forward i ∷ Backward i ∷ rest) = first_split i n in
     let split : (i ≡ n) ⊎ (i < n) = grind arith in
     elim split [
-      | inl e ↦ ([], ap (λ k. first_steps k ++ Along k ∷ Against k ∷ []) (sym e))
+      | inl e ↦ ([], ap (λ k. first_steps k ++ Forward k ∷ Backward k ∷ []) (sym e))
       | inr m ↦
           let (rest, is) = again m in
-          (rest ++ Along n ∷ Against n ∷ [], ap (λ xs. xs ++ Along n ∷ Against n ∷ []) is ∙ append_assoc (first_steps i) (Along i ∷ Against i ∷ rest) (Along n ∷ Against n ∷ []))
+          (rest ++ Forward n ∷ Backward n ∷ [], ap (λ xs. xs ++ Forward n ∷ Backward n ∷ []) is ∙ append_assoc (first_steps i) (Forward i ∷ Backward i ∷ rest) (Forward n ∷ Backward n ∷ []))
     ]
 
 -- the entries of some steps are in their places, and the steps of each node are counted
-pub record ArePut (g : Graph) (flow : List ℕ) (done : List Step) (counts : List ℕ) (entries : List Entry) : Type 0 where
+pub record ArePut (g : Graph) (flow : List ℕ) (done : List ResidualArc) (counts : List ℕ) (entries : List AdjacencyEntry) : Type 0 where
   pub counted : Counted (arcs_of g) g.nodes done counts
   pub long : length entries ≡ length g.rows.now.steps.items
   pub put : (k : ℕ) → k < length g.rows.now.steps.items → Contains done (step_at g.rows.now.steps.items k)
       → entry_at entries k ≡ entry_of (arcs_of g) flow (step_at g.rows.now.steps.items k)
 
 module _ (g : Graph) (ok : IsGraph g) where
-  abbrev steps : List Step
+  abbrev steps : List ResidualArc
   steps = g.rows.now.steps.items
 
   abbrev begin : ℕ → ℕ
   begin v = (span_at g.rows.now.spans.items v).begin
 
   -- a step lies behind those of its node that are before it
-  module _ (done rest : List Step) (s : Step) (v : ℕ) (known : v < g.nodes) (starts : start (arcs_of g) s ≡ v) (all : first_steps (length (arcs_of g)) ≡ done ++ s ∷ rest) where
+  module _ (done rest : List ResidualArc) (s : ResidualArc) (v : ℕ) (known : v < g.nodes) (starts : start (arcs_of g) s ≡ v) (all : first_steps (length (arcs_of g)) ≡ done ++ s ∷ rest) where
     abbrev place : ℕ
     place = length (steps_from (arcs_of g) v done)
 
@@ -55,7 +55,7 @@ module _ (g : Graph) (ok : IsGraph g) where
     here =
         ap (λ list. step_at (steps_from (arcs_of g) v list) place) all
         ∙ ap (λ list. step_at list place) (steps_parts (arcs_of g) v done rest s starts)
-        ∙ get_or-append_seam (steps_from (arcs_of g) v done) s (steps_from (arcs_of g) v rest) (Along 0)
+        ∙ get_or-append_seam (steps_from (arcs_of g) v done) s (steps_from (arcs_of g) v rest) (Forward 0)
 
     early : place < (span_at g.rows.now.spans.items v).end - begin v
     early =
@@ -63,7 +63,7 @@ module _ (g : Graph) (ok : IsGraph g) where
           arith,
           room_for (arcs_of g) v done rest s starts,
           ap (λ list. length (steps_from (arcs_of g) v list)) all,
-          ap (λ (list : List Step). length list) (ok.row v known),
+          ap (λ (list : List ResidualArc). length list) (ok.row v known),
           row_length steps (span_at g.rows.now.spans.items v) (ok.inside v known),
         )
 
@@ -71,9 +71,9 @@ module _ (g : Graph) (ok : IsGraph g) where
     lies_within = omega (arith, early, ok.inside v known)
 
     pub lies : step_at steps (begin v + place) ≡ s
-    lies = sym (at_row steps (span_at g.rows.now.spans.items v) place (Along 0) early) ∙ ap (λ list. step_at list place) (ok.row v known) ∙ here
+    lies = sym (at_row steps (span_at g.rows.now.spans.items v) place (Forward 0) early) ∙ ap (λ list. step_at list place) (ok.row v known) ∙ here
 
-    module _ (flow counts : List ℕ) (entries : List Entry) (are : ArePut g flow done counts entries) where
+    module _ (flow counts : List ℕ) (entries : List AdjacencyEntry) (are : ArePut g flow done counts entries) where
       abbrev at : ℕ
       at = begin v + get_or counts v 0
 
@@ -89,7 +89,7 @@ module _ (g : Graph) (ok : IsGraph g) where
       step_there : step_at steps at ≡ s
       step_there = ap (step_at steps) at_is ∙ lies
 
-      pub put_more : (a : Entry) → a ≡ entry_of (arcs_of g) flow s → ArePut g flow (done ++ s ∷ []) (set counts v (get_or counts v 0 + 1)) (set entries at a)
+      pub put_more : (a : AdjacencyEntry) → a ≡ entry_of (arcs_of g) flow s → ArePut g flow (done ++ s ∷ []) (set counts v (get_or counts v 0 + 1)) (set entries at a)
       put_more a is = record {
         counted = counted_more s starts known (get_or_default counts v 0 (get_or counts v 0) (omega (arith, are.counted.count))) are.counted;
         long = length-set entries at a ∙ are.long;
@@ -103,16 +103,16 @@ module _ (g : Graph) (ok : IsGraph g) where
         ];
       }
 
-  pub all_put : (flow counts : List ℕ) (entries : List Entry) → ArePut g flow (first_steps (length (arcs_of g))) counts entries → AreEntries g flow entries
+  pub all_put : (flow counts : List ℕ) (entries : List AdjacencyEntry) → ArePut g flow (first_steps (length (arcs_of g))) counts entries → AreEntries g flow entries
   all_put flow counts entries are =
       ext_get_or (entry_at [] 0) entries (map (entry_of (arcs_of g) flow) steps) (are.long ∙ sym (length-map steps (entry_of (arcs_of g) flow))) (λ k l.
       let inside : k < length steps = omega (arith, are.long) in
       are.put k inside (first_all (length (arcs_of g)) (step_at steps k) (ok.steps.in_arcs k inside))
-      ∙ sym (get_or-map (entry_of (arcs_of g) flow) steps k (Along 0) (entry_at [] 0) inside))
+      ∙ sym (get_or-map (entry_of (arcs_of g) flow) steps k (Forward 0) (entry_at [] 0) inside))
 
   -- the two steps of an arc
-  module _ (flow counts : List ℕ) (entries : List Entry) (i : ℕ) (l : i < length (arcs_of g)) (are : ArePut g flow (first_steps i) counts entries) (arc : Arc) (is : arc ≡ arc_at (arcs_of g) i) (x : ℕ) (x_is : x ≡ amount_at flow i) where
-    split : (rest : List Step) × (first_steps (length (arcs_of g)) ≡ first_steps i ++ Along i ∷ Against i ∷ rest)
+  module _ (flow counts : List ℕ) (entries : List AdjacencyEntry) (i : ℕ) (l : i < length (arcs_of g)) (are : ArePut g flow (first_steps i) counts entries) (arc : Arc) (is : arc ≡ arc_at (arcs_of g) i) (x : ℕ) (x_is : x ≡ amount_at flow i) where
+    split : (rest : List ResidualArc) × (first_steps (length (arcs_of g)) ≡ first_steps i ++ Forward i ∷ Backward i ∷ rest)
     split = first_split i (length (arcs_of g)) l
 
     known_from : arc.from < g.nodes
@@ -121,37 +121,37 @@ module _ (g : Graph) (ok : IsGraph g) where
     known_to : arc.to < g.nodes
     known_to = rw is ((ok.is_network.ends i l).1)
 
-    starts_along : start (arcs_of g) (Along i) ≡ arc.from
+    starts_along : start (arcs_of g) (Forward i) ≡ arc.from
     starts_along = ap (λ a. a.from) (sym is)
 
-    starts_against : start (arcs_of g) (Against i) ≡ arc.to
+    starts_against : start (arcs_of g) (Backward i) ≡ arc.to
     starts_against = ap (λ a. a.to) (sym is)
 
     pub along_within : begin arc.from + get_or counts arc.from 0 < length entries
-    along_within = put_within (first_steps i) (Against i ∷ split.0) (Along i) arc.from known_from starts_along split.1 flow counts entries are
+    along_within = put_within (first_steps i) (Backward i ∷ split.0) (Forward i) arc.from known_from starts_along split.1 flow counts entries are
 
     pub along_few : get_or counts arc.from 0 < 4294967296
-    along_few = put_few (first_steps i) (Against i ∷ split.0) (Along i) arc.from known_from starts_along split.1 flow counts entries are
+    along_few = put_few (first_steps i) (Backward i ∷ split.0) (Forward i) arc.from known_from starts_along split.1 flow counts entries are
 
-    module _ (counts_along : List ℕ) (entries_along : List Entry) (a : Entry) (a_is : a ≡ record { to = arc.to; ahead = within 1 (left_of arc.capacity x); back = within 1 (Some x) }) (c : counts_along ≡ set counts arc.from (get_or counts arc.from 0 + 1)) (e : entries_along ≡ set entries (begin arc.from + get_or counts arc.from 0) a) where
-      after_along : ArePut g flow (first_steps i ++ Along i ∷ []) counts_along entries_along
+    module _ (counts_along : List ℕ) (entries_along : List AdjacencyEntry) (a : AdjacencyEntry) (a_is : a ≡ record { to = arc.to; ahead = within 1 (left_of arc.capacity x); back = within 1 (Some x) }) (c : counts_along ≡ set counts arc.from (get_or counts arc.from 0 + 1)) (e : entries_along ≡ set entries (begin arc.from + get_or counts arc.from 0) a) where
+      after_along : ArePut g flow (first_steps i ++ Forward i ∷ []) counts_along entries_along
       after_along =
-          subst (λ cs. ArePut g flow (first_steps i ++ Along i ∷ []) cs entries_along) (sym c)
-          (subst (ArePut g flow (first_steps i ++ Along i ∷ []) (set counts arc.from (get_or counts arc.from 0 + 1))) (sym e)
-          (put_more (first_steps i) (Against i ∷ split.0) (Along i) arc.from known_from starts_along split.1 flow counts entries are a (a_is ∙ along_is (arcs_of g) flow i x arc is x_is)))
+          subst (λ cs. ArePut g flow (first_steps i ++ Forward i ∷ []) cs entries_along) (sym c)
+          (subst (ArePut g flow (first_steps i ++ Forward i ∷ []) (set counts arc.from (get_or counts arc.from 0 + 1))) (sym e)
+          (put_more (first_steps i) (Backward i ∷ split.0) (Forward i) arc.from known_from starts_along split.1 flow counts entries are a (a_is ∙ along_is (arcs_of g) flow i x arc is x_is)))
 
-      later : first_steps (length (arcs_of g)) ≡ (first_steps i ++ Along i ∷ []) ++ Against i ∷ split.0
-      later = split.1 ∙ sym (append_assoc (first_steps i) (Along i ∷ []) (Against i ∷ split.0))
+      later : first_steps (length (arcs_of g)) ≡ (first_steps i ++ Forward i ∷ []) ++ Backward i ∷ split.0
+      later = split.1 ∙ sym (append_assoc (first_steps i) (Forward i ∷ []) (Backward i ∷ split.0))
 
       pub against_within : begin arc.to + get_or counts_along arc.to 0 < length entries_along
-      against_within = put_within (first_steps i ++ Along i ∷ []) split.0 (Against i) arc.to known_to starts_against later flow counts_along entries_along after_along
+      against_within = put_within (first_steps i ++ Forward i ∷ []) split.0 (Backward i) arc.to known_to starts_against later flow counts_along entries_along after_along
 
       pub against_few : get_or counts_along arc.to 0 < 4294967296
-      against_few = put_few (first_steps i ++ Along i ∷ []) split.0 (Against i) arc.to known_to starts_against later flow counts_along entries_along after_along
+      against_few = put_few (first_steps i ++ Forward i ∷ []) split.0 (Backward i) arc.to known_to starts_against later flow counts_along entries_along after_along
 
-      pub put_both : (counts_now : List ℕ) (entries_now : List Entry) (b : Entry) → b ≡ record { to = arc.from; ahead = within 1 (Some x); back = within 1 (left_of arc.capacity x) } → counts_now ≡ set counts_along arc.to (get_or counts_along arc.to 0 + 1) → entries_now ≡ set entries_along (begin arc.to + get_or counts_along arc.to 0) b → ArePut g flow (first_steps (i + 1)) counts_now entries_now
+      pub put_both : (counts_now : List ℕ) (entries_now : List AdjacencyEntry) (b : AdjacencyEntry) → b ≡ record { to = arc.from; ahead = within 1 (Some x); back = within 1 (left_of arc.capacity x) } → counts_now ≡ set counts_along arc.to (get_or counts_along arc.to 0 + 1) → entries_now ≡ set entries_along (begin arc.to + get_or counts_along arc.to 0) b → ArePut g flow (first_steps (i + 1)) counts_now entries_now
       put_both counts_now entries_now b b_is d f =
           subst (λ done. ArePut g flow done counts_now entries_now) (first_next i)
-          (subst (λ cs. ArePut g flow ((first_steps i ++ Along i ∷ []) ++ Against i ∷ []) cs entries_now) (sym d)
-          (subst (ArePut g flow ((first_steps i ++ Along i ∷ []) ++ Against i ∷ []) (set counts_along arc.to (get_or counts_along arc.to 0 + 1))) (sym f)
-          (put_more (first_steps i ++ Along i ∷ []) split.0 (Against i) arc.to known_to starts_against later flow counts_along entries_along after_along b (b_is ∙ against_is (arcs_of g) flow i x arc is x_is))))
+          (subst (λ cs. ArePut g flow ((first_steps i ++ Forward i ∷ []) ++ Backward i ∷ []) cs entries_now) (sym d)
+          (subst (ArePut g flow ((first_steps i ++ Forward i ∷ []) ++ Backward i ∷ []) (set counts_along arc.to (get_or counts_along arc.to 0 + 1))) (sym f)
+          (put_more (first_steps i ++ Forward i ∷ []) split.0 (Backward i) arc.to known_to starts_against later flow counts_along entries_along after_along b (b_is ∙ against_is (arcs_of g) flow i x arc is x_is))))

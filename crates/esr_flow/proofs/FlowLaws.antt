@@ -3,9 +3,9 @@ use Rattle.std.proofs.Common.{◌≡◌, ℕ, zero, suc, ◌+◌, ◌-◌, ◌<�
 use Rattle.std.proofs.lemmas.Bool.{cases_eq}
 use Rattle.std.proofs.lemmas.List.{length-replicate, get_or-replicate}
 use Rattle.esr_cert.specs.declared.network.Arc.{Arc}
-use Rattle.esr_cert.specs.declared.step.Step.{Step}
-use Rattle.esr_cert.specs.declared.step.Step.TheVariants.{Along, Against}
-use Rattle.esr_flow.specs.Residual.{Falls, left_of, finish, room, IsPath, shift, raise}
+use Rattle.esr_cert.specs.declared.residual.ResidualArc.{ResidualArc}
+use Rattle.esr_cert.specs.declared.residual.ResidualArc.TheVariants.{Forward, Backward}
+use Rattle.esr_flow.specs.Residual.{Falls, left_of, finish, residual_capacity, IsPath, shift, raise}
 use Rattle.esr_cert.specs.Steps.{arc_of, start}
 use Rattle.esr_cert.specs.Flow.{within, amount_at, carried, inflow, outflow, IsFlow, worth}
 use Rattle.esr_cert.specs.Network.{arc_at, Network, IsNetwork}
@@ -21,29 +21,29 @@ carried_set p (a ∷ arcs) [] i y e l = absurd (omega arith)
 carried_set p (a ∷ arcs) (x ∷ flow) zero y e l = omega arith
 carried_set p (a ∷ arcs) (x ∷ flow) (suc i) y e l = omega (arith, carried_set p arcs flow i y (omega arith) (omega arith))
 
-carried_along : (p : Arc → Bool) (arcs : List Arc) (flow : List ℕ) (i x : ℕ) → length flow ≡ length arcs → i < length arcs → carried p arcs (shift flow x (Along i)) ≡ carried p arcs flow + pick (p (arc_at arcs i)) x
+carried_along : (p : Arc → Bool) (arcs : List Arc) (flow : List ℕ) (i x : ℕ) → length flow ≡ length arcs → i < length arcs → carried p arcs (shift flow x (Forward i)) ≡ carried p arcs flow + pick (p (arc_at arcs i)) x
 carried_along p arcs flow i x e l =
     omega (arith, carried_set p arcs flow i (amount_at flow i + x) e l, pick_add (p (arc_at arcs i)) (amount_at flow i) x)
 
-carried_against : (p : Arc → Bool) (arcs : List Arc) (flow : List ℕ) (i x : ℕ) → length flow ≡ length arcs → i < length arcs → x ≤ amount_at flow i → carried p arcs (shift flow x (Against i)) + pick (p (arc_at arcs i)) x ≡ carried p arcs flow
+carried_against : (p : Arc → Bool) (arcs : List Arc) (flow : List ℕ) (i x : ℕ) → length flow ≡ length arcs → i < length arcs → x ≤ amount_at flow i → carried p arcs (shift flow x (Backward i)) + pick (p (arc_at arcs i)) x ≡ carried p arcs flow
 carried_against p arcs flow i x e l le =
     let whole : amount_at flow i ≡ (amount_at flow i - x) + x = omega arith in
     omega (arith, carried_set p arcs flow i (amount_at flow i - x) e l, pick_add (p (arc_at arcs i)) (amount_at flow i - x) x, ap (pick (p (arc_at arcs i))) whole)
 
-step_balance : (arcs : List Arc) (flow : List ℕ) (x : ℕ) (s : Step) (v : ℕ) → length flow ≡ length arcs → arc_of s < length arcs → within x (room arcs flow s) ≡ true → outflow arcs (shift flow x s) v + inflow arcs flow v + pick (eqb (finish arcs s) v) x ≡ outflow arcs flow v + inflow arcs (shift flow x s) v + pick (eqb (start arcs s) v) x
-step_balance arcs flow x (Along i) v e l w =
+step_balance : (arcs : List Arc) (flow : List ℕ) (x : ℕ) (s : ResidualArc) (v : ℕ) → length flow ≡ length arcs → arc_of s < length arcs → within x (residual_capacity arcs flow s) ≡ true → outflow arcs (shift flow x s) v + inflow arcs flow v + pick (eqb (finish arcs s) v) x ≡ outflow arcs flow v + inflow arcs (shift flow x s) v + pick (eqb (start arcs s) v) x
+step_balance arcs flow x (Forward i) v e l w =
     omega (arith, carried_along (λ arc. eqb arc.to v) arcs flow i x e l, carried_along (λ arc. eqb arc.from v) arcs flow i x e l)
-step_balance arcs flow x (Against i) v e l w =
+step_balance arcs flow x (Backward i) v e l w =
     let le : x ≤ amount_at flow i = leb-true x (amount_at flow i) w in
     omega (arith, carried_against (λ arc. eqb arc.to v) arcs flow i x e l le, carried_against (λ arc. eqb arc.from v) arcs flow i x e l le)
 
 -- a path, whatever the flow
-abbrev pub Linked : List Arc → ℕ → List Step → ℕ → Type 0
+abbrev pub Linked : List Arc → ℕ → List ResidualArc → ℕ → Type 0
 Linked arcs a [] b = a ≡ b
 Linked arcs a (s ∷ path) b = (start arcs s ≡ a) × Linked arcs (finish arcs s) path b
 
 -- along a path from a to b, x more leaves a and comes to b
-path_balance : (d : ℕ → ℕ) (arcs : List Arc) (flow : List ℕ) (x : ℕ) (path : List Step) (k a b v : ℕ) → length flow ≡ length arcs → Levels d arcs k path → Rooms arcs flow x path → Linked arcs a path b → outflow arcs (raise flow x path) v + inflow arcs flow v + pick (eqb b v) x ≡ outflow arcs flow v + inflow arcs (raise flow x path) v + pick (eqb a v) x
+path_balance : (d : ℕ → ℕ) (arcs : List Arc) (flow : List ℕ) (x : ℕ) (path : List ResidualArc) (k a b v : ℕ) → length flow ≡ length arcs → Levels d arcs k path → Rooms arcs flow x path → Linked arcs a path b → outflow arcs (raise flow x path) v + inflow arcs flow v + pick (eqb b v) x ≡ outflow arcs flow v + inflow arcs (raise flow x path) v + pick (eqb a v) x
 path_balance d arcs flow x [] k a b v e h r c = omega (arith, ap (λ n. pick (eqb n v) x) c)
 path_balance d arcs flow x (s ∷ path) k a b v e h r c =
     let rest : outflow arcs (raise (shift flow x s) x path) v + inflow arcs (shift flow x s) v + pick (eqb b v) x ≡ outflow arcs (shift flow x s) v + inflow arcs (raise (shift flow x s) x path) v + pick (eqb (finish arcs s) v) x =
@@ -62,25 +62,25 @@ within_fewer : (o : Option ℕ) (a b : ℕ) → b ≤ a → within a o ≡ true 
 within_fewer None a b l h = refl
 within_fewer (Some c) a b l h = le-leb b c (omega (arith, leb-true a c h))
 
-shift_capped : (arcs : List Arc) (flow : List ℕ) (x : ℕ) (s : Step) → length flow ≡ length arcs → arc_of s < length arcs → within x (room arcs flow s) ≡ true → Capped arcs flow → Capped arcs (shift flow x s)
-shift_capped arcs flow x (Along j) e l w c i m =
+shift_capped : (arcs : List Arc) (flow : List ℕ) (x : ℕ) (s : ResidualArc) → length flow ≡ length arcs → arc_of s < length arcs → within x (residual_capacity arcs flow s) ≡ true → Capped arcs flow → Capped arcs (shift flow x s)
+shift_capped arcs flow x (Forward j) e l w c i m =
     elim (cases_eq i j) [
       | inl same ↦
-          let at : amount_at (shift flow x (Along j)) i ≡ amount_at flow j + x = ap (amount_at (shift flow x (Along j))) same ∙ get_or-set_same flow j (amount_at flow j + x) 0 (omega arith) in
+          let at : amount_at (shift flow x (Forward j)) i ≡ amount_at flow j + x = ap (amount_at (shift flow x (Forward j))) same ∙ get_or-set_same flow j (amount_at flow j + x) 0 (omega arith) in
           subst (λ n. within n (arc_at arcs i).capacity ≡ true) (sym at)
           (subst (λ n. within (amount_at flow j + x) (arc_at arcs n).capacity ≡ true) (sym same) (within_more (arc_at arcs j).capacity (amount_at flow j) x (c j l) w))
-      | inr ne ↦ subst (λ n. within n (arc_at arcs i).capacity ≡ true) (sym (shift_other flow x (Along j) i ne)) (c i m)
+      | inr ne ↦ subst (λ n. within n (arc_at arcs i).capacity ≡ true) (sym (shift_other flow x (Forward j) i ne)) (c i m)
     ]
-shift_capped arcs flow x (Against j) e l w c i m =
+shift_capped arcs flow x (Backward j) e l w c i m =
     elim (cases_eq i j) [
       | inl same ↦
-          let at : amount_at (shift flow x (Against j)) i ≡ amount_at flow j - x = ap (amount_at (shift flow x (Against j))) same ∙ get_or-set_same flow j (amount_at flow j - x) 0 (omega arith) in
+          let at : amount_at (shift flow x (Backward j)) i ≡ amount_at flow j - x = ap (amount_at (shift flow x (Backward j))) same ∙ get_or-set_same flow j (amount_at flow j - x) 0 (omega arith) in
           subst (λ n. within n (arc_at arcs i).capacity ≡ true) (sym at)
           (subst (λ n. within (amount_at flow j - x) (arc_at arcs n).capacity ≡ true) (sym same) (within_fewer (arc_at arcs j).capacity (amount_at flow j) (amount_at flow j - x) (omega arith) (c j l)))
-      | inr ne ↦ subst (λ n. within n (arc_at arcs i).capacity ≡ true) (sym (shift_other flow x (Against j) i ne)) (c i m)
+      | inr ne ↦ subst (λ n. within n (arc_at arcs i).capacity ≡ true) (sym (shift_other flow x (Backward j) i ne)) (c i m)
     ]
 
-raise_capped : (d : ℕ → ℕ) (arcs : List Arc) (flow : List ℕ) (x : ℕ) (path : List Step) (k : ℕ) → length flow ≡ length arcs → Levels d arcs k path → Rooms arcs flow x path → Capped arcs flow → Capped arcs (raise flow x path)
+raise_capped : (d : ℕ → ℕ) (arcs : List Arc) (flow : List ℕ) (x : ℕ) (path : List ResidualArc) (k : ℕ) → length flow ≡ length arcs → Levels d arcs k path → Rooms arcs flow x path → Capped arcs flow → Capped arcs (raise flow x path)
 raise_capped d arcs flow x [] k e h r c = c
 raise_capped d arcs flow x (s ∷ path) k e h r c =
     raise_capped d arcs (shift flow x s) x path (d (finish arcs s)) (length-shift flow x s ∙ e) h.3 (rooms_kept d arcs flow x x s (d (finish arcs s)) path h.3 (above_step d arcs s h.1) r.1) (shift_capped arcs flow x s e h.2 r.0 c)
@@ -90,12 +90,12 @@ set_at_most [] j y z a b = b
 set_at_most (w ∷ flow) zero y z a b = a
 set_at_most (w ∷ flow) (suc j) y z a b = set_at_most flow j y z a b
 
-shift_at_most : (flow : List ℕ) (x : ℕ) (s : Step) → amount_at (shift flow x s) (arc_of s) ≤ amount_at flow (arc_of s) + x
-shift_at_most flow x (Along j) = set_at_most flow j (amount_at flow j + x) (amount_at flow j + x) (omega arith) (omega arith)
-shift_at_most flow x (Against j) = set_at_most flow j (amount_at flow j - x) (amount_at flow j + x) (omega arith) (omega arith)
+shift_at_most : (flow : List ℕ) (x : ℕ) (s : ResidualArc) → amount_at (shift flow x s) (arc_of s) ≤ amount_at flow (arc_of s) + x
+shift_at_most flow x (Forward j) = set_at_most flow j (amount_at flow j + x) (amount_at flow j + x) (omega arith) (omega arith)
+shift_at_most flow x (Backward j) = set_at_most flow j (amount_at flow j - x) (amount_at flow j + x) (omega arith) (omega arith)
 
 -- no arc is raised by more than the amount
-pub raise_at_most : (d : ℕ → ℕ) (arcs : List Arc) (flow : List ℕ) (x : ℕ) (path : List Step) (k i : ℕ) → Levels d arcs k path → amount_at (raise flow x path) i ≤ amount_at flow i + x
+pub raise_at_most : (d : ℕ → ℕ) (arcs : List Arc) (flow : List ℕ) (x : ℕ) (path : List ResidualArc) (k i : ℕ) → Levels d arcs k path → amount_at (raise flow x path) i ≤ amount_at flow i + x
 raise_at_most d arcs flow x [] k i h = omega arith
 raise_at_most d arcs flow x (s ∷ path) k i h =
     let later : amount_at (raise (shift flow x s) x path) i ≤ amount_at (shift flow x s) i + x = raise_at_most d arcs (shift flow x s) x path (d (finish arcs s)) i h.3 in
@@ -105,7 +105,7 @@ raise_at_most d arcs flow x (s ∷ path) k i h =
       | inr ne ↦ omega (arith, shift_other flow x s i ne)
     ]
 
-linked_from : (arcs : List Arc) (flow : List ℕ) (path : List Step) (a b : ℕ) → IsPath arcs flow a path b → Linked arcs a path b
+linked_from : (arcs : List Arc) (flow : List ℕ) (path : List ResidualArc) (a b : ℕ) → IsPath arcs flow a path b → Linked arcs a path b
 linked_from arcs flow [] a b h = h
 linked_from arcs flow (s ∷ path) a b h = (h.0, linked_from arcs flow path (finish arcs s) b h.2)
 

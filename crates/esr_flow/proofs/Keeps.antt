@@ -5,14 +5,14 @@ use Rattle.esr_cert.specs.Network.{arc_at, Network, IsNetwork}
 use Rattle.esr_cert.specs.Flow.{within, amount_at, carried, IsFlow, worth}
 use Rattle.esr_cert.specs.Cut.{crosses, comes_back, limit_of, across, IsLimited, AreLimited}
 use Rattle.esr_cert.proofs.Cut.{cut, carried_at_most, carried_full, full_from, nothing_back, nothing_from}
-use Rattle.esr_cert.specs.declared.step.Step.{Step}
-use Rattle.esr_cert.specs.declared.step.Step.TheVariants.{Along, Against}
+use Rattle.esr_cert.specs.declared.residual.ResidualArc.{ResidualArc}
+use Rattle.esr_cert.specs.declared.residual.ResidualArc.TheVariants.{Forward, Backward}
 use Rattle.esr_flow.specs.Residual.{left_of, finish, IsResidual, IsPath}
 use Rattle.esr_cert.specs.Steps.{start}
 
 -- a set that residual steps do not leave
 abbrev pub Keeps : Network → List ℕ → (ℕ → Bool) → Type 0
-Keeps net flow has = (s : Step) → IsResidual net.arcs flow s → has (start net.arcs s) ≡ true → has (finish net.arcs s) ≡ true
+Keeps net flow has = (s : ResidualArc) → IsResidual net.arcs flow s → has (start net.arcs s) ≡ true → has (finish net.arcs s) ≡ true
 
 both_of : (b c : Bool) → (b && not c) ≡ true → (b ≡ true) × (c ≡ false)
 both_of true false h = (refl, refl)
@@ -38,12 +38,12 @@ module _ (net : Network) (ok : IsNetwork net) (flow : List ℕ) (f : IsFlow net 
   keeps_full keeps i l c =
       let ends : (has (arc_at net.arcs i).from ≡ true) × (has (arc_at net.arcs i).to ≡ false) = both_of (has (arc_at net.arcs i).from) (has (arc_at net.arcs i).to) c in
       no_room_full (arc_at net.arcs i).capacity (amount_at flow i) (f.within_capacity i l)
-      (λ r. true≢false (sym (keeps (Along i) (l, r) ends.0) ∙ ends.1))
+      (λ r. true≢false (sym (keeps (Forward i) (l, r) ends.0) ∙ ends.1))
 
   keeps_empty : Keeps net flow has → (i : ℕ) → i < length net.arcs → comes_back has (arc_at net.arcs i) ≡ true → amount_at flow i ≡ 0
   keeps_empty keeps i l c =
       let ends : (has (arc_at net.arcs i).from ≡ false) × (has (arc_at net.arcs i).to ≡ true) = back_of (has (arc_at net.arcs i).from) (has (arc_at net.arcs i).to) c in
-      let none : 1 ≤ amount_at flow i → ⊥ = λ m. true≢false (sym (keeps (Against i) (l, le-leb 1 (amount_at flow i) m) ends.1) ∙ ends.0) in
+      let none : 1 ≤ amount_at flow i → ⊥ = λ m. true≢false (sym (keeps (Backward i) (l, le-leb 1 (amount_at flow i) m) ends.1) ∙ ends.0) in
       let split : (amount_at flow i ≡ 0) ⊎ (1 ≤ amount_at flow i) = grind arith in
       elim split [ inl e ↦ e | inr m ↦ absurd (none m) ]
 
@@ -80,15 +80,15 @@ module _ (net : Network) (ok : IsNetwork net) (flow : List ℕ) (f : IsFlow net 
       returning false false e g = cc
       returning true c e g = cc
 
-      stays : ((i : ℕ) → i < length net.arcs → crosses has (arc_at net.arcs i) ≡ true → amount_at flow i ≡ limit_of (arc_at net.arcs i).capacity) → ((i : ℕ) → i < length net.arcs → comes_back has (arc_at net.arcs i) ≡ true → amount_at flow i ≡ 0) → (s : Step) → IsResidual net.arcs flow s → has (start net.arcs s) ≡ true → has (finish net.arcs s) ≡ true
-      stays full none (Along i) res h =
+      stays : ((i : ℕ) → i < length net.arcs → crosses has (arc_at net.arcs i) ≡ true → amount_at flow i ≡ limit_of (arc_at net.arcs i).capacity) → ((i : ℕ) → i < length net.arcs → comes_back has (arc_at net.arcs i) ≡ true → amount_at flow i ≡ 0) → (s : ResidualArc) → IsResidual net.arcs flow s → has (start net.arcs s) ≡ true → has (finish net.arcs s) ≡ true
+      stays full none (Forward i) res h =
           elim (cases_Bool (has (arc_at net.arcs i).to)) [
             | inl e ↦ e
             | inr e ↦
                 let c : crosses has (arc_at net.arcs i) ≡ true = crossing (has (arc_at net.arcs i).from) (has (arc_at net.arcs i).to) h e in
                 absurd (full_no_room (arc_at net.arcs i).capacity (amount_at flow i) (limited i res.0 c) (full i res.0 c) res.1)
           ]
-      stays full none (Against i) res h =
+      stays full none (Backward i) res h =
           elim (cases_Bool (has (arc_at net.arcs i).from)) [
             | inl e ↦ e
             | inr e ↦
@@ -99,7 +99,7 @@ module _ (net : Network) (ok : IsNetwork net) (flow : List ℕ) (f : IsFlow net 
           ]
 
   -- a path from a member ends at a member
-  pub keeps_path : Keeps net flow has → (path : List Step) (a b : ℕ) → IsPath net.arcs flow a path b → has a ≡ true → has b ≡ true
+  pub keeps_path : Keeps net flow has → (path : List ResidualArc) (a b : ℕ) → IsPath net.arcs flow a path b → has a ≡ true → has b ≡ true
   keeps_path keeps [] a b h t = subst (λ n. has n ≡ true) h t
   keeps_path keeps (s ∷ path) a b h t =
       keeps_path keeps path (finish net.arcs s) b h.2 (keeps s h.1 (subst (λ n. has n ≡ true) (sym h.0) t))

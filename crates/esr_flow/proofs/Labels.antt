@@ -3,35 +3,35 @@
 use Rattle.std.proofs.Common.{◌≡◌, ◌≢◌, ℕ, suc, ◌+◌, ◌-◌, ◌<◌, ◌≤◌, Bool, true, false, ◌&&◌, ◌||◌, ◌⊎◌, leb, eqb, List, [], ◌∷◌, length, Option, Some, None, refl, sym, ap, ◌∙◌, subst, inl, inr, arith, length-set, eq-eqb, ne_eqb, eqb-true, le-leb, leb-true, get_or-set_other, get_or-set_same}
 use Rattle.std.proofs.lemmas.Bool.{or_left, or_right, or_cases, and_parts, and_from, and_left, or_from, lt-leb, cases_eq, and_right}
 use Rattle.esr_cert.specs.declared.network.Arc.{Arc}
-use Rattle.esr_cert.specs.declared.step.Step.{Step}
-use Rattle.esr_cert.specs.declared.step.Step.TheVariants.{Along, Against}
+use Rattle.esr_cert.specs.declared.residual.ResidualArc.{ResidualArc}
+use Rattle.esr_cert.specs.declared.residual.ResidualArc.TheVariants.{Forward, Backward}
 use Rattle.esr_cert.specs.Flow.{within, amount_at}
-use Rattle.esr_flow.specs.Residual.{left_of, finish, room, IsPath, Falls, shift, raise}
+use Rattle.esr_flow.specs.Residual.{left_of, finish, residual_capacity, IsPath, Falls, shift, raise}
 use Rattle.esr_cert.specs.Steps.{arc_of, start}
 use Rattle.esr_cert.specs.Network.{arc_at}
 
-pub label_bound : (arcs : List Arc) (flow : List ℕ) (d : ℕ → ℕ) → Falls arcs flow d → (path : List Step) (a b : ℕ) → IsPath arcs flow a path b → d a ≤ length path + d b
+pub label_bound : (arcs : List Arc) (flow : List ℕ) (d : ℕ → ℕ) → Falls arcs flow d → (path : List ResidualArc) (a b : ℕ) → IsPath arcs flow a path b → d a ≤ length path + d b
 label_bound arcs flow d f [] a b e = omega (arith, ap d e)
 label_bound arcs flow d f (s ∷ path) a b h =
     omega (arith, label_bound arcs flow d f path (finish arcs s) b h.2, f s h.1, ap d h.0)
 
 -- the labels fall by one at each step, from k at most
-abbrev pub Levels : (ℕ → ℕ) → List Arc → ℕ → List Step → Type 0
+abbrev pub Levels : (ℕ → ℕ) → List Arc → ℕ → List ResidualArc → Type 0
 Levels d arcs k [] = Unit {0}
 Levels d arcs k (s ∷ path) =
     (d (start arcs s) ≤ k) × (d (start arcs s) ≡ suc (d (finish arcs s))) × (arc_of s < length arcs) × Levels d arcs (d (finish arcs s)) path
 
--- each step has room for x
-abbrev pub Rooms : List Arc → List ℕ → ℕ → List Step → Type 0
+-- each step has residual capacity for x
+abbrev pub Rooms : List Arc → List ℕ → ℕ → List ResidualArc → Type 0
 Rooms arcs flow x [] = Unit {0}
-Rooms arcs flow x (s ∷ path) = (within x (room arcs flow s) ≡ true) × Rooms arcs flow x path
+Rooms arcs flow x (s ∷ path) = (within x (residual_capacity arcs flow s) ≡ true) × Rooms arcs flow x path
 
--- a step that has room for x and no more
-abbrev pub Bottle : List Arc → List ℕ → ℕ → List Step → Type 0
+-- a step that has residual capacity for x and no more
+abbrev pub Bottle : List Arc → List ℕ → ℕ → List ResidualArc → Type 0
 Bottle arcs flow x [] = ⊥
-Bottle arcs flow x (s ∷ path) = (room arcs flow s ≡ Some x) ⊎ Bottle arcs flow x path
+Bottle arcs flow x (s ∷ path) = (residual_capacity arcs flow s ≡ Some x) ⊎ Bottle arcs flow x path
 
-pub levels_from : (arcs : List Arc) (flow : List ℕ) (d : ℕ → ℕ) → Falls arcs flow d → (path : List Step) (a b : ℕ) → IsPath arcs flow a path b → length path + d b ≤ d a → Levels d arcs (d a) path
+pub levels_from : (arcs : List Arc) (flow : List ℕ) (d : ℕ → ℕ) → Falls arcs flow d → (path : List ResidualArc) (a b : ℕ) → IsPath arcs flow a path b → length path + d b ≤ d a → Levels d arcs (d a) path
 levels_from arcs flow d f [] a b h l = tt
 levels_from arcs flow d f (s ∷ path) a b h l =
     let rest : d (finish arcs s) ≤ length path + d b = label_bound arcs flow d f path (finish arcs s) b h.2 in
@@ -39,7 +39,7 @@ levels_from arcs flow d f (s ∷ path) a b h l =
     let e : d (start arcs s) ≡ d a = ap d h.0 in
     (omega arith, omega arith, h.1.0, levels_from arcs flow d f path (finish arcs s) b h.2 (omega arith))
 
--- an arc on which the labels differ by one, with room in the direction in which they fall
+-- an arc on which the labels differ by one, with residual capacity in the direction in which they fall
 abbrev pub tight_at : (ℕ → ℕ) → Arc → ℕ → Bool
 tight_at d arc amount =
     (within 1 (left_of arc.capacity amount) && eqb (d arc.from) (suc (d arc.to)))
@@ -52,10 +52,10 @@ pub within_less : (x : ℕ) (o : Option ℕ) → 1 ≤ x → within x o ≡ true
 within_less x None l h = refl
 within_less x (Some r) l h = le-leb 1 r (omega (arith, leb-true x r h))
 
-pub tight_step : (d : ℕ → ℕ) (arcs : List Arc) (flow : List ℕ) (x : ℕ) (s : Step) → 1 ≤ x → within x (room arcs flow s) ≡ true → d (start arcs s) ≡ suc (d (finish arcs s)) → tight d arcs flow (arc_of s) ≡ true
-tight_step d arcs flow x (Along i) l h e =
+pub tight_step : (d : ℕ → ℕ) (arcs : List Arc) (flow : List ℕ) (x : ℕ) (s : ResidualArc) → 1 ≤ x → within x (residual_capacity arcs flow s) ≡ true → d (start arcs s) ≡ suc (d (finish arcs s)) → tight d arcs flow (arc_of s) ≡ true
+tight_step d arcs flow x (Forward i) l h e =
     or_left _ _ (and_from _ _ (within_less x (left_of (arc_at arcs i).capacity (amount_at flow i)) l h) (eq-eqb _ _ e))
-tight_step d arcs flow x (Against i) l h e =
+tight_step d arcs flow x (Backward i) l h e =
     or_right _ _ (and_from _ _ (within_less x (Some (amount_at flow i)) l h) (eq-eqb _ _ e))
 
 -- the labels at the ends of a tight arc differ by one
@@ -74,55 +74,55 @@ above_less : (d : ℕ → ℕ) (arcs : List Arc) (k k' i : ℕ) → k' ≤ k →
 above_less d arcs k k' i l (inl h) = inl (omega arith)
 above_less d arcs k k' i l (inr h) = inr (omega arith)
 
-pub above_step : (d : ℕ → ℕ) (arcs : List Arc) (s : Step) → d (start arcs s) ≡ suc (d (finish arcs s)) → Above d arcs (d (finish arcs s)) (arc_of s)
-above_step d arcs (Along i) e = inl (omega arith)
-above_step d arcs (Against i) e = inr (omega arith)
+pub above_step : (d : ℕ → ℕ) (arcs : List Arc) (s : ResidualArc) → d (start arcs s) ≡ suc (d (finish arcs s)) → Above d arcs (d (finish arcs s)) (arc_of s)
+above_step d arcs (Forward i) e = inl (omega arith)
+above_step d arcs (Backward i) e = inr (omega arith)
 
 -- such an arc is no step of a path from k down
-above_other : (d : ℕ → ℕ) (arcs : List Arc) (s : Step) (k i : ℕ) → d (start arcs s) ≤ k → d (start arcs s) ≡ suc (d (finish arcs s)) → Above d arcs k i → i ≢ arc_of s
-above_other d arcs (Along j) k i l e (inl h) same = let q : d (arc_at arcs i).from ≡ d (arc_at arcs j).from = ap (λ n. d (arc_at arcs n).from) same in omega arith
-above_other d arcs (Along j) k i l e (inr h) same = let q : d (arc_at arcs i).to ≡ d (arc_at arcs j).to = ap (λ n. d (arc_at arcs n).to) same in omega arith
-above_other d arcs (Against j) k i l e (inl h) same = let q : d (arc_at arcs i).from ≡ d (arc_at arcs j).from = ap (λ n. d (arc_at arcs n).from) same in omega arith
-above_other d arcs (Against j) k i l e (inr h) same = let q : d (arc_at arcs i).to ≡ d (arc_at arcs j).to = ap (λ n. d (arc_at arcs n).to) same in omega arith
+above_other : (d : ℕ → ℕ) (arcs : List Arc) (s : ResidualArc) (k i : ℕ) → d (start arcs s) ≤ k → d (start arcs s) ≡ suc (d (finish arcs s)) → Above d arcs k i → i ≢ arc_of s
+above_other d arcs (Forward j) k i l e (inl h) same = let q : d (arc_at arcs i).from ≡ d (arc_at arcs j).from = ap (λ n. d (arc_at arcs n).from) same in omega arith
+above_other d arcs (Forward j) k i l e (inr h) same = let q : d (arc_at arcs i).to ≡ d (arc_at arcs j).to = ap (λ n. d (arc_at arcs n).to) same in omega arith
+above_other d arcs (Backward j) k i l e (inl h) same = let q : d (arc_at arcs i).from ≡ d (arc_at arcs j).from = ap (λ n. d (arc_at arcs n).from) same in omega arith
+above_other d arcs (Backward j) k i l e (inr h) same = let q : d (arc_at arcs i).to ≡ d (arc_at arcs j).to = ap (λ n. d (arc_at arcs n).to) same in omega arith
 
-pub shift_other : (flow : List ℕ) (x : ℕ) (s : Step) (i : ℕ) → i ≢ arc_of s → amount_at (shift flow x s) i ≡ amount_at flow i
-shift_other flow x (Along j) i ne = get_or-set_other flow j i _ 0 ne
-shift_other flow x (Against j) i ne = get_or-set_other flow j i _ 0 ne
+pub shift_other : (flow : List ℕ) (x : ℕ) (s : ResidualArc) (i : ℕ) → i ≢ arc_of s → amount_at (shift flow x s) i ≡ amount_at flow i
+shift_other flow x (Forward j) i ne = get_or-set_other flow j i _ 0 ne
+shift_other flow x (Backward j) i ne = get_or-set_other flow j i _ 0 ne
 
-pub length-shift : (flow : List ℕ) (x : ℕ) (s : Step) → length (shift flow x s) ≡ length flow
-length-shift flow x (Along j) = length-set flow j _
-length-shift flow x (Against j) = length-set flow j _
+pub length-shift : (flow : List ℕ) (x : ℕ) (s : ResidualArc) → length (shift flow x s) ≡ length flow
+length-shift flow x (Forward j) = length-set flow j _
+length-shift flow x (Backward j) = length-set flow j _
 
-room_at : (arcs : List Arc) (s : Step) (flow flow' : List ℕ) → amount_at flow' (arc_of s) ≡ amount_at flow (arc_of s) → room arcs flow' s ≡ room arcs flow s
-room_at arcs (Along i) flow flow' e = ap (left_of (arc_at arcs i).capacity) e
-room_at arcs (Against i) flow flow' e = ap (λ n. Some n) e
+room_at : (arcs : List Arc) (s : ResidualArc) (flow flow' : List ℕ) → amount_at flow' (arc_of s) ≡ amount_at flow (arc_of s) → residual_capacity arcs flow' s ≡ residual_capacity arcs flow s
+room_at arcs (Forward i) flow flow' e = ap (left_of (arc_at arcs i).capacity) e
+room_at arcs (Backward i) flow flow' e = ap (λ n. Some n) e
 
-pub untouched : (d : ℕ → ℕ) (arcs : List Arc) (flow : List ℕ) (x : ℕ) (path : List Step) (k i : ℕ) → Levels d arcs k path → Above d arcs k i → amount_at (raise flow x path) i ≡ amount_at flow i
+pub untouched : (d : ℕ → ℕ) (arcs : List Arc) (flow : List ℕ) (x : ℕ) (path : List ResidualArc) (k i : ℕ) → Levels d arcs k path → Above d arcs k i → amount_at (raise flow x path) i ≡ amount_at flow i
 untouched d arcs flow x [] k i h a = refl
 untouched d arcs flow x (s ∷ path) k i h a =
     untouched d arcs (shift flow x s) x path (d (finish arcs s)) i h.3 (above_less d arcs k (d (finish arcs s)) i (omega arith) a)
     ∙ shift_other flow x s i (above_other d arcs s k i h.0 h.1 a)
 
--- the steps below k have the room that they had
-pub room_kept : (d : ℕ → ℕ) (arcs : List Arc) (flow : List ℕ) (x : ℕ) (t : Step) (k : ℕ) (s : Step) → d (start arcs s) ≤ k → d (start arcs s) ≡ suc (d (finish arcs s)) → Above d arcs k (arc_of t) → room arcs (shift flow x t) s ≡ room arcs flow s
+-- the steps below k have the residual capacity that they had
+pub room_kept : (d : ℕ → ℕ) (arcs : List Arc) (flow : List ℕ) (x : ℕ) (t : ResidualArc) (k : ℕ) (s : ResidualArc) → d (start arcs s) ≤ k → d (start arcs s) ≡ suc (d (finish arcs s)) → Above d arcs k (arc_of t) → residual_capacity arcs (shift flow x t) s ≡ residual_capacity arcs flow s
 room_kept d arcs flow x t k s l e a =
     room_at arcs s flow (shift flow x t) (shift_other flow x t (arc_of s) (λ same. above_other d arcs s k (arc_of t) l e a (sym same)))
 
-pub rooms_kept : (d : ℕ → ℕ) (arcs : List Arc) (flow : List ℕ) (x y : ℕ) (t : Step) (k : ℕ) (path : List Step) → Levels d arcs k path → Above d arcs k (arc_of t) → Rooms arcs flow x path → Rooms arcs (shift flow y t) x path
+pub rooms_kept : (d : ℕ → ℕ) (arcs : List Arc) (flow : List ℕ) (x y : ℕ) (t : ResidualArc) (k : ℕ) (path : List ResidualArc) → Levels d arcs k path → Above d arcs k (arc_of t) → Rooms arcs flow x path → Rooms arcs (shift flow y t) x path
 rooms_kept d arcs flow x y t k [] h a r = tt
 rooms_kept d arcs flow x y t k (s ∷ path) h a r = (
   subst (λ o. within x o ≡ true) (sym (room_kept d arcs flow y t k s h.0 h.1 a)) r.0,
   rooms_kept d arcs flow x y t (d (finish arcs s)) path h.3 (above_less d arcs k (d (finish arcs s)) (arc_of t) (omega arith) a) r.1,
 )
 
-bottle_kept : (d : ℕ → ℕ) (arcs : List Arc) (flow : List ℕ) (x y : ℕ) (t : Step) (k : ℕ) (path : List Step) → Levels d arcs k path → Above d arcs k (arc_of t) → Bottle arcs flow x path → Bottle arcs (shift flow y t) x path
+bottle_kept : (d : ℕ → ℕ) (arcs : List Arc) (flow : List ℕ) (x y : ℕ) (t : ResidualArc) (k : ℕ) (path : List ResidualArc) → Levels d arcs k path → Above d arcs k (arc_of t) → Bottle arcs flow x path → Bottle arcs (shift flow y t) x path
 bottle_kept d arcs flow x y t k [] h a r = r
 bottle_kept d arcs flow x y t k (s ∷ path) h a (inl e) = inl (room_kept d arcs flow y t k s h.0 h.1 a ∙ e)
 bottle_kept d arcs flow x y t k (s ∷ path) h a (inr r) =
     inr (bottle_kept d arcs flow x y t (d (finish arcs s)) path h.3 (above_less d arcs k (d (finish arcs s)) (arc_of t) (omega arith) a) r)
 
 -- each arc's amount is as it was, or the arc was tight
-pub outcome : (d : ℕ → ℕ) (arcs : List Arc) (flow : List ℕ) (x : ℕ) (path : List Step) (k i : ℕ) → 1 ≤ x → Levels d arcs k path → Rooms arcs flow x path → (amount_at (raise flow x path) i ≡ amount_at flow i) ⊎ (tight d arcs flow i ≡ true)
+pub outcome : (d : ℕ → ℕ) (arcs : List Arc) (flow : List ℕ) (x : ℕ) (path : List ResidualArc) (k i : ℕ) → 1 ≤ x → Levels d arcs k path → Rooms arcs flow x path → (amount_at (raise flow x path) i ≡ amount_at flow i) ⊎ (tight d arcs flow i ≡ true)
 outcome d arcs flow x [] k i l h r = inl refl
 outcome d arcs flow x (s ∷ path) k i l h r =
     let after : List ℕ = shift flow x s in
@@ -144,23 +144,23 @@ left_full None a x h = cc
 left_full (Some c) a x h = let e : c - a ≡ x = cc in lt-leb 1 (c - (a + x)) (omega arith)
 
 -- the step that is filled up is tight no more
-filled : (d : ℕ → ℕ) (arcs : List Arc) (flow : List ℕ) (x : ℕ) (s : Step) → arc_of s < length flow → d (start arcs s) ≡ suc (d (finish arcs s)) → room arcs flow s ≡ Some x → tight d arcs (shift flow x s) (arc_of s) ≡ false
-filled d arcs flow x (Along i) l e r =
-    let set_to : amount_at (shift flow x (Along i)) i ≡ amount_at flow i + x = get_or-set_same flow i (amount_at flow i + x) 0 l in
+filled : (d : ℕ → ℕ) (arcs : List Arc) (flow : List ℕ) (x : ℕ) (s : ResidualArc) → arc_of s < length flow → d (start arcs s) ≡ suc (d (finish arcs s)) → residual_capacity arcs flow s ≡ Some x → tight d arcs (shift flow x s) (arc_of s) ≡ false
+filled d arcs flow x (Forward i) l e r =
+    let set_to : amount_at (shift flow x (Forward i)) i ≡ amount_at flow i + x = get_or-set_same flow i (amount_at flow i + x) 0 l in
     ap (tight_at d (arc_at arcs i)) set_to
     ∙ or_from _ _ (and_left _ _ (left_full (arc_at arcs i).capacity (amount_at flow i) x r))
     (and_right _ _ (ne_eqb (d (arc_at arcs i).to) (suc (d (arc_at arcs i).from)) (λ (q : d (arc_at arcs i).to ≡ suc (d (arc_at arcs i).from)). omega arith)))
-filled d arcs flow x (Against i) l e r =
+filled d arcs flow x (Backward i) l e r =
     let full : amount_at flow i ≡ x = cc in
-    let set_to : amount_at (shift flow x (Against i)) i ≡ amount_at flow i - x = get_or-set_same flow i (amount_at flow i - x) 0 l in
+    let set_to : amount_at (shift flow x (Backward i)) i ≡ amount_at flow i - x = get_or-set_same flow i (amount_at flow i - x) 0 l in
     ap (tight_at d (arc_at arcs i)) set_to
     ∙ or_from _ _
     (and_right _ _ (ne_eqb (d (arc_at arcs i).from) (suc (d (arc_at arcs i).to)) (λ (q : d (arc_at arcs i).from ≡ suc (d (arc_at arcs i).to)). omega arith)))
     (and_left _ _ (lt-leb 1 (amount_at flow i - x) (omega arith)))
 
-pub bottleneck : (d : ℕ → ℕ) (arcs : List Arc) (flow : List ℕ) (x : ℕ) (path : List Step) (k : ℕ) → 1 ≤ x → length flow ≡ length arcs → Levels d arcs k path → Rooms arcs flow x path → Bottle arcs flow x path → (i : ℕ) × (i < length arcs) × (tight d arcs flow i ≡ true) × (tight d arcs (raise flow x path) i ≡ false)
-bottleneck d arcs flow x [] k l len h r b = absurd b
-bottleneck d arcs flow x (s ∷ path) k l len h r (inl e) =
+pub bottleneck_full : (d : ℕ → ℕ) (arcs : List Arc) (flow : List ℕ) (x : ℕ) (path : List ResidualArc) (k : ℕ) → 1 ≤ x → length flow ≡ length arcs → Levels d arcs k path → Rooms arcs flow x path → Bottle arcs flow x path → (i : ℕ) × (i < length arcs) × (tight d arcs flow i ≡ true) × (tight d arcs (raise flow x path) i ≡ false)
+bottleneck_full d arcs flow x [] k l len h r b = absurd b
+bottleneck_full d arcs flow x (s ∷ path) k l len h r (inl e) =
     let up : Above d arcs (d (finish arcs s)) (arc_of s) = above_step d arcs s h.1 in (
       arc_of s,
       h.2,
@@ -168,12 +168,12 @@ bottleneck d arcs flow x (s ∷ path) k l len h r (inl e) =
       ap (tight_at d (arc_at arcs (arc_of s))) (untouched d arcs (shift flow x s) x path (d (finish arcs s)) (arc_of s) h.3 up)
           ∙ filled d arcs flow x s (omega arith) h.1 e,
     )
-bottleneck d arcs flow x (s ∷ path) k l len h r (inr b) =
+bottleneck_full d arcs flow x (s ∷ path) k l len h r (inr b) =
     let after : List ℕ = shift flow x s in
     let up : Above d arcs (d (finish arcs s)) (arc_of s) = above_step d arcs s h.1 in
     let here : tight d arcs flow (arc_of s) ≡ true = tight_step d arcs flow x s l r.0 h.1 in
     let ih : (i : ℕ) × (i < length arcs) × (tight d arcs after i ≡ true) × (tight d arcs (raise after x path) i ≡ false) =
-    bottleneck d arcs after x path (d (finish arcs s)) l (length-shift flow x s ∙ len) h.3 (rooms_kept d arcs flow x x s (d (finish arcs s)) path h.3 up r.1) (bottle_kept d arcs flow x x s (d (finish arcs s)) path h.3 up b) in
+    bottleneck_full d arcs after x path (d (finish arcs s)) l (length-shift flow x s ∙ len) h.3 (rooms_kept d arcs flow x x s (d (finish arcs s)) path h.3 up r.1) (bottle_kept d arcs flow x x s (d (finish arcs s)) path h.3 up b) in
     let was : tight d arcs flow ih.0 ≡ true =
     elim (cases_eq ih.0 (arc_of s)) [
       | inl same ↦ ap (tight d arcs flow) same ∙ here
@@ -182,15 +182,15 @@ bottleneck d arcs flow x (s ∷ path) k l len h r (inr b) =
     (ih.0, ih.1, was, ih.3)
 
 -- the labels still fall by at most one along each residual arc
-pub falls_after : (d : ℕ → ℕ) (arcs : List Arc) (flow : List ℕ) (x : ℕ) (path : List Step) (k : ℕ) → 1 ≤ x → Levels d arcs k path → Rooms arcs flow x path → Falls arcs flow d → Falls arcs (raise flow x path) d
+pub falls_after : (d : ℕ → ℕ) (arcs : List Arc) (flow : List ℕ) (x : ℕ) (path : List ResidualArc) (k : ℕ) → 1 ≤ x → Levels d arcs k path → Rooms arcs flow x path → Falls arcs flow d → Falls arcs (raise flow x path) d
 falls_after d arcs flow x path k l h r f s res =
     elim (outcome d arcs flow x path k (arc_of s) l h r) [
       | inl e ↦ f s (res.0, subst (λ o. within 1 o ≡ true) (room_at arcs s flow (raise flow x path) e) res.1)
       | inr t ↦ differ s (tight_labels d (arc_at arcs (arc_of s)) (amount_at flow (arc_of s)) t)
     ]
   where
-    differ : (s : Step) → ((d (arc_at arcs (arc_of s)).from ≡ suc (d (arc_at arcs (arc_of s)).to)) ⊎ (d (arc_at arcs (arc_of s)).to ≡ suc (d (arc_at arcs (arc_of s)).from))) → d (start arcs s) ≤ suc (d (finish arcs s))
-    differ (Along i) (inl e) = omega arith
-    differ (Along i) (inr e) = omega arith
-    differ (Against i) (inl e) = omega arith
-    differ (Against i) (inr e) = omega arith
+    differ : (s : ResidualArc) → ((d (arc_at arcs (arc_of s)).from ≡ suc (d (arc_at arcs (arc_of s)).to)) ⊎ (d (arc_at arcs (arc_of s)).to ≡ suc (d (arc_at arcs (arc_of s)).from))) → d (start arcs s) ≤ suc (d (finish arcs s))
+    differ (Forward i) (inl e) = omega arith
+    differ (Forward i) (inr e) = omega arith
+    differ (Backward i) (inl e) = omega arith
+    differ (Backward i) (inr e) = omega arith

@@ -2,9 +2,9 @@
 use Rattle.std.proofs.Common.{◌≡◌, ℕ, zero, suc, ◌+◌, ◌^◌, ◌<◌, ◌≤◌, List, [], ◌∷◌, ◌++◌, length, get_or, take, Some, refl, ap, ◌∙◌, arith, add-one}
 use Rattle.std.proofs.lemmas.List.{take_more}
 use Rattle.esr_cert.specs.declared.network.Arc.{Arc}
-use Rattle.esr_cert.specs.declared.step.Step.{Step}
+use Rattle.esr_cert.specs.declared.residual.ResidualArc.{ResidualArc}
 use Rattle.esr_cert.specs.Flow.{amount_at, IsFlow, worth}
-use Rattle.esr_flow.specs.Residual.{finish, IsPath, least_room, shift, raise}
+use Rattle.esr_flow.specs.Residual.{finish, IsPath, bottleneck, shift, raise}
 use Rattle.esr_cert.specs.Network.{Network, IsNetwork}
 use Rattle.esr_flow.specs.Augmentation.{Augments, Takes}
 use Rattle.esr_flow.specs.Maximum.{InArcs, LIMIT}
@@ -12,28 +12,28 @@ use Rattle.esr_flow.specs.Search.{IsShortestPath}
 use Rattle.esr_flow.proofs.Labels.{Levels}
 use Rattle.esr_flow.proofs.FlowLaws.{After, augmented, path_labels, raise_at_most}
 
-raise_push : (flow : List ℕ) (x : ℕ) (path : List Step) (s : Step) → raise flow x (path ++ s ∷ []) ≡ shift (raise flow x path) x s
+raise_push : (flow : List ℕ) (x : ℕ) (path : List ResidualArc) (s : ResidualArc) → raise flow x (path ++ s ∷ []) ≡ shift (raise flow x path) x s
 raise_push flow x [] s = refl
 raise_push flow x (t ∷ path) s = raise_push (shift flow x t) x path s
 
-pub raise_more : (flow : List ℕ) (x : ℕ) (path : List Step) (i : ℕ) (d : Step) → i < length path → raise flow x (take (i + 1) path) ≡ shift (raise flow x (take i path)) x (get_or path i d)
+pub raise_more : (flow : List ℕ) (x : ℕ) (path : List ResidualArc) (i : ℕ) (d : ResidualArc) → i < length path → raise flow x (take (i + 1) path) ≡ shift (raise flow x (take i path)) x (get_or path i d)
 raise_more flow x path i d l = ap (raise flow x) (take_more path i d l) ∙ raise_push flow x (take i path) (get_or path i d)
 
-levels_take : (d : ℕ → ℕ) (arcs : List Arc) (k : ℕ) (path : List Step) (n : ℕ) → Levels d arcs k path → Levels d arcs k (take n path)
+levels_take : (d : ℕ → ℕ) (arcs : List Arc) (k : ℕ) (path : List ResidualArc) (n : ℕ) → Levels d arcs k path → Levels d arcs k (take n path)
 levels_take d arcs k path zero h = tt
 levels_take d arcs k [] (suc n) h = tt
 levels_take d arcs k (s ∷ path) (suc n) h = (h.0, h.1, h.2, levels_take d arcs (d (finish arcs s)) path n h.3)
 
-pub path_in_arcs : (arcs : List Arc) (flow : List ℕ) (path : List Step) (a b : ℕ) → IsPath arcs flow a path b → InArcs arcs path
+pub path_in_arcs : (arcs : List Arc) (flow : List ℕ) (path : List ResidualArc) (a b : ℕ) → IsPath arcs flow a path b → InArcs arcs path
 path_in_arcs arcs flow [] a b h k d l = absurd (omega arith)
 path_in_arcs arcs flow (s ∷ path) a b h zero d l = h.1.0
 path_in_arcs arcs flow (s ∷ path) a b h (suc k) d l = path_in_arcs arcs flow path (finish arcs s) b h.2 k d (omega arith)
 
-abbrev pub augments : (net : Network) (flow : List ℕ) (path : List Step) (x : ℕ) → IsShortestPath net flow path → least_room net.arcs flow path ≡ Some x → Augments net flow (raise flow x path)
+abbrev pub augments : (net : Network) (flow : List ℕ) (path : List ResidualArc) (x : ℕ) → IsShortestPath net flow path → bottleneck net.arcs flow path ≡ Some x → Augments net flow (raise flow x path)
 augments net flow path x p e = record { path = path; amount = x; is_path = p.is_path; is_shortest = p.is_shortest; is_least = e; is_raised = refl }
 
 -- the amounts on the way fit
-pub raise_fits : (net : Network) → IsNetwork net → (flow : List ℕ) (path : List Step) (x : ℕ) → IsFlow net flow → ((i : ℕ) → amount_at flow i ≤ LIMIT) → ((f : List ℕ) → IsFlow net f → worth net f ≤ LIMIT) → IsShortestPath net flow path → least_room net.arcs flow path ≡ Some x → (k i : ℕ) → amount_at (raise flow x (take k path)) i + x < 2 ^ 64
+pub raise_fits : (net : Network) → IsNetwork net → (flow : List ℕ) (path : List ResidualArc) (x : ℕ) → IsFlow net flow → ((i : ℕ) → amount_at flow i ≤ LIMIT) → ((f : List ℕ) → IsFlow net f → worth net f ≤ LIMIT) → IsShortestPath net flow path → bottleneck net.arcs flow path ≡ Some x → (k i : ℕ) → amount_at (raise flow x (take k path)) i + x < 2 ^ 64
 raise_fits net ok flow path x f amounts small p e k i =
     let a : Augments net flow (raise flow x path) = augments net flow path x p e in
     let after : After net flow (raise flow x path) x = augmented net ok flow (raise flow x path) f a in

@@ -2,8 +2,8 @@
 use Rattle.std.proofs.Common.{◌≡◌, ℕ, zero, suc, ◌+◌, ◌-◌, ◌<◌, true, false, List, [], ◌∷◌, ◌++◌, length, set, reverse, replicate, refl, sym, ◌∙◌, subst, inl, inr, arith, true≢false, length-set, get_or-set_other, get_or-set_same}
 use Rattle.std.proofs.lemmas.Bool.{cases_eq}
 use Rattle.std.proofs.lemmas.List.{length_push, reverse-append, length-replicate}
-use Rattle.esr_cert.specs.declared.step.Step.{Step}
-use Rattle.esr_cert.specs.declared.step.Step.TheVariants.{Along}
+use Rattle.esr_cert.specs.declared.residual.ResidualArc.{ResidualArc}
+use Rattle.esr_cert.specs.declared.residual.ResidualArc.TheVariants.{Forward}
 use Rattle.esr_flow.specs.declared.search.Visit.{Visit}
 use Rattle.esr_flow.specs.Residual.{IsPath}
 use Rattle.esr_cert.specs.Network.{Network, IsNetwork}
@@ -11,13 +11,13 @@ use Rattle.esr_flow.specs.Search.{visit_at, is_marked, unmarked, Comes, Searched
 use Rattle.esr_flow.proofs.SearchLaws.{start_search, unmarked_mark}
 
 -- the steps so far, the last first, lead from the node of a visit to the sink
-pub record Back (net : Network) (flow : List ℕ) (visits : List Visit) (path : List Step) (at : ℕ) : Type 0 where
+pub record Back (net : Network) (flow : List ℕ) (visits : List Visit) (path : List ResidualArc) (at : ℕ) : Type 0 where
   pub in_visits : at < length visits
   pub is_path : IsPath net.arcs flow (visit_at visits at).node (reverse path) net.sink
   pub steps : length path + (visit_at visits at).level ≡ (visit_at visits (length visits - 1)).level
 
 module _ (net : Network) (flow : List ℕ) (visits : List Visit) (f : FoundSink net flow visits) where
-  pub back_more : (path : List Step) (at : ℕ) → 0 < at → Back net flow visits path at → Back net flow visits (path ++ (visit_at visits at).step ∷ []) (visit_at visits at).parent
+  pub back_more : (path : List ResidualArc) (at : ℕ) → 0 < at → Back net flow visits path at → Back net flow visits (path ++ (visit_at visits at).step ∷ []) (visit_at visits at).parent
   back_more path at l b =
       let c : Comes net.arcs flow visits at = f.searched.comes at l b.in_visits in
       record {
@@ -36,9 +36,9 @@ all_unmarked : (n : ℕ) → unmarked (replicate n false) ≡ n
 all_unmarked zero = refl
 all_unmarked (suc n) = omega (arith, all_unmarked n)
 
-pub begin : (net : Network) (flow : List ℕ) → IsNetwork net → Searched net flow (record { node = net.source; level = 0; step = Along 0; parent = 0 } ∷ []) (set (replicate net.nodes false) net.source true) 0
+pub begin : (net : Network) (flow : List ℕ) → IsNetwork net → Searched net flow (record { node = net.source; level = 0; step = Forward 0; parent = 0 } ∷ []) (set (replicate net.nodes false) net.source true) 0
 begin net flow ok =
-    start_search net flow (set (replicate net.nodes false) net.source true) (record { node = net.source; level = 0; step = Along 0; parent = 0 } ∷ []) ok.source_is_node
+    start_search net flow (set (replicate net.nodes false) net.source true) (record { node = net.source; level = 0; step = Forward 0; parent = 0 } ∷ []) ok.source_is_node
     (length-set (replicate net.nodes false) net.source true ∙ length-replicate net.nodes false)
     (omega (arith, unmarked_mark (replicate net.nodes false) net.source in_list (none_marked net.nodes net.source), all_unmarked net.nodes))
     (λ v t. elim (cases_eq v net.source) [

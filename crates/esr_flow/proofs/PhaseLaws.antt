@@ -1,6 +1,6 @@
 -- What an augmentation along a guided path keeps.
 use Rattle.std.proofs.Common.{◌≡◌, ℕ, ◌+◌, ◌*◌, ◌≤◌, List, length, sym, subst, arith}
-use Rattle.esr_cert.specs.declared.step.Step.{Step}
+use Rattle.esr_cert.specs.declared.residual.ResidualArc.{ResidualArc}
 use Rattle.esr_cert.specs.Network.{Network, IsNetwork}
 use Rattle.esr_flow.specs.Residual.{Falls, raise}
 use Rattle.esr_flow.specs.Augmentation.{Augments, Takes}
@@ -18,7 +18,7 @@ pub record Running (net : Network) (flow labels : List ℕ) (n value : ℕ) : Ty
   pub guides : Guides net flow labels
 
 -- the labels guide as before after any augmentation by which some guided path was shortest
-pub guides_after : (net : Network) (flow after labels : List ℕ) (path : List Step) → Guides net flow labels → IsGuided net flow labels path → Augments net flow after → Guides net after labels
+pub guides_after : (net : Network) (flow after labels : List ℕ) (path : List ResidualArc) → Guides net flow labels → IsGuided net flow labels path → Augments net flow after → Guides net after labels
 guides_after net flow after labels path g p a =
     let short : length a.path ≤ length path = a.is_shortest path p.is_shortest_path.is_path in
     let h : Levels (label_at labels) net.arcs (label_at labels net.source) a.path = levels_from net.arcs flow (label_at labels) g.falls a.path net.source net.sink a.is_path (omega (arith, short, p.steps, g.at_sink)) in
@@ -27,7 +27,7 @@ guides_after net flow after labels path g p a =
     let f : Falls net.arcs (raise flow a.amount a.path) (label_at labels) = falls_after (label_at labels) net.arcs flow a.amount a.path (label_at labels net.source) x h r g.falls in
     record { count = g.count; falls = subst (λ fl. Falls net.arcs fl (label_at labels)) (sym a.is_raised) f; at_sink = g.at_sink }
 
-pub run_more : (net : Network) → (flow after labels : List ℕ) (path : List Step) (n value x : ℕ) → Running net flow labels n value → IsGuided net flow labels path → Augments net flow after → worth net after ≡ worth net flow + x → Running net after labels (n + 1) (value + x)
+pub run_more : (net : Network) → (flow after labels : List ℕ) (path : List ResidualArc) (n value x : ℕ) → Running net flow labels n value → IsGuided net flow labels path → Augments net flow after → worth net after ≡ worth net flow + x → Running net after labels (n + 1) (value + x)
 run_more net flow after labels path n value x r p a e = record {
   takes = takes_more net n flow after r.takes a;
   value_is = omega (arith, r.value_is, e);

@@ -4,65 +4,65 @@ use Rattle.std.proofs.Common.{◌≡◌, ℕ, zero, suc, ◌+◌, ◌*◌, ◌<�
 use Rattle.std.proofs.lemmas.Bool.{or_from, and_right}
 use Rattle.std.proofs.lemmas.List.{length-replicate}
 use Rattle.esr_cert.specs.declared.network.Arc.{Arc}
-use Rattle.esr_cert.specs.declared.step.Step.{Step}
-use Rattle.esr_flow.specs.Residual.{Falls, finish, room, IsPath, lesser, least_room, shift, raise}
+use Rattle.esr_cert.specs.declared.residual.ResidualArc.{ResidualArc}
+use Rattle.esr_flow.specs.Residual.{Falls, finish, residual_capacity, IsPath, smaller, bottleneck, shift, raise}
 use Rattle.esr_cert.specs.Flow.{within}
 use Rattle.esr_cert.specs.Network.{arc_at, Network, IsNetwork}
 use Rattle.esr_flow.specs.Augmentation.{Augments, Takes}
 use Rattle.esr_flow.proofs.Count.{count_below, count_le, count_none_lem, count_fewer}
-use Rattle.esr_flow.proofs.Labels.{Levels, Rooms, Bottle, levels_from, tight, tight_at, outcome, bottleneck, falls_after, length-shift}
+use Rattle.esr_flow.proofs.Labels.{Levels, Rooms, Bottle, levels_from, tight, tight_at, outcome, bottleneck_full, falls_after, length-shift}
 use Rattle.esr_flow.proofs.Distance.{distance, distance_sink, distance_falls, distance_limit, steps_le_nodes}
 
--- the lesser of two rooms is within both, and is one of them
-lesser_parts : (a b : Option ℕ) (x : ℕ) → lesser a b ≡ Some x → (within x a ≡ true) × (within x b ≡ true) × ((a ≡ Some x) ⊎ (b ≡ Some x))
-lesser_parts None b x h = (refl, subst (λ o. within x o ≡ true) (sym h) (le-leb x x (omega arith)), inr h)
-lesser_parts (Some a) None x h = (subst (λ o. within x o ≡ true) (sym h) (le-leb x x (omega arith)), refl, inl h)
-lesser_parts (Some a) (Some b) x h =
+-- the smaller of two rooms is within both, and is one of them
+smaller_parts : (a b : Option ℕ) (x : ℕ) → smaller a b ≡ Some x → (within x a ≡ true) × (within x b ≡ true) × ((a ≡ Some x) ⊎ (b ≡ Some x))
+smaller_parts None b x h = (refl, subst (λ o. within x o ≡ true) (sym h) (le-leb x x (omega arith)), inr h)
+smaller_parts (Some a) None x h = (subst (λ o. within x o ≡ true) (sym h) (le-leb x x (omega arith)), refl, inl h)
+smaller_parts (Some a) (Some b) x h =
     let e : min a b ≡ x = cc in
     let split : (a ≡ x) ⊎ (b ≡ x) = grind arith in
     (le-leb x a (omega arith), le-leb x b (omega arith), elim split [ inl q ↦ inl (ap (λ n. Some n) q) | inr q ↦ inr (ap (λ n. Some n) q) ])
 
--- what the least room on a path says of each step and of one of them
+-- what the bottleneck of a path says of each step and of one of them
 within_room : (x : ℕ) (b : Option ℕ) → within x b ≡ true → (r : ℕ) → b ≡ Some r → x ≤ r
 within_room x None h r e = cc
 within_room x (Some s) h r e = let q : s ≡ r = cc in omega (arith, leb-true x s h)
 
--- within the least room, within each
-pub rooms_within : (arcs : List Arc) (flow : List ℕ) (x : ℕ) (path : List Step) → within x (least_room arcs flow path) ≡ true → Rooms arcs flow x path
+-- within the bottleneck, within each
+pub rooms_within : (arcs : List Arc) (flow : List ℕ) (x : ℕ) (path : List ResidualArc) → within x (bottleneck arcs flow path) ≡ true → Rooms arcs flow x path
 rooms_within arcs flow x [] h = tt
 rooms_within arcs flow x (s ∷ path) h =
-    let p : (within x (room arcs flow s) ≡ true) × (within x (least_room arcs flow path) ≡ true) = lesser_within (room arcs flow s) (least_room arcs flow path) x h in
+    let p : (within x (residual_capacity arcs flow s) ≡ true) × (within x (bottleneck arcs flow path) ≡ true) = smaller_within (residual_capacity arcs flow s) (bottleneck arcs flow path) x h in
     (p.0, rooms_within arcs flow x path p.1)
   where
-    lesser_within : (a b : Option ℕ) (x : ℕ) → within x (lesser a b) ≡ true → (within x a ≡ true) × (within x b ≡ true)
-    lesser_within None b x h = (refl, h)
-    lesser_within (Some a) None x h = (h, refl)
-    lesser_within (Some a) (Some b) x h = let l : x ≤ min a b = leb-true x (min a b) h in (le-leb x a (omega arith), le-leb x b (omega arith))
+    smaller_within : (a b : Option ℕ) (x : ℕ) → within x (smaller a b) ≡ true → (within x a ≡ true) × (within x b ≡ true)
+    smaller_within None b x h = (refl, h)
+    smaller_within (Some a) None x h = (h, refl)
+    smaller_within (Some a) (Some b) x h = let l : x ≤ min a b = leb-true x (min a b) h in (le-leb x a (omega arith), le-leb x b (omega arith))
 
-pub rooms_from : (arcs : List Arc) (flow : List ℕ) (x : ℕ) (path : List Step) → least_room arcs flow path ≡ Some x → Rooms arcs flow x path
+pub rooms_from : (arcs : List Arc) (flow : List ℕ) (x : ℕ) (path : List ResidualArc) → bottleneck arcs flow path ≡ Some x → Rooms arcs flow x path
 rooms_from arcs flow x path h = rooms_within arcs flow x path (subst (λ o. within x o ≡ true) (sym h) (le-leb x x (omega arith)))
 
-pub bottle_from : (arcs : List Arc) (flow : List ℕ) (x : ℕ) (path : List Step) → least_room arcs flow path ≡ Some x → Bottle arcs flow x path
+pub bottle_from : (arcs : List Arc) (flow : List ℕ) (x : ℕ) (path : List ResidualArc) → bottleneck arcs flow path ≡ Some x → Bottle arcs flow x path
 bottle_from arcs flow x [] h = cc
 bottle_from arcs flow x (s ∷ path) h =
-    elim (lesser_parts (room arcs flow s) (least_room arcs flow path) x h).2 [
+    elim (smaller_parts (residual_capacity arcs flow s) (bottleneck arcs flow path) x h).2 [
       | inl e ↦ inl e
       | inr e ↦ inr (bottle_from arcs flow x path e)
     ]
 
-pub amount_pos : (arcs : List Arc) (flow : List ℕ) (x : ℕ) (path : List Step) (a b : ℕ) → IsPath arcs flow a path b → Bottle arcs flow x path → 1 ≤ x
+pub amount_pos : (arcs : List Arc) (flow : List ℕ) (x : ℕ) (path : List ResidualArc) (a b : ℕ) → IsPath arcs flow a path b → Bottle arcs flow x path → 1 ≤ x
 amount_pos arcs flow x [] a b h r = absurd r
-amount_pos arcs flow x (s ∷ path) a b h (inl e) = within_room 1 (room arcs flow s) h.1.1 x e
+amount_pos arcs flow x (s ∷ path) a b h (inl e) = within_room 1 (residual_capacity arcs flow s) h.1.1 x e
 amount_pos arcs flow x (s ∷ path) a b h (inr r) = amount_pos arcs flow x path (finish arcs s) b h.2 r
 
-pub length-raise : (flow : List ℕ) (x : ℕ) (path : List Step) → length (raise flow x path) ≡ length flow
+pub length-raise : (flow : List ℕ) (x : ℕ) (path : List ResidualArc) → length (raise flow x path) ≡ length flow
 length-raise flow x [] = refl
 length-raise flow x (s ∷ path) = length-raise (shift flow x s) x path ∙ length-shift flow x s
 
 -- an augmentation along a path on which the labels fall at each step leaves fewer tight arcs
-pub fewer_tight : (d : ℕ → ℕ) (arcs : List Arc) (flow : List ℕ) (x : ℕ) (path : List Step) (k : ℕ) → 1 ≤ x → length flow ≡ length arcs → Levels d arcs k path → Rooms arcs flow x path → Bottle arcs flow x path → suc (count_below (tight d arcs (raise flow x path)) (length arcs)) ≤ count_below (tight d arcs flow) (length arcs)
+pub fewer_tight : (d : ℕ → ℕ) (arcs : List Arc) (flow : List ℕ) (x : ℕ) (path : List ResidualArc) (k : ℕ) → 1 ≤ x → length flow ≡ length arcs → Levels d arcs k path → Rooms arcs flow x path → Bottle arcs flow x path → suc (count_below (tight d arcs (raise flow x path)) (length arcs)) ≤ count_below (tight d arcs flow) (length arcs)
 fewer_tight d arcs flow x path k l len h r b =
-    let full : (i : ℕ) × (i < length arcs) × (tight d arcs flow i ≡ true) × (tight d arcs (raise flow x path) i ≡ false) = bottleneck d arcs flow x path k l len h r b in
+    let full : (i : ℕ) × (i < length arcs) × (tight d arcs flow i ≡ true) × (tight d arcs (raise flow x path) i ≡ false) = bottleneck_full d arcs flow x path k l len h r b in
     count_fewer (tight d arcs (raise flow x path)) (tight d arcs flow) (length arcs) full.0 still full.1 full.3 full.2
   where
     still : (i : ℕ) → i < length arcs → tight d arcs (raise flow x path) i ≡ true → tight d arcs flow i ≡ true

@@ -3,9 +3,9 @@ use Rattle.std.proofs.Common.{◌≡◌, ◌≢◌, ℕ, ◌+◌, ◌-◌, ◌<�
 use Rattle.std.proofs.lemmas.Bool.{cases_eq}
 use Rattle.std.proofs.lemmas.List.{get_or_append_left, get_or_push, length_push, get_or_default}
 use Rattle.esr_cert.specs.declared.network.Arc.{Arc}
-use Rattle.esr_cert.specs.declared.step.Step.{Step}
-use Rattle.esr_cert.specs.declared.step.Step.TheVariants.{Along, Against}
-use Rattle.esr_flow.specs.declared.entry.Entry.{Entry}
+use Rattle.esr_cert.specs.declared.residual.ResidualArc.{ResidualArc}
+use Rattle.esr_cert.specs.declared.residual.ResidualArc.TheVariants.{Forward, Backward}
+use Rattle.esr_flow.specs.declared.entry.AdjacencyEntry.{AdjacencyEntry}
 use Rattle.esr_flow.specs.declared.search.Visit.{Visit}
 use Rattle.esr_cert.specs.Steps.{arc_of, start}
 use Rattle.esr_flow.specs.Residual.{finish, IsResidual}
@@ -16,7 +16,7 @@ use Rattle.esr_flow.specs.Search.{visit_at, is_marked, Leads, Searched, FoundSin
 use Rattle.esr_flow.proofs.SearchLaws.{visit_more, next_head, unmarked_far}
 
 -- the first k steps of the row are done
-pub record Scanning (net : Network) (flow : List ℕ) (steps : List Step) (row : List Entry) (visits : List Visit) (marks : List Bool) (head level k : ℕ) : Type 0 where
+pub record Scanning (net : Network) (flow : List ℕ) (steps : List ResidualArc) (row : List AdjacencyEntry) (visits : List Visit) (marks : List Bool) (head level k : ℕ) : Type 0 where
   pub searched : Searched net flow visits marks head
   pub in_visits : head < length visits
   pub lists : Lists net.arcs flow (visit_at visits head).node steps row
@@ -24,43 +24,43 @@ pub record Scanning (net : Network) (flow : List ℕ) (steps : List Step) (row :
   pub unfound : is_marked marks net.sink ≡ false
   pub row_done : (i : ℕ) → i < k → i < length row → IsResidual net.arcs flow (step_at steps i) → Leads net.arcs visits (visit_at visits head).level (step_at steps i)
 
-abbrev pub none_at : Entry
+abbrev pub none_at : AdjacencyEntry
 none_at = record { to = 0; ahead = false; back = false }
 
-abbrev pub visit_of : Step → Entry → ℕ → ℕ → Visit
+abbrev pub visit_of : ResidualArc → AdjacencyEntry → ℕ → ℕ → Visit
 visit_of s e level head = record { node = e.to; level = level; step = s; parent = head }
 
 -- a step of a node has a place in the node's row
-place_of : (arcs : List Arc) (flow : List ℕ) (v : ℕ) (steps : List Step) (row : List Entry) (s : Step) → Lists arcs flow v steps row → arc_of s < length arcs → start arcs s ≡ v → (k : ℕ) × (k < length row) × (step_at steps k ≡ s)
+place_of : (arcs : List Arc) (flow : List ℕ) (v : ℕ) (steps : List ResidualArc) (row : List AdjacencyEntry) (s : ResidualArc) → Lists arcs flow v steps row → arc_of s < length arcs → start arcs s ≡ v → (k : ℕ) × (k < length row) × (step_at steps k ≡ s)
 place_of arcs flow v steps row s h l e =
     let (k, m, q) = h.all s l e in
-    (k, omega (arith, h.count), get_or_default steps k (Along 0) s m ∙ q)
+    (k, omega (arith, h.count), get_or_default steps k (Forward 0) s m ∙ q)
 
-leads_more : (arcs : List Arc) (visits : List Visit) (x : Visit) (level : ℕ) (s : Step) → Leads arcs visits level s → Leads arcs (visits ++ x ∷ []) level s
+leads_more : (arcs : List Arc) (visits : List Visit) (x : Visit) (level : ℕ) (s : ResidualArc) → Leads arcs visits level s → Leads arcs (visits ++ x ∷ []) level s
 leads_more arcs visits x level s (j, l, e, m) =
-    let same : visit_at (visits ++ x ∷ []) j ≡ visit_at visits j = get_or_append_left visits (x ∷ []) (record { node = 0; level = 0; step = Along 0; parent = 0 }) j l in
+    let same : visit_at (visits ++ x ∷ []) j ≡ visit_at visits j = get_or_append_left visits (x ∷ []) (record { node = 0; level = 0; step = Forward 0; parent = 0 }) j l in
     (j, omega (arith, length_push visits x), ap (λ v. v.node) same ∙ e, omega (arith, ap (λ v. v.level) same))
 
-finish_in : (net : Network) → IsNetwork net → (s : Step) → arc_of s < length net.arcs → finish net.arcs s < net.nodes
-finish_in net ok (Along i) k = (ok.ends i k).1
-finish_in net ok (Against i) k = (ok.ends i k).0
+finish_in : (net : Network) → IsNetwork net → (s : ResidualArc) → arc_of s < length net.arcs → finish net.arcs s < net.nodes
+finish_in net ok (Forward i) k = (ok.ends i k).1
+finish_in net ok (Backward i) k = (ok.ends i k).0
 
-module _ (net : Network) (ok : IsNetwork net) (flow : List ℕ) (steps : List Step) (row : List Entry) (visits : List Visit) (marks : List Bool) (head level k : ℕ) where
-  at_k : (P : Step → Type 0) → P (step_at steps k) → ((i : ℕ) → i < k → i < length row → P (step_at steps i)) → (i : ℕ) → i < k + 1 → i < length row → P (step_at steps i)
+module _ (net : Network) (ok : IsNetwork net) (flow : List ℕ) (steps : List ResidualArc) (row : List AdjacencyEntry) (visits : List Visit) (marks : List Bool) (head level k : ℕ) where
+  at_k : (P : ResidualArc → Type 0) → P (step_at steps k) → ((i : ℕ) → i < k → i < length row → P (step_at steps i)) → (i : ℕ) → i < k + 1 → i < length row → P (step_at steps i)
   at_k P p before i a b =
       elim (cases_eq i k) [
         | inl q ↦ subst (λ n. P (step_at steps n)) (sym q) p
         | inr ne ↦ before i (omega arith) b
       ]
 
-  entry_in : (e : Entry) → Scanning net flow steps row visits marks head level k → k < length row → e ≡ get_or row k none_at → IsEntry net.arcs flow (visit_at visits head).node (step_at steps k) e
+  entry_in : (e : AdjacencyEntry) → Scanning net flow steps row visits marks head level k → k < length row → e ≡ get_or row k none_at → IsEntry net.arcs flow (visit_at visits head).node (step_at steps k) e
   entry_in e h l is = subst (IsEntry net.arcs flow (visit_at visits head).node (step_at steps k)) (sym is) (h.lists.entries k l)
 
-  pub entry_marked : (e : Entry) → Scanning net flow steps row visits marks head level k → k < length row → e ≡ get_or row k none_at → e.to < length marks
+  pub entry_marked : (e : AdjacencyEntry) → Scanning net flow steps row visits marks head level k → k < length row → e ≡ get_or row k none_at → e.to < length marks
   entry_marked e h l is = let q : IsEntry net.arcs flow (visit_at visits head).node (step_at steps k) e = entry_in e h l is in omega (arith, q.leads, finish_in net ok (step_at steps k) q.in_arcs, h.searched.marks_length)
 
-  -- a step that has no room
-  pub scan_skip : (e : Entry) → Scanning net flow steps row visits marks head level k → k < length row → e ≡ get_or row k none_at → e.ahead ≡ false → Scanning net flow steps row visits marks head level (k + 1)
+  -- a step without residual capacity
+  pub scan_skip : (e : AdjacencyEntry) → Scanning net flow steps row visits marks head level k → k < length row → e ≡ get_or row k none_at → e.ahead ≡ false → Scanning net flow steps row visits marks head level (k + 1)
   scan_skip e h l is f = let q : IsEntry net.arcs flow (visit_at visits head).node (step_at steps k) e = entry_in e h l is in record {
     searched = h.searched;
     in_visits = h.in_visits;
@@ -72,8 +72,8 @@ module _ (net : Network) (ok : IsNetwork net) (flow : List ℕ) (steps : List St
         h.row_done;
   }
 
-  -- a step to a node that was visited; the node is in range, so it does not matter what stands past the end
-  pub scan_marked : (e : Entry) → Scanning net flow steps row visits marks head level k → k < length row → e ≡ get_or row k none_at → get_or marks e.to true ≡ true → Scanning net flow steps row visits marks head level (k + 1)
+  -- a step to a node that was visited; the node is in range, so it does not matter what is past the end
+  pub scan_marked : (e : AdjacencyEntry) → Scanning net flow steps row visits marks head level k → k < length row → e ≡ get_or row k none_at → get_or marks e.to true ≡ true → Scanning net flow steps row visits marks head level (k + 1)
   scan_marked e h l is m =
       let q : IsEntry net.arcs flow (visit_at visits head).node (step_at steps k) e = entry_in e h l is in
       let t : is_marked marks (finish net.arcs (step_at steps k)) ≡ true = ap (is_marked marks) (sym q.leads) ∙ get_or_default marks e.to false true (omega (arith, q.leads, finish_in net ok (step_at steps k) q.in_arcs, h.searched.marks_length)) ∙ m in
@@ -90,7 +90,7 @@ module _ (net : Network) (ok : IsNetwork net) (flow : List ℕ) (steps : List St
             h.row_done;
       }
 
-  searched_more : (e : Entry) → Scanning net flow steps row visits marks head level k → k < length row → e ≡ get_or row k none_at → e.ahead ≡ true → is_marked marks e.to ≡ false → Searched net flow (visits ++ visit_of (step_at steps k) e level head ∷ []) (set marks e.to true) head
+  searched_more : (e : AdjacencyEntry) → Scanning net flow steps row visits marks head level k → k < length row → e ≡ get_or row k none_at → e.ahead ≡ true → is_marked marks e.to ≡ false → Searched net flow (visits ++ visit_of (step_at steps k) e level head ∷ []) (set marks e.to true) head
   searched_more e h l is r f =
       let q : IsEntry net.arcs flow (visit_at visits head).node (step_at steps k) e = entry_in e h l is in
       let more : Searched net flow (visits ++ record { node = finish net.arcs (step_at steps k); level = (visit_at visits head).level + 1; step = (step_at steps k); parent = head } ∷ []) (set marks (finish net.arcs (step_at steps k)) true) head =
@@ -98,16 +98,16 @@ module _ (net : Network) (ok : IsNetwork net) (flow : List ℕ) (steps : List St
       subst (λ n. Searched net flow (visits ++ visit_of (step_at steps k) e n head ∷ []) (set marks e.to true) head) (sym h.next_level)
       (subst (λ n. Searched net flow (visits ++ record { node = n; level = (visit_at visits head).level + 1; step = (step_at steps k); parent = head } ∷ []) (set marks n true) head) (sym q.leads) more)
 
-  same_head : (e : Entry) → head < length visits → visit_at (visits ++ visit_of (step_at steps k) e level head ∷ []) head ≡ visit_at visits head
-  same_head e l = get_or_append_left visits (visit_of (step_at steps k) e level head ∷ []) (record { node = 0; level = 0; step = Along 0; parent = 0 }) head l
+  same_head : (e : AdjacencyEntry) → head < length visits → visit_at (visits ++ visit_of (step_at steps k) e level head ∷ []) head ≡ visit_at visits head
+  same_head e l = get_or_append_left visits (visit_of (step_at steps k) e level head ∷ []) (record { node = 0; level = 0; step = Forward 0; parent = 0 }) head l
 
   -- a step to a node that was not
-  pub scan_visit : (e : Entry) → Scanning net flow steps row visits marks head level k → k < length row → e ≡ get_or row k none_at → e.ahead ≡ true → is_marked marks e.to ≡ false → e.to ≢ net.sink → Scanning net flow steps row (visits ++ visit_of (step_at steps k) e level head ∷ []) (set marks e.to true) head level (k + 1)
+  pub scan_visit : (e : AdjacencyEntry) → Scanning net flow steps row visits marks head level k → k < length row → e ≡ get_or row k none_at → e.ahead ≡ true → is_marked marks e.to ≡ false → e.to ≢ net.sink → Scanning net flow steps row (visits ++ visit_of (step_at steps k) e level head ∷ []) (set marks e.to true) head level (k + 1)
   scan_visit e h l is r f ne =
       let q : IsEntry net.arcs flow (visit_at visits head).node (step_at steps k) e = entry_in e h l is in
       let same : visit_at (visits ++ visit_of (step_at steps k) e level head ∷ []) head ≡ visit_at visits head = same_head e h.in_visits in
       let len : length (visits ++ visit_of (step_at steps k) e level head ∷ []) ≡ length visits + 1 = length_push visits (visit_of (step_at steps k) e level head) in
-      let new : visit_at (visits ++ visit_of (step_at steps k) e level head ∷ []) (length visits) ≡ visit_of (step_at steps k) e level head = get_or_push visits (visit_of (step_at steps k) e level head) (record { node = 0; level = 0; step = Along 0; parent = 0 }) (length visits) refl in
+      let new : visit_at (visits ++ visit_of (step_at steps k) e level head ∷ []) (length visits) ≡ visit_of (step_at steps k) e level head = get_or_push visits (visit_of (step_at steps k) e level head) (record { node = 0; level = 0; step = Forward 0; parent = 0 }) (length visits) refl in
       record {
         searched = searched_more e h l is r f;
         in_visits = omega (arith, len, h.in_visits);
@@ -121,11 +121,11 @@ module _ (net : Network) (ok : IsNetwork net) (flow : List ℕ) (steps : List St
       }
 
   -- a step to the sink
-  pub scan_found : (e : Entry) → Scanning net flow steps row visits marks head level k → k < length row → e ≡ get_or row k none_at → e.ahead ≡ true → is_marked marks e.to ≡ false → e.to ≡ net.sink → FoundSink net flow (visits ++ visit_of (step_at steps k) e level head ∷ [])
+  pub scan_found : (e : AdjacencyEntry) → Scanning net flow steps row visits marks head level k → k < length row → e ≡ get_or row k none_at → e.ahead ≡ true → is_marked marks e.to ≡ false → e.to ≡ net.sink → FoundSink net flow (visits ++ visit_of (step_at steps k) e level head ∷ [])
   scan_found e h l is r f at =
       let len : length (visits ++ visit_of (step_at steps k) e level head ∷ []) - 1 ≡ length visits = omega (arith, length_push visits (visit_of (step_at steps k) e level head)) in
       let new : visit_at (visits ++ visit_of (step_at steps k) e level head ∷ []) (length (visits ++ visit_of (step_at steps k) e level head ∷ []) - 1) ≡ visit_of (step_at steps k) e level head =
-      ap (visit_at (visits ++ visit_of (step_at steps k) e level head ∷ [])) len ∙ get_or_push visits (visit_of (step_at steps k) e level head) (record { node = 0; level = 0; step = Along 0; parent = 0 }) (length visits) refl in
+      ap (visit_at (visits ++ visit_of (step_at steps k) e level head ∷ [])) len ∙ get_or_push visits (visit_of (step_at steps k) e level head) (record { node = 0; level = 0; step = Forward 0; parent = 0 }) (length visits) refl in
       record {
         marks = set marks e.to true;
         head = head;
@@ -141,7 +141,7 @@ module _ (net : Network) (ok : IsNetwork net) (flow : List ℕ) (steps : List St
           let split : (j < length visits) ⊎ (j ≡ length visits) = (let m : j < length visits + 1 = omega (arith, length_push visits (visit_of (step_at steps k) e level head)) in grind arith) in
           elim split [
             | inl m ↦
-                let old : visit_at (visits ++ visit_of (step_at steps k) e level head ∷ []) j ≡ visit_at visits j = get_or_append_left visits (visit_of (step_at steps k) e level head ∷ []) (record { node = 0; level = 0; step = Along 0; parent = 0 }) j m in
+                let old : visit_at (visits ++ visit_of (step_at steps k) e level head ∷ []) j ≡ visit_at visits j = get_or_append_left visits (visit_of (step_at steps k) e level head ∷ []) (record { node = 0; level = 0; step = Forward 0; parent = 0 }) j m in
                 absurd (true≢false (sym (h.searched.marked j m) ∙ ap (is_marked marks) (sym (ap (λ x. x.node) old) ∙ q) ∙ h.unfound))
             | inr z ↦
                 ap (λ n. (visit_at (visits ++ visit_of (step_at steps k) e level head ∷ []) n).level) (let g : j ≡ length (visits ++ visit_of (step_at steps k) e level head ∷ []) - 1 = omega (arith, length_push visits (visit_of (step_at steps k) e level head)) in g)

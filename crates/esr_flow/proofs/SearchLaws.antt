@@ -3,17 +3,17 @@ use Rattle.std.proofs.Common.{◌≡◌, ◌≢◌, ℕ, zero, suc, ◌+◌, ◌
 use Rattle.std.proofs.lemmas.Bool.{cases_eq, cases_Bool, cases_lt, cond-true, cond-false}
 use Rattle.std.proofs.lemmas.List.{get_or_append_left, get_or_push, length_push}
 use Rattle.esr_cert.specs.declared.network.Arc.{Arc}
-use Rattle.esr_cert.specs.declared.step.Step.{Step}
-use Rattle.esr_cert.specs.declared.step.Step.TheVariants.{Along, Against}
+use Rattle.esr_cert.specs.declared.residual.ResidualArc.{ResidualArc}
+use Rattle.esr_cert.specs.declared.residual.ResidualArc.TheVariants.{Forward, Backward}
 use Rattle.esr_flow.specs.declared.search.Visit.{Visit}
 use Rattle.esr_cert.specs.Steps.{arc_of, start}
-use Rattle.esr_flow.specs.Residual.{finish, room, IsResidual, IsPath}
+use Rattle.esr_flow.specs.Residual.{finish, residual_capacity, IsResidual, IsPath}
 use Rattle.esr_cert.specs.Network.{Network, IsNetwork}
 use Rattle.esr_flow.specs.Augmentation.{IsReach}
 use Rattle.esr_flow.specs.Search.{visit_at, is_marked, unmarked, Leads, Comes, Searched}
 
 -- labels that rise by at most one along each residual step
-rise_bound : (arcs : List Arc) (flow : List ℕ) (d : ℕ → ℕ) → ((s : Step) → IsResidual arcs flow s → d (finish arcs s) ≤ suc (d (start arcs s))) → (path : List Step) (a b : ℕ) → IsPath arcs flow a path b → d b ≤ length path + d a
+rise_bound : (arcs : List Arc) (flow : List ℕ) (d : ℕ → ℕ) → ((s : ResidualArc) → IsResidual arcs flow s → d (finish arcs s) ≤ suc (d (start arcs s))) → (path : List ResidualArc) (a b : ℕ) → IsPath arcs flow a path b → d b ≤ length path + d a
 rise_bound arcs flow d r [] a b h = omega (arith, ap d h)
 rise_bound arcs flow d r (s ∷ path) a b h =
     omega (arith, rise_bound arcs flow d r path (finish arcs s) b h.2, r s h.1, ap d h.0)
@@ -53,7 +53,7 @@ label_least (x ∷ visits) top s (suc j) l =
     let front : x.level ≤ (visit_at visits j).level = s 0 (suc j) (omega arith) l in
     elim (eqb x.node (visit_at visits j).node) as (λ b. cond b x.level (label visits top (visit_at visits j).node) ≤ (visit_at visits j).level) [ true ↦ front | false ↦ rest ]
 
-pub path_append : (arcs : List Arc) (flow : List ℕ) (path : List Step) (a b : ℕ) (s : Step) → IsPath arcs flow a path b → start arcs s ≡ b → IsResidual arcs flow s → IsPath arcs flow a (path ++ s ∷ []) (finish arcs s)
+pub path_append : (arcs : List Arc) (flow : List ℕ) (path : List ResidualArc) (a b : ℕ) (s : ResidualArc) → IsPath arcs flow a path b → start arcs s ≡ b → IsResidual arcs flow s → IsPath arcs flow a (path ++ s ∷ []) (finish arcs s)
 path_append arcs flow [] a b s h e r = (e ∙ sym h, r, refl)
 path_append arcs flow (t ∷ path) a b s h e r = (h.0, h.1, path_append arcs flow path (finish arcs t) b s h.2 e r)
 
@@ -64,7 +64,7 @@ unmarked_mark (b ∷ marks) (suc w) l f = omega (arith, unmarked_mark marks w (o
 
 module _ (net : Network) (flow : List ℕ) where
   -- no path to an unmarked node has fewer steps than the next level
-  pub unmarked_far : (visits : List Visit) (marks : List Bool) (head v : ℕ) → Searched net flow visits marks head → head < length visits → is_marked marks v ≡ false → (path : List Step) → IsPath net.arcs flow net.source path v → suc (visit_at visits head).level ≤ length path
+  pub unmarked_far : (visits : List Visit) (marks : List Bool) (head v : ℕ) → Searched net flow visits marks head → head < length visits → is_marked marks v ≡ false → (path : List ResidualArc) → IsPath net.arcs flow net.source path v → suc (visit_at visits head).level ≤ length path
   unmarked_far visits marks head v h l f path p =
       let top : ℕ = suc (visit_at visits head).level in
       let at_source : label visits top net.source ≤ 0 =
@@ -83,7 +83,7 @@ module _ (net : Network) (flow : List ℕ) where
             | inr (q, none) ↦ omega arith
           ]
 
-      rises : (s : Step) → IsResidual net.arcs flow s → label visits (suc (visit_at visits head).level) (finish net.arcs s) ≤ suc (label visits (suc (visit_at visits head).level) (start net.arcs s))
+      rises : (s : ResidualArc) → IsResidual net.arcs flow s → label visits (suc (visit_at visits head).level) (finish net.arcs s) ≤ suc (label visits (suc (visit_at visits head).level) (start net.arcs s))
       rises s res =
           let most : label visits (suc (visit_at visits head).level) (finish net.arcs s) ≤ suc (visit_at visits head).level = at_most_top (finish net.arcs s) in
           elim (label_cases visits (suc (visit_at visits head).level) (start net.arcs s)) [
@@ -98,7 +98,7 @@ module _ (net : Network) (flow : List ℕ) where
             | inr (q, none) ↦ omega arith
           ]
 
-  pub start_search : (marks : List Bool) (visits : List Visit) → net.source < net.nodes → length marks ≡ net.nodes → unmarked marks + 1 ≡ net.nodes → ((v : ℕ) → is_marked marks v ≡ true → v ≡ net.source) → is_marked marks net.source ≡ true → visits ≡ record { node = net.source; level = 0; step = Along 0; parent = 0 } ∷ [] → Searched net flow visits marks 0
+  pub start_search : (marks : List Bool) (visits : List Visit) → net.source < net.nodes → length marks ≡ net.nodes → unmarked marks + 1 ≡ net.nodes → ((v : ℕ) → is_marked marks v ≡ true → v ≡ net.source) → is_marked marks net.source ≡ true → visits ≡ record { node = net.source; level = 0; step = Forward 0; parent = 0 } ∷ [] → Searched net flow visits marks 0
   start_search marks visits ok ml room only here e =
       subst (λ vs. Searched net flow vs marks 0) (sym e) (record {
         marks_length = ml;
@@ -117,16 +117,16 @@ module _ (net : Network) (flow : List ℕ) where
       })
     where
       one : List Visit
-      one = record { node = net.source; level = 0; step = Along 0; parent = 0 } ∷ []
+      one = record { node = net.source; level = 0; step = Forward 0; parent = 0 } ∷ []
 
-      same_level : (i j : ℕ) → i ≡ j → (visit_at (record { node = net.source; level = 0; step = Along 0; parent = 0 } ∷ []) i).level ≤ (visit_at (record { node = net.source; level = 0; step = Along 0; parent = 0 } ∷ []) j).level
-      same_level i j q = omega (arith, ap (λ n. (visit_at (record { node = net.source; level = 0; step = Along 0; parent = 0 } ∷ []) n).level) q)
+      same_level : (i j : ℕ) → i ≡ j → (visit_at (record { node = net.source; level = 0; step = Forward 0; parent = 0 } ∷ []) i).level ≤ (visit_at (record { node = net.source; level = 0; step = Forward 0; parent = 0 } ∷ []) j).level
+      same_level i j q = omega (arith, ap (λ n. (visit_at (record { node = net.source; level = 0; step = Forward 0; parent = 0 } ∷ []) n).level) q)
 
-      zero_level : (j : ℕ) → j ≡ 0 → (visit_at (record { node = net.source; level = 0; step = Along 0; parent = 0 } ∷ []) j).level ≡ 0
-      zero_level j z = ap (λ n. (visit_at (record { node = net.source; level = 0; step = Along 0; parent = 0 } ∷ []) n).level) z
+      zero_level : (j : ℕ) → j ≡ 0 → (visit_at (record { node = net.source; level = 0; step = Forward 0; parent = 0 } ∷ []) j).level ≡ 0
+      zero_level j z = ap (λ n. (visit_at (record { node = net.source; level = 0; step = Forward 0; parent = 0 } ∷ []) n).level) z
 
   -- one more visit, of a node that was not marked
-  pub visit_more : (visits : List Visit) (marks : List Bool) (head : ℕ) (s : Step) → IsNetwork net → Searched net flow visits marks head → head < length visits → IsResidual net.arcs flow s → start net.arcs s ≡ (visit_at visits head).node → is_marked marks (finish net.arcs s) ≡ false → Searched net flow (visits ++ record { node = finish net.arcs s; level = (visit_at visits head).level + 1; step = s; parent = head } ∷ []) (set marks (finish net.arcs s) true) head
+  pub visit_more : (visits : List Visit) (marks : List Bool) (head : ℕ) (s : ResidualArc) → IsNetwork net → Searched net flow visits marks head → head < length visits → IsResidual net.arcs flow s → start net.arcs s ≡ (visit_at visits head).node → is_marked marks (finish net.arcs s) ≡ false → Searched net flow (visits ++ record { node = finish net.arcs s; level = (visit_at visits head).level + 1; step = s; parent = head } ∷ []) (set marks (finish net.arcs s) true) head
   visit_more visits marks head s ok h l res e f =
       record {
         marks_length = length-set marks (finish net.arcs s) true ∙ h.marks_length;
@@ -175,10 +175,10 @@ module _ (net : Network) (flow : List ℕ) where
       len = length_push visits extra
 
       old : (i : ℕ) → i < length visits → visit_at (visits ++ extra ∷ []) i ≡ visit_at visits i
-      old i il = get_or_append_left visits (extra ∷ []) (record { node = 0; level = 0; step = Along 0; parent = 0 }) i il
+      old i il = get_or_append_left visits (extra ∷ []) (record { node = 0; level = 0; step = Forward 0; parent = 0 }) i il
 
       new : (i : ℕ) → i ≡ length visits → visit_at (visits ++ extra ∷ []) i ≡ extra
-      new i e = get_or_push visits extra (record { node = 0; level = 0; step = Along 0; parent = 0 }) i (sym e)
+      new i e = get_or_push visits extra (record { node = 0; level = 0; step = Forward 0; parent = 0 }) i (sym e)
 
       place : (j : ℕ) → j < length (visits ++ extra ∷ []) → (j < length visits) ⊎ (j ≡ length visits)
       place j b = let m : j < length visits + 1 = omega (arith, len) in grind arith
@@ -186,9 +186,9 @@ module _ (net : Network) (flow : List ℕ) where
       target : finish net.arcs s < net.nodes
       target = in_range s res.0
         where
-          in_range : (s : Step) → arc_of s < length net.arcs → finish net.arcs s < net.nodes
-          in_range (Along i) k = (ok.ends i k).1
-          in_range (Against i) k = (ok.ends i k).0
+          in_range : (s : ResidualArc) → arc_of s < length net.arcs → finish net.arcs s < net.nodes
+          in_range (Forward i) k = (ok.ends i k).1
+          in_range (Backward i) k = (ok.ends i k).0
 
       mark_stays : (v : ℕ) → is_marked marks v ≡ true → is_marked (set marks (finish net.arcs s) true) v ≡ true
       mark_stays v t = elim (cases_eq v (finish net.arcs s)) [
@@ -199,7 +199,7 @@ module _ (net : Network) (flow : List ℕ) where
       visited_old : (v : ℕ) → (j : ℕ) × (j < length visits) × ((visit_at visits j).node ≡ v) → (j : ℕ) × (j < length (visits ++ extra ∷ [])) × ((visit_at (visits ++ extra ∷ []) j).node ≡ v)
       visited_old v (j, k, q) = (j, omega (arith, len), ap (λ x. x.node) (old j k) ∙ q)
 
-      done_old : (i : ℕ) → i < length visits → (t : Step) → Leads net.arcs visits (visit_at visits i).level t → Leads net.arcs (visits ++ extra ∷ []) (visit_at (visits ++ extra ∷ []) i).level t
+      done_old : (i : ℕ) → i < length visits → (t : ResidualArc) → Leads net.arcs visits (visit_at visits i).level t → Leads net.arcs (visits ++ extra ∷ []) (visit_at (visits ++ extra ∷ []) i).level t
       done_old i il t (j, k, q, m) = (j, omega (arith, len), ap (λ x. x.node) (old j k) ∙ q, omega (arith, ap (λ x. x.level) (old j k), ap (λ x. x.level) (old i il)))
 
       comes_old : (j : ℕ) → j < length visits → Comes net.arcs flow visits j → Comes net.arcs flow (visits ++ extra ∷ []) j
@@ -231,7 +231,7 @@ module _ (net : Network) (flow : List ℕ) where
       comes_more j a b = elim (place j b) [ inl jl ↦ comes_old j jl (h.comes j a jl) | inr je ↦ comes_new j je ]
 
   -- the next visit, where each step from this one is done
-  pub next_head : (visits : List Visit) (marks : List Bool) (head : ℕ) → Searched net flow visits marks head → head < length visits → ((s : Step) → IsResidual net.arcs flow s → start net.arcs s ≡ (visit_at visits head).node → Leads net.arcs visits (visit_at visits head).level s) → Searched net flow visits marks (head + 1)
+  pub next_head : (visits : List Visit) (marks : List Bool) (head : ℕ) → Searched net flow visits marks head → head < length visits → ((s : ResidualArc) → IsResidual net.arcs flow s → start net.arcs s ≡ (visit_at visits head).node → Leads net.arcs visits (visit_at visits head).level s) → Searched net flow visits marks (head + 1)
   next_head visits marks head h l each = record {
     marks_length = h.marks_length;
     some = h.some;
@@ -252,12 +252,12 @@ module _ (net : Network) (flow : List ℕ) where
   }
 
   -- a path to each visit
-  path_to : (visits : List Visit) (marks : List Bool) (head : ℕ) → Searched net flow visits marks head → (fuel j : ℕ) → j < fuel → j < length visits → (path : List Step) × IsPath net.arcs flow net.source path (visit_at visits j).node
+  path_to : (visits : List Visit) (marks : List Bool) (head : ℕ) → Searched net flow visits marks head → (fuel j : ℕ) → j < fuel → j < length visits → (path : List ResidualArc) × IsPath net.arcs flow net.source path (visit_at visits j).node
   path_to visits marks head h zero j a l = absurd (omega arith)
   path_to visits marks head h (suc fuel) zero a l = ([], sym h.first_node)
   path_to visits marks head h (suc fuel) (suc j) a l =
       let c : Comes net.arcs flow visits (suc j) = h.comes (suc j) (omega arith) l in
-      let p : (path : List Step) × IsPath net.arcs flow net.source path (visit_at visits (visit_at visits (suc j)).parent).node =
+      let p : (path : List ResidualArc) × IsPath net.arcs flow net.source path (visit_at visits (visit_at visits (suc j)).parent).node =
       path_to visits marks head h fuel (visit_at visits (suc j)).parent (omega (arith, c.earlier)) (omega (arith, c.earlier)) in (
         p.0 ++ (visit_at visits (suc j)).step ∷ [],
         subst (λ n. IsPath net.arcs flow net.source (p.0 ++ (visit_at visits (suc j)).step ∷ []) n) c.ends
@@ -274,6 +274,6 @@ module _ (net : Network) (flow : List ℕ) where
         sym (ap (is_marked marks) leads.2) ∙ h.marked leads.0 leads.1;
     reached = λ v t.
         let j : (j : ℕ) × (j < length visits) × ((visit_at visits j).node ≡ v) = h.visited v t in
-        let p : (path : List Step) × IsPath net.arcs flow net.source path (visit_at visits j.0).node = path_to visits marks head h (suc j.0) j.0 (omega arith) j.1 in
+        let p : (path : List ResidualArc) × IsPath net.arcs flow net.source path (visit_at visits j.0).node = path_to visits marks head h (suc j.0) j.0 (omega arith) j.1 in
         (p.0, subst (λ n. IsPath net.arcs flow net.source p.0 n) j.2 p.1);
   }

@@ -10,8 +10,8 @@ use Rattle.esr_cert.specs.Flow.{within, amount_at, IsFlow, worth}
 use Rattle.esr_cert.specs.Cut.{with_source}
 use Rattle.esr_cert.proofs.Sound.{IsClosed, IsProblem, closed_facts, closed_from}
 use Rattle.esr_cert.proofs.Least.{with_the_source, without_sink, is_network, limited, cost_across, worth_le_cost}
-use Rattle.esr_cert.specs.declared.step.Step.{Step}
-use Rattle.esr_cert.specs.declared.step.Step.TheVariants.{Along, Against}
+use Rattle.esr_cert.specs.declared.residual.ResidualArc.{ResidualArc}
+use Rattle.esr_cert.specs.declared.residual.ResidualArc.TheVariants.{Forward, Backward}
 use Rattle.esr_flow.specs.Residual.{left_of, finish, IsPath}
 use Rattle.esr_cert.specs.Steps.{arc_of, start}
 use Rattle.esr_flow.specs.Augmentation.{IsReach}
@@ -21,7 +21,7 @@ use Rattle.esr_flow.proofs.Keeps.{Keeps, strong, keeps_from, keeps_path}
 follow : (net : Network) (flow : List ℕ) (has : ℕ → Bool) → IsReach net flow has → (i : ℕ) (a : Arc) → i < length net.arcs → arc_at net.arcs i ≡ a → a.capacity ≡ None → has a.from ≡ true → has a.to ≡ true
 follow net flow has r i a l e free h =
     let residual : within 1 (left_of (arc_at net.arcs i).capacity (amount_at flow i)) ≡ true = ap (λ b. within 1 (left_of b.capacity (amount_at flow i))) e ∙ ap (λ o. within 1 (left_of o (amount_at flow i))) free in
-    ap has (sym (ap (λ b. b.to) e)) ∙ r.kept (Along i) (l, residual) (ap has (ap (λ b. b.from) e) ∙ h)
+    ap has (sym (ap (λ b. b.to) e)) ∙ r.kept (Forward i) (l, residual) (ap has (ap (λ b. b.from) e) ∙ h)
 
 module _ (p : Problem) (ok : IsProblem p) (flow : List ℕ) (has : ℕ → Bool) where
   abbrev count : ℕ
@@ -78,9 +78,9 @@ module _ (p : Problem) (ok : IsProblem p) (flow : List ℕ) (has : ℕ → Bool)
       let ends : (start (network p).arcs step < count + 2) × (finish (network p).arcs step < count + 2) = both step res.0 in
       same_nodes r s (finish (network p).arcs step) ends.1 ∙ r.kept step res (sym (same_nodes r s (start (network p).arcs step) ends.0) ∙ h)
     where
-      both : (step : Step) → arc_of step < length (network p).arcs → (start (network p).arcs step < count + 2) × (finish (network p).arcs step < count + 2)
-      both (Along i) l = (is_network p ok).ends i l
-      both (Against i) l = let e : ((arc_at (network p).arcs i).from < count + 2) × ((arc_at (network p).arcs i).to < count + 2) = (is_network p ok).ends i l in (e.1, e.0)
+      both : (step : ResidualArc) → arc_of step < length (network p).arcs → (start (network p).arcs step < count + 2) × (finish (network p).arcs step < count + 2)
+      both (Forward i) l = (is_network p ok).ends i l
+      both (Backward i) l = let e : ((arc_at (network p).arcs i).from < count + 2) × ((arc_at (network p).arcs i).to < count + 2) = (is_network p ok).ends i l in (e.1, e.0)
 
   -- strong duality
   pub reach_cost : IsFlow (network p) flow → IsReach (network p) flow has → has (count + 1) ≡ false → worth (network p) flow ≡ cost p has
@@ -93,7 +93,7 @@ module _ (p : Problem) (ok : IsProblem p) (flow : List ℕ) (has : ℕ → Bool)
       let keeps : Keeps (network p) flow (with_source count other) =
       keeps_from (network p) (is_network p ok) flow f (with_source count other) (with_the_source count other) (without_sink count other) (limited p ok other c)
       (omega (arith, cost_across p ok other c, reach_cost f r s)) in
-      let path : (path : List Step) × IsPath (network p).arcs flow count path u = r.reached u h in
+      let path : (path : List ResidualArc) × IsPath (network p).arcs flow count path u = r.reached u h in
       let at : with_source count other u ≡ true = keeps_path (network p) (is_network p ok) flow f (with_source count other) keeps path.0 count u path.1 (with_the_source count other) in
       sym (ap (λ b. cond b (other u) (eqb u count)) (lt-ltb u count m)) ∙ at
 

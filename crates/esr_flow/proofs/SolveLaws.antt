@@ -10,21 +10,21 @@ use Rattle.esr_cert.specs.Flow.{amount_at}
 use Rattle.esr_cert.specs.Cut.{with_source, IsLimited, AreLimited}
 use Rattle.esr_cert.proofs.Sound.{here, there, IsClosed, IsChain, IsProblem, closed_facts, closed_from}
 use Rattle.esr_cert.proofs.Least.{with_the_source, without_sink, limited, version_same}
-use Rattle.esr_cert.specs.declared.step.Step.{Step}
-use Rattle.esr_cert.specs.declared.step.Step.TheVariants.{Along, Against}
-use Rattle.esr_flow.specs.Residual.{left_of, finish, room, least_room, lesser, IsPath}
+use Rattle.esr_cert.specs.declared.residual.ResidualArc.{ResidualArc}
+use Rattle.esr_cert.specs.declared.residual.ResidualArc.TheVariants.{Forward, Backward}
+use Rattle.esr_flow.specs.Residual.{left_of, finish, residual_capacity, bottleneck, smaller, IsPath}
 use Rattle.esr_cert.specs.Steps.{arc_of, start}
 use Rattle.esr_flow.specs.Maximum.{HasLimit}
 use Rattle.esr_flow.specs.Certificate.{positions}
 
-none_parts : (a b : Option ℕ) → lesser a b ≡ None → (a ≡ None) × (b ≡ None)
+none_parts : (a b : Option ℕ) → smaller a b ≡ None → (a ≡ None) × (b ≡ None)
 none_parts None b h = (refl, h)
 none_parts (Some a) None h = cc
 none_parts (Some a) (Some b) h = cc
 
 -- a step with no limit does not leave a set that only limited arcs leave
-unlimited_stays : (arcs : List Arc) (flow : List ℕ) (has : ℕ → Bool) → AreLimited has arcs → (s : Step) → arc_of s < length arcs → room arcs flow s ≡ None → has (start arcs s) ≡ true → has (finish arcs s) ≡ true
-unlimited_stays arcs flow has limited (Along i) l e h =
+unlimited_stays : (arcs : List Arc) (flow : List ℕ) (has : ℕ → Bool) → AreLimited has arcs → (s : ResidualArc) → arc_of s < length arcs → residual_capacity arcs flow s ≡ None → has (start arcs s) ≡ true → has (finish arcs s) ≡ true
+unlimited_stays arcs flow has limited (Forward i) l e h =
     elim (cases_Bool (has (arc_at arcs i).to)) [
       | inl t ↦ t
       | inr f ↦ absurd (no_limit (arc_at arcs i).capacity (limited i l (crossing (has (arc_at arcs i).from) (has (arc_at arcs i).to) h f)) e)
@@ -38,12 +38,12 @@ unlimited_stays arcs flow has limited (Along i) l e h =
     no_limit : (o : Option ℕ) → IsLimited o → left_of o (amount_at flow i) ≡ None → ⊥
     no_limit None l e = l
     no_limit (Some c) l e = cc
-unlimited_stays arcs flow has limited (Against i) l e h = cc
+unlimited_stays arcs flow has limited (Backward i) l e h = cc
 
-unlimited_path : (arcs : List Arc) (flow : List ℕ) (has : ℕ → Bool) → AreLimited has arcs → (path : List Step) (a b : ℕ) → IsPath arcs flow a path b → least_room arcs flow path ≡ None → has a ≡ true → has b ≡ true
+unlimited_path : (arcs : List Arc) (flow : List ℕ) (has : ℕ → Bool) → AreLimited has arcs → (path : List ResidualArc) (a b : ℕ) → IsPath arcs flow a path b → bottleneck arcs flow path ≡ None → has a ≡ true → has b ≡ true
 unlimited_path arcs flow has limited [] a b h e t = sym (ap has h) ∙ t
 unlimited_path arcs flow has limited (s ∷ path) a b h e t =
-    let p : (room arcs flow s ≡ None) × (least_room arcs flow path ≡ None) = none_parts (room arcs flow s) (least_room arcs flow path) e in
+    let p : (residual_capacity arcs flow s ≡ None) × (bottleneck arcs flow path ≡ None) = none_parts (residual_capacity arcs flow s) (bottleneck arcs flow path) e in
     unlimited_path arcs flow has limited path (finish arcs s) b h.2 p.1 (unlimited_stays arcs flow has limited s h.1.0 p.0 (ap has h.0 ∙ t))
 
 pub has_limit : (p : Problem) → IsProblem p → HasLimit (network p)

@@ -1,9 +1,9 @@
--- A walk back from the sink along steps on which labels fall, and the steps that are left to try.
+-- A path back from the sink along steps on which labels fall, and the steps that are left to try.
 use Rattle.std.proofs.Common.{◌≡◌, ℕ, zero, suc, ◌+◌, ◌-◌, ◌<◌, ◌≤◌, List, [], ◌∷◌, ◌++◌, length, get_or, set, reverse, refl, sym, ap, subst, arith}
 use Rattle.std.proofs.lemmas.List.{length_push, reverse-append, length-reverse}
 use Rattle.esr_cert.specs.declared.network.Arc.{Arc}
-use Rattle.esr_cert.specs.declared.step.Step.{Step}
-use Rattle.esr_cert.specs.declared.step.Step.TheVariants.{Along, Against}
+use Rattle.esr_cert.specs.declared.residual.ResidualArc.{ResidualArc}
+use Rattle.esr_cert.specs.declared.residual.ResidualArc.TheVariants.{Forward, Backward}
 use Rattle.esr_cert.specs.Steps.{arc_of, start, opposite}
 use Rattle.esr_flow.specs.Residual.{finish, IsResidual, IsPath}
 use Rattle.esr_cert.specs.Network.{Network, IsNetwork}
@@ -12,34 +12,34 @@ use Rattle.esr_cert.specs.Rows.{span_at}
 use Rattle.esr_flow.specs.Search.{label_at, Guides, IsGuided}
 use Rattle.esr_flow.proofs.Labels.{label_bound}
 
-pub opposite_arc : (s : Step) → arc_of (opposite s) ≡ arc_of s
-opposite_arc (Along i) = refl
-opposite_arc (Against i) = refl
+pub opposite_arc : (s : ResidualArc) → arc_of (opposite s) ≡ arc_of s
+opposite_arc (Forward i) = refl
+opposite_arc (Backward i) = refl
 
-pub opposite_start : (arcs : List Arc) (s : Step) → start arcs (opposite s) ≡ finish arcs s
-opposite_start arcs (Along i) = refl
-opposite_start arcs (Against i) = refl
+pub opposite_start : (arcs : List Arc) (s : ResidualArc) → start arcs (opposite s) ≡ finish arcs s
+opposite_start arcs (Forward i) = refl
+opposite_start arcs (Backward i) = refl
 
-pub opposite_finish : (arcs : List Arc) (s : Step) → finish arcs (opposite s) ≡ start arcs s
-opposite_finish arcs (Along i) = refl
-opposite_finish arcs (Against i) = refl
+pub opposite_finish : (arcs : List Arc) (s : ResidualArc) → finish arcs (opposite s) ≡ start arcs s
+opposite_finish arcs (Forward i) = refl
+opposite_finish arcs (Backward i) = refl
 
 -- the steps so far, the last first, lead from a node to the sink, and are no more than its label
-pub record Walk (net : Network) (flow labels : List ℕ) (path : List Step) (at : ℕ) : Type 0 where
+pub record Walk (net : Network) (flow labels : List ℕ) (path : List ResidualArc) (at : ℕ) : Type 0 where
   pub is_path : IsPath net.arcs flow at (reverse path) net.sink
   pub steps : length path ≤ label_at labels at
   pub node : at < net.nodes
 
-pub start_in : (net : Network) → IsNetwork net → (s : Step) → arc_of s < length net.arcs → start net.arcs s < net.nodes
-start_in net ok (Along i) k = (ok.ends i k).0
-start_in net ok (Against i) k = (ok.ends i k).1
+pub start_in : (net : Network) → IsNetwork net → (s : ResidualArc) → arc_of s < length net.arcs → start net.arcs s < net.nodes
+start_in net ok (Forward i) k = (ok.ends i k).0
+start_in net ok (Backward i) k = (ok.ends i k).1
 
-pub end_in : (net : Network) → IsNetwork net → (s : Step) → arc_of s < length net.arcs → finish net.arcs s < net.nodes
-end_in net ok (Along i) k = (ok.ends i k).1
-end_in net ok (Against i) k = (ok.ends i k).0
+pub end_in : (net : Network) → IsNetwork net → (s : ResidualArc) → arc_of s < length net.arcs → finish net.arcs s < net.nodes
+end_in net ok (Forward i) k = (ok.ends i k).1
+end_in net ok (Backward i) k = (ok.ends i k).0
 
 module _ (net : Network) (ok : IsNetwork net) (flow labels : List ℕ) where
-  pub walk_push : (path : List Step) (at : ℕ) (s : Step) → Walk net flow labels path at → finish net.arcs s ≡ at → IsResidual net.arcs flow s → label_at labels (finish net.arcs s) < label_at labels (start net.arcs s) → Walk net flow labels (path ++ s ∷ []) (start net.arcs s)
+  pub walk_push : (path : List ResidualArc) (at : ℕ) (s : ResidualArc) → Walk net flow labels path at → finish net.arcs s ≡ at → IsResidual net.arcs flow s → label_at labels (finish net.arcs s) < label_at labels (start net.arcs s) → Walk net flow labels (path ++ s ∷ []) (start net.arcs s)
   walk_push path at s w e r l = record {
     is_path = subst (λ p. IsPath net.arcs flow (start net.arcs s) p net.sink) (sym (reverse-append path (s ∷ [])))
         (refl, r, subst (λ n. IsPath net.arcs flow n (reverse path) net.sink) (sym e) w.is_path);
@@ -47,10 +47,10 @@ module _ (net : Network) (ok : IsNetwork net) (flow labels : List ℕ) where
     node = start_in net ok s r.0;
   }
 
-  from_last : (path : List Step) (at : ℕ) (s : Step) → Walk net flow labels (path ++ s ∷ []) at → IsPath net.arcs flow at (s ∷ reverse path) net.sink
+  from_last : (path : List ResidualArc) (at : ℕ) (s : ResidualArc) → Walk net flow labels (path ++ s ∷ []) at → IsPath net.arcs flow at (s ∷ reverse path) net.sink
   from_last path at s w = subst (λ p. IsPath net.arcs flow at p net.sink) (reverse-append path (s ∷ [])) w.is_path
 
-  pub walk_pop : (path : List Step) (at : ℕ) (s : Step) → Guides net flow labels → Walk net flow labels (path ++ s ∷ []) at → Walk net flow labels path (finish net.arcs s)
+  pub walk_pop : (path : List ResidualArc) (at : ℕ) (s : ResidualArc) → Guides net flow labels → Walk net flow labels (path ++ s ∷ []) at → Walk net flow labels path (finish net.arcs s)
   walk_pop path at s g w =
       let back : IsPath net.arcs flow at (s ∷ reverse path) net.sink = from_last path at s w in
       record {
@@ -59,10 +59,10 @@ module _ (net : Network) (ok : IsNetwork net) (flow labels : List ℕ) where
         node = end_in net ok s back.1.0;
       }
 
-  pub popped_in : (path : List Step) (at : ℕ) (s : Step) → Walk net flow labels (path ++ s ∷ []) at → arc_of s < length net.arcs
+  pub popped_in : (path : List ResidualArc) (at : ℕ) (s : ResidualArc) → Walk net flow labels (path ++ s ∷ []) at → arc_of s < length net.arcs
   popped_in path at s w = (from_last path at s w).1.0
 
-  pub walk_end : (path : List Step) (at : ℕ) → Guides net flow labels → at ≡ net.source → Walk net flow labels path at → IsGuided net flow labels (reverse path)
+  pub walk_end : (path : List ResidualArc) (at : ℕ) → Guides net flow labels → at ≡ net.source → Walk net flow labels path at → IsGuided net flow labels (reverse path)
   walk_end path at g e w =
       let at_start : label_at labels at ≡ label_at labels net.source = ap (label_at labels) e in
       record {

@@ -1,17 +1,17 @@
 -- Augmentations along shortest paths (Edmonds and Karp, 1972), and what the source reaches in the residual network.
 use Rattle.std.specs.Prelude.{◌≡◌, ℕ, zero, suc, ◌≤◌, Bool, true, List, length, replicate, Some}
 use Rattle.esr_cert.specs.Network.{Network}
-use Rattle.esr_cert.specs.declared.step.Step.{Step}
+use Rattle.esr_cert.specs.declared.residual.ResidualArc.{ResidualArc}
 use Rattle.esr_cert.specs.Steps.{start}
-use Rattle.esr_flow.specs.Residual.{finish, IsResidual, IsPath, least_room, raise}
+use Rattle.esr_flow.specs.Residual.{finish, IsResidual, IsPath, bottleneck, raise}
 
--- one augmentation, along a residual path with fewest arcs, by the least residual amount on it
+-- one augmentation, along a residual path with fewest arcs, by its bottleneck
 pub record Augments (net : Network) (flow after : List ℕ) : Type 0 where
-  pub path : List Step
+  pub path : List ResidualArc
   pub amount : ℕ
   pub is_path : IsPath net.arcs flow net.source path net.sink
-  pub is_shortest : (other : List Step) → IsPath net.arcs flow net.source other net.sink → length path ≤ length other
-  pub is_least : least_room net.arcs flow path ≡ Some amount
+  pub is_shortest : (other : List ResidualArc) → IsPath net.arcs flow net.source other net.sink → length path ≤ length other
+  pub is_least : bottleneck net.arcs flow path ≡ Some amount
   pub is_raised : after ≡ raise flow amount path
 
 -- n augmentations lead from the flow of zeros to this one
@@ -22,6 +22,6 @@ Takes net (suc n) flow = (before : List ℕ) × Takes net n before × Augments n
 -- the nodes that the source reaches in the residual network: the source, what a residual step leads to, and no others
 pub record IsReach (net : Network) (flow : List ℕ) (has : ℕ → Bool) : Type 0 where
   pub source : has net.source ≡ true
-  pub kept : (step : Step) → IsResidual net.arcs flow step → has (start net.arcs step) ≡ true
+  pub kept : (step : ResidualArc) → IsResidual net.arcs flow step → has (start net.arcs step) ≡ true
       → has (finish net.arcs step) ≡ true
-  pub reached : (v : ℕ) → has v ≡ true → (path : List Step) × IsPath net.arcs flow net.source path v
+  pub reached : (v : ℕ) → has v ≡ true → (path : List ResidualArc) × IsPath net.arcs flow net.source path v

@@ -1,16 +1,16 @@
 -- A network with the steps that start at each node, which lie together, and entries of the steps that tell which of
--- them have room.
+-- them have residual capacity.
 use Rattle.std.specs.Prelude.{◌≡◌, ℕ, ◌<◌, ◌≤◌, false, List, length, get_or, map, Contains, ◌^◌}
 use Rattle.std.specs.List.Sorted.{IsNonDecreasingBy}
 use Rattle.esr_cert.specs.declared.network.Arc.{Arc}
 use Rattle.esr_cert.specs.Network.{Network, IsNetwork, network}
-use Rattle.esr_cert.specs.declared.step.Step.{Step}
-use Rattle.esr_flow.specs.declared.entry.Entry.{Entry}
+use Rattle.esr_cert.specs.declared.residual.ResidualArc.{ResidualArc}
+use Rattle.esr_flow.specs.declared.entry.AdjacencyEntry.{AdjacencyEntry}
 use Rattle.esr_flow.specs.declared.graph.Graph.{Graph}
 use Rattle.esr_cert.specs.Flow.{within}
 use Rattle.esr_cert.specs.Steps.{arc_of, order_of, start, opposite, step_at, HasSteps}
 use Rattle.esr_cert.specs.Rows.{span_at, row_in, row_of, AreSteps}
-use Rattle.esr_flow.specs.Residual.{finish, room}
+use Rattle.esr_flow.specs.Residual.{finish, residual_capacity}
 
 abbrev pub arcs_of : Graph → List Arc
 arcs_of g = (network g.problem.now).arcs
@@ -31,31 +31,31 @@ pub record IsGraph (g : Graph) : Type 0 where
   pub sink_is_node : g.sink < g.nodes
   pub few : g.nodes < 2 ^ 30
 
--- the entry of a step: where it leads, and whether the step and its opposite have room for one more
-abbrev pub entry_of : List Arc → List ℕ → Step → Entry
+-- the entry of a step: where it leads, and whether the step and its opposite have residual capacity
+abbrev pub entry_of : List Arc → List ℕ → ResidualArc → AdjacencyEntry
 entry_of arcs flow step = record {
   to = finish arcs step;
-  ahead = within 1 (room arcs flow step);
-  back = within 1 (room arcs flow (opposite step));
+  ahead = within 1 (residual_capacity arcs flow step);
+  back = within 1 (residual_capacity arcs flow (opposite step));
 }
 
-abbrev pub entry_at : List Entry → ℕ → Entry
+abbrev pub entry_at : List AdjacencyEntry → ℕ → AdjacencyEntry
 entry_at entries k = get_or entries k (record { to = 0; ahead = false; back = false })
 
--- the entries of a graph's steps, with the residual amounts of a flow
-abbrev pub AreEntries : Graph → List ℕ → List Entry → Type 0
+-- the entries of a graph's steps, with the residual capacities of a flow
+abbrev pub AreEntries : Graph → List ℕ → List AdjacencyEntry → Type 0
 AreEntries g flow entries = entries ≡ map (entry_of (arcs_of g) flow) g.rows.now.steps.items
 
--- a step that starts at a node and its entry: where the step leads, and what has room
-pub record IsEntry (arcs : List Arc) (flow : List ℕ) (v : ℕ) (step : Step) (e : Entry) : Type 0 where
+-- a step that starts at a node and its entry: where the step leads, and what has residual capacity
+pub record IsEntry (arcs : List Arc) (flow : List ℕ) (v : ℕ) (step : ResidualArc) (e : AdjacencyEntry) : Type 0 where
   pub in_arcs : arc_of step < length arcs
   pub starts : start arcs step ≡ v
   pub leads : e.to ≡ finish arcs step
-  pub ahead : e.ahead ≡ within 1 (room arcs flow step)
-  pub back : e.back ≡ within 1 (room arcs flow (opposite step))
+  pub ahead : e.ahead ≡ within 1 (residual_capacity arcs flow step)
+  pub back : e.back ≡ within 1 (residual_capacity arcs flow (opposite step))
 
 -- the steps that start at a node, and no others, and a row of their entries
-pub record Lists (arcs : List Arc) (flow : List ℕ) (v : ℕ) (steps : List Step) (row : List Entry) : Type 0 where
+pub record Lists (arcs : List Arc) (flow : List ℕ) (v : ℕ) (steps : List ResidualArc) (row : List AdjacencyEntry) : Type 0 where
   pub count : length row ≡ length steps
   pub entries : (k : ℕ) → k < length row → IsEntry arcs flow v (step_at steps k) (entry_at row k)
-  pub all : (step : Step) → arc_of step < length arcs → start arcs step ≡ v → Contains steps step
+  pub all : (step : ResidualArc) → arc_of step < length arcs → start arcs step ≡ v → Contains steps step

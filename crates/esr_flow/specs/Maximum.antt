@@ -1,19 +1,19 @@
 -- What a solver needs of a network: its flows are small, and each path to the sink is limited.
 use Rattle.std.specs.Prelude.{◌≡◌, ℕ, ◌<◌, List, length, get_or, None}
 use Rattle.esr_cert.specs.declared.network.Arc.{Arc}
-use Rattle.esr_cert.specs.declared.step.Step.{Step}
+use Rattle.esr_cert.specs.declared.residual.ResidualArc.{ResidualArc}
 use Rattle.esr_cert.specs.Network.{Network}
 use Rattle.esr_cert.specs.Steps.{arc_of}
-use Rattle.esr_flow.specs.Residual.{least_room, IsPath}
+use Rattle.esr_flow.specs.Residual.{bottleneck, IsPath}
 
 abbrev pub LIMIT : ℕ
 LIMIT = 2000000000000000000
 
-abbrev pub InArcs : List Arc → List Step → Type 0
-InArcs arcs path = (k : ℕ) (d : Step) → k < length path → arc_of (get_or path k d) < length arcs
+abbrev pub InArcs : List Arc → List ResidualArc → Type 0
+InArcs arcs path = (k : ℕ) (d : ResidualArc) → k < length path → arc_of (get_or path k d) < length arcs
 
 -- a path to the sink has a limited arc
 abbrev pub HasLimit : Network → Type 0
 HasLimit net =
-    (flow : List ℕ) (path : List Step) → IsPath net.arcs flow net.source path net.sink
-    → least_room net.arcs flow path ≡ None → ⊥
+    (flow : List ℕ) (path : List ResidualArc) → IsPath net.arcs flow net.source path net.sink
+    → bottleneck net.arcs flow path ≡ None → ⊥

@@ -1,7 +1,7 @@
 -- What a breadth-first search of the residual network has found.
 use Rattle.std.specs.Prelude.{◌≡◌, ℕ, suc, ◌+◌, ◌-◌, ◌<◌, ◌≤◌, Bool, true, false, if◌then◌else◌, List, [], ◌∷◌, length, get_or}
-use Rattle.esr_cert.specs.declared.step.Step.{Step}
-use Rattle.esr_cert.specs.declared.step.Step.TheVariants.{Along}
+use Rattle.esr_cert.specs.declared.residual.ResidualArc.{ResidualArc}
+use Rattle.esr_cert.specs.declared.residual.ResidualArc.TheVariants.{Forward}
 use Rattle.esr_cert.specs.declared.network.Arc.{Arc}
 use Rattle.esr_flow.specs.declared.search.Visit.{Visit}
 use Rattle.esr_flow.specs.declared.search.Found.{Found}
@@ -12,7 +12,7 @@ use Rattle.esr_flow.specs.Residual.{finish, IsResidual, IsPath, Falls}
 use Rattle.esr_flow.specs.Augmentation.{IsReach}
 
 abbrev pub visit_at : List Visit → ℕ → Visit
-visit_at visits j = get_or visits j (record { node = 0; level = 0; step = Along 0; parent = 0 })
+visit_at visits j = get_or visits j (record { node = 0; level = 0; step = Forward 0; parent = 0 })
 
 abbrev pub is_marked : List Bool → ℕ → Bool
 is_marked marks v = get_or marks v false
@@ -22,7 +22,7 @@ unmarked [] = 0
 unmarked (b ∷ marks) = (if b then 0 else 1) + unmarked marks
 
 -- a visit of where a step leads, one level further at most
-abbrev pub Leads : List Arc → List Visit → ℕ → Step → Type 0
+abbrev pub Leads : List Arc → List Visit → ℕ → ResidualArc → Type 0
 Leads arcs visits level step =
     (j : ℕ) × (j < length visits) × ((visit_at visits j).node ≡ finish arcs step)
     × ((visit_at visits j).level ≤ suc level)
@@ -47,16 +47,16 @@ pub record Searched (net : Network) (flow : List ℕ) (visits : List Visit) (mar
   pub nodes : (j : ℕ) → j < length visits → (visit_at visits j).node < net.nodes
   pub marked : (j : ℕ) → j < length visits → is_marked marks (visit_at visits j).node ≡ true
   pub visited : (v : ℕ) → is_marked marks v ≡ true → (j : ℕ) × (j < length visits) × ((visit_at visits j).node ≡ v)
-  pub done : (i : ℕ) → i < head → (step : Step) → IsResidual net.arcs flow step
+  pub done : (i : ℕ) → i < head → (step : ResidualArc) → IsResidual net.arcs flow step
       → start net.arcs step ≡ (visit_at visits i).node → Leads net.arcs visits (visit_at visits i).level step
   pub near : (j : ℕ) → j < length visits → head < length visits
       → (visit_at visits j).level ≤ suc (visit_at visits head).level
   pub room : length visits + unmarked marks ≡ net.nodes
 
 -- a path with fewest arcs from the source to the sink
-pub record IsShortestPath (net : Network) (flow : List ℕ) (path : List Step) : Type 0 where
+pub record IsShortestPath (net : Network) (flow : List ℕ) (path : List ResidualArc) : Type 0 where
   pub is_path : IsPath net.arcs flow net.source path net.sink
-  pub is_shortest : (other : List Step) → IsPath net.arcs flow net.source other net.sink → length path ≤ length other
+  pub is_shortest : (other : List ResidualArc) → IsPath net.arcs flow net.source other net.sink → length path ≤ length other
 
 -- the last visit is of the sink, none of another level is, and no path there has fewer steps than its level
 pub record FoundSink (net : Network) (flow : List ℕ) (visits : List Visit) : Type 0 where
@@ -67,7 +67,7 @@ pub record FoundSink (net : Network) (flow : List ℕ) (visits : List Visit) : T
   pub in_visits : head < length visits
   pub only : (j : ℕ) → j < length visits → (visit_at visits j).node ≡ net.sink
       → (visit_at visits j).level ≡ (visit_at visits (length visits - 1)).level
-  pub nearest : (other : List Step) → IsPath net.arcs flow net.source other net.sink
+  pub nearest : (other : List ResidualArc) → IsPath net.arcs flow net.source other net.sink
       → (visit_at visits (length visits - 1)).level ≤ length other
 
 -- what a scan of the steps from one visit leaves
@@ -87,7 +87,7 @@ pub record Guides (net : Network) (flow labels : List ℕ) : Type 0 where
   pub at_sink : label_at labels net.sink ≡ 0
 
 -- a path to the sink with no more steps than the source's label
-pub record IsGuided (net : Network) (flow labels : List ℕ) (path : List Step) : Type 0 where
+pub record IsGuided (net : Network) (flow labels : List ℕ) (path : List ResidualArc) : Type 0 where
   pub is_shortest_path : IsShortestPath net flow path
   pub steps : length path ≤ label_at labels net.source
 

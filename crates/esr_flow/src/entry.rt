@@ -2,25 +2,25 @@
 
 use std::marker::Model;
 
-/// The node that a step leads to, and whether the step and its opposite have room for one more.
+/// The node that a step leads to, and whether the step and its opposite have residual capacity.
 #[derive(Clone, Copy)]
-pub struct Entry {
+pub struct AdjacencyEntry {
     pub to: u32,
     pub ahead: bool,
     pub back: bool,
 }
 
-/// An entry in four bytes, since a search comes by each: four times the node, with 2 more where the opposite has room
-/// and 1 more where the step has.
+/// An entry in four bytes, since a search looks at each: four times the node, with 2 more where the opposite has
+/// residual capacity and 1 more where the step has.
 #[derive(Clone, Copy)]
 pub struct ShortEntry {
     number: u32,
 }
 
 impl Model for ShortEntry {
-    ghost use Rattle.esr_flow.specs.declared.entry.Entry.{Entry};
+    ghost use Rattle.esr_flow.specs.declared.entry.AdjacencyEntry.{AdjacencyEntry};
 
-    ghost Value = { Entry };
+    ghost Value = { AdjacencyEntry };
 
     ghost use Rattle.std.proofs.Common.{ap};
     ghost use Rattle.esr_flow.specs.ShortEntry.{entry_in, number_of, number_of-entry_in};
@@ -36,7 +36,7 @@ impl ShortEntry {
     ghost use Rattle.std.specs.Prelude.{◌≡◌, ◌<◌};
 
     /// The same entry in four bytes.
-    pub fn of(entry: Entry) -> ShortEntry
+    pub fn of(entry: AdjacencyEntry) -> ShortEntry
         requires { entry.to < 1073741824 }
         ensures { result ≡ entry }
     {
@@ -48,10 +48,10 @@ impl ShortEntry {
     }
 
     /// The entry itself.
-    pub fn entry(self) -> Entry
+    pub fn entry(self) -> AdjacencyEntry
         ensures { result ≡ self }
     {
-        Entry {
+        AdjacencyEntry {
             to: self.number / 4,
             ahead: self.number % 2 == 1,
             back: 1 < self.number % 4,

@@ -1,15 +1,16 @@
-//! A problem's network, the steps that start at each node, and for each step an entry of what has room.
+//! A problem's network, the steps that start at each node, and for each step an adjacency entry: where it leads, and
+//! what has residual capacity.
 ghost use Rattle.std.specs.Prelude.{◌≡◌, ◌+◌, ◌<◌, true, length, get_or, set, IfOk, Some, Vec};
 ghost use Rattle.std.specs.declared.alloc.Global.{Global};
-ghost use Rattle.esr_cert.specs.declared.step.Step.{Step};
+ghost use Rattle.esr_cert.specs.declared.residual.ResidualArc.{ResidualArc};
 ghost use Rattle.esr_cert.specs.Flow.{within};
 ghost use Rattle.esr_cert.specs.Network.{network};
-ghost use Rattle.esr_flow.specs.Residual.{left_of, room, finish};
+ghost use Rattle.esr_flow.specs.Residual.{left_of, residual_capacity, finish};
 ghost use Rattle.esr_cert.specs.Steps.{arc_of, step_at};
 ghost use Rattle.esr_cert.specs.Rows.{span_at};
 
-use crate::entry::{Entry, ShortEntry};
-use esr_cert::{Arc, Problem, Rows, ShortStep, Step};
+use crate::entry::{AdjacencyEntry, ShortEntry};
+use esr_cert::{Arc, Problem, ResidualArc, Rows, ShortArc};
 use std::alloc::{AllocError, Global};
 
 /// The network of a problem, and for each node the steps that start at it.
@@ -27,7 +28,7 @@ impl<'a> Graph<'a> {
     ghost use Rattle.esr_cert.specs.Rows.{row_in, span_at};
 
     /// The steps that start at a node.
-    pub fn steps_at(&self, v: usize) -> &[ShortStep]
+    pub fn steps_at(&self, v: usize) -> &[ShortArc]
         requires graph { IsGraph self.now }
         requires node { v < self.now.nodes }
         ensures { result.now ≡ row_in self.now.rows.now.steps.items (span_at self.now.rows.now.spans.items v) }
@@ -45,14 +46,14 @@ impl<'a> Graph<'a> {
         self.rows.row(entries, v)
     }
 
-    /// The entries of all steps, with the residual amounts of a flow. They are put into their rows arc by arc, as the
-    /// steps were, since the arcs of a chain lie together.
+    /// The entries of all steps, with the residual capacities of a flow. They are put into their rows arc by arc, as
+    /// the steps were, since the arcs of a chain lie together.
     pub fn entries(&self, alloc: Global, flow: &[u64]) -> Result<Vec<ShortEntry>, AllocError>
         requires graph { IsGraph self.now }
         requires flow { length flow.now ≡ length (arcs_of self.now) }
         ensures { IfOk result (λ entries. AreEntries self.now flow.now entries.items) }
     {
-        let none = ShortEntry::of(Entry {
+        let none = ShortEntry::of(AdjacencyEntry {
             to: 0,
             ahead: false,
             back: false,
@@ -69,7 +70,7 @@ impl<'a> Graph<'a> {
     }
 
     /// Where the entry of a step lies.
-    fn place_of(&self, step: Step) -> usize
+    fn place_of(&self, step: ResidualArc) -> usize
         requires graph { IsGraph self.now }
         requires arc { arc_of step < length (arcs_of self.now) }
         ensures inside { result < length self.now.rows.now.steps.items }
@@ -79,7 +80,7 @@ impl<'a> Graph<'a> {
         self.rows.place_of(node as usize, step)
     }
 
-    /// Sets the amount on an arc, and where another of the arc's two steps has room then, the entries of both.
+    /// Sets the amount on an arc, and the entries of its two steps where another of them has residual capacity then.
     pub fn set_amount(&self, flow: &mut [u64], entries: &mut [ShortEntry], arc: u32, amount: u64)
         requires graph { IsGraph self.now }
         requires arc { arc < length (arcs_of self.now) }
@@ -89,23 +90,23 @@ impl<'a> Graph<'a> {
         ensures entries { AreEntries self.now flow.new entries.new }
     {
         let ends = self.problem.arc(arc);
-        let (ahead, back) = rooms_of(ends.capacity, flow[arc as usize]);
-        let (ahead_now, back_now) = rooms_of(ends.capacity, amount);
+        let (ahead, back) = have_capacity(ends.capacity, flow[arc as usize]);
+        let (ahead_now, back_now) = have_capacity(ends.capacity, amount);
         flow[arc as usize] = amount;
         if ahead_now == ahead && back_now == back {
             return;
         }
         let (along, against) = entries_of(ends, amount);
-        let place = self.place_of(Step::Along(arc));
+        let place = self.place_of(ResidualArc::Forward(arc));
         entries[place] = along;
-        let place = self.place_of(Step::Against(arc));
+        let place = self.place_of(ResidualArc::Backward(arc));
         entries[place] = against;
     }
 }
 
-/// Whether the step along an arc of a capacity has room for one more, and the step against it, where it carries an
-/// amount.
-fn rooms_of(capacity: Option<u64>, amount: u64) -> (bool, bool)
+/// Whether the forward step over an arc of a capacity has residual capacity, and whether the backward step has, where
+/// the arc carries an amount.
+fn have_capacity(capacity: Option<u64>, amount: u64) -> (bool, bool)
     ensures ahead { result.0 ≡ within 1 (left_of capacity amount) }
     ensures back { result.1 ≡ within 1 (Some amount) }
 {
@@ -116,18 +117,18 @@ fn rooms_of(capacity: Option<u64>, amount: u64) -> (bool, bool)
     (ahead, 1 <= amount)
 }
 
-/// The residual amount of a step.
-pub fn room_of(problem: &Problem, flow: &[u64], step: Step) -> Option<u64>
+/// The residual capacity of a step; none where it is without limit.
+pub fn residual_capacity_of(problem: &Problem, flow: &[u64], step: ResidualArc) -> Option<u64>
     requires arc { arc_of step < length (network problem.now).arcs }
     requires flow { length flow.now ≡ length (network problem.now).arcs }
-    ensures { result ≡ room (network problem.now).arcs flow.now step }
+    ensures { result ≡ residual_capacity (network problem.now).arcs flow.now step }
 {
     match step {
-        Step::Along(i) => match problem.arc(i).capacity {
+        ResidualArc::Forward(i) => match problem.arc(i).capacity {
             None => None,
             Some(limit) => Some(limit.saturating_sub(flow[i as usize])),
         },
-        Step::Against(i) => Some(flow[i as usize]),
+        ResidualArc::Backward(i) => Some(flow[i as usize]),
     }
 }
 
@@ -145,13 +146,13 @@ fn entries_of(arc: Arc, amount: u64) -> (ShortEntry, ShortEntry)
       back = within 1 (left_of arc.capacity amount);
     } }
 {
-    let (along, against) = rooms_of(arc.capacity, amount);
-    let ahead = ShortEntry::of(Entry {
+    let (along, against) = have_capacity(arc.capacity, amount);
+    let ahead = ShortEntry::of(AdjacencyEntry {
         to: arc.to,
         ahead: along,
         back: against,
     });
-    let back = ShortEntry::of(Entry {
+    let back = ShortEntry::of(AdjacencyEntry {
         to: arc.from,
         ahead: against,
         back: along,
@@ -170,7 +171,8 @@ fn put_next(
     requires span { node < length rows.now.spans.items }
     requires count { node < length counts.old.items }
     requires few { get_or counts.old.items node 0 < 4294967296 }
-    requires place { (span_at rows.now.spans.items node).begin + get_or counts.old.items node 0 < length entries.old.items }
+    requires place { (span_at rows.now.spans.items node).begin + get_or counts.old.items node 0
+        < length entries.old.items }
     ensures counts { counts.new.items ≡ set counts.old.items node (get_or counts.old.items node 0 + 1) }
     ensures entries { entries.new.items
         ≡ set entries.old.items ((span_at rows.now.spans.items node).begin + get_or counts.old.items node 0) entry }
@@ -182,12 +184,12 @@ fn put_next(
 }
 
 /// The node that a step leads to.
-pub fn finish_of(problem: &Problem, step: Step) -> u32
+pub fn finish_of(problem: &Problem, step: ResidualArc) -> u32
     requires { arc_of step < length (network problem.now).arcs }
     ensures { result ≡ finish (network problem.now).arcs step }
 {
     match step {
-        Step::Along(i) => problem.arc(i).to,
-        Step::Against(i) => problem.arc(i).from,
+        ResidualArc::Forward(i) => problem.arc(i).to,
+        ResidualArc::Backward(i) => problem.arc(i).from,
     }
 }

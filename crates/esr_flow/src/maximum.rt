@@ -1,9 +1,9 @@
-//! A greatest flow, by shortest augmenting paths.
+//! A maximum flow, by shortest augmenting paths.
 ghost use Rattle.std.specs.Prelude.{◌≡◌, ℕ, ◌+◌, ◌*◌, ◌^◌, ◌<◌, ◌≤◌, false, length, set, take, IfOk, List, None};
-ghost use Rattle.esr_cert.specs.declared.step.Step.{Step};
+ghost use Rattle.esr_cert.specs.declared.residual.ResidualArc.{ResidualArc};
 ghost use Rattle.esr_cert.specs.Network.{network};
 ghost use Rattle.esr_cert.specs.Steps.{arc_of};
-ghost use Rattle.esr_flow.specs.Residual.{lesser, least_room, shift, raise};
+ghost use Rattle.esr_flow.specs.Residual.{smaller, bottleneck, shift, raise};
 ghost use Rattle.esr_cert.specs.Flow.{amount_at, IsFlow, worth};
 ghost use Rattle.esr_flow.specs.Augmentation.{IsReach, Augments, Takes};
 ghost use Rattle.esr_flow.specs.Graph.{arcs_of, net_of, IsGraph, AreEntries};
@@ -11,14 +11,14 @@ ghost use Rattle.esr_flow.specs.Search.{IsShortestPath, Guides, IsGuided, is_mar
 ghost use Rattle.esr_flow.specs.Maximum.{InArcs, HasLimit, LIMIT};
 
 use crate::entry::ShortEntry;
-use crate::graph::{Graph, room_of};
+use crate::graph::{Graph, residual_capacity_of};
+use crate::paths::{next_path, put_back};
 use crate::search::{Found, search};
-use crate::walk::{rewind, walk};
-use esr_cert::{Problem, Step};
+use esr_cert::{Problem, ResidualArc};
 use std::alloc::{AllocError, Global};
 
-fn lesser_of(a: Option<u64>, b: Option<u64>) -> Option<u64>
-    ensures { result ≡ lesser a b }
+fn smaller_of(a: Option<u64>, b: Option<u64>) -> Option<u64>
+    ensures { result ≡ smaller a b }
 {
     match a {
         None => b,
@@ -29,38 +29,38 @@ fn lesser_of(a: Option<u64>, b: Option<u64>) -> Option<u64>
     }
 }
 
-/// The least residual amount on a path.
-fn least_room_of(problem: &Problem, flow: &[u64], path: &[Step]) -> Option<u64>
+/// The bottleneck of a path: the least residual capacity on it.
+fn bottleneck_of(problem: &Problem, flow: &[u64], path: &[ResidualArc]) -> Option<u64>
     requires flow { length flow.now ≡ length (network problem.now).arcs }
     requires path { InArcs (network problem.now).arcs path.now }
-    ensures { result ≡ least_room (network problem.now).arcs flow.now path.now }
+    ensures { result ≡ bottleneck (network problem.now).arcs flow.now path.now }
 {
     let mut least = None;
     for step in path {
-        least = lesser_of(least, room_of(problem, flow, *step));
+        least = smaller_of(least, residual_capacity_of(problem, flow, *step));
     }
     least
 }
 
-/// What the arc of a step carries once an amount more goes over the step.
-fn amount_after(flow: &[u64], amount: u64, step: Step) -> u64
+/// What the arc of a step carries once an amount more is pushed over the step.
+fn amount_after(flow: &[u64], amount: u64, step: ResidualArc) -> u64
     requires arc { arc_of step < length flow.now }
     requires fits { amount_at flow.now (arc_of step) + amount < 2 ^ 64 }
     ensures { set flow.now (arc_of step) result ≡ shift flow.now amount step }
 {
     match step {
-        Step::Along(i) => flow[i as usize] + amount,
-        Step::Against(i) => flow[i as usize].saturating_sub(amount),
+        ResidualArc::Forward(i) => flow[i as usize] + amount,
+        ResidualArc::Backward(i) => flow[i as usize].saturating_sub(amount),
     }
 }
 
-/// Raises the amounts along a path.
+/// Pushes an amount of flow along a path.
 fn raise_along(
     graph: &Graph,
     flow: &mut [u64],
     entries: &mut [ShortEntry],
     amount: u64,
-    path: &[Step],
+    path: &[ResidualArc],
 )
     requires graph { IsGraph graph.now }
     requires in_arcs { InArcs (arcs_of graph.now) path.now }
@@ -77,7 +77,7 @@ fn raise_along(
 }
 
 /// One augmentation, along a path that a search found, by the amount that it returns.
-fn augment(graph: &Graph, flow: &mut [u64], entries: &mut [ShortEntry], path: &[Step]) -> u64
+fn augment(graph: &Graph, flow: &mut [u64], entries: &mut [ShortEntry], path: &[ResidualArc]) -> u64
     requires graph { IsGraph graph.now }
     requires flow { IsFlow (net_of graph.now) flow.old }
     requires entries { AreEntries graph.now flow.old entries.old }
@@ -89,7 +89,7 @@ fn augment(graph: &Graph, flow: &mut [u64], entries: &mut [ShortEntry], path: &[
     ensures entries { AreEntries graph.now flow.new entries.new }
     ensures worth { worth (net_of graph.now) flow.new ≡ worth (net_of graph.now) flow.old + result }
 {
-    match least_room_of(graph.problem, flow, path) {
+    match bottleneck_of(graph.problem, flow, path) {
         None => unreachable!(),
         Some(amount) => {
             raise_along(graph, flow, entries, amount, path);
@@ -98,7 +98,7 @@ fn augment(graph: &Graph, flow: &mut [u64], entries: &mut [ShortEntry], path: &[
     }
 }
 
-/// How many augmentations a flow took, in how many phases, and what it is worth.
+/// How many augmentations a flow took, in how many phases, and its value.
 #[derive(Clone, Copy)]
 pub struct Progress {
     pub augmentations: u64,
@@ -106,12 +106,12 @@ pub struct Progress {
     pub worth: u64,
 }
 
-/// Augments along a first path and along each that a walk finds after it.
+/// One phase, a blocking flow: augments along `first` and along each further path of its length that is found.
 fn run_phase(
     alloc: Global,
     graph: &Graph,
     labels: &[u32],
-    first: Vec<Step>,
+    first: Vec<ResidualArc>,
     flow: &mut [u64],
     entries: &mut [ShortEntry],
     before: Progress,
@@ -138,8 +138,8 @@ fn run_phase(
     loop {
         worth += augment(graph, flow, entries, &path);
         augmentations += 1;
-        rewind(graph, &mut next, &path);
-        match walk(alloc, graph, flow, entries, labels, &mut next)? {
+        put_back(graph, &mut next, &path);
+        match next_path(alloc, graph, flow, entries, labels, &mut next)? {
             None => return Ok(Progress {
                 augmentations,
                 phases: before.phases + 1,

@@ -37,7 +37,7 @@ pub struct Network<'a> {
 }
 
 impl<'a> Network<'a> {
-    /// The network of the problem, which takes no memory of its own.
+    /// The network of the problem, which allocates nothing.
     pub fn build(_alloc: Global, problem: &'a Problem) -> Result<Network<'a>, NoMemory>
         ensures { IfOk result (λ n. n.problem.now ≡ problem.now) }
     {

@@ -1,12 +1,12 @@
 //! Breadth-first search of the residual network.
 ghost use Rattle.std.specs.Prelude.{◌≡◌, ◌+◌, ◌-◌, ◌<◌, ◌≤◌, true, false, length, IfOk};
-ghost use Rattle.esr_cert.specs.declared.step.Step.{Step};
+ghost use Rattle.esr_cert.specs.declared.residual.ResidualArc.{ResidualArc};
 ghost use Rattle.esr_flow.specs.Graph.{arcs_of, net_of, IsGraph, AreEntries, Lists};
 ghost use Rattle.esr_flow.specs.Search.{Searched, visit_at, is_marked, IsShortestPath, AfterScan, FoundSink, IsFound, Guides, label_at};
 
 use crate::entry::ShortEntry;
 use crate::graph::Graph;
-use esr_cert::{ShortStep, Step};
+use esr_cert::{ResidualArc, ShortArc};
 use std::alloc::{AllocError, Global};
 
 /// A node that was reached, by a step from the node of an earlier visit.
@@ -14,7 +14,7 @@ use std::alloc::{AllocError, Global};
 pub struct Visit {
     pub node: u32,
     pub level: u32,
-    pub step: Step,
+    pub step: ResidualArc,
     pub parent: u32,
 }
 
@@ -22,7 +22,7 @@ pub struct Visit {
 fn scan(
     graph: &Graph,
     _flow: &[u64],
-    steps: &[ShortStep],
+    steps: &[ShortArc],
     row: &[ShortEntry],
     visits: &mut Vec<Visit>,
     marks: &mut Vec<bool>,
@@ -64,7 +64,7 @@ fn path_to_last(
     _graph: &Graph,
     _flow: &[u64],
     visits: &[Visit],
-) -> Result<Vec<Step>, AllocError>
+) -> Result<Vec<ResidualArc>, AllocError>
     requires { FoundSink (net_of _graph.now) _flow.now visits.now }
     ensures shortest { IfOk result (λ path. IsShortestPath (net_of _graph.now) _flow.now path.items) }
     ensures steps { IfOk result (λ path. length path.items ≡ (visit_at visits.now (length visits.now - 1)).level) }
@@ -80,7 +80,7 @@ fn path_to_last(
     Ok(path)
 }
 
-/// For each node by how many levels its first visit comes before the last visit, which is of the sink; 0 for the others.
+/// Each node's distance to the sink in levels of this search; 0 for nodes that it did not reach.
 fn labels_of(
     alloc: Global,
     graph: &Graph,
@@ -102,10 +102,11 @@ fn labels_of(
     Ok(labels)
 }
 
-/// What a search found: a shortest path and labels that guide to further ones of its length, or marks of the nodes that the source reaches.
+/// What a search found: a shortest path and labels that guide to further ones of its length, or marks of the nodes that
+/// the source reaches.
 #[derive(Drop)]
 pub enum Found {
-    Path(Vec<Step>, Vec<u32>),
+    Path(Vec<ResidualArc>, Vec<u32>),
     Reach(Vec<bool>),
 }
 
@@ -126,7 +127,7 @@ pub fn search(
     visits.push(Visit {
         node: graph.source as u32,
         level: 0,
-        step: Step::Along(0),
+        step: ResidualArc::Forward(0),
         parent: 0,
     })?;
     let mut head = 0;

@@ -48,7 +48,7 @@ fn chain_rows(alloc: Global, flow: &[u64], chains: &[Chain]) -> Result<Vec<Vec<u
     Ok(rows)
 }
 
-/// The certificate of a greatest flow, by the nodes that the source still reaches.
+/// The certificate of a maximum flow, by the nodes that the source still reaches.
 fn certify(
     alloc: Global,
     problem: &Problem,

@@ -101,7 +101,7 @@ fn set_key(table: &mut [u32], key: u32, code: u32)
     }
 }
 
-/// The place that stands in a table.
+/// The place in a table, where there is one.
 fn place(code: u32) -> Option<u64>
     ensures { result ≡ decoded code }
 {

@@ -24,7 +24,7 @@ fn is_above(accounts: &[Account], t: TxnId) -> bool
     }
 }
 
-/// Where the account of a transaction stands, or where it would go. Most are opened last.
+/// Where the account of a transaction is, or where it would go. Most are opened last.
 pub fn place_of(accounts: &[Account], t: TxnId) -> Result<usize, usize>
     requires { IsAscendingBy number accounts.now }
     ensures found { IfOk result (IsPlaceOf number accounts.now t.0) }
@@ -36,8 +36,8 @@ pub fn place_of(accounts: &[Account], t: TxnId) -> Result<usize, usize>
     accounts.binary_search_by_key(&t.0, |a| a.number.0)
 }
 
-/// Where the account of a transaction stands. Accounts are opened for 1, 2, 3 and so on, so
-/// it is looked for first where it then stands.
+/// Where the account of a transaction is. Accounts are opened for 1, 2, 3 and so on, so
+/// it is looked for there first.
 fn index_of(accounts: &[Account], t: TxnId) -> usize
     requires ascending { IsAscendingBy number accounts.now }
     requires open { is_open accounts.now t.0 ≡ true }

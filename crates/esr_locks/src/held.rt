@@ -7,7 +7,7 @@ use smallvec::SmallVec;
 use std::alloc::{AllocError, Global};
 use std::marker::Model;
 
-/// The items that a transaction has locked. Up to six stand in the list itself, more in an
+/// The items that a transaction has locked. Up to six lie in the list itself, more in an
 /// allocation.
 #[derive(Drop)]
 pub struct Held {

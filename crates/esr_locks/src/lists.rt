@@ -47,7 +47,7 @@ impl Numbered for QueryReads {
     }
 }
 
-/// The number of no transaction, since they count from 1. It stands in unused places.
+/// The number of no transaction, since they count from 1. It fills unused places.
 const NOBODY: TxnId = TxnId(0);
 
 impl Default for Reader {
@@ -69,10 +69,10 @@ impl Default for QueryReads {
     }
 }
 
-/// Up to four readers stand in the list itself, more in an allocation.
+/// Up to four readers lie in the list itself, more in an allocation.
 pub type Readers = SmallVec<Reader, 4>;
 
-/// Up to two queries stand in the list itself, more in an allocation.
+/// Up to two queries lie in the list itself, more in an allocation.
 pub type Queries = SmallVec<QueryReads, 2>;
 
 /// Makes room for one more element in a full list.
@@ -105,7 +105,7 @@ pub fn reserve_one<T: MadeWith<Global> + Drop, const N: usize>(
     grow(list)
 }
 
-/// Where the row of a transaction stands in a list, or where it would go.
+/// Where the row of a transaction is in a list, or where it would go.
 fn place_of<R: Numbered + MadeWith<Global>, const N: usize>(
     rows: &SmallVec<R, N>,
     t: TxnId,

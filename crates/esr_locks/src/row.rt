@@ -20,7 +20,7 @@ pub enum Lock {
     QueryRead,
 }
 
-/// The locks on one item. Updates that have read it and queries that have read it stand in the
+/// The locks on one item. Updates that have read it and queries that have read it are in the
 /// order of their numbers.
 #[derive(Drop)]
 pub struct Row {
@@ -51,8 +51,8 @@ impl Model for Row {
         × IsAscendingBy (λ q. q.query.0) r.queries.items × AllByRecursion (λ q. q.count ≤ 1000) r.queries.items };
 }
 
-/// Whether a transaction is the one that there is.
-fn is_it(writer: Option<TxnId>, t: TxnId) -> bool
+/// Whether the item's writer is `t`.
+fn writer_is(writer: Option<TxnId>, t: TxnId) -> bool
     ensures { result ≡ unwrap_or (option_map (λ u. u.0 == t.0) writer) false }
 {
     match writer {
@@ -61,14 +61,14 @@ fn is_it(writer: Option<TxnId>, t: TxnId) -> bool
     }
 }
 
-/// The transaction that there is, where it is another than `t`.
-fn other_than(writer: Option<TxnId>, t: TxnId) -> Option<TxnId>
+/// The writer, unless it is `t`.
+fn writer_unless(writer: Option<TxnId>, t: TxnId) -> Option<TxnId>
     ensures { result ≡ (if unwrap_or (option_map (λ u. u.0 == t.0) writer) false then None else writer) }
 {
-    if is_it(writer, t) { None } else { writer }
+    if writer_is(writer, t) { None } else { writer }
 }
 
-/// The smaller of two smallest numbers.
+/// The smaller of two ids, either of which may be absent.
 fn smaller_of(a: Option<TxnId>, b: Option<TxnId>) -> Option<TxnId>
     ensures { (p q : ℕ → Bool) → IsLeast p (option_map (λ u. u.0) a) → IsLeast q (option_map (λ u. u.0) b)
         → IsLeast (λ u. p u || q u) (option_map (λ u. u.0) result) }
@@ -112,7 +112,7 @@ impl Row {
     pub fn other_writer(&self, t: TxnId) -> Option<TxnId>
         ensures { IsLeast (keeps_from_reading self.now.locks t.0) (option_map (λ u. u.0) result) }
     {
-        other_than(self.writer, t)
+        writer_unless(self.writer, t)
     }
 
     /// The smallest update other than `t` that has read or written the item.
@@ -140,7 +140,7 @@ impl Row {
         ensures locks { self.new.locks ≡ with_reader t.0 self.old.locks }
         ensures fresh { result ≡ not (is_update self.old.locks t.0) }
     {
-        let has_written = is_it(self.writer, t);
+        let has_written = writer_is(self.writer, t);
         let has_read = !add_reader(&mut self.readers, t);
         !(has_written | has_read)
     }
@@ -150,7 +150,7 @@ impl Row {
         ensures locks { self.new.locks ≡ with_writer t.0 self.old.locks }
         ensures fresh { result ≡ not (is_update self.old.locks t.0) }
     {
-        let has_written = is_it(self.writer, t);
+        let has_written = writer_is(self.writer, t);
         let has_read = is_reader(&self.readers, t);
         self.writer = Some(t);
         !(has_written | has_read)
@@ -185,7 +185,7 @@ impl Row {
     pub fn release(&mut self, t: TxnId)
         ensures { self.new.locks ≡ released t.0 self.old.locks }
     {
-        self.writer = other_than(self.writer, t);
+        self.writer = writer_unless(self.writer, t);
         drop_row(&mut self.readers, t);
         drop_row(&mut self.queries, t);
     }

@@ -17,7 +17,7 @@ use std::mem;
 /// The locks on each item, by two-phase locking: a transaction holds its locks until they are
 /// released together. Updates read and write, queries read.
 ///
-/// Beside the locks of each item stand the items of each transaction, so that no call looks at
+/// Beside the locks of each item there are the items of each transaction, so that no call looks at
 /// locks that it does not speak of. Memory goes with the count of items, the locks held and the
 /// largest number of a transaction.
 #[derive(Drop)]
@@ -154,7 +154,7 @@ impl LockTable {
     }
 
     /// The items on which a transaction holds a lock. One that it has read as a query and as an
-    /// update may stand twice.
+    /// update may occur twice.
     pub fn items_of(&self, t: TxnId) -> &[ItemId]
         ensures within { All (λ i. i.0 < length self.now.locks) result.now }
         ensures listed { (x : ℕ) → x < length self.now.locks → has_lock (locks_at self.now.locks x) t.0 ≡ true

@@ -1,4 +1,4 @@
--- The updates that a strict query must have seen stand first in commit order.
+-- The updates that a strict query must have seen come first in commit order.
 use Rattle.std.proofs.Common.{◌≡◌, ℕ, ◌+◌, ◌≤◌, Bool, true, false, ◌||◌, List, [], ◌∷◌, ◌++◌, length, drop, refl, sym, ◌∙◌, ap, subst, arith, inl, inr, map, filter, eqb, cond, slice_index_or, append_assoc, append-nil, if◌then◌else◌}
 use Rattle.std.specs.List.{list_any, before_first, position_or_len, range_with_len}
 use Rattle.std.proofs.lemmas.Bool.{true≢false, cases_Bool, or_left, or_parts, false_from_ne_true}

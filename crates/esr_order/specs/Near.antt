@@ -15,12 +15,12 @@ has_written h x u = list_any (writes u x) (done h)
 abbrev pub has_written_read : Schedule → ℕ → ℕ → Bool
 has_written_read h q u = list_any (λ o. has_written h o.item u) (reads_by h q)
 
--- a row of befores among the updates of q leads from u by these to v
+-- a chain of conflicts among the updates of q leads from u by these to v
 abbrev pub IsRowTo : Schedule → ℕ → ℕ → List ℕ → ℕ → Type 0
 IsRowTo h q u [] v = IsTrue (is_before h u v)
 IsRowTo h q u (w ∷ row) v = Contains (updates_of h q) w × IsTrue (is_before h u w) × IsRowTo h q w row v
 
--- u wrote an item that q read, or a row of befores leads from u to an update of q that did, or q must see u
+-- u wrote an item that q read, or a chain of conflicts leads from u to an update of q that did, or q must see u
 abbrev pub IsNear : Schedule → ℕ → ℕ → Type 0
 IsNear h q u =
     IsTrue (has_written_read h q u)

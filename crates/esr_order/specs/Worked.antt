@@ -15,7 +15,7 @@ two_updates_placed : map (placement_distance plain two_updates_over_a_report 1 (
     ≡ 8 ∷ 18 ∷ 1 ∷ []
 two_updates_placed = refl
 
--- a strict query stands after the update that it must have seen
+-- a strict query is placed after the update that it must have seen
 strict_placed : placement_distance plain (strict_report true) 2 (1 ∷ []) 1 ≡ 5
 strict_placed = refl
 

@@ -71,7 +71,7 @@ impl Model for Order {
     } };
 }
 
-/// The first positions.
+/// The positions 0 to n - 1.
 fn first_positions(alloc: Global, n: usize) -> Result<Vec<u32>, AllocError>
     requires { n < 2 ^ 32 }
     ensures { IfOk result (λ v. v.items ≡ range_with_len 0 n) }
@@ -129,8 +129,8 @@ impl Order {
     }
 
     /// The order among the near updates of a committed query of a legal history: those that
-    /// wrote an item that it read, those from which a row of befores leads to such an
-    /// update, and those that it must have seen.
+    /// wrote an item that it read, those from which a chain of conflicts leads to
+    /// such an update, and those that it must have seen.
     pub fn near<M: Metric>(
         alloc: Global,
         history: &History<M>,

@@ -1,4 +1,4 @@
--- Words parted by a byte.
+-- Words separated by a byte.
 use Rattle.std.proofs.Common.{◌≡◌, ℕ, ◌+◌, ◌<◌, ◌≤◌, List, [], ◌∷◌, ◌++◌, length, take, map, refl, sym, ◌∙◌, ap, get_or, append_assoc}
 use Rattle.std.proofs.lemmas.List.{take_more, take_all, map-append}
 use Rattle.std.specs.List.{join_with_byte}
@@ -17,7 +17,7 @@ one_behind c out x xs y before parted after stood part grew =
     ∙ append_assoc out (join_with_byte c (x ∷ xs)) (c ∷ y) ∙ ap (λ l. out ++ l) (sym (join_push c x xs y))
 
 module _ {X : Type 0} (spell : X → List ℕ) (c : ℕ) (out first : List ℕ) (xs : List X) where
-  -- a word more behind those that stand
+  -- a word more behind those before it
   pub one_more : (i : ℕ) (d : X) (word before parted after : List ℕ) → i < length xs
       → before ≡ out ++ join_with_byte c (first ∷ map spell (take i xs))
       → word ≡ spell (get_or xs i d) → parted ≡ before ++ c ∷ [] → after ≡ parted ++ word

@@ -84,13 +84,13 @@ reply_line names named Committed = committed_line named.txn
 reply_line names named Aborted = aborted_line named.txn
 reply_line names named (Refused why) = refusal_line names why
 
--- the totals of imports and of exports, and the length of the history
+-- the totals of imports and of exports, and the number of entries
 abbrev pub totals_line : ℕ → ℕ → ℕ → List ℕ
 totals_line imports exports entries =
     line (codes "totals import" ∷ decimal imports ∷ codes "export" ∷ decimal exports ∷ codes "entries" ∷ decimal entries
     ∷ [])
 
--- the names of transactions, parted by commas; a minus where there is none
+-- the names of transactions, separated by commas; a minus where there is none
 abbrev pub listed : (names : List (List ℕ)) (txns : List ℕ) → List ℕ
 listed names [] = codes "-"
 listed names (txn ∷ txns) = join_with_byte 44 (map (name_of_transaction names) (txn ∷ txns))

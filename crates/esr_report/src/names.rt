@@ -30,7 +30,8 @@ impl Model for Names {
 
     ghost view = { λ n. map (λ name. name.bytes) n.names.keys };
 
-    ghost invariant = { λ n. (length n.names.keys ≤ 2 ^ 32) × (all_distinct (map (λ name. name.bytes) n.names.keys) ≡ true)
+    ghost invariant = { λ n. (length n.names.keys ≤ 2 ^ 32)
+        × (all_distinct (map (λ name. name.bytes) n.names.keys) ≡ true)
         × All (λ name. length name.bytes ≤ 16) n.names.keys };
 }
 

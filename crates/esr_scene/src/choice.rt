@@ -70,7 +70,7 @@ fn crossings(
     Ok(crossings)
 }
 
-/// The lanes, those that are off most first, and those that are off alike as they stand.
+/// The lanes, those that are off most first, and those that are off alike as they come.
 fn ranked(alloc: Global, crossings: &[Crossing]) -> Result<Vec<usize>, AllocError> {
     let mut ranks = Vec::new(alloc);
     for (lane, crossing) in crossings.iter().enumerate() {

@@ -58,7 +58,7 @@ behind-feed b bs e = rw (len-feed b bs e) refl
 front-feed : (b : ℕ) (bs : List ℕ) → nat_eq b 10 ≡ true → front (b ∷ bs) ≡ []
 front-feed b bs e = rw (len-feed b bs e) refl
 
--- no line feed stands before the first one
+-- no line feed is before the first one
 pub plain-front : (bytes : List ℕ) → line_len (front bytes) ≡ length (front bytes)
 plain-front [] = refl
 plain-front (b ∷ bs) = grind (arith, cases_Bool (nat_eq b 10), nat_eq b 10, front-feed, front-other, len-other, plain-front bs)

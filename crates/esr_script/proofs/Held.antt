@@ -13,7 +13,7 @@ use Rattle.esr_script.proofs.Prefix.{line_len-le}
 use Rattle.esr_script.proofs.Steps.{advance, all_read, text_begins, at_memory, at_long, at_many, at_fault_line, at_last, at_fault_last, at_read}
 use Rattle.std.proofs.lemmas.Grind.{common_steps}
 
--- bytes stand ahead where it need not be read on
+-- there are bytes ahead where it need not be read on
 pub has_bytes : (found : Next) (bytes : List ℕ) → IsNext found bytes → (found ≡ next.More → ⊥) → 0 < length bytes
 has_bytes (next.Line n) bytes h other = omega (arith, h.1)
 has_bytes next.TooLong bytes h other = omega (arith, h, line_len-le bytes)
@@ -108,7 +108,7 @@ held_lost input left out (Err fault.Read) sent lost none h = rw (none refl, appe
 held_lost input left out (Err fault.Write) sent lost none h = h
 held_lost input left out _ sent lost none h = cc
 
--- a front of what begins a text begins it
+-- a prefix of a prefix is one
 pub begins_part : (text sent out part : List ℕ) → BeginsWith text (sent ++ out) → BeginsWith out part → BeginsWith text (sent ++ part)
 begins_part text sent out part whole front = (front.0 ++ whole.0, whole.1 ∙ ap (λ o. (sent ++ o) ++ whole.0) front.1 ∙ simp append_assoc)
 

@@ -83,6 +83,6 @@ is_skipped (b ∷ bs) = nat_eq b 35
 abbrev pub Spells : List ℕ → Command → Type 0
 Spells line c = IsCommand c × (line ≡ spelling c)
 
--- no blank stands in the word
+-- no blank is in the word
 abbrev pub IsPlainWord : List ℕ → Type 0
 IsPlainWord word = All (λ b. nat_eq b 32 ≡ false) word

@@ -10,11 +10,11 @@ use Rattle.esr_script.specs.Lines.{lines, whole_lines}
 use Rattle.esr_script.specs.Run.{IsRunBy}
 use Rattle.esr_script.specs.Text.{State, start, state_after, outcome, outcome_of_lines, outcome_from, behind, max_line_bytes}
 
--- how many bytes stand before the first line feed
+-- how many bytes are before the first line feed
 abbrev pub line_len : List ℕ → ℕ
 line_len bytes = position_or_len (λ b. nat_eq b 10) bytes
 
--- what stands next in the bytes ahead
+-- what comes next in the bytes ahead
 abbrev pub IsNext : Next → List ℕ → Type 0
 IsNext (next.Line n) bytes = (n ≡ line_len bytes) × (n < length bytes) × (n ≤ max_line_bytes)
 IsNext next.TooLong bytes = max_line_bytes < line_len bytes

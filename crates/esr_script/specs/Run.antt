@@ -22,7 +22,7 @@ IsRunBy input left (Ok done) written = Consumes (Some input) left input × IsWho
 -- the text of the whole lines that were read before the failure
 IsRunBy input left (Err fault.Read) written =
     (taken : List ℕ) × Consumes (Some input) left taken × IsWholeText (outcome_of_lines (whole_lines taken)) written
--- a front of the text
+-- a prefix of the output
 IsRunBy input left (Err fault.Write) written = BeginsWith (outcome input).text written
 -- the text of the lines before the one where memory ran out
 IsRunBy input left (Err fault.NoMemory) written =

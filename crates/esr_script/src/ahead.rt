@@ -1,4 +1,4 @@
-//! Answers the lines that stand in the bytes ahead, whether their text is to be written or dropped.
+//! Answers the lines in the bytes ahead, whether their text is to be written or dropped.
 
 ghost use Rattle.std.specs.Prelude.{◌≡◌, ◌≢◌, ℕ, List, ◌+◌, ◌++◌, ◌≤◌, Option, Err, OnOk, IfErr, false, length};
 ghost use Rattle.std.specs.Io.KnownBytes.{IsAtEnd};
@@ -9,7 +9,7 @@ use crate::fault::RunFault;
 use crate::pending::{MAX_LINES, Next, Pending};
 use crate::script::Script;
 
-/// Answers the line that stands next, and goes on behind its line feed.
+/// Answers the next line, and goes on after its line feed.
 pub fn answer_next(
     next: Next,
     pending: &mut Pending,

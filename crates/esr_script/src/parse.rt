@@ -224,7 +224,7 @@ fn command(line: &[u8]) -> Option<Line<'_>>
     }
 }
 
-/// What the line is. Takes no memory.
+/// What the line is. Allocates nothing.
 pub fn parse_line(line: &[u8]) -> Parsed<'_>
     // Skipped exactly for a skipped line, a command exactly where the line spells it.
     ensures skipped { (result ≡ Parsed.Skipped) ↔ IsTrue (is_skipped line.now) }

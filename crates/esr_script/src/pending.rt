@@ -21,7 +21,7 @@ pub const MAX_LINES: u64 = 2_000_000;
 /// The most bytes of a line, its line feed aside.
 pub const MAX_LINE_BYTES: usize = 200;
 
-/// Bytes that were read and are not yet used, seen as the list of them. They stand
+/// Bytes that were read and are not yet used, seen as the list of them. They are
 /// in one buffer from `start` to `end`.
 #[derive(Drop)]
 pub struct Pending {
@@ -87,7 +87,7 @@ impl Pending {
     }
 }
 
-/// What stands next in bytes ahead.
+/// What comes next in the bytes ahead.
 #[derive(Clone, Copy, Debug)]
 pub enum Next {
     /// A line of so many bytes, and a line feed.

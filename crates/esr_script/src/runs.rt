@@ -25,7 +25,7 @@ const OUTPUT_CAPACITY: usize = 65536;
 ///
 /// What is answered is written before the run waits for more of the input. After
 /// a fault other than `Write` the text of the lines before it was written, and
-/// nothing else; after `Write` a front of the text was.
+/// nothing else; after `Write` a prefix of the output was.
 pub fn run<R: Read, W: Write>(
     alloc: Global,
     reader: &mut Watched<R>,
@@ -60,7 +60,7 @@ fn is_lost(ended: Result<(), RunFault>) -> bool
     matches!(ended, Err(RunFault::Read | RunFault::Write))
 }
 
-/// Answers line after line. What is answered and not yet written stands in `out`.
+/// Answers line after line. What is answered and not yet written is in `out`.
 fn answer_lines<R: Read, W: Write>(
     reader: &mut Watched<R>,
     writer: &mut Watched<W>,

@@ -431,7 +431,7 @@ fn alone(txn: &str) -> Subject<'_>
     }
 }
 
-/// What came of appending a line.
+/// The result of appending a line, as a fault of the run.
 fn said(appended: Result<(), AllocError>) -> Result<(), RunFault>
     ensures ok { IsOk result ↔ IsOk appended }
     ensures faults { IfErr result (λ e. e ≡ RunFault.NoMemory) }

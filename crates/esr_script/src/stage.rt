@@ -77,7 +77,7 @@ impl Stage {
         }
     }
 
-    /// The imports and exports together, and the length of the history.
+    /// The imports and exports together, and the number of entries.
     pub fn totals(&self) -> Totals
         ensures import { result.import ≡ all_imports weighted (history_of self.now) }
         ensures export { result.export ≡ all_exports weighted (history_of self.now) }

@@ -17,7 +17,7 @@ fn find_blank(bytes: &[u8]) -> Option<usize>
     bytes.iter().position(|b| *b == b' ')
 }
 
-/// The first word, and what stands after the blank behind it.
+/// The first word, and what follows the blank after it.
 #[tactic(auto, using(crate::proofs::Blanks::no_blank, crate::proofs::Blanks::at_blank))]
 pub fn cut_word(bytes: &[u8]) -> (&[u8], Option<&[u8]>)
     ensures { words_of bytes.now ≡ result.0.now ∷ words_after result.1 }

@@ -95,7 +95,7 @@ fn beside(alloc: Global, updates: u32) -> Result<String, AllocError> {
     Ok(script)
 }
 
-/// How often a text stands in what is drawn.
+/// How often a text occurs in what is drawn.
 fn count(alloc: Global, script: &str, text: &str) -> Result<usize, AllocError> {
     let mut reader = Watched::new(script.as_bytes());
     let mut writer = Watched::new(Vec::new(alloc));

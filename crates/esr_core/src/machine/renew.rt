@@ -76,7 +76,7 @@ impl<M: Metric + Drop> Machine<M> {
     /// Goes on with an empty history, by this metric. Its opening values are the committed values
     /// of the history so far, which is dropped: audit it first. Transactions are numbered from 1
     /// again. Whatever the new history comes to be, the committed updates of the old one and then
-    /// its own are serializable as one, and a query stands in one history alone.
+    /// its own are serializable as one, and a query is in one history alone.
     ///
     /// # Errors
     /// `TransactionActive` exactly where a transaction is active, else `NoMemory` where an

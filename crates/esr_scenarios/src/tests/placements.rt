@@ -9,7 +9,7 @@ use esr_items::{ItemId, Plain};
 use std::alloc::{AllocError, Global};
 use std::test::Fail;
 
-/// Numbers that follow from one another by a fixed rule.
+/// Numbers generated from a fixed seed.
 #[derive(Drop)]
 pub(super) struct Draws {
     pub state: u64,

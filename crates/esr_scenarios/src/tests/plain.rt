@@ -255,7 +255,7 @@ fn end_before(log: &Log, facts: &[Option<Facts>], t: u32, i: usize) -> Option<En
     }
 }
 
-/// Whether what a transaction wrote stands at the place i: it has not aborted before that, and has committed where that
+/// Whether what a transaction wrote holds at the place i: it has not aborted before that, and has committed where that
 /// is asked for.
 fn stands(log: &Log, facts: &[Option<Facts>], t: u32, i: usize, committed: bool) -> bool {
     match end_before(log, facts, t, i) {
@@ -264,7 +264,7 @@ fn stands(log: &Log, facts: &[Option<Facts>], t: u32, i: usize, committed: bool)
     }
 }
 
-/// What was written to an item by the entry at a place, where it stands at the place i.
+/// What was written to an item by the entry at a place, where it holds at the place i.
 fn left_by(
     log: &Log,
     facts: &[Option<Facts>],

@@ -17,6 +17,6 @@ returns-clause-least c = λ _ has closed.
       closed = ap (λ set. is_closed p (in_set set)) (sym c.deref-3.ensures.value) ∙ sym c.is_closed.ensures ∙ c.if-not-is_closed.false;
       within = sym c.is_within.ensures ∙ c.if-not-is_within.false;
       conserved = sym c.is_conserved.ensures ∙ c.if-not-is_conserved.false;
-      tight = sym c.is_tight.ensures ∙ c.if-not-is_tight.false;
-      short = sym c.is_short.ensures ∙ c.if-not-is_short.false;
+      tight = sym c.worth_matches.ensures ∙ c.if-not-worth_matches.false;
+      short = sym c.is_count_in_bound.ensures ∙ c.if-not-is_count_in_bound.false;
     })) has closed

@@ -34,19 +34,19 @@ overflow_add-result c =
     let t : Taken (net_of c.args.graph.now) c.loop-path.augmentations c.loop-path.flow = running_flow (net_of c.args.graph.now) c.requires.graph.is_network c.loop-path.flow c.args.labels.now c.loop-path.augmentations c.loop-path.worth c.loop-path.invariant.0 in
     omega (arith, c.requires.phases, c.loop-path.invariant.3, t.count_small, c.requires.small c.loop-path.flow t.is_flow)
 
-pub rewind-requires-clause-path : goal.rewind-requires-clause-path
-rewind-requires-clause-path c =
+pub put_back-requires-clause-path : goal.put_back-requires-clause-path
+put_back-requires-clause-path c =
     subst (λ path. InArcs (arcs_of c.args.graph.now) path) (sym c.deref-in-loop-path.ensures.value)
     (path_in_arcs (arcs_of c.args.graph.now) c.loop-path.flow c.loop-path.path.items c.args.graph.now.source c.args.graph.now.sink c.loop-path.invariant.1.is_shortest_path.is_path)
 
-pub walk-requires-clause-flow : goal.walk-requires-clause-flow
-walk-requires-clause-flow c =
+pub next_path-requires-clause-flow : goal.next_path-requires-clause-flow
+next_path-requires-clause-flow c =
     let r : Running (net_of c.args.graph.now) c.augment-worth.new.flow c.args.labels.now (c.loop-path.augmentations + 1) (c.loop-path.worth + c.augment-worth.result) = run_more (net_of c.args.graph.now) c.loop-path.flow c.augment-worth.new.flow c.args.labels.now c.loop-path.path.items c.loop-path.augmentations c.loop-path.worth c.augment-worth.result c.loop-path.invariant.0 c.loop-path.invariant.1 c.augment-worth.ensures.augments c.augment-worth.ensures.worth in
     let t : Taken (net_of c.args.graph.now) (c.loop-path.augmentations + 1) c.augment-worth.new.flow = running_flow (net_of c.args.graph.now) c.requires.graph.is_network c.augment-worth.new.flow c.args.labels.now (c.loop-path.augmentations + 1) (c.loop-path.worth + c.augment-worth.result) r in
     t.is_flow.same_length
 
-pub walk-requires-clause-guides : goal.walk-requires-clause-guides
-walk-requires-clause-guides c =
+pub next_path-requires-clause-guides : goal.next_path-requires-clause-guides
+next_path-requires-clause-guides c =
     let r : Running (net_of c.args.graph.now) c.augment-worth.new.flow c.args.labels.now (c.loop-path.augmentations + 1) (c.loop-path.worth + c.augment-worth.result) = run_more (net_of c.args.graph.now) c.loop-path.flow c.augment-worth.new.flow c.args.labels.now c.loop-path.path.items c.loop-path.augmentations c.loop-path.worth c.augment-worth.result c.loop-path.invariant.0 c.loop-path.invariant.1 c.augment-worth.ensures.augments c.augment-worth.ensures.worth in
     r.guides
 
@@ -59,5 +59,5 @@ loop-path-smaller c =
 pub loop-path-preserved : goal.loop-path-preserved
 loop-path-preserved c =
     let r : Running (net_of c.args.graph.now) c.augment-worth.new.flow c.args.labels.now (c.loop-path.augmentations + 1) (c.loop-path.worth + c.augment-worth.result) = run_more (net_of c.args.graph.now) c.loop-path.flow c.augment-worth.new.flow c.args.labels.now c.loop-path.path.items c.loop-path.augmentations c.loop-path.worth c.augment-worth.result c.loop-path.invariant.0 c.loop-path.invariant.1 c.augment-worth.ensures.augments c.augment-worth.ensures.worth in
-    let p : IsGuided (net_of c.args.graph.now) c.augment-worth.new.flow c.args.labels.now c.in-Some.found.items = subst (λ o. IfSome o (λ path. IsGuided (net_of c.args.graph.now) c.augment-worth.new.flow c.args.labels.now path.items)) c.in-Some.is c.in_ok-walk.ensures in
+    let p : IsGuided (net_of c.args.graph.now) c.augment-worth.new.flow c.args.labels.now c.in-Some.found.items = subst (λ o. IfSome o (λ path. IsGuided (net_of c.args.graph.now) c.augment-worth.new.flow c.args.labels.now path.items)) c.in-Some.is c.in_ok-next_path.ensures in
     (r, p, c.loop-path.invariant.2, omega (arith, c.loop-path.invariant.3), c.augment-worth.ensures.entries)

@@ -1,7 +1,7 @@
 use Rattle.std.proofs.Common.{arith, ◌≡◌, ℕ, ◌+◌, ◌<◌, true, false, List, [], ◌∷◌, ◌++◌, length, get_or, set, sym, ap, ◌∙◌, subst}
 use Rattle.std.proofs.lemmas.List.{get_or_read}
-use Rattle.esr_flow.specs.declared.entry.Entry.{Entry}
-use Rattle.esr_cert.specs.declared.step.Step.TheVariants.{Along}
+use Rattle.esr_flow.specs.declared.entry.AdjacencyEntry.{AdjacencyEntry}
+use Rattle.esr_cert.specs.declared.residual.ResidualArc.TheVariants.{Forward}
 use Rattle.esr_flow.specs.Graph.{net_of}
 use Rattle.esr_cert.specs.Steps.{step_at}
 use Rattle.esr_flow.specs.Search.{is_marked, FoundSink}
@@ -9,7 +9,7 @@ use Rattle.esr_flow.proofs.ScanLaws.{Scanning, none_at, visit_of, entry_marked, 
 use Rattle.esr_flow.proofs.search.scan.Goals as goal
 use Rattle.esr_flow.proofs.search.scan.Goals.{then-not-index+then-entry+in_ok-push+else-node-graph, then-not-index+else-entry, else-not-index}
 
-entry_read : (row : List Entry) (i : ℕ) (e x : Entry) → i < length row → e ≡ x → x ≡ get_or row i x → e ≡ get_or row i none_at
+entry_read : (row : List AdjacencyEntry) (i : ℕ) (e x : AdjacencyEntry) → i < length row → e ≡ x → x ≡ get_or row i x → e ≡ get_or row i none_at
 entry_read row i e x l is at = is ∙ get_or_read row i x l at none_at
 
 pub index-requires-in-loop-i : goal.index-requires-in-loop-i
@@ -26,23 +26,23 @@ index_mut-requires c =
 
 pub returns-then-node-graph : goal.returns-then-node-graph
 returns-then-node-graph c =
-    let e : Entry = c.entry-entry.result in
+    let e : AdjacencyEntry = c.entry-entry.result in
     let r : e.ahead ≡ true = c.if-entry.true in
     let m : is_marked c.loop-i.marks.items e.to ≡ false = cc (c.index-in-loop-i.ensures, c.if-not-index.true) in
     let vs : c.push.new.self.items ≡ c.loop-i.visits.items ++ visit_of (step_at c.args.steps.now c.loop-i.i) e (c.index.result.now.level + 1) c.args.head ∷ [] =
-    c.in_ok-push.ensures.items ∙ ap (λ s. c.loop-i.visits.items ++ visit_of s e (c.index.result.now.level + 1) c.args.head ∷ []) (c.step.ensures ∙ get_or_read c.args.steps.now c.loop-i.i c.index-steps-i.result (omega (arith, c.requires.row.count, c.loop-i-test.true)) c.index-steps-i.is (Along 0)) in
+    c.in_ok-push.ensures.items ∙ ap (λ s. c.loop-i.visits.items ++ visit_of s e (c.index.result.now.level + 1) c.args.head ∷ []) (c.step.ensures ∙ get_or_read c.args.steps.now c.loop-i.i c.index-steps-i.result (omega (arith, c.requires.row.count, c.loop-i-test.true)) c.index-steps-i.is (Forward 0)) in
     subst (FoundSink (net_of c.args.graph.now) c.args._flow.now) (sym vs)
     (scan_found (net_of c.args.graph.now) c.requires.graph.is_network c.args._flow.now c.args.steps.now c.args.row.now c.loop-i.visits.items c.loop-i.marks.items c.args.head (c.index.result.now.level + 1) c.loop-i.i e c.loop-i.invariant c.loop-i-test.true (entry_read c.args.row.now c.loop-i.i c.entry-entry.result c.index-row-i.result c.loop-i-test.true c.entry-entry.ensures c.index-row-i.is) r m c.if-node-graph.true)
 
 pub loop-i-preserved : goal.loop-i-preserved
 loop-i-preserved c =
-    let e : Entry = c.entry-entry.result in
+    let e : AdjacencyEntry = c.entry-entry.result in
     let level : ℕ = c.index.result.now.level + 1 in
     elim c.if-not-index.branch [
       | then-not-index+then-entry+in_ok-push+else-node-graph w ↦
           let r : e.ahead ≡ true = w.if-entry.true in
           let m : is_marked c.loop-i.marks.items e.to ≡ false = cc (c.index-in-loop-i.ensures, w.if-not-index.true) in
-          let vs : c.if-not-index.visits.items ≡ c.loop-i.visits.items ++ visit_of (step_at c.args.steps.now c.loop-i.i) e level c.args.head ∷ [] = ap (λ v. v.items) w.visits-is ∙ w.in_ok-push.ensures.items ∙ ap (λ s. c.loop-i.visits.items ++ visit_of s e level c.args.head ∷ []) (w.step.ensures ∙ get_or_read c.args.steps.now c.loop-i.i w.index-steps-i.result (omega (arith, c.requires.row.count, c.loop-i-test.true)) w.index-steps-i.is (Along 0)) in
+          let vs : c.if-not-index.visits.items ≡ c.loop-i.visits.items ++ visit_of (step_at c.args.steps.now c.loop-i.i) e level c.args.head ∷ [] = ap (λ v. v.items) w.visits-is ∙ w.in_ok-push.ensures.items ∙ ap (λ s. c.loop-i.visits.items ++ visit_of s e level c.args.head ∷ []) (w.step.ensures ∙ get_or_read c.args.steps.now c.loop-i.i w.index-steps-i.result (omega (arith, c.requires.row.count, c.loop-i-test.true)) w.index-steps-i.is (Forward 0)) in
           let ms : c.if-not-index.marks.items ≡ set c.loop-i.marks.items e.to true = ap (λ v. v.items) w.marks-is in
           subst (λ vis. Scanning (net_of c.args.graph.now) c.args._flow.now c.args.steps.now c.args.row.now vis c.if-not-index.marks.items c.args.head level (c.loop-i.i + 1)) (sym vs)
           (subst (λ mar. Scanning (net_of c.args.graph.now) c.args._flow.now c.args.steps.now c.args.row.now (c.loop-i.visits.items ++ visit_of (step_at c.args.steps.now c.loop-i.i) e level c.args.head ∷ []) mar c.args.head level (c.loop-i.i + 1)) (sym ms)

@@ -7,8 +7,8 @@ use Rattle.esr_flow.proofs.graph.Graph.set_amount.Goals as goal
 pub returns-then-back_now-back-clause-entries : goal.returns-then-back_now-back-clause-entries
 returns-then-back_now-back-clause-entries c =
     unchanged c.args.self.now c.requires.graph c.args.flow.now c.args.entries.now c.args.arc c.args.amount c.arc-ends.result (omega (arith, c.requires.arc, c.requires.flow)) c.arc-ends.ensures c.requires.entries
-    (sym c.rooms_of-ahead.ensures.ahead ∙ sym ((booleans_Decides c.rooms_of-ahead_now.result.0 c.rooms_of-ahead.result.0).0 c.if-ahead_now-ahead.true) ∙ c.rooms_of-ahead_now.ensures.ahead)
-    (sym c.rooms_of-ahead.ensures.back ∙ sym ((booleans_Decides c.rooms_of-ahead_now.result.1 c.rooms_of-ahead.result.1).0 c.if-back_now-back.true) ∙ c.rooms_of-ahead_now.ensures.back)
+    (sym c.have_capacity-ahead.ensures.ahead ∙ sym ((booleans_Decides c.have_capacity-ahead_now.result.0 c.have_capacity-ahead.result.0).0 c.if-ahead_now-ahead.true) ∙ c.have_capacity-ahead_now.ensures.ahead)
+    (sym c.have_capacity-ahead.ensures.back ∙ sym ((booleans_Decides c.have_capacity-ahead_now.result.1 c.have_capacity-ahead.result.1).0 c.if-back_now-back.true) ∙ c.have_capacity-ahead_now.ensures.back)
 
 pub returns-clause-entries : goal.returns-clause-entries
 returns-clause-entries c =

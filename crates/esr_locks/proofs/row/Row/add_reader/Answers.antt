@@ -24,6 +24,6 @@ returns-clause-fresh c =
     let readers = c.self.inside.readers.items in
     let read = any-map (λ r. r.update.0) (λ u. u) (λ r. r.update.0) (λ r. refl) c.args.t.0 readers in
     let has_read = ap not c.add_reader-has_read.ensures.fresh ∙ (not-not (list_any (λ r. r.update.0 == c.args.t.0) readers) ∙ sym read) in
-    let has_written = c.is_it-has_written.ensures ∙ wrote c.self.inside.writer c.args.t.0 in
-    subst (λ (v : RowOf). not (c.is_it-has_written.result || not c.add_reader-has_read.result) ≡ not (is_update v.locks c.args.t.0)) c.self.view_is
+    let has_written = c.writer_is-has_written.ensures ∙ wrote c.self.inside.writer c.args.t.0 in
+    subst (λ (v : RowOf). not (c.writer_is-has_written.result || not c.add_reader-has_read.result) ≡ not (is_update v.locks c.args.t.0)) c.self.view_is
     (rw has_written (rw has_read refl))

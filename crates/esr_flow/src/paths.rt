@@ -1,8 +1,8 @@
-//! Walks from the sink back to the source, against steps on which labels fall.
+//! Further shortest paths of a phase, searched depth-first from the sink back to the source.
 ghost use Rattle.std.specs.Prelude.{◌≡◌, ◌+◌, ◌<◌, ◌≤◌, true, length, IfOk, IfSome};
-ghost use Rattle.esr_cert.specs.declared.step.Step.{Step};
+ghost use Rattle.esr_cert.specs.declared.residual.ResidualArc.{ResidualArc};
 ghost use Rattle.esr_cert.specs.Flow.{within};
-ghost use Rattle.esr_flow.specs.Residual.{room};
+ghost use Rattle.esr_flow.specs.Residual.{residual_capacity};
 ghost use Rattle.esr_cert.specs.Steps.{opposite};
 ghost use Rattle.esr_flow.specs.Graph.{arcs_of, net_of, IsGraph, AreEntries, Lists, entry_at};
 ghost use Rattle.esr_cert.specs.Steps.{step_at};
@@ -11,17 +11,17 @@ ghost use Rattle.esr_flow.specs.Maximum.{InArcs};
 
 use crate::entry::ShortEntry;
 use crate::graph::{Graph, finish_of};
-use esr_cert::{ShortStep, Step};
+use esr_cert::{ResidualArc, ShortArc};
 use std::alloc::{AllocError, Global};
 
-/// The first place of a node's row, from a place on, with a step that leads to a
-/// greater label and whose opposite has room; the row's length where there is none.
+/// The first place of a node's adjacency row, from a place on, with a step to a greater label
+/// whose opposite has residual capacity; the row's length where there is none.
 fn next_back(
     graph: &Graph,
     flow: &[u64],
     labels: &[u32],
     at: usize,
-    _steps: &[ShortStep],
+    _steps: &[ShortArc],
     row: &[ShortEntry],
     from: usize,
 ) -> usize
@@ -31,8 +31,8 @@ fn next_back(
     requires flow { length flow.now ≡ length (arcs_of graph.now) }
     requires labels { length labels.now ≡ graph.now.nodes }
     ensures later { from ≤ result }
-    ensures room { result < length row.now → within 1
-        (room (arcs_of graph.now) flow.now (opposite (step_at _steps.now result))) ≡ true }
+    ensures residual { result < length row.now → within 1
+        (residual_capacity (arcs_of graph.now) flow.now (opposite (step_at _steps.now result))) ≡ true }
     ensures up { result < length row.now → label_at labels.now at < label_at labels.now (entry_at row.now result).to }
 {
     let label = labels[at];
@@ -47,15 +47,16 @@ fn next_back(
     if from < row.len() { row.len() } else { from }
 }
 
-/// Goes back from the sink to greater labels, each node's steps from its pointer on, and forward again where a node has none.
-pub fn walk(
+/// Depth-first search from the sink along rising labels, which backtracks at dead ends; each node resumes at its
+/// pointer.
+pub fn next_path(
     alloc: Global,
     graph: &Graph,
     flow: &[u64],
     entries: &[ShortEntry],
     labels: &[u32],
     next: &mut [usize],
-) -> Result<Option<Vec<Step>>, AllocError>
+) -> Result<Option<Vec<ResidualArc>>, AllocError>
     requires graph { IsGraph graph.now }
     requires flow { length flow.now ≡ length (arcs_of graph.now) }
     requires entries { AreEntries graph.now flow.now entries.now }
@@ -85,8 +86,8 @@ pub fn walk(
     Ok(Some(path))
 }
 
-/// Puts the pointers back to the steps of a path, which may have room left.
-pub fn rewind(graph: &Graph, next: &mut [usize], path: &[Step])
+/// Puts the pointers back by one at the nodes of a path, whose steps may have residual capacity left.
+pub fn put_back(graph: &Graph, next: &mut [usize], path: &[ResidualArc])
     requires graph { IsGraph graph.now }
     requires path { InArcs (arcs_of graph.now) path.now }
     requires next { length next.old ≡ graph.now.nodes }

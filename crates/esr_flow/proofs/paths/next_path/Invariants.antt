@@ -1,7 +1,7 @@
 use Rattle.std.proofs.Common.{◌≡◌, ◌+◌, ◌*◌, length}
 use Rattle.esr_flow.specs.Graph.{net_of}
 use Rattle.esr_flow.proofs.WalkLaws.{Walk, untried}
-use Rattle.esr_flow.proofs.walk.walk.Given as goal
+use Rattle.esr_flow.proofs.paths.next_path.Given as goal
 
 abbrev pub invariant-loop-at : goal.invariant-loop-at
 invariant-loop-at l = Walk (net_of l.graph) l.flow l.labels l.path.items l.at × (length l.next ≡ l.graph.nodes)

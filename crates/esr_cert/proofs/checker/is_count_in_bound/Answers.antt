@@ -1,11 +1,11 @@
 use Rattle.std.proofs.Common.{◌≡◌, ◌∙◌, ◌+◌, ◌*◌, nat_le, sym, ap, length, sum_by, arith}
 use Rattle.std.proofs.lemmas.List.{length-map}
 use Rattle.esr_cert.specs.Network.{network}
-use Rattle.esr_cert.specs.Certificate.{is_short}
+use Rattle.esr_cert.specs.Certificate.{is_count_in_bound}
 use Rattle.esr_cert.specs.Views.{chain_of}
 use Rattle.esr_cert.proofs.Sound.{facts, are_few}
 use Rattle.esr_cert.proofs.Worth.{arc_count}
-use Rattle.esr_cert.proofs.checker.is_short.Goals as goal
+use Rattle.esr_cert.proofs.checker.is_count_in_bound.Goals as goal
 
 pub arc_count-arcs-requires : goal.arc_count-arcs-requires
 arc_count-arcs-requires c = omega (arith, (are_few c.args.problem.now c.chains.ensures.sound).chains, ap length c.chains.ensures.list, length-map c.chains.result.now chain_of)
@@ -20,4 +20,4 @@ returns c =
     ap (λ n. n * c.arc_count-arcs.result) nodes ∙ ap (λ n. (network p).nodes * n) arcs in
     ap (λ n. nat_le n ((length c.updates.result.now + 2) * c.arc_count-arcs.result)) c.from.ensures
     ∙ ap (nat_le c.in-Some.count) limit
-    ∙ ap (is_short p) (sym c.in-Some.is)
+    ∙ ap (is_count_in_bound p) (sym c.in-Some.is)

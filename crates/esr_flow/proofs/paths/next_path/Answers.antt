@@ -3,10 +3,10 @@ use Rattle.std.proofs.lemmas.List.{length_push, get_or_read}
 use Rattle.esr_cert.specs.declared.network.Arc.{Arc}
 use Rattle.esr_cert.specs.Flow.{within}
 use Rattle.esr_cert.specs.Network.{Network}
-use Rattle.esr_cert.specs.declared.step.Step.{Step}
-use Rattle.esr_cert.specs.declared.step.Step.TheVariants.{Along}
-use Rattle.esr_flow.specs.declared.entry.Entry.{Entry}
-use Rattle.esr_flow.specs.Residual.{room, finish}
+use Rattle.esr_cert.specs.declared.residual.ResidualArc.{ResidualArc}
+use Rattle.esr_cert.specs.declared.residual.ResidualArc.TheVariants.{Forward}
+use Rattle.esr_flow.specs.declared.entry.AdjacencyEntry.{AdjacencyEntry}
+use Rattle.esr_flow.specs.Residual.{residual_capacity, finish}
 use Rattle.esr_cert.specs.Steps.{arc_of, start, opposite}
 use Rattle.esr_flow.specs.Graph.{arcs_of, net_of, Lists, IsEntry, entry_at}
 use Rattle.esr_cert.specs.Steps.{step_at}
@@ -14,7 +14,7 @@ use Rattle.esr_cert.specs.Rows.{span_at}
 use Rattle.esr_flow.specs.Search.{label_at, IsGuided}
 use Rattle.esr_flow.proofs.EntriesLaws.{lists_read}
 use Rattle.esr_flow.proofs.WalkLaws.{Walk, walk_push, walk_pop, walk_end, popped_in, opposite_arc, opposite_start, opposite_finish, untried, untried_less, untried_same}
-use Rattle.esr_flow.proofs.walk.walk.Goals as goal
+use Rattle.esr_flow.proofs.paths.next_path.Goals as goal
 
 pub next_back-i-requires-clause-row : goal.next_back-i-requires-clause-row
 next_back-i-requires-clause-row c =
@@ -34,19 +34,19 @@ loop-at-preserved-then-i-row c =
     let arcs : List Arc = arcs_of c.args.graph.now in
     let flow : List ℕ = c.args.flow.now in
     let labels : List ℕ = c.args.labels.now in
-    let e : Entry = entry_at c.row-row.result.now c.next_back-i.result in
+    let e : AdjacencyEntry = entry_at c.row-row.result.now c.next_back-i.result in
     let read : c.entry-at.result ≡ e = c.entry-at.ensures ∙ get_or_read c.row-row.result.now c.next_back-i.result c.index-row-i.result c.if-i-row.true c.index-row-i.is (record { to = 0; ahead = false; back = false }) in
-    let t : Step = step_at c.steps_at-steps.result.now c.next_back-i.result in
-    let s : Step = opposite t in
+    let t : ResidualArc = step_at c.steps_at-steps.result.now c.next_back-i.result in
+    let s : ResidualArc = opposite t in
     let row : Lists arcs flow c.loop-at.at c.steps_at-steps.result.now c.row-row.result.now = lists_read c.args.graph.now c.requires.graph c.args.flow.now c.args.entries.now c.requires.entries c.loop-at.at c.loop-at.invariant.0.node c.steps_at-steps.result.now c.row-row.result.now c.steps_at-steps.ensures c.row-row.ensures in
     let at : IsEntry arcs flow c.loop-at.at t e = row.entries c.next_back-i.result c.if-i-row.true in
     let in_arcs : arc_of s < length arcs = omega (arith, at.in_arcs, opposite_arc t) in
-    let has_room : within 1 (room arcs flow s) ≡ true = c.next_back-i.ensures.room c.if-i-row.true in
+    let has_room : within 1 (residual_capacity arcs flow s) ≡ true = c.next_back-i.ensures.residual c.if-i-row.true in
     let ends : finish arcs s ≡ c.loop-at.at = opposite_finish arcs t ∙ at.starts in
     let begins : start arcs s ≡ e.to = opposite_start arcs t ∙ sym at.leads in
     let down : label_at labels (finish arcs s) < label_at labels (start arcs s) = omega (arith, c.next_back-i.ensures.up c.if-i-row.true, ap (label_at labels) ends, ap (label_at labels) begins) in
-    let pushed : c.push.new.self.items ≡ c.loop-at.path.items ++ s ∷ [] = c.in_ok-push.ensures.items ∙ ap (λ t. c.loop-at.path.items ++ t ∷ []) c.opposite.ensures ∙ ap (λ t. c.loop-at.path.items ++ opposite t ∷ []) (c.step.ensures ∙ get_or_read c.steps_at-steps.result.now c.next_back-i.result c.index-steps-i.result (omega (arith, row.count, c.if-i-row.true)) c.index-steps-i.is (Along 0)) in (
-      subst (Walk net flow labels c.push.new.self.items) (begins ∙ ap (λ (x : Entry). x.to) (sym read))
+    let pushed : c.push.new.self.items ≡ c.loop-at.path.items ++ s ∷ [] = c.in_ok-push.ensures.items ∙ ap (λ t. c.loop-at.path.items ++ t ∷ []) c.opposite.ensures ∙ ap (λ t. c.loop-at.path.items ++ opposite t ∷ []) (c.step.ensures ∙ get_or_read c.steps_at-steps.result.now c.next_back-i.result c.index-steps-i.result (omega (arith, row.count, c.if-i-row.true)) c.index-steps-i.is (Forward 0)) in (
+      subst (Walk net flow labels c.push.new.self.items) (begins ∙ ap (λ (x : AdjacencyEntry). x.to) (sym read))
           (subst (λ p. Walk net flow labels p (start arcs s)) (sym pushed)
           (walk_push net c.requires.graph.is_network flow labels c.loop-at.path.items c.loop-at.at s c.loop-at.invariant.0 ends (in_arcs, has_room) down)),
       length-set c.loop-at.next c.loop-at.at (c.next_back-i.result + 1) ∙ c.loop-at.invariant.1,

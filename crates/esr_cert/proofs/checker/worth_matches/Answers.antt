@@ -8,8 +8,8 @@ use Rattle.esr_cert.specs.Views.{chain_of, rows_of, certificate_of}
 use Rattle.esr_cert.proofs.Sound.{facts}
 use Rattle.esr_cert.proofs.Certified.{matched}
 use Rattle.esr_cert.proofs.Worth.{worth_firsts}
-use Rattle.esr_cert.proofs.checker.is_tight.Goals as goal
-use Rattle.esr_cert.proofs.checker.is_tight.Goals.{After-total}
+use Rattle.esr_cert.proofs.checker.worth_matches.Goals as goal
+use Rattle.esr_cert.proofs.checker.worth_matches.Goals.{After-total}
 
 -- what leaves the source is the sum that the body takes
 flow_worth : (c : After-total) → worth (network c.args.problem.now) (amounts (certificate_of c.args.certificate.now)) ≡ c.first_amounts.result + c.total.result
