@@ -5,7 +5,7 @@ ghost use Rattle.esr_session.specs.declared.receipt.Receipt.{Receipt};
 ghost use Rattle.esr_session.specs.Marks.{AreMarked};
 
 use crate::receipt::{CloseError, Receipt};
-use esr_history::{Event, History, Refusal, Reply};
+use esr_history::{Entry, Event, History, Reply};
 use esr_items::Metric;
 use std::alloc::{AllocError, Global};
 
@@ -127,103 +127,16 @@ fn names<M: Metric>(history: &History<M>, r: &Receipt) -> bool
     ensures { IsTrue result ↔ Names history.now.schedule.entries r.now }
 {
     match history.log().get(r.at as usize) {
-        Some(entry) => same_event(entry.event, r.event) && same_reply(entry.reply, r.reply),
+        Some(entry) => is_answer(entry, r.event, r.reply),
         None => false,
     }
 }
 
-fn same_event(a: Event, b: Event) -> bool
-    ensures { IsTrue result ↔ (a ≡ b) }
+/// Whether an entry has the event and the reply.
+fn is_answer(entry: Entry, event: Event, reply: Reply) -> bool
+    ensures { IsTrue result ↔ ((entry.event ≡ event) × (entry.reply ≡ reply)) }
 {
-    match a {
-        Event::BeginUpdate { limit: x } => match b {
-            Event::BeginUpdate { limit: y } => x == y,
-            _ => false,
-        },
-        Event::BeginQuery {
-            limit: x,
-            strict: s,
-        } => match b {
-            Event::BeginQuery {
-                limit: y,
-                strict: t,
-            } => x == y && s == t,
-            _ => false,
-        },
-        Event::Read { txn: t, item: x } => match b {
-            Event::Read { txn: u, item: y } => t.0 == u.0 && x.0 == y.0,
-            _ => false,
-        },
-        Event::Write {
-            txn: t,
-            item: x,
-            value: v,
-        } => match b {
-            Event::Write {
-                txn: u,
-                item: y,
-                value: w,
-            } => t.0 == u.0 && x.0 == y.0 && v == w,
-            _ => false,
-        },
-        Event::Commit { txn: t } => match b {
-            Event::Commit { txn: u } => t.0 == u.0,
-            _ => false,
-        },
-        Event::Abort { txn: t } => match b {
-            Event::Abort { txn: u } => t.0 == u.0,
-            _ => false,
-        },
-    }
-}
-
-fn same_refusal(a: Refusal, b: Refusal) -> bool
-    ensures { IsTrue result ↔ (a ≡ b) }
-{
-    match a {
-        Refusal::NoSuchTransaction => matches!(b, Refusal::NoSuchTransaction),
-        Refusal::AlreadyEnded => matches!(b, Refusal::AlreadyEnded),
-        Refusal::NoSuchItem => matches!(b, Refusal::NoSuchItem),
-        Refusal::QueryMayNotWrite => matches!(b, Refusal::QueryMayNotWrite),
-        Refusal::ValueOutOfRange => matches!(b, Refusal::ValueOutOfRange),
-        Refusal::LimitOutOfRange => matches!(b, Refusal::LimitOutOfRange),
-        Refusal::TooManyTransactions => matches!(b, Refusal::TooManyTransactions),
-        Refusal::TooManyReads => matches!(b, Refusal::TooManyReads),
-        Refusal::BlockedByLock(x) => match b {
-            Refusal::BlockedByLock(y) => x.0 == y.0,
-            _ => false,
-        },
-        Refusal::BlockedByImport(x) => match b {
-            Refusal::BlockedByImport(y) => x.0 == y.0,
-            _ => false,
-        },
-        Refusal::BlockedByExport(x) => match b {
-            Refusal::BlockedByExport(y) => x.0 == y.0,
-            _ => false,
-        },
-    }
-}
-
-fn same_reply(a: Reply, b: Reply) -> bool
-    ensures { IsTrue result ↔ (a ≡ b) }
-{
-    match a {
-        Reply::Begun(x) => match b {
-            Reply::Begun(y) => x.0 == y.0,
-            _ => false,
-        },
-        Reply::Value(x) => match b {
-            Reply::Value(y) => x == y,
-            _ => false,
-        },
-        Reply::Wrote => matches!(b, Reply::Wrote),
-        Reply::Committed => matches!(b, Reply::Committed),
-        Reply::Aborted => matches!(b, Reply::Aborted),
-        Reply::Refused(x) => match b {
-            Reply::Refused(y) => same_refusal(x, y),
-            _ => false,
-        },
-    }
+    entry.event == event && entry.reply == reply
 }
 
 /// How many receipts there are, if fewer than `total`.
