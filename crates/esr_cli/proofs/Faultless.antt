@@ -9,7 +9,7 @@ use Rattle.std.proofs.lemmas.Bool.Decides.{nat_tests}
 use Rattle.std.proofs.lemmas.Str.Parse.{digit_from_value}
 use Rattle.std.proofs.lemmas.Slice.Eq.{bytes_eq-Decides}
 use Rattle.clap.specs.Lexer.{long_of, short_of, strip_byte}
-use Rattle.clap.specs.Walk.{Row, Rule, Text, answers_to, first_of, nothing_held, one_of, rows_after, settled, finished, values_or_missing, walk, walk_from}
+use Rattle.clap.specs.Walk.{Row, Rule, Text, answers_to, first_of, nothing_held, one_of, rows_after, settled, finished, values_or_missing, walk, walk_from, with_default}
 use Rattle.clap.specs.Simple.{filled, help_rule, with_index, App, HasMatchesOf, Shape, argument_words, built, built_leaf, entered, is_simple, label_of, names_of, rows_at, subcommand_of, subcommand_rows_of}
 use Rattle.clap.specs.declared.parser.matches.ArgMatches.{ArgMatches}
 use Rattle.clap.specs.declared.builder.value_parser.ValueParser.TheVariants.{Bool as Boolean, Unsigned}
@@ -23,7 +23,7 @@ use Rattle.clap.specs.declared.error.Error.{Error}
 use Rattle.clap.specs.declared.error.kind.ErrorKind.TheVariants as kind
 use Rattle.esr_cli.specs.Job as asked
 use Rattle.esr_cli.specs.Program.{certify, name_rule, named, parallel, program, steps_rule, workers_rule}
-use Rattle.esr_cli.specs.Job.{HasWorkers, IsCall, IsPlainWord, Request, Spells, SpellsWorkers, bool_of, certify_in, number_of, request_in, request_in_one, request_of, workers_in}
+use Rattle.esr_cli.specs.Job.{HasWorkers, IsCall, IsPlainWord, Request, Spells, SpellsWorkers, bool_of, certify_in, number_in, request_in, request_in_one, request_of, workers_in}
 use Rattle.esr_cli.specs.declared.Job.{Job}
 use Rattle.esr_cli.proofs.Rows.{HasFirst, IsFit, default_there, first_passes, given_there, has_text, level_good}
 use Rattle.esr_cli.proofs.Stops.{StopsElsewhere, first_none, help, then_none, walk_elsewhere}
@@ -155,16 +155,16 @@ certify_served words none =
     let rows = rows_after certify_shape.rules [] words in
     let held = (walk certify_shape.rules [] nothing_held words).held in
     let name = has_text (codes "NAME") (λ _. true) rows
-    (level_good (codes "NAME") (λ _. true) certify_shape words (other_fit _ _ _ refl, (query_fit, (other_fit _ _ _ refl, tt))) none)
+    (level_good (codes "NAME") (λ _. true) certify_shape words (query_fit, (other_fit _ _ _ refl, (other_fit _ _ _ refl, tt))) none)
     (given_there (codes "NAME") rows (query_is_given rows (check_none certify_shape words none))) in
     let flag = has_text (codes "steps") is_bool_text rows
-    (level_good (codes "steps") is_bool_text certify_shape words (steps_fit, (other_fit _ _ _ refl, (other_fit _ _ _ refl, tt))) none)
-    (default_there steps (codes "false") [] (query ∷ help_flag ∷ []) (settled certify_shape.rules held).rows refl) in
+    (level_good (codes "steps") is_bool_text certify_shape words (other_fit _ _ _ refl, (steps_fit, (other_fit _ _ _ refl, tt))) none)
+    (default_there steps (codes "false") [] (help_flag ∷ []) (with_default (settled certify_shape.rules held).rows query) refl) in
     certified rows name.text flag.text name.first flag.one flag.passes
 
 -- a number of workers that is read as it stands
 number : (text : Text) → is_unsigned_in 1 64 text ≡ true
-    → (number_of text ≡ Some (digits_value 10 (without_leading_plus text))) × (1 ≤ digits_value 10 (without_leading_plus text)) × (digits_value 10 (without_leading_plus text) ≤ 64)
+    → (number_in text ≡ Some (digits_value 10 (without_leading_plus text))) × (1 ≤ digits_value 10 (without_leading_plus text)) × (digits_value 10 (without_leading_plus text) ≤ 64)
 number text passes =
     let fits = accepts-Accepts false (Unsigned 1 64) text passes in
     let wide : is_unsigned_in 0 18446744073709551615 text ≡ true = Accepts-accepts false (Unsigned 0 18446744073709551615) text (fits.0, fits.1, omega arith, omega arith) in

@@ -9,11 +9,11 @@ use Rattle.clap.specs.Walk.{Text}
 use Rattle.clap.specs.ValueTests.{is_unsigned_in}
 use Rattle.clap.specs.declared.builder.value_parser.ValueParser.TheVariants.{Unsigned}
 use Rattle.clap.proofs.ValueTestLemmas.{Accepts-accepts, accepts-Accepts}
-use Rattle.esr_cli.specs.Job.{bool_of, number_of}
+use Rattle.esr_cli.specs.Job.{bool_of, number_in}
 
 -- a number is read where the text is one that fits 64 bits
 pub number_read : (E : Type 0) (G : List ℕ → Result ℕ E → Type 0) → ((u : List ℕ) (x : Result ℕ E) → G u x → ParsesUnsigned 64 10 u x)
-    → (o : Option Text) (r : Option ℕ) → (o ≡ None → r ≡ None) → ((t : List ℕ) → o ≡ Some t → ReadsOne G t r) → r ≡ option_and_then number_of o
+    → (o : Option Text) (r : Option ℕ) → (o ≡ None → r ≡ None) → ((t : List ℕ) → o ≡ Some t → ReadsOne G t r) → r ≡ option_and_then number_in o
 number_read E G only None r none value = none refl
 number_read E G only (Some t) r none value = go r (value t refl)
   where
@@ -25,7 +25,7 @@ number_read E G only (Some t) r none value = go r (value t refl)
     wrong true is never = let h = accepts-Accepts false (Unsigned 0 18446744073709551615) t is in absurd (never (h.0, h.1))
     wrong false is never = refl
 
-    go : (r : Option ℕ) → ReadsOne G t r → r ≡ number_of t
+    go : (r : Option ℕ) → ReadsOne G t r → r ≡ number_in t
     go (Some v) read = let parsed = only t (Ok v) read in rw (fits parsed.0) (ap (λ n. Some n) parsed.1)
     go None read = wrong (is_unsigned_in 0 18446744073709551615 t) refl (only t (Err read.0) read.1)
 

@@ -37,8 +37,8 @@ abbrev pub bool_of : Text → Option Bool
 bool_of text = if bytes_eq text (codes "true") then Some true
     else (if bytes_eq text (codes "false") then Some false else None)
 
-abbrev pub number_of : Text → Option ℕ
-number_of text = if is_unsigned_in 0 18446744073709551615 text
+abbrev pub number_in : Text → Option ℕ
+number_in text = if is_unsigned_in 0 18446744073709551615 text
     then Some (digits_value 10 (without_leading_plus text)) else None
 
 -- what the matches of a subcommand ask for
@@ -49,7 +49,7 @@ abbrev pub certify_in : List Row → Option Request
 certify_in rows = option_and_then (λ name. option_map (certify name) (steps_in rows)) (first_of (codes "NAME") rows)
 
 abbrev pub workers_in : List Row → Option ℕ
-workers_in rows = option_and_then number_of (one_of (codes "workers") rows)
+workers_in rows = option_and_then number_in (one_of (codes "workers") rows)
 
 -- what a subcommand and its matches ask for
 abbrev pub request_in_one : Text → List Row → Option Request

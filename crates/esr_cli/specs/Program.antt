@@ -25,12 +25,12 @@ workers_rule = record (new_rule (codes "workers")) {
   defaults = codes "4" ∷ [];
 }
 
-abbrev pub certify : App
-certify = with_rule (with_rule (new_app (codes "certify")) steps_rule) name_rule
-
 -- a subcommand of one query
 abbrev pub named : Text → App
 named name = with_rule (new_app name) name_rule
+
+abbrev pub certify : App
+certify = with_rule (named (codes "certify")) steps_rule
 
 abbrev pub parallel : Text → App
 parallel name = with_rule (new_app name) workers_rule

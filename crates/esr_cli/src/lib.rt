@@ -7,7 +7,7 @@ ghost use Rattle.clap.specs.Words.{subcommand_of, subcommand_rows_of, with_subco
 ghost use Rattle.clap.specs.Walk.{texts};
 ghost use Rattle.clap.specs.declared.builder.command.Command.TheViews.{out-Command};
 ghost use Rattle.clap.specs.declared.error.kind.ErrorKind.TheVariants.{OutOfMemory};
-ghost use Rattle.esr_cli.specs.Program.{certify, named, parallel, program, queries, scripts};
+ghost use Rattle.esr_cli.specs.Program.{certify, esr, named, parallel, program, queries, scripts};
 ghost use Rattle.esr_cli.specs.Job.{certify_in, request_in, request_of, steps_in, workers_in, HasWorkers, Spells};
 
 use clap::{Arg, ArgAction, ArgMatches, Command, Error, value_parser};
@@ -64,22 +64,6 @@ For example:
 
 docs/FORMATS.md has every rule.";
 
-/// `certify [--steps] NAME`
-fn certify<'a>(alloc: Global) -> Result<Command<'a>, AllocError>
-    ensures app { IfOk result (λ c. app_of c ≡ certify) }
-    ensures local { IfOk result (λ c. (out-Command c).has_globals ≡ false) }
-{
-    let steps = Arg::new(alloc, "steps")
-        .long("steps")
-        .action(ArgAction::SetTrue)
-        .help("Tells how many augmentations led to the flow");
-    let name = Arg::new(alloc, "NAME").required(true).help("The query");
-    Command::new(alloc, "certify")
-        .about("Runs a script from standard input and writes the bundle of a query")
-        .arg(steps)?
-        .arg(name)
-}
-
 /// `name NAME`
 fn named<'a>(alloc: Global, name: &'a str, about: &'a str) -> Result<Command<'a>, AllocError>
     ensures app { IfOk result (λ c. app_of c ≡ named name.entry.now) }
@@ -87,6 +71,19 @@ fn named<'a>(alloc: Global, name: &'a str, about: &'a str) -> Result<Command<'a>
 {
     let query = Arg::new(alloc, "NAME").required(true).help("The query");
     Command::new(alloc, name).about(about).arg(query)
+}
+
+/// `certify [--steps] NAME`
+fn certify<'a>(alloc: Global) -> Result<Command<'a>, AllocError>
+    ensures app { IfOk result (λ c. app_of c ≡ certify) }
+    ensures local { IfOk result (λ c. (out-Command c).has_globals ≡ false) }
+{
+    let about = "Runs a script from standard input and writes the bundle of a query";
+    let steps = Arg::new(alloc, "steps")
+        .long("steps")
+        .action(ArgAction::SetTrue)
+        .help("Tells how many augmentations led to the flow");
+    named(alloc, "certify", about)?.arg(steps)
 }
 
 /// Adds `name NAME` to a program.
@@ -129,6 +126,17 @@ fn with_parallel<'a>(
     commands.subcommand(command)
 }
 
+/// The program without its commands.
+fn shell<'a>(alloc: Global) -> Command<'a>
+    ensures { app_of result ≡ esr }
+{
+    Command::new(alloc, "esr")
+        .about("Epsilon-serializable transactions over whole-number items")
+        .after_help(SCRIPTS)
+        .version("0.1.0")
+        .subcommand_required(true)
+}
+
 /// The program with the jobs that need one thread.
 fn scripts<'a>(alloc: Global) -> Result<Command<'a>, AllocError>
     ensures { IfOk result (λ c. app_of c ≡ scripts) }
@@ -139,11 +147,7 @@ fn scripts<'a>(alloc: Global) -> Result<Command<'a>, AllocError>
     let check = Command::new(alloc, "check").about(
         "Judges the bundle on standard input: valid, invalid or bad",
     );
-    Command::new(alloc, "esr")
-        .about("Epsilon-serializable transactions over whole-number items")
-        .after_help(SCRIPTS)
-        .version("0.1.0")
-        .subcommand_required(true)
+    shell(alloc)
         .subcommand(run)?
         .subcommand(certify(alloc)?)?
         .subcommand(check)
