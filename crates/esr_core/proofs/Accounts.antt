@@ -16,7 +16,7 @@ use Rattle.esr_history.proofs.Sums.{query_begun}
 use Rattle.esr_history.proofs.Orderly.{update_begun}
 use Rattle.esr_ledgers.specs.declared.account.Account.{Account}
 use Rattle.esr_ledgers.specs.Books.{number, account_of, is_open, is_open_query, is_open_update, limit_at, amount_at, new_account, opened}
-use Rattle.esr_core.specs.Tied.{entry_of, books_of}
+use Rattle.esr_core.specs.Tied.{account_after, books_of}
 use Rattle.esr_core.proofs.Held.{IsBegin, numbers-kept, query-kept, limit-kept, beginnings-begin, beginning-begin, beginning-new, update_or_query}
 use Rattle.esr_core.proofs.Rows.{begun_at}
 use Rattle.std.proofs.lemmas.Grind.{common_steps}
@@ -29,10 +29,10 @@ entry_same t p q l m i j x y a b c e = grind (arith, common_steps)
 
 module _ (d : ℕ → ℤ → ℤ → ℕ) (opening : List ℤ) (events : List Event) where
   -- the account of a transaction that has begun
-  pub account_begun : (t : ℕ) → is_begun events t ≡ true → account_of (books_of d opening events) t ≡ Some (entry_of d opening events t)
+  pub account_begun : (t : ℕ) → is_begun events t ≡ true → account_of (books_of d opening events) t ≡ Some (account_after d opening events t)
   account_begun t is =
       let n : (1 ≤ t) × (t < 1 + length (beginnings events)) = begun_number events t is in
-      find_in_range number (entry_of d opening events) (λ u. refl) t 1 (length (beginnings events)) n.0 n.1
+      find_in_range number (account_after d opening events) (λ u. refl) t 1 (length (beginnings events)) n.0 n.1
 
   pub open_query_is : (t : ℕ) → is_query events t ≡ true → is_open_query (books_of d opening events) t ≡ true
   open_query_is t is = ap (λ (o : Option Account). unwrap_or (option_map (λ (a : Account). a.query) o) false) (account_begun t (query_begun events t is)) ∙ is
@@ -51,15 +51,15 @@ module _ (d : ℕ → ℤ → ℤ → ℕ) (opening : List ℤ) (events : List E
 
   -- the next number is not open
   pub next_not_open : is_open (books_of d opening events) (suc (length (beginnings events))) ≡ false
-  next_not_open = none_in_range number (entry_of d opening events) (λ u. refl) (suc (length (beginnings events))) 1 (length (beginnings events)) (omega arith)
+  next_not_open = none_in_range number (account_after d opening events) (λ u. refl) (suc (length (beginnings events))) 1 (length (beginnings events)) (omega arith)
 
   -- an event that begins nothing and for which nothing is due leaves the accounts
   pub books-kept : (e : Event) → beginning_of e ≡ None → due d opening events e ≡ [] → books_of d opening events ≡ books_of d opening (events ++ e ∷ [])
   books-kept e none nothing =
-      map_same (entry_of d opening events) (entry_of d opening (events ++ e ∷ [])) 1 (length (beginnings events)) (λ t low high. same t)
-      ∙ ap (map (entry_of d opening (events ++ e ∷ []))) (sym (numbers-kept events e none))
+      map_same (account_after d opening events) (account_after d opening (events ++ e ∷ [])) 1 (length (beginnings events)) (λ t low high. same t)
+      ∙ ap (map (account_after d opening (events ++ e ∷ []))) (sym (numbers-kept events e none))
     where
-      same : (t : ℕ) → entry_of d opening events t ≡ entry_of d opening (events ++ e ∷ []) t
+      same : (t : ℕ) → account_after d opening events t ≡ account_after d opening (events ++ e ∷ []) t
       same t =
           entry_same t (is_query events t) (is_query (events ++ e ∷ []) t) (limit_of events t) (limit_of (events ++ e ∷ []) t) (import_in (charges d opening events) t) (import_in (charges d opening (events ++ e ∷ [])) t) (export_in (charges d opening events) t) (export_in (charges d opening (events ++ e ∷ [])) t)
           (sym (query-kept events e none t)) (sym (limit-kept events e none t))
@@ -70,11 +70,11 @@ module _ (d : ℕ → ℤ → ℤ → ℕ) (opening : List ℤ) (events : List E
   pub books-begin : (e : Event) (b : Beginning) → IsBegin e b → due d opening events e ≡ [] → opened (books_of d opening events) (new_account b.query (record { 0 = suc (length (beginnings events)) }) b.limit) ≡ books_of d opening (events ++ e ∷ [])
   books-begin e b is nothing =
       let n = length (beginnings events) in
-      placed_end number (entry_of d opening events) (λ u. refl) (new_account b.query (record { 0 = suc n }) b.limit) (λ a. a) 1 n (omega arith)
-      ∙ (ap (λ (as' : List Account). as' ++ new_account b.query (record { 0 = suc n }) b.limit ∷ []) (map_same (entry_of d opening events) (entry_of d opening (events ++ e ∷ [])) 1 n same)
-      ∙ (ap (λ (a : Account). map (entry_of d opening (events ++ e ∷ [])) (numbers events) ++ a ∷ []) new
-      ∙ (sym (map-range_with_len_more (entry_of d opening (events ++ e ∷ [])) 1 n (suc n) (omega arith))
-      ∙ ap (λ m. map (entry_of d opening (events ++ e ∷ [])) (range_with_len 1 m)) (sym (ap length (beginnings-begin events e b is) ∙ length-append (beginnings events) (b ∷ []))))))
+      placed_end number (account_after d opening events) (λ u. refl) (new_account b.query (record { 0 = suc n }) b.limit) (λ a. a) 1 n (omega arith)
+      ∙ (ap (λ (as' : List Account). as' ++ new_account b.query (record { 0 = suc n }) b.limit ∷ []) (map_same (account_after d opening events) (account_after d opening (events ++ e ∷ [])) 1 n same)
+      ∙ (ap (λ (a : Account). map (account_after d opening (events ++ e ∷ [])) (numbers events) ++ a ∷ []) new
+      ∙ (sym (map-range_with_len_more (account_after d opening (events ++ e ∷ [])) 1 n (suc n) (omega arith))
+      ∙ ap (λ m. map (account_after d opening (events ++ e ∷ [])) (range_with_len 1 m)) (sym (ap length (beginnings-begin events e b is) ∙ length-append (beginnings events) (b ∷ []))))))
     where
       imports : (t : ℕ) → import_in (charges d opening events) t ≡ import_in (charges d opening (events ++ e ∷ [])) t
       imports t = sym (import-push d opening events e t ∙ (ap (λ (cs : List Charge). import_in (charges d opening events) t + import_in cs t) nothing ∙ add-zero (import_in (charges d opening events) t)))
@@ -82,14 +82,14 @@ module _ (d : ℕ → ℤ → ℤ → ℕ) (opening : List ℤ) (events : List E
       exports : (t : ℕ) → export_in (charges d opening events) t ≡ export_in (charges d opening (events ++ e ∷ [])) t
       exports t = sym (export-push d opening events e t ∙ (ap (λ (cs : List Charge). export_in (charges d opening events) t + export_in cs t) nothing ∙ add-zero (export_in (charges d opening events) t)))
 
-      same : (t : ℕ) → 1 ≤ t → t < 1 + length (beginnings events) → entry_of d opening events t ≡ entry_of d opening (events ++ e ∷ []) t
+      same : (t : ℕ) → 1 ≤ t → t < 1 + length (beginnings events) → account_after d opening events t ≡ account_after d opening (events ++ e ∷ []) t
       same zero low high = absurd (omega arith)
       same (suc k) low high =
           let stays : beginning (events ++ e ∷ []) (suc k) ≡ beginning events (suc k) = beginning-begin events e (suc k) (begun_at events k (omega arith)) in
           entry_same (suc k) (is_query events (suc k)) (is_query (events ++ e ∷ []) (suc k)) (limit_of events (suc k)) (limit_of (events ++ e ∷ []) (suc k)) (import_in (charges d opening events) (suc k)) (import_in (charges d opening (events ++ e ∷ [])) (suc k)) (export_in (charges d opening events) (suc k)) (export_in (charges d opening (events ++ e ∷ [])) (suc k))
           (ap (λ (o : Option Beginning). unwrap_or (option_map (λ (c : Beginning). c.query) o) false) (sym stays)) (ap (λ (o : Option Beginning). unwrap_or (option_map (λ (c : Beginning). c.limit) o) 0) (sym stays)) (imports (suc k)) (exports (suc k))
 
-      new : new_account b.query (record { 0 = suc (length (beginnings events)) }) b.limit ≡ entry_of d opening (events ++ e ∷ []) (suc (length (beginnings events)))
+      new : new_account b.query (record { 0 = suc (length (beginnings events)) }) b.limit ≡ account_after d opening (events ++ e ∷ []) (suc (length (beginnings events)))
       new =
           let n = suc (length (beginnings events)) in
           let there : beginning (events ++ e ∷ []) n ≡ Some b = beginning-new events e b is in

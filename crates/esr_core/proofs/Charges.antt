@@ -25,7 +25,7 @@ use Rattle.esr_history.proofs.Sums.{query_begun}
 use Rattle.esr_history.proofs.Orderly.{update_begun}
 use Rattle.esr_ledgers.specs.declared.account.Account.{Account}
 use Rattle.esr_ledgers.specs.Books.{number, is_open_query, limit_at, amount_at, total_of, would_pass, quoted, quote_of, raised, imported, charged, AreCharges}
-use Rattle.esr_core.specs.Tied.{entry_of, books_of}
+use Rattle.esr_core.specs.Tied.{account_after, books_of}
 use Rattle.esr_core.specs.States.{reason_of, charges_to}
 use Rattle.esr_core.proofs.Held.{numbers-kept, query-kept, limit-kept}
 use Rattle.esr_core.proofs.Rows.{begun_at}
@@ -104,10 +104,10 @@ module _ (d : ℕ → ℤ → ℤ → ℕ) (opening : List ℤ) (events : List E
   pub books-charged : (e : Event) → beginning_of e ≡ None → (u : TxnId) (cs : List (TxnId × ℕ)) → is_update events u.0 ≡ true → due d opening events e ≡ charges_by u.0 cs
       → charged (books_of d opening events) u cs ≡ books_of d opening (events ++ e ∷ [])
   books-charged e none u cs update owed =
-      ap (raised u.0 (total_of cs)) (imported_row u.0 cs (entry_of d opening events) (λ v. refl) (numbers events))
-      ∙ (raised_row u.0 (total_of cs) (λ v. more (import_in (charges_by u.0 cs) v) (entry_of d opening events v)) (λ v. refl) (numbers events)
-      ∙ (map_same (λ v. if v == u.0 then more (total_of cs) (more (import_in (charges_by u.0 cs) v) (entry_of d opening events v)) else more (import_in (charges_by u.0 cs) v) (entry_of d opening events v)) (entry_of d opening (events ++ e ∷ [])) 1 (length (beginnings events)) same
-      ∙ ap (map (entry_of d opening (events ++ e ∷ []))) (sym (numbers-kept events e none))))
+      ap (raised u.0 (total_of cs)) (imported_row u.0 cs (account_after d opening events) (λ v. refl) (numbers events))
+      ∙ (raised_row u.0 (total_of cs) (λ v. more (import_in (charges_by u.0 cs) v) (account_after d opening events v)) (λ v. refl) (numbers events)
+      ∙ (map_same (λ v. if v == u.0 then more (total_of cs) (more (import_in (charges_by u.0 cs) v) (account_after d opening events v)) else more (import_in (charges_by u.0 cs) v) (account_after d opening events v)) (account_after d opening (events ++ e ∷ [])) 1 (length (beginnings events)) same
+      ∙ ap (map (account_after d opening (events ++ e ∷ []))) (sym (numbers-kept events e none))))
     where
       imports : (t : ℕ) → import_in (charges d opening (events ++ e ∷ [])) t ≡ import_in (charges d opening events) t + import_in (charges_by u.0 cs) t
       imports t = import-push d opening events e t ∙ ap (λ (gs : List Charge). import_in (charges d opening events) t + import_in gs t) owed
@@ -116,11 +116,11 @@ module _ (d : ℕ → ℤ → ℤ → ℕ) (opening : List ℤ) (events : List E
       exports t = export-push d opening events e t ∙ (ap (λ (gs : List Charge). export_in (charges d opening events) t + export_in gs t) owed ∙ ap (λ n. export_in (charges d opening events) t + n) (export_by u.0 t cs))
 
       kept : (t : ℕ) (q : Bool) (i x : ℕ) → is_query events t ≡ q → (if q then import_in (charges d opening (events ++ e ∷ [])) t else export_in (charges d opening (events ++ e ∷ [])) t) ≡ (if q then i else x)
-          → ◌≡◌ {A = Account} (record { number = record { 0 = t }; query = q; limit = limit_of events t; amount = if q then i else x }) (entry_of d opening (events ++ e ∷ []) t)
+          → ◌≡◌ {A = Account} (record { number = record { 0 = t }; query = q; limit = limit_of events t; amount = if q then i else x }) (account_after d opening (events ++ e ∷ []) t)
       kept t q i x is amounts = grind (arith, query-kept events e none t, limit-kept events e none t)
 
       at : (t : ℕ) (q : Bool) → is_query events t ≡ q → is_begun events t ≡ true
-          → (if t == u.0 then more (total_of cs) (more (import_in (charges_by u.0 cs) t) (record { number = record { 0 = t }; query = q; limit = limit_of events t; amount = if q then import_in (charges d opening events) t else export_in (charges d opening events) t })) else more (import_in (charges_by u.0 cs) t) (record { number = record { 0 = t }; query = q; limit = limit_of events t; amount = if q then import_in (charges d opening events) t else export_in (charges d opening events) t })) ≡ entry_of d opening (events ++ e ∷ []) t
+          → (if t == u.0 then more (total_of cs) (more (import_in (charges_by u.0 cs) t) (record { number = record { 0 = t }; query = q; limit = limit_of events t; amount = if q then import_in (charges d opening events) t else export_in (charges d opening events) t })) else more (import_in (charges_by u.0 cs) t) (record { number = record { 0 = t }; query = q; limit = limit_of events t; amount = if q then import_in (charges d opening events) t else export_in (charges d opening events) t })) ≡ account_after d opening (events ++ e ∷ []) t
       at t true is begun =
           let other : t ≡ u.0 → ⊥ = λ (g : t ≡ u.0). false≢true (sym (query_not_update events t is) ∙ (ap (is_update events) g ∙ update)) in
           rw (ne_eqb t u.0 other) (kept t true (import_in (charges d opening events) t + import_in (charges_by u.0 cs) t) 0 is (imports t))
@@ -134,7 +134,7 @@ module _ (d : ℕ → ℤ → ℤ → ℕ) (opening : List ℤ) (events : List E
                 rw (ne_eqb t u.0 ne, nothing) (kept t false 0 (export_in (charges d opening events) t + 0) is (exports t ∙ ap (λ b. export_in (charges d opening events) t + (if b then total_of cs else 0)) (ne_eqb u.0 t (λ (g : u.0 ≡ t). ne (sym g)))))
           ]
 
-      same : (t : ℕ) → 1 ≤ t → t < 1 + length (beginnings events) → (if t == u.0 then more (total_of cs) (more (import_in (charges_by u.0 cs) t) (entry_of d opening events t)) else more (import_in (charges_by u.0 cs) t) (entry_of d opening events t)) ≡ entry_of d opening (events ++ e ∷ []) t
+      same : (t : ℕ) → 1 ≤ t → t < 1 + length (beginnings events) → (if t == u.0 then more (total_of cs) (more (import_in (charges_by u.0 cs) t) (account_after d opening events t)) else more (import_in (charges_by u.0 cs) t) (account_after d opening events t)) ≡ account_after d opening (events ++ e ∷ []) t
       same zero low high = absurd (omega arith)
       same (suc k) low high = at (suc k) (is_query events (suc k)) refl (begun_at events k (omega arith))
 

@@ -3,9 +3,9 @@ use Rattle.std.proofs.Common.{◌≡◌, ℕ, List, false, not, refl, sym, Optio
 use Rattle.std.specs.Prelude.{unwrap_or}
 use Rattle.std.specs.Option.{option_map}
 use Rattle.esr_history.specs.declared.event.Entry.{Entry}
-use Rattle.esr_history.specs.declared.links.Facts.{Facts}
+use Rattle.esr_history.specs.declared.back_links.Facts.{Facts}
 use Rattle.esr_history.specs.Events.{Beginning, accepted, beginning, is_update}
-use Rattle.esr_history.specs.Links.{facts_by, facts_of}
+use Rattle.esr_history.specs.BackLinks.{facts_by, facts_of}
 use Rattle.esr_history.specs.Machine.{Distance, Schedule, done, charges_in, export_in}
 use Rattle.esr_history.proofs.Sides.{charges_kinds, no_export}
 

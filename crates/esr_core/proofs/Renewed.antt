@@ -3,7 +3,7 @@ use Rattle.std.proofs.Common.{◌≡◌, ℕ, ℤ, ◌<◌, ◌∙◌, ap, refl,
 use Rattle.std.specs.List.{list_any, range_with_len}
 use Rattle.std.proofs.lemmas.List.{get_or-map, length-map, same_lists}
 use Rattle.std.proofs.lemmas.List.FromFn.{get_or-map-range_with_len, length-map-range_with_len}
-use Rattle.esr_items.specs.Values.{value_at, opened}
+use Rattle.esr_items.specs.Values.{value_at, both_versions}
 use Rattle.esr_items.specs.declared.store.Versions.{Versions}
 use Rattle.esr_history.specs.declared.event.Event.{Event}
 use Rattle.esr_history.specs.Events.{numbers, is_active, last_value, committed_value}
@@ -32,7 +32,7 @@ tied_values d opening events items table locks accounts tie =
     let long : length (map (λ (w : Versions). w.committed) items) ≡ length opening = length-map items (λ (w : Versions). w.committed) ∙ tie.count in
     same_lists (map (λ (w : Versions). w.committed) items) (map f (range_with_len 0 (length opening))) (long ∙ sym (length-map-range_with_len f 0 (length opening))) (λ x e l.
     let in_opening : x < length opening = rw (← long) l in
-    get_or-map (λ (w : Versions). w.committed) items x (opened (pos 0)) e (rw tie.count in_opening)
+    get_or-map (λ (w : Versions). w.committed) items x (both_versions (pos 0)) e (rw tie.count in_opening)
     ∙ (tie.committed x in_opening ∙ sym (get_or-map-range_with_len f 0 (length opening) x x e in_opening (omega arith))))
 
 module _ (d : Distance) (h k : Schedule) (first : IsLegal d h) (second : IsLegal d k) (opens : k.opening ≡ committed_values h) where

@@ -1,7 +1,7 @@
 -- A legal history run again: each of its replies is the machine's after the entries before it. What replays a history cites this.
 use Rattle.std.proofs.Common.{◌≡◌, ℕ, ℤ, zero, suc, ◌+◌, ◌<◌, List, [], ◌∷◌, ◌++◌, length, take, map, refl, sym, ap, arith, Some, None, append_assoc, append-nil}
 use Rattle.std.specs.Prelude.{slice_get}
-use Rattle.esr_items.specs.Values.{opened}
+use Rattle.esr_items.specs.Values.{both_versions}
 use Rattle.esr_items.specs.declared.store.Versions.{Versions}
 use Rattle.esr_history.specs.declared.event.Entry.{Entry}
 use Rattle.esr_history.specs.Machine.{Distance, Schedule, extended, reply_to, IsLegal, IsLegalAfter}
@@ -28,9 +28,9 @@ module _ (d : Distance) (h : Schedule) where
       let a = after [] h.entries i e legal at in
       record { reply = a.0; more = ap (λ (es : List Entry). record h { entries = es }) (sym a.1) }
 
-pub opened_values : (vs : List ℤ) → map (λ (w : Versions). w.committed) (map opened vs) ≡ vs
-opened_values [] = refl
-opened_values (v ∷ vs) = ap (λ ws. v ∷ ws) (opened_values vs)
+pub committed_of_both : (vs : List ℤ) → map (λ (w : Versions). w.committed) (map both_versions vs) ≡ vs
+committed_of_both [] = refl
+committed_of_both (v ∷ vs) = ap (λ ws. v ∷ ws) (committed_of_both vs)
 
 pub entry_there : (es : List Entry) (i : ℕ) → i < length es → slice_get es i ≡ None → ⊥
 entry_there [] i l none = omega arith

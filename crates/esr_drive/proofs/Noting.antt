@@ -11,7 +11,7 @@ use Rattle.std.proofs.lemmas.List.Elements.{filter-append, filter_map-append}
 use Rattle.esr_history.specs.declared.event.Entry.{Entry}
 use Rattle.esr_history.specs.declared.event.Reply.{Reply}
 use Rattle.esr_history.specs.Events.{Beginning, is_refusal, accepted, beginning_of, beginnings}
-use Rattle.esr_history.specs.Links.{begun_count}
+use Rattle.esr_history.specs.BackLinks.{begun_count}
 use Rattle.esr_drive.specs.declared.call.Call.{Call}
 use Rattle.esr_drive.specs.Plan.{new_name}
 use Rattle.esr_drive.specs.Blocks.{Answered, number_in}

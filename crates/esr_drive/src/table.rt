@@ -1,7 +1,7 @@
 //! Which name each transaction of a history began by.
 
 ghost use Rattle.std.specs.Prelude.{◌≡◌, ◌<◌, IfOk, length, map};
-ghost use Rattle.esr_history.specs.Links.{begun_count};
+ghost use Rattle.esr_history.specs.BackLinks.{begun_count};
 ghost use Rattle.esr_drive.specs.Calls.{answers_of};
 ghost use Rattle.esr_drive.specs.Drive.{names_of};
 ghost use Rattle.esr_drive.specs.Driven.{AreAnswered, all_answers};

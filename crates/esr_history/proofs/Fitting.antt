@@ -10,7 +10,7 @@ use Rattle.esr_history.specs.declared.event.Refusal.TheVariants.{NoSuchTransacti
 use Rattle.esr_history.specs.Events.{is_refusal, beginning_of, beginnings, is_begun}
 use Rattle.esr_history.specs.Machine.{Distance, Schedule, done, reply_to, reasons, refusal, acceptance, answered, not_begun, no_item, IsLegal}
 use Rattle.esr_history.specs.Legal.{legal_induction}
-use Rattle.esr_history.specs.Links.{item_of, txn_of, ender, begun_by, begun_count, is_key, IsFit, IsNumbered}
+use Rattle.esr_history.specs.BackLinks.{item_of, txn_of, ender, begun_by, begun_count, is_key, IsFit, IsNumbered}
 use Rattle.esr_history.proofs.Allowed.{NoneApplies, none_applies}
 use Rattle.esr_history.proofs.Lawful.{when_none, begun_number}
 use Rattle.esr_history.proofs.Linking.{last_same, count_refused, count_same, count_more}

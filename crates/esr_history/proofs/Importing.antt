@@ -15,7 +15,7 @@ use Rattle.esr_history.specs.declared.event.Refusal.TheVariants.{LimitOutOfRange
 use Rattle.esr_history.specs.Events.{Beginning, is_refusal, beginnings, beginning_of, limit_of}
 use Rattle.esr_history.specs.Machine.{Distance, Schedule, done, extended, charges_in, charges, due_in, distance_in, import_in, limit_too_high, reply_to, reasons, IsLegal}
 use Rattle.esr_history.specs.Legal.{legal_induction, IsLegal-extended}
-use Rattle.esr_history.specs.Links.{begun_count}
+use Rattle.esr_history.specs.BackLinks.{begun_count}
 use Rattle.esr_history.specs.Imports.{imported, with_number, AreImports, AreDue}
 use Rattle.esr_history.proofs.Lists.{filter_map_push}
 use Rattle.esr_history.proofs.Allowed.{NoneApplies}

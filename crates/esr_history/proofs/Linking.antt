@@ -12,11 +12,11 @@ use Rattle.esr_history.specs.declared.event.Event.{Event}
 use Rattle.esr_history.specs.declared.event.Event.TheVariants.{BeginUpdate, BeginQuery, Read, Write, Commit, Abort}
 use Rattle.esr_history.specs.declared.event.Reply.{Reply}
 use Rattle.esr_history.specs.declared.event.Entry.{Entry}
-use Rattle.esr_history.specs.declared.links.Begin.{Begin}
-use Rattle.esr_history.specs.declared.links.Facts.{Facts}
-use Rattle.esr_history.specs.declared.links.Links.{Links}
+use Rattle.esr_history.specs.declared.back_links.Begin.{Begin}
+use Rattle.esr_history.specs.declared.back_links.Facts.{Facts}
+use Rattle.esr_history.specs.declared.back_links.BackLinks.{BackLinks}
 use Rattle.esr_history.specs.Events.{Beginning, is_refusal, accepted, beginnings, beginning_of}
-use Rattle.esr_history.specs.Links.{item_of, txn_of, ender, item_in, txn_in, accepted_item, accepted_txn, accepted_end, facts_by, facts_of, is_key, places_from, last_place, last_of_key, earlier, earlier_at, coded, decoded, key_at, links_by, lasts_by, begin_of, begun_count, AreLinks, IsFit, with_key, txns_after, ends_after, begins_after, IsNumbered}
+use Rattle.esr_history.specs.BackLinks.{item_of, txn_of, ender, item_in, txn_in, accepted_item, accepted_txn, accepted_end, facts_by, facts_of, is_key, places_from, last_place, last_of_key, earlier, earlier_at, coded, decoded, key_at, links_by, lasts_by, begin_of, begun_count, AreLinks, IsFit, with_key, txns_after, ends_after, begins_after, IsNumbered}
 use Rattle.esr_history.proofs.Charges.{range-push}
 use Rattle.esr_history.proofs.Membership.{get_seam}
 use Rattle.esr_history.proofs.Lists.{last_or_push, slice_get_push}
@@ -206,7 +206,7 @@ begins_after_entry es (Commit t) r is = begins_same es (record { event = Commit 
 begins_after_entry es (Abort t) r is = begins_same es (record { event = Abort t; reply = r }) is refl
 
 -- the links of an entry, from the tables before it
-module _ (n : ℕ) (es : List Entry) (l : Links) (are : AreLinks n es l) (fit : IsFit n es) (e : Entry) where
+module _ (n : ℕ) (es : List Entry) (l : BackLinks) (are : AreLinks n es l) (fit : IsFit n es) (e : Entry) where
   pub item_link : key_at l.items.items (item_in e) ≡ coded (last_of_key accepted_item (item_in e) es)
   item_link = ap (λ t. key_at t (item_in e)) are.items ∙ at_key_is accepted_item es n fit.items (item_in e)
 
@@ -219,12 +219,12 @@ module _ (n : ℕ) (es : List Entry) (l : Links) (are : AreLinks n es l) (fit : 
   pub of_txn_more : l.of_txn.items ++ key_at l.txns.items (txn_in e) ∷ [] ≡ links_by accepted_txn txn_in (es ++ e ∷ [])
   of_txn_more = ap (λ t. t ++ key_at l.txns.items (txn_in e) ∷ []) are.of_txn ∙ (ap (λ c. links_by accepted_txn txn_in es ++ c ∷ []) txn_link ∙ sym (links_push accepted_txn txn_in es e))
 
-  pub refused_more : (m : Links) → is_refusal e.reply ≡ true → m.on_item.items ≡ l.on_item.items ++ key_at l.items.items (item_in e) ∷ [] → m.of_txn.items ≡ l.of_txn.items ++ key_at l.txns.items (txn_in e) ∷ []
+  pub refused_more : (m : BackLinks) → is_refusal e.reply ≡ true → m.on_item.items ≡ l.on_item.items ++ key_at l.items.items (item_in e) ∷ [] → m.of_txn.items ≡ l.of_txn.items ++ key_at l.txns.items (txn_in e) ∷ []
       → m.items ≡ l.items → m.txns ≡ l.txns → m.ends ≡ l.ends → m.begins ≡ l.begins → AreLinks n (es ++ e ∷ []) m
   refused_more m is a b c d f g =
       grind (arith, on_item_more, of_txn_more, lasts_none, count_refused es e is, map, accepted_refused es e is)
 
-  pub accepted_more : (m : Links) (code : ℕ) → is_refusal e.reply ≡ false → IsNumbered es e.event e.reply → code ≡ length es + 1 → m.on_item.items ≡ l.on_item.items ++ key_at l.items.items (item_in e) ∷ [] → m.of_txn.items ≡ l.of_txn.items ++ key_at l.txns.items (txn_in e) ∷ []
+  pub accepted_more : (m : BackLinks) (code : ℕ) → is_refusal e.reply ≡ false → IsNumbered es e.event e.reply → code ≡ length es + 1 → m.on_item.items ≡ l.on_item.items ++ key_at l.items.items (item_in e) ∷ [] → m.of_txn.items ≡ l.of_txn.items ++ key_at l.txns.items (txn_in e) ∷ []
       → m.items.items ≡ with_key l.items.items (item_of e.event) code → m.txns.items ≡ txns_after l.txns.items e.event code → m.ends.items ≡ ends_after l.ends.items e.event code → m.begins.items ≡ begins_after l.begins.items e.event → AreLinks n (es ++ e ∷ []) m
   accepted_more m code is num at a b c d f g = record {
     on_item = a ∙ on_item_more;

@@ -7,7 +7,7 @@ use Rattle.esr_history.specs.declared.event.Event.TheVariants.{BeginUpdate, Begi
 use Rattle.esr_history.specs.declared.event.Reply.{Reply}
 use Rattle.esr_history.specs.Events.{is_refusal}
 use Rattle.esr_history.specs.Machine.{Distance, Schedule, charges_in, due_in, import_in}
-use Rattle.esr_history.specs.Links.{begun_count}
+use Rattle.esr_history.specs.BackLinks.{begun_count}
 
 -- what these charges import to transaction t
 abbrev pub imported : List (TxnId × ℕ) → ℕ → ℕ

@@ -29,17 +29,17 @@ abbrev pub no_entry : Entry
 no_entry = record { event = Abort (txn_of 0); reply = Aborted }
 
 -- the entry of a short form, given the list of those that have none
-abbrev pub entry_of : List Entry → Short → Entry
-entry_of long (UpdateBegun t limit) = record { event = BeginUpdate limit; reply = Begun (txn_of t) }
-entry_of long (QueryBegun strict t limit) = record { event = BeginQuery limit strict; reply = Begun (txn_of t) }
-entry_of long (WasRead t x value) = record { event = Read (txn_of t) (item_of x); reply = Value value }
-entry_of long (WasWritten t x value) = record { event = Write (txn_of t) (item_of x) value; reply = Wrote }
-entry_of long (HasCommitted t) = record { event = Commit (txn_of t); reply = Committed }
-entry_of long (HasAborted t) = record { event = Abort (txn_of t); reply = Aborted }
-entry_of long (ReadBlocked bar t x other) = record { event = Read (txn_of t) (item_of x); reply = blocked bar other }
-entry_of long (WriteBlocked bar t x other value) =
+abbrev pub unpacked : List Entry → Short → Entry
+unpacked long (UpdateBegun t limit) = record { event = BeginUpdate limit; reply = Begun (txn_of t) }
+unpacked long (QueryBegun strict t limit) = record { event = BeginQuery limit strict; reply = Begun (txn_of t) }
+unpacked long (WasRead t x value) = record { event = Read (txn_of t) (item_of x); reply = Value value }
+unpacked long (WasWritten t x value) = record { event = Write (txn_of t) (item_of x) value; reply = Wrote }
+unpacked long (HasCommitted t) = record { event = Commit (txn_of t); reply = Committed }
+unpacked long (HasAborted t) = record { event = Abort (txn_of t); reply = Aborted }
+unpacked long (ReadBlocked bar t x other) = record { event = Read (txn_of t) (item_of x); reply = blocked bar other }
+unpacked long (WriteBlocked bar t x other value) =
     record { event = Write (txn_of t) (item_of x) value; reply = blocked bar other }
-entry_of long (Long place) = slice_index_or long place no_entry
+unpacked long (Long place) = slice_index_or long place no_entry
 
 -- a place in the list is one that it has
 abbrev pub IsWithin : List Entry → Short → Type 0

@@ -8,15 +8,16 @@ use Rattle.esr_history.specs.declared.event.Event.TheVariants.{BeginUpdate, Begi
 use Rattle.esr_history.specs.declared.event.Reply.{Reply}
 use Rattle.esr_history.specs.declared.event.Reply.TheVariants.{Begun, Value, Wrote, Committed, Aborted, Refused}
 use Rattle.esr_history.specs.declared.event.Refusal.TheVariants.{NoSuchTransaction, AlreadyEnded, NoSuchItem, QueryMayNotWrite, ValueOutOfRange, LimitOutOfRange, BlockedByLock, BlockedByImport, BlockedByExport}
-use Rattle.esr_history.specs.Machine.{Schedule, Distance, extended, reply_to, charges_in, total, import_in, export_in, done}
+use Rattle.esr_history.specs.Machine.{Schedule, Distance, schedule_of, extended, reply_to, charges_in, total, import_in, export_in, done}
 use Rattle.esr_history.specs.ItemLocks.{item_locks, accounts}
 use Rattle.std.specs.Prelude.{Some}
 
 abbrev pub plain : Distance
 plain w x a b = gap a b
 
-abbrev pub opened : List ℤ → Schedule
-opened values = record { opening = values; weights = []; entries = [] }
+-- a history of items with these opening values, before its first entry
+abbrev pub started_from : List ℤ → Schedule
+started_from values = schedule_of values [] []
 
 -- the history after the machine has answered the events
 abbrev pub played : Schedule → List Event → Schedule
@@ -35,7 +36,7 @@ item x = record { 0 = x }
 -- a query reads what an active update has written, within its limit
 abbrev report_beside_a_writer : Schedule
 report_beside_a_writer =
-    played (opened (pos 100 ∷ []))
+    played (started_from (pos 100 ∷ []))
     (BeginUpdate 50 ∷ BeginQuery 10 false ∷ Write (txn 1) (item 0) (pos 107) ∷ Read (txn 2) (item 0)
     ∷ Commit (txn 1) ∷ Commit (txn 2) ∷ [])
 
@@ -52,7 +53,7 @@ report_beside_a_writer_export = refl
 -- a read that would pass the query's limit leaves no charge, and is refused each time
 abbrev import_limit_reached : ℕ → Schedule
 import_limit_reached limit =
-    played (opened (pos 100 ∷ []))
+    played (started_from (pos 100 ∷ []))
     (BeginUpdate 50 ∷ BeginQuery limit false ∷ Write (txn 1) (item 0) (pos 107) ∷ Read (txn 2) (item 0)
     ∷ Read (txn 2) (item 0) ∷ [])
 
@@ -70,7 +71,7 @@ import_limit_reached_total = refl
 -- a write is charged for each read of each query, and the update's limit bounds their sum
 abbrev export_limit_over_queries : Schedule
 export_limit_over_queries =
-    played (opened (pos 0 ∷ []))
+    played (started_from (pos 0 ∷ []))
     (BeginQuery 10 false ∷ BeginQuery 5 false ∷ BeginUpdate 14 ∷ BeginUpdate 15 ∷ Read (txn 1) (item 0)
     ∷ Read (txn 1) (item 0) ∷ Read (txn 2) (item 0) ∷ Write (txn 3) (item 0) (pos 5)
     ∷ Write (txn 4) (item 0) (pos 5) ∷ [])
@@ -86,7 +87,7 @@ export_limit_over_queries_total = refl
 -- a write is charged against a read before it
 abbrev smaller_of_two_sets : Schedule
 smaller_of_two_sets =
-    played (opened (pos 0 ∷ []))
+    played (started_from (pos 0 ∷ []))
     (BeginQuery 9 false ∷ BeginUpdate 4 ∷ Read (txn 1) (item 0) ∷ Write (txn 2) (item 0) (pos 4) ∷ Commit (txn 2)
     ∷ Read (txn 1) (item 0) ∷ Commit (txn 1) ∷ [])
 
@@ -100,7 +101,7 @@ smaller_of_two_sets_import = refl
 -- a lock is held to the end of its transaction
 abbrev upgrade_waits_for_a_reader : Schedule
 upgrade_waits_for_a_reader =
-    played (opened (pos 0 ∷ []))
+    played (started_from (pos 0 ∷ []))
     (BeginUpdate 0 ∷ BeginUpdate 0 ∷ Read (txn 1) (item 0) ∷ Read (txn 2) (item 0) ∷ Write (txn 1) (item 0) (pos 1)
     ∷ Commit (txn 2) ∷ Write (txn 1) (item 0) (pos 1) ∷ Commit (txn 1) ∷ [])
 
@@ -112,7 +113,7 @@ upgrade_waits_for_a_reader_replies = refl
 -- each refusal by its name
 abbrev every_refusal_in_order : Schedule
 every_refusal_in_order =
-    played (opened (pos 0 ∷ [])) (
+    played (started_from (pos 0 ∷ [])) (
     BeginQuery 0 false ∷ BeginUpdate 0 ∷ BeginUpdate 1000000000000000001 ∷ Read (txn 0) (item 0)
     ∷ Write (txn 0) (item 1) (pos 1) ∷ Read (txn 1) (item 1) ∷ Write (txn 1) (item 1) (pos 1)
     ∷ Write (txn 1) (item 0) (pos 1000000000001) ∷ Write (txn 2) (item 0) (pos 1000000000001) ∷ Commit (txn 2)
@@ -127,7 +128,7 @@ every_refusal_in_order_replies = refl
 -- an abort puts the value back
 abbrev abort_puts_back : Schedule
 abort_puts_back =
-    played (opened (pos 1 ∷ []))
+    played (started_from (pos 1 ∷ []))
     (BeginUpdate 0 ∷ Write (txn 1) (item 0) (pos 5) ∷ Abort (txn 1) ∷ BeginUpdate 0 ∷ Read (txn 2) (item 0) ∷ [])
 
 abort_puts_back_replies : replies abort_puts_back ≡ Begun (txn 1) ∷ Wrote ∷ Aborted ∷ Begun (txn 2) ∷ Value (pos 1) ∷ []

@@ -3,14 +3,14 @@ use Rattle.std.specs.Prelude.{◌≡◌, pos, [], ◌∷◌, Bool, true, false, 
 use Rattle.esr_history.specs.declared.event.Event.TheVariants.{BeginUpdate, BeginQuery, Read, Write, Commit, Abort}
 use Rattle.esr_history.specs.declared.event.Reply.TheVariants.{Begun, Value, Wrote, Committed}
 use Rattle.esr_history.specs.Machine.{Schedule, charges_in, import_in}
-use Rattle.esr_history.specs.Worked.{plain, opened, played, replies, txn, item}
+use Rattle.esr_history.specs.Worked.{plain, started_from, played, replies, txn, item}
 use Rattle.esr_history.specs.Serial.{is_before, committed_updates, state}
 use Rattle.esr_history.specs.Queries.{updates_of, must, cost}
 
 -- One update wrote what the next read, so that a query which saw the second has seen the first.
 abbrev pub order_through_a_third_item : Schedule
 order_through_a_third_item =
-    played (opened (pos 0 ∷ pos 0 ∷ pos 0 ∷ [])) (
+    played (started_from (pos 0 ∷ pos 0 ∷ pos 0 ∷ [])) (
     BeginQuery 9 false ∷ BeginUpdate 9 ∷ BeginUpdate 9 ∷ Read (txn 1) (item 0) ∷ Write (txn 2) (item 0) (pos 6)
     ∷ Write (txn 2) (item 2) (pos 1) ∷ Commit (txn 2)
     ∷ Read (txn 3) (item 2) ∷ Write (txn 3) (item 1) (pos 2) ∷ Commit (txn 3) ∷ Read (txn 1) (item 1)
@@ -48,7 +48,7 @@ third_item_import = refl
 -- Two updates write what a report has read.
 abbrev pub two_updates_over_a_report : Schedule
 two_updates_over_a_report =
-    played (opened (pos 0 ∷ pos 0 ∷ [])) (
+    played (started_from (pos 0 ∷ pos 0 ∷ [])) (
     BeginQuery 100 false ∷ BeginUpdate 100 ∷ BeginUpdate 100 ∷ Read (txn 1) (item 0) ∷ Write (txn 2) (item 0) (pos 10)
     ∷ Commit (txn 2)
     ∷ Write (txn 3) (item 0) (pos 1) ∷ Write (txn 3) (item 1) (pos 8) ∷ Commit (txn 3) ∷ Read (txn 1) (item 1)
@@ -64,7 +64,7 @@ two_updates_import = refl
 -- What committed before a strict query began is before it.
 abbrev pub strict_report : Bool → Schedule
 strict_report strict =
-    played (opened (pos 0 ∷ [])) (
+    played (started_from (pos 0 ∷ [])) (
     BeginUpdate 9 ∷ Write (txn 1) (item 0) (pos 5) ∷ Commit (txn 1) ∷ BeginQuery 9 strict ∷ BeginUpdate 9
     ∷ Write (txn 3) (item 0) (pos 0) ∷ Read (txn 2) (item 0) ∷ Abort (txn 3) ∷ Commit (txn 2) ∷ [])
 

@@ -3,7 +3,7 @@
 ghost use Rattle.std.specs.Prelude.{◌≡◌, List, IfSome};
 ghost use Rattle.esr_history.specs.declared.event.Entry.{Entry};
 ghost use Rattle.esr_history.specs.declared.event.Event.TheVariants.{Read, Write};
-ghost use Rattle.esr_history.specs.Short.{blocked, entry_of, item_of, txn_of, IsWithin};
+ghost use Rattle.esr_history.specs.Short.{blocked, unpacked, item_of, txn_of, IsWithin};
 
 use crate::event::{Entry, Event, Refusal, Reply, TxnId};
 use esr_items::ItemId;
@@ -98,7 +98,7 @@ fn blocked(bar: Bar, other: u16) -> Reply
 /// The short form of a read with its reply, if it has one.
 fn short_read(txn: TxnId, item: ItemId, reply: Reply) -> Option<Short>
     ensures { IfSome result (λ s. (long : List Entry)
-        → (entry_of long s ≡ record { event = Read txn item; reply = reply }) × IsWithin long s) }
+        → (unpacked long s ≡ record { event = Read txn item; reply = reply }) × IsWithin long s) }
 {
     let txn = narrow(txn.0)?;
     let item = narrow(item.0)?;
@@ -117,7 +117,7 @@ fn short_read(txn: TxnId, item: ItemId, reply: Reply) -> Option<Short>
 /// The short form of a write with its reply, if it has one.
 fn short_write(txn: TxnId, item: ItemId, value: i64, reply: Reply) -> Option<Short>
     ensures { IfSome result (λ s. (long : List Entry)
-        → (entry_of long s ≡ record { event = Write txn item value; reply = reply }) × IsWithin long s) }
+        → (unpacked long s ≡ record { event = Write txn item value; reply = reply }) × IsWithin long s) }
 {
     let txn = narrow(txn.0)?;
     let item = narrow(item.0)?;
@@ -162,7 +162,7 @@ fn write(txn: u16, item: u16, value: i64) -> Event
 impl Short {
     /// The short form of an entry, if it has one.
     pub fn of(entry: Entry) -> Option<Short>
-        ensures { IfSome result (λ s. (long : List Entry) → (entry_of long s ≡ entry) × IsWithin long s) }
+        ensures { IfSome result (λ s. (long : List Entry) → (unpacked long s ≡ entry) × IsWithin long s) }
     {
         match (entry.event, entry.reply) {
             (Event::Read { txn, item }, reply) => short_read(txn, item, reply),
@@ -189,7 +189,7 @@ impl Short {
     /// The entry, given the list of those that have no short form.
     pub fn entry(self, long: &[Entry]) -> Entry
         requires { IsWithin long.now self }
-        ensures { result ≡ entry_of long.now self }
+        ensures { result ≡ unpacked long.now self }
     {
         let (event, reply) = match self {
             Short::UpdateBegun { txn, limit } => (

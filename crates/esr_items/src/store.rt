@@ -1,5 +1,5 @@
 ghost use Rattle.std.specs.Prelude.{◌≡◌, ◌<◌, ◌≤◌, length, map, IfOk, IsErrOf, Any, IsTrue, ◌↔◌};
-ghost use Rattle.esr_items.specs.Values.{IsValue, opened, committed_at, current_at, current_set, kept, undone};
+ghost use Rattle.esr_items.specs.Values.{IsValue, both_versions, committed_at, current_at, current_set, kept, undone};
 
 use crate::metric::ItemId;
 use crate::{LARGEST_VALUE, MOST_ITEMS};
@@ -60,7 +60,7 @@ fn is_value(v: i64) -> bool
 impl Store {
     /// A store in which each item has the value given, as its committed and its current value.
     pub fn new(alloc: Global, values: Vec<i64>) -> Result<Store, ItemsError>
-        ensures ok { IfOk result (λ s. s ≡ map opened values.items) }
+        ensures ok { IfOk result (λ s. s ≡ map both_versions values.items) }
         ensures many { IsErrOf result ItemsError.TooManyItems ↔ (MOST_ITEMS < length values.items) }
         ensures range { IsErrOf result ItemsError.ValueOutOfRange
             ↔ ((length values.items ≤ MOST_ITEMS) × Any (λ v. ¬ IsValue v) values.items) }

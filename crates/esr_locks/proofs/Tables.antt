@@ -15,7 +15,7 @@ use Rattle.esr_history.proofs.Ascending.{any_placed}
 use Rattle.esr_history.proofs.Lists.{any_push, or_false}
 use Rattle.esr_locks.specs.declared.row.Lock.{Lock}
 use Rattle.esr_locks.specs.declared.row.Lock.TheVariants.{Read, Write, QueryRead}
-use Rattle.esr_locks.specs.Rows.{RowOf, HeldOf, nothing_held, empty_row, row_at, held_at, IsTable, with_lock, has_such}
+use Rattle.esr_locks.specs.Rows.{RowOf, LockedItemsOf, nothing_held, empty_row, row_at, held_at, IsTable, with_lock, has_such}
 use Rattle.esr_locks.specs.Tables.{no_locks, locks_at, is_writer, is_reader, is_query, has_lock, released, lists_item}
 
 -- the locks at an item, by the rows
@@ -48,10 +48,10 @@ wrote (Some u) t = refl
 pub read_row : (rows : List RowOf) (x : ℕ) (row : RowOf) → x < length rows → row ≡ get_or rows x row → row ≡ row_at rows x
 read_row rows x row l is = is ∙ get_or_default rows x row empty_row l
 
-pub read_list : (held : List HeldOf) (t : ℕ) (list : HeldOf) → t < length held → list ≡ get_or held t list → list ≡ held_at held t
+pub read_list : (held : List LockedItemsOf) (t : ℕ) (list : LockedItemsOf) → t < length held → list ≡ get_or held t list → list ≡ held_at held t
 read_list held t list l is = is ∙ get_or_default held t list nothing_held l
 
-module _ (rows : List RowOf) (held : List HeldOf) (tab : IsTable rows held) (t x : ℕ) (inside : x < length rows) (row new : RowOf) (is : row ≡ get_or rows x row) where
+module _ (rows : List RowOf) (held : List LockedItemsOf) (tab : IsTable rows held) (t x : ℕ) (inside : x < length rows) (row new : RowOf) (is : row ≡ get_or rows x row) where
   lock_there : (more : (u : ℕ) → has_lock new.locks u ≡ true → (has_lock row.locks u ≡ true) ⊎ (t ≡ u)) → (u y : ℕ) → y < length (set rows x new) → has_lock (row_at (set rows x new) y).locks u ≡ true → (lists_item (held_at held u).items y ≡ true) ⊎ ((t ≡ u) × (x ≡ y))
   lock_there more u y l has =
       elim (cases_eq y x) [
@@ -65,17 +65,17 @@ module _ (rows : List RowOf) (held : List HeldOf) (tab : IsTable rows held) (t x
       ]
 
   -- the item is added to the list of who took the lock
-  pub IsTable-push : (list : HeldOf) → ((u : ℕ) → has_lock new.locks u ≡ true → (has_lock row.locks u ≡ true) ⊎ (t ≡ u)) → t < length held → (id : ItemId) → id.0 ≡ x → list.items ≡ (held_at held t).items ++ id ∷ []
+  pub IsTable-push : (list : LockedItemsOf) → ((u : ℕ) → has_lock new.locks u ≡ true → (has_lock row.locks u ≡ true) ⊎ (t ≡ u)) → t < length held → (id : ItemId) → id.0 ≡ x → list.items ≡ (held_at held t).items ++ id ∷ []
       → IsTable (set rows x new) (set held t list)
   IsTable-push list more in_held id id_is list_is = record {
     within = λ u. elim (cases_eq u t) [
       | inl e ↦
           let inside_new : All (λ (i : ItemId). i.0 < length (set rows x new)) ((held_at held t).items ++ id ∷ []) =
           All-push (λ (i : ItemId). i.0 < length (set rows x new)) (held_at held t).items id (rw length-set (tab.within t)) (rw length-set (rw id_is inside)) in
-          let at_t : (held_at (set held t list) u).items ≡ (held_at held t).items ++ id ∷ [] = ap (λ v. (held_at (set held t list) v).items) e ∙ (ap (λ (h : HeldOf). h.items) (get_or-set_same held t list nothing_held in_held) ∙ list_is) in
+          let at_t : (held_at (set held t list) u).items ≡ (held_at held t).items ++ id ∷ [] = ap (λ v. (held_at (set held t list) v).items) e ∙ (ap (λ (h : LockedItemsOf). h.items) (get_or-set_same held t list nothing_held in_held) ∙ list_is) in
           subst (λ (is' : List ItemId). All (λ (i : ItemId). i.0 < length (set rows x new)) is') (sym at_t) inside_new
       | inr ne ↦
-          subst (λ (is' : List ItemId). All (λ (i : ItemId). i.0 < length (set rows x new)) is') (sym (ap (λ (h : HeldOf). h.items) (get_or-set_other held t u list nothing_held ne))) (rw length-set (tab.within u))
+          subst (λ (is' : List ItemId). All (λ (i : ItemId). i.0 < length (set rows x new)) is') (sym (ap (λ (h : LockedItemsOf). h.items) (get_or-set_other held t u list nothing_held ne))) (rw length-set (tab.within u))
     ];
     listed = λ u y l has.
         elim (lock_there more u y l has) [
@@ -85,7 +85,7 @@ module _ (rows : List RowOf) (held : List HeldOf) (tab : IsTable rows held) (t x
   }
     where
       at_t : (held_at (set held t list) t).items ≡ (held_at held t).items ++ id ∷ []
-      at_t = ap (λ (h : HeldOf). h.items) (get_or-set_same held t list nothing_held in_held) ∙ list_is
+      at_t = ap (λ (h : LockedItemsOf). h.items) (get_or-set_same held t list nothing_held in_held) ∙ list_is
 
       keeps : (u y : ℕ) → lists_item (held_at held u).items y ≡ true → lists_item (held_at (set held t list) u).items y ≡ true
       keeps u y before = grind (arith, cases_eq u t, set held t list, at_t, any_push, or_left, get_or-set_other)
@@ -144,7 +144,7 @@ released_less t u l is =
     writer_less None h = absurd (false≢true h)
     writer_less (Some v) h = grind (arith, cases_Bool (v == t), false≢true)
 
-module _ (rows : List RowOf) (held : List HeldOf) (tab : IsTable rows held) (t : ℕ) (rows_new : List RowOf) (held_new : List HeldOf)
+module _ (rows : List RowOf) (held : List LockedItemsOf) (tab : IsTable rows held) (t : ℕ) (rows_new : List RowOf) (held_new : List LockedItemsOf)
     (len : length rows_new ≡ length rows)
     (locks : (x : ℕ) → x < length rows → (row_at rows_new x).locks ≡ (if lists_item (held_at held t).items x then released t (row_at rows x).locks else (row_at rows x).locks))
     (left : (u : ℕ) → (held_at held_new u).items ≡ (if t == u then [] else (held_at held u).items)) where
@@ -171,7 +171,7 @@ set_same_row (r ∷ rs) zero row new is same = ap (λ (l : ItemLocks). l ∷ map
 set_same_row (r ∷ rs) (suc x) row new is same = ap (λ ls. r.locks ∷ ls) (set_same_row rs x row new is same)
 
 -- who has room for one more item has a list
-pub has_list : (held : List HeldOf) (t : ℕ) → 0 < slice_index (map (λ h. h.room) held) t → t < length held
+pub has_list : (held : List LockedItemsOf) (t : ℕ) → 0 < slice_index (map (λ h. h.room) held) t → t < length held
 has_list [] zero l = absurd (omega arith)
 has_list [] (suc t) l = absurd (omega arith)
 has_list (h ∷ held) zero l = omega arith
@@ -182,22 +182,22 @@ room_of_row [] x new l = absurd (omega arith)
 room_of_row (r ∷ rs) zero new l = refl
 room_of_row (r ∷ rs) (suc x) new l = room_of_row rs x new (omega arith)
 
-pub room_of_list : (held : List HeldOf) (t : ℕ) (new : HeldOf) → t < length held → slice_index (map (λ h. h.room) (set held t new)) t ≡ new.room
+pub room_of_list : (held : List LockedItemsOf) (t : ℕ) (new : LockedItemsOf) → t < length held → slice_index (map (λ h. h.room) (set held t new)) t ≡ new.room
 room_of_list [] t new l = absurd (omega arith)
 room_of_list (h ∷ hs) zero new l = refl
 room_of_list (h ∷ hs) (suc t) new l = room_of_list hs t new (omega arith)
 
 -- what the lists say of the locks
-pub table_within : (rows : List RowOf) (held : List HeldOf) → IsTable rows held → (t : ℕ) → All (λ (i : ItemId). i.0 < length (map (λ (r : RowOf). r.locks) rows)) (held_at held t).items
+pub table_within : (rows : List RowOf) (held : List LockedItemsOf) → IsTable rows held → (t : ℕ) → All (λ (i : ItemId). i.0 < length (map (λ (r : RowOf). r.locks) rows)) (held_at held t).items
 table_within rows held tab t = rw length-map (tab.within t)
 
-pub table_listed : (rows : List RowOf) (held : List HeldOf) → IsTable rows held → (t x : ℕ) → x < length (map (λ (r : RowOf). r.locks) rows)
+pub table_listed : (rows : List RowOf) (held : List LockedItemsOf) → IsTable rows held → (t x : ℕ) → x < length (map (λ (r : RowOf). r.locks) rows)
     → has_lock (locks_at (map (λ (r : RowOf). r.locks) rows) x) t ≡ true → lists_item (held_at held t).items x ≡ true
 table_listed rows held tab t x l has =
     let inside : x < length rows = rw length-map at l in
     tab.listed t x inside (ap (λ (g : ItemLocks). has_lock g t) (sym (locks_at-rows rows x inside)) ∙ has)
 
-pub past_lists : (held : List HeldOf) (t : ℕ) → length held ≤ t → (held_at held t).items ≡ []
+pub past_lists : (held : List LockedItemsOf) (t : ℕ) → length held ≤ t → (held_at held t).items ≡ []
 past_lists [] zero l = refl
 past_lists [] (suc t) l = refl
 past_lists (h ∷ held) zero l = absurd (omega arith)

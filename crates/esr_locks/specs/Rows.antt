@@ -41,11 +41,11 @@ has_such Write = is_update
 has_such QueryRead = is_query
 
 -- what the items that a transaction has locked are to contracts: the items, and for how many more there is room
-pub record HeldOf : Type 0 where
+pub record LockedItemsOf : Type 0 where
   pub items : List ItemId
   pub room : ℕ
 
-abbrev pub nothing_held : HeldOf
+abbrev pub nothing_held : LockedItemsOf
 nothing_held = record { items = []; room = 0 }
 
 abbrev pub empty_row : RowOf
@@ -54,11 +54,11 @@ empty_row = record { locks = no_locks; room = 0 }
 abbrev pub row_at : List RowOf → ℕ → RowOf
 row_at rows x = slice_index_or rows x empty_row
 
-abbrev pub held_at : List HeldOf → ℕ → HeldOf
+abbrev pub held_at : List LockedItemsOf → ℕ → LockedItemsOf
 held_at held t = slice_index_or held t nothing_held
 
 -- the items listed for a transaction are those on which it holds a lock, and perhaps more
-pub record IsTable (rows : List RowOf) (held : List HeldOf) : Type 0 where
+pub record IsTable (rows : List RowOf) (held : List LockedItemsOf) : Type 0 where
   pub within : (t : ℕ) → All (λ i. i.0 < length rows) (held_at held t).items
   pub listed : (t x : ℕ) → x < length rows → has_lock (row_at rows x).locks t ≡ true
       → lists_item (held_at held t).items x ≡ true

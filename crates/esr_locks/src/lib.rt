@@ -1,8 +1,8 @@
 //! The lock table: which transactions hold which locks on each item.
 #![tactic(auto)]
 
-mod held;
 mod lists;
+mod locked_items;
 mod row;
 mod table;
 

@@ -1,5 +1,6 @@
 ghost use Rattle.std.specs.Prelude.{◌≡◌, ℕ, ◌<◌, ◌≤◌, ◌==◌, Bool, false, ◌||◌, map, not, All, OnOk, OnErr, unwrap_or, None, if◌then◌else◌};
 ghost use Rattle.std.specs.Option.{option_map};
+ghost use Rattle.esr_history.specs.declared.limits.TheConstants.{MOST_READS};
 ghost use Rattle.esr_history.specs.Ascending.{IsAscendingBy};
 ghost use Rattle.esr_locks.specs.Rows.{RowOf, reads_of, with_lock, has_such};
 ghost use Rattle.esr_locks.specs.Tables.{no_locks, is_update, is_query, keeps_from_reading, keeps_from_writing, IsLeast, with_reader, with_writer, with_query_read, released};
@@ -33,6 +34,7 @@ impl Model for Row {
     ghost use Rattle.std.specs.Prelude.{map, min, ◌-◌, ◌≤◌, length};
     ghost use Rattle.std.specs.List.{AllByRecursion};
     ghost use Rattle.std.specs.Option.{option_map};
+    ghost use Rattle.esr_history.specs.declared.limits.TheConstants.{MOST_READS};
     ghost use Rattle.esr_history.specs.Ascending.{IsAscendingBy};
     ghost use Rattle.esr_locks.specs.Rows.{RowOf, reads_of};
 
@@ -48,7 +50,7 @@ impl Model for Row {
     } };
 
     ghost invariant = { λ r. IsAscendingBy (λ u. u.update.0) r.readers.items
-        × IsAscendingBy (λ q. q.query.0) r.queries.items × AllByRecursion (λ q. q.count ≤ 1000) r.queries.items };
+        × IsAscendingBy (λ q. q.query.0) r.queries.items × AllByRecursion (λ q. q.count ≤ MOST_READS) r.queries.items };
 }
 
 /// Whether the item's writer is `t`.
@@ -103,7 +105,7 @@ impl Row {
     pub fn queries(&self) -> &[QueryReads]
         ensures reads { map reads_of result.now ≡ self.now.locks.queries }
         ensures ascending { IsAscendingBy (λ r. r.query.0) result.now }
-        ensures most { All (λ r. r.count ≤ 1000) result.now }
+        ensures most { All (λ r. r.count ≤ MOST_READS) result.now }
     {
         &self.queries
     }
@@ -159,7 +161,7 @@ impl Row {
     /// Adds a read by a query, and answers whether the query had not read the item.
     fn add_query_read(&mut self, q: TxnId) -> bool
         requires room { 0 < self.old.room }
-        requires few { All (λ r. r.0 ≡ q.0 → r.1 < 1000) self.old.locks.queries }
+        requires few { All (λ r. r.0 ≡ q.0 → r.1 < MOST_READS) self.old.locks.queries }
         ensures locks { self.new.locks ≡ with_query_read q.0 self.old.locks }
         ensures fresh { result ≡ not (is_query self.old.locks q.0) }
     {
@@ -170,7 +172,7 @@ impl Row {
     #[inline(always)]
     pub fn add(&mut self, t: TxnId, lock: Lock) -> bool
         requires room { 0 < self.old.room }
-        requires few { lock ≡ Lock.QueryRead → All (λ r. r.0 ≡ t.0 → r.1 < 1000) self.old.locks.queries }
+        requires few { lock ≡ Lock.QueryRead → All (λ r. r.0 ≡ t.0 → r.1 < MOST_READS) self.old.locks.queries }
         ensures locks { self.new.locks ≡ with_lock lock t.0 self.old.locks }
         ensures fresh { result ≡ not (has_such lock self.old.locks t.0) }
     {

@@ -1,12 +1,13 @@
 ghost use Rattle.std.specs.Prelude.{◌≡◌, ℕ, ◌-◌, ◌<◌, ◌≤◌, ◌==◌, [], length, map, All, IfOk, OnOk, OnErr, slice_set, true, if◌then◌else◌};
 ghost use Rattle.std.specs.List.{range_with_len};
 ghost use Rattle.std.specs.Option.{option_map};
+ghost use Rattle.esr_history.specs.declared.limits.TheConstants.{MOST_READS};
 ghost use Rattle.esr_history.specs.Ascending.{IsAscendingBy};
 ghost use Rattle.esr_locks.specs.Rows.{reads_of, row_at, held_at, with_lock};
 ghost use Rattle.esr_locks.specs.Tables.{no_locks, locks_at, room_for, has_lock, lists_item, keeps_from_reading, keeps_from_writing, IsLeast, with_reader, with_writer, with_query_read, released};
 
-use crate::held::Held;
 use crate::lists::QueryReads;
+use crate::locked_items::LockedItems;
 use crate::row::{Lock, Row};
 use esr_history::{NoMemory, TxnId};
 use esr_items::ItemId;
@@ -23,7 +24,7 @@ use std::mem;
 #[derive(Drop)]
 pub struct LockTable {
     rows: Vec<Row>,
-    held: Vec<Held>,
+    held: Vec<LockedItems>,
     alloc: Global,
 }
 
@@ -56,29 +57,29 @@ fn empty_rows(alloc: Global, items: u32) -> Result<Vec<Row>, AllocError>
 }
 
 /// Gives each transaction up to `t` a list of items.
-fn make_lists(held: &mut Vec<Held>, alloc: Global, t: TxnId) -> Result<(), AllocError>
+fn make_lists(held: &mut Vec<LockedItems>, alloc: Global, t: TxnId) -> Result<(), AllocError>
     ensures items { (u : ℕ) → (held_at held.new.items u).items ≡ (held_at held.old.items u).items }
     ensures ok { OnOk result (t.0 < length held.new.items) }
     ensures full { OnErr result (length held.old.items ≤ t.0) }
     ensures there { t.0 < length held.old.items → held.new.items ≡ held.old.items }
 {
     while held.len() <= t.0 as usize {
-        held.push(Held::new(alloc))?;
+        held.push(LockedItems::new(alloc))?;
     }
     Ok(())
 }
 
 /// Takes out the list of a transaction.
-fn take_list(held: &mut Vec<Held>, alloc: Global, t: TxnId) -> Held
+fn take_list(held: &mut Vec<LockedItems>, alloc: Global, t: TxnId) -> LockedItems
     ensures taken { result.items ≡ (held_at held.old.items t.0).items }
     ensures left { (u : ℕ) → (held_at held.new.items u).items
         ≡ (if t.0 == u then [] else (held_at held.old.items u).items) }
 {
     let at = t.0 as usize;
     if at < held.len() {
-        mem::replace(&mut held[at], Held::new(alloc))
+        mem::replace(&mut held[at], LockedItems::new(alloc))
     } else {
-        Held::new(alloc)
+        LockedItems::new(alloc)
     }
 }
 
@@ -148,7 +149,7 @@ impl LockTable {
         requires { x.0 < length self.now.locks }
         ensures reads { map reads_of result.now ≡ (locks_at self.now.locks x.0).queries }
         ensures ascending { IsAscendingBy (λ r. r.query.0) result.now }
-        ensures most { All (λ r. r.count ≤ 1000) result.now }
+        ensures most { All (λ r. r.count ≤ MOST_READS) result.now }
     {
         self.rows[x.0 as usize].queries()
     }
@@ -194,7 +195,8 @@ impl LockTable {
     fn add(&mut self, t: TxnId, x: ItemId, lock: Lock)
         requires item { x.0 < length self.old.locks }
         requires room { 0 < room_for self.old t.0 x.0 }
-        requires few { lock ≡ Lock.QueryRead → All (λ r. r.0 ≡ t.0 → r.1 < 1000) (locks_at self.old.locks x.0).queries }
+        requires few { lock ≡ Lock.QueryRead
+            → All (λ r. r.0 ≡ t.0 → r.1 < MOST_READS) (locks_at self.old.locks x.0).queries }
         ensures { self.new.locks ≡ slice_set self.old.locks x.0 (with_lock lock t.0 (locks_at self.old.locks x.0)) }
     {
         if self.rows[x.0 as usize].add(t, lock) {
@@ -224,7 +226,7 @@ impl LockTable {
     pub fn add_read_query(&mut self, q: TxnId, x: ItemId)
         requires item { x.0 < length self.old.locks }
         requires room { 0 < room_for self.old q.0 x.0 }
-        requires few { All (λ r. r.0 ≡ q.0 → r.1 < 1000) (locks_at self.old.locks x.0).queries }
+        requires few { All (λ r. r.0 ≡ q.0 → r.1 < MOST_READS) (locks_at self.old.locks x.0).queries }
         ensures { self.new.locks ≡ slice_set self.old.locks x.0 (with_query_read q.0 (locks_at self.old.locks x.0)) }
     {
         self.add(q, x, Lock::QueryRead);

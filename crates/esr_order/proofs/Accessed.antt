@@ -9,7 +9,7 @@ use Rattle.esr_history.specs.declared.event.Event.TheVariants.{BeginUpdate, Begi
 use Rattle.esr_history.specs.declared.event.Reply.{Reply}
 use Rattle.esr_history.specs.declared.event.Entry.{Entry}
 use Rattle.esr_history.specs.Events.{is_refusal}
-use Rattle.esr_history.specs.Links.{accepted_txn, txn_in, txn_of, is_key, places_from, last_place, earlier, coded}
+use Rattle.esr_history.specs.BackLinks.{accepted_txn, txn_in, txn_of, is_key, places_from, last_place, earlier, coded}
 use Rattle.esr_history.specs.Machine.{Distance, Schedule, IsLegal}
 use Rattle.esr_history.specs.Operations.{Operation, operation_of, operation_by, operations_in, answer}
 use Rattle.esr_history.specs.Queries.{reads_by}

@@ -13,12 +13,12 @@ use Rattle.esr_history.specs.declared.event.TxnId.{TxnId}
 use Rattle.esr_history.specs.declared.event.Event.{Event}
 use Rattle.esr_history.specs.declared.event.Event.TheVariants.{BeginUpdate, BeginQuery, Read, Write, Commit, Abort}
 use Rattle.esr_history.specs.declared.event.Entry.{Entry}
-use Rattle.esr_history.specs.declared.links.Facts.{Facts}
+use Rattle.esr_history.specs.declared.back_links.Facts.{Facts}
 use Rattle.esr_history.specs.Events.{Beginning, is_refusal, accepted, beginning, beginning_of, beginnings, is_begun, is_query, is_update, is_committed}
 use Rattle.esr_history.specs.Machine.{Distance, Schedule, done, IsLegal}
 use Rattle.esr_history.specs.Operations.{committer, commit_order}
 use Rattle.esr_history.specs.Queries.{is_committed_query, updates_of, must, is_strict, before_begin}
-use Rattle.esr_history.specs.Links.{ender, accepted_end, is_key, last_place, facts_by, facts_of}
+use Rattle.esr_history.specs.BackLinks.{ender, accepted_end, is_key, last_place, facts_by, facts_of}
 use Rattle.esr_history.proofs.Membership.{In, In-from_any, In-Contains, Contains-In, In-of_filter, In-append_left, In-append_right, In-append_cases, filter_agree_in, any-from_number}
 use Rattle.esr_history.proofs.Bounded.{In-before_first, before_first-here, before_first-later}
 use Rattle.esr_history.proofs.WithinRanges.{legal_begins}

@@ -8,7 +8,7 @@ use Rattle.std.proofs.lemmas.Option.{same_Some}
 use Rattle.std.proofs.lemmas.List.{reverse-append}
 use Rattle.esr_history.specs.declared.event.Entry.{Entry}
 use Rattle.esr_history.specs.Events.{is_refusal}
-use Rattle.esr_history.specs.Links.{is_key, places_from, last_place, last_of_key, earlier, earlier_at, coded}
+use Rattle.esr_history.specs.BackLinks.{is_key, places_from, last_place, last_of_key, earlier, earlier_at, coded}
 
 last_somewhere : (x : ℕ) (xs : List ℕ) → (j : ℕ) × (last_or (Some x) xs ≡ Some j)
 last_somewhere x [] = (x, refl)

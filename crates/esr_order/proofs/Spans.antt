@@ -15,7 +15,7 @@ use Rattle.esr_history.specs.Events.{Beginning, is_refusal, accepted, beginnings
 use Rattle.esr_history.specs.Machine.{Distance, Schedule, done, extended, reply_to, acceptance, IsLegal}
 use Rattle.esr_history.specs.Legal.{legal_induction, IsLegal-extended}
 use Rattle.esr_history.specs.Queries.{begins, before_begin}
-use Rattle.esr_history.specs.Links.{ender, txn_of, accepted_end, accepted_txn, is_key, places_from, last_place, begun_count}
+use Rattle.esr_history.specs.BackLinks.{ender, txn_of, accepted_end, accepted_txn, is_key, places_from, last_place, begun_count}
 use Rattle.esr_history.proofs.Lists.{any_push, slice_get_push, filter_map_push}
 use Rattle.esr_history.proofs.Membership.{In, get_seam}
 use Rattle.esr_history.proofs.Orderly.{active_parts, beginning-kept}

@@ -7,7 +7,7 @@ use Rattle.std.proofs.lemmas.Bool.{cases_order}
 use Rattle.std.proofs.lemmas.Option.{same_Some}
 use Rattle.std.proofs.lemmas.List.Kept.{AllPairs-from_increasing}
 use Rattle.esr_history.specs.declared.event.Entry.{Entry}
-use Rattle.esr_history.specs.Links.{is_key, places_from}
+use Rattle.esr_history.specs.BackLinks.{is_key, places_from}
 use Rattle.esr_history.proofs.Membership.{In, Pairs, Pairs-from_all, each_at}
 use Rattle.esr_order.proofs.Entries.{all_entries}
 

@@ -6,8 +6,8 @@ use Rattle.esr_history.specs.declared.event.Event.{Event}
 use Rattle.esr_history.specs.declared.event.Event.TheVariants.{BeginQuery, Commit}
 use Rattle.esr_history.specs.declared.event.Entry.{Entry}
 use Rattle.esr_history.specs.Events.{is_refusal, is_begun}
-use Rattle.esr_history.specs.declared.links.Facts.{Facts}
-use Rattle.esr_history.specs.Links.{accepted_end, last_place, facts_of}
+use Rattle.esr_history.specs.declared.back_links.Facts.{Facts}
+use Rattle.esr_history.specs.BackLinks.{accepted_end, last_place, facts_of}
 use Rattle.esr_history.specs.Machine.{Schedule, done}
 use Rattle.esr_history.specs.Operations.{Operation, operation_of, operations_in}
 use Rattle.esr_order.specs.declared.accesses.Access.{Access}

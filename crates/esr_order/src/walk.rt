@@ -1,6 +1,6 @@
 //! Walks along the links of a history.
 ghost use Rattle.std.specs.Prelude.{◌≡◌, reverse, IfOk};
-ghost use Rattle.esr_history.specs.Links.{accepted_txn, places_from};
+ghost use Rattle.esr_history.specs.BackLinks.{accepted_txn, places_from};
 
 use esr_history::{History, TxnId};
 use esr_items::Metric;

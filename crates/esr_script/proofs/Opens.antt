@@ -1,8 +1,8 @@
 -- The machine that is made of the items' values.
 use Rattle.std.proofs.Common.{◌≡◌, ℕ, ℤ, List, [], map, Vec, Global, arith}
-use Rattle.esr_core.proofs.Replayed.{opened_values}
+use Rattle.esr_core.proofs.Replayed.{committed_of_both}
 use Rattle.esr_items.specs.declared.store.Versions.{Versions}
-use Rattle.esr_items.specs.Values.{opened}
+use Rattle.esr_items.specs.Values.{both_versions}
 use Rattle.esr_history.specs.Machine.{Schedule}
 use Rattle.esr_script.specs.declared.stage.Stage.{Stage}
 use Rattle.esr_script.specs.declared.stage.Stage.TheVariants.{Open}
@@ -10,7 +10,7 @@ use Rattle.esr_script.specs.Stages.{history_of}
 
 -- it opens with them, under the weights
 pub opens : (stage : Stage) (values taken : Vec ℤ Global) (weights held : Vec ℕ Global) (store : List Versions) (metric : List ℕ) (machine : Schedule)
-    → stage ≡ Open values weights → taken ≡ values → held ≡ weights → store ≡ map opened taken.items → metric ≡ held.items
+    → stage ≡ Open values weights → taken ≡ values → held ≡ weights → store ≡ map both_versions taken.items → metric ≡ held.items
     → machine ≡ record { opening = map (λ (w : Versions). w.committed) store; weights = metric; entries = [] } → machine ≡ history_of stage
 opens stage values taken weights held store metric machine is same same_weights made measured new =
-    grind (arith, map, opened_values taken.items)
+    grind (arith, map, committed_of_both taken.items)

@@ -2,7 +2,7 @@
 use Rattle.std.specs.Prelude.{◌≡◌, ℕ, ◌+◌, ◌<◌, ◌≤◌, ◌==◌, Bool, true, false, List, [], ◌∷◌, ◌++◌, length, slice_get, count_by, All, Some, Result, Ok, Err}
 use Rattle.std.specs.List.{flat_map, sum_by}
 use Rattle.std.specs.Prelude.{ℤ}
-use Rattle.esr_history.specs.Machine.{Schedule, Distance, IsLegal}
+use Rattle.esr_history.specs.Machine.{Distance, IsLegal, schedule_of}
 use Rattle.esr_history.specs.declared.event.Event.{Event}
 use Rattle.esr_history.specs.declared.event.Reply.{Reply}
 use Rattle.esr_history.specs.declared.event.Reply.TheVariants.{Begun, Value, Wrote, Committed, Aborted, Refused}
@@ -19,15 +19,11 @@ entry_of r = record { event = r.event; reply = r.reply }
 abbrev pub receipt : ℕ → Event → Reply → Receipt
 receipt place event reply = record { at = place; event = event; reply = reply }
 
--- the history of these opening values and of the metric with these numbers
-abbrev pub history : List ℤ → List ℕ → List Entry → Schedule
-history opening weights entries = record { opening = opening; weights = weights; entries = entries }
-
 -- some legal history of these opening values and this metric has its last entry at the receipt's place,
 -- and that entry is the receipt's
 abbrev pub IsReceipt : Distance → List ℤ → List ℕ → Receipt → Type 0
 IsReceipt d opening weights r =
-    (before : List Entry) × (length before ≡ r.at) × IsLegal d (history opening weights (before ++ entry_of r ∷ []))
+    (before : List Entry) × (length before ≡ r.at) × IsLegal d (schedule_of opening weights (before ++ entry_of r ∷ []))
 
 -- the receipts of all lists, in order
 abbrev pub receipts_in : List (List Receipt) → List Receipt

@@ -1,5 +1,5 @@
-//! An engine: one machine behind a lock, opened for at most 64 sessions and closed with them.
-ghost use Rattle.esr_history.specs.declared.limits.TheConstants.{MOST_ENTRIES};
+//! An engine: one machine behind a lock, opened for its sessions and closed with them.
+ghost use Rattle.esr_session.specs.declared.naming.TheConstants.{LEDGER_PARTS, MOST_SESSIONS};
 ghost use Rattle.std.specs.Prelude.{◌≡◌, ◌+◌, ◌<◌, ◌≤◌, ◌*◌, [], true, length, Some, None, All, IfOk, OnOk, IfErr, OnErr, vec_len, map};
 ghost use Rattle.std.specs.Vec.{vec_capacity};
 ghost use Rattle.esr_history.specs.Machine.{IsLegal};
@@ -12,7 +12,7 @@ use crate::naming::{Cut, Naming};
 use crate::receipt::{CloseError, Receipt};
 use crate::session::Session;
 use esr_core::Machine;
-use esr_history::{History, NoMemory};
+use esr_history::{History, MOST_ENTRIES, NoMemory};
 use esr_items::{Metric, Store};
 use std::alloc::{AllocError, Global};
 use std::marker::Model;
@@ -20,7 +20,7 @@ use std::sync::ledger::{Blank, Book, Share};
 use std::sync::{Arc, Mutex, Wait};
 
 /// More than a history can have entries: the amount of an open engine's own share.
-const SEAL: u64 = 1_000_001;
+pub(crate) const SEAL: u64 = MOST_ENTRIES as u64 + 1;
 
 /// A machine behind a lock. Contracts see how many sessions were opened.
 #[derive(Drop)]
@@ -34,13 +34,16 @@ pub struct Engine<M: Metric + Drop, N: Naming> {
 
 impl<M: Metric + Drop, N: Naming> Model for Engine<M, N> {
     ghost use Rattle.std.specs.Prelude.{◌≡◌, ◌+◌, ◌≤◌};
+    ghost use Rattle.esr_session.specs.declared.engine.TheConstants.{SEAL};
+    ghost use Rattle.esr_session.specs.declared.naming.TheConstants.{LEDGER_PARTS, MOST_SESSIONS};
     ghost use Rattle.esr_session.specs.Engine.{Sessions};
 
     ghost Value = { Sessions };
 
     ghost view = { λ e. record { opened = e.opened } };
 
-    ghost invariant = { λ e. (e.rest.parts + e.opened ≡ 65) × (e.opened ≤ 64) × (e.rest.amount ≡ 1000001) };
+    ghost invariant = { λ e. (e.rest.parts + e.opened ≡ LEDGER_PARTS) × (e.opened ≤ MOST_SESSIONS)
+        × (e.rest.amount ≡ SEAL) };
 }
 
 /// What a closed engine leaves: its history, and the receipts of each session.
@@ -70,7 +73,7 @@ impl<M: Metric + Drop, N: Naming> Engine<M, N> {
         metric: M,
     ) -> Result<Engine<M, N>, NoMemory>
         requires name { blank.name ≡ N.name }
-        requires parts { (blank.parts ≡ N.parts) × (blank.parts ≡ 65) }
+        requires parts { (blank.parts ≡ N.parts) × (blank.parts ≡ LEDGER_PARTS) }
         requires opening { map (λ w. w.committed) items ≡ N.opening }
         requires weights { M.weights metric ≡ N.weights }
         ensures { IfOk result (λ e. e.opened ≡ 0) }
@@ -100,7 +103,7 @@ impl<M: Metric + Drop, N: Naming> Engine<M, N> {
     /// # Errors
     /// `NoMemory` if an allocation failed. The engine is then as before.
     pub fn open_sessions(&mut self, n: usize) -> Result<Vec<Session<M, N>>, NoMemory>
-        requires number { (1 ≤ n) × (n ≤ 64) }
+        requires number { (1 ≤ n) × (n ≤ MOST_SESSIONS) }
         requires first { self.old.opened ≡ 0 }
         ensures sessions { IfOk result (λ sessions. (vec_len sessions ≡ n)
             × All (λ session. session ≡ []) sessions.items) }
@@ -213,7 +216,7 @@ fn close_shared<M: Metric + Drop, N: Naming, R: Wait>(
     rest: &mut Share<N>,
     sessions: &mut [Session<M, N>],
 ) -> Result<History<M>, CloseError>
-    requires { (0 < rest.old.parts) × (rest.old.amount ≡ 1000001) }
+    requires { (0 < rest.old.parts) × (rest.old.amount ≡ SEAL) }
     ensures most { IfOk result (λ history. length history.schedule.entries ≤ MOST_ENTRIES) }
     ensures history { IfOk result (λ history. (history.schedule.opening ≡ N.opening)
         × (history.schedule.weights ≡ N.weights)) }
@@ -234,7 +237,7 @@ fn close_on<M: Metric + Drop, N: Naming>(
     rest: &mut Share<N>,
     sessions: &mut [Session<M, N>],
 ) -> Result<History<M>, CloseError>
-    requires { (0 < rest.old.parts) × (rest.old.amount ≡ 1000001) }
+    requires { (0 < rest.old.parts) × (rest.old.amount ≡ SEAL) }
     ensures most { IfOk result (λ history. length history.schedule.entries ≤ MOST_ENTRIES) }
     ensures history { IfOk result (λ history. (locked.old ≡ Some history.schedule)
         × (history.schedule.opening ≡ N.opening) × (history.schedule.weights ≡ N.weights)) }

@@ -24,6 +24,7 @@ pub struct Locked<M: Metric, N: Naming> {
 
 impl<M: Metric, N: Naming> Model for Locked<M, N> {
     ghost use Rattle.esr_history.specs.declared.limits.TheConstants.{MOST_ENTRIES};
+    ghost use Rattle.esr_session.specs.declared.engine.TheConstants.{SEAL};
     ghost use Rattle.std.specs.Prelude.{◌≡◌, ◌+◌, ◌≤◌, Option, MatchOption, length};
     ghost use Rattle.esr_history.specs.Machine.{Schedule};
 
@@ -32,7 +33,7 @@ impl<M: Metric, N: Naming> Model for Locked<M, N> {
     ghost view = { λ l. l.machine };
 
     ghost invariant = { λ l. MatchOption l.machine (l.total.total ≤ MOST_ENTRIES)
-        (λ h. (h.opening ≡ N.opening) × (h.weights ≡ N.weights) × (l.total.total ≡ length h.entries + 1000001)) };
+        (λ h. (h.opening ≡ N.opening) × (h.weights ≡ N.weights) × (l.total.total ≡ length h.entries + SEAL)) };
 }
 
 /// The receipts of one session, each of which counts one in the share.

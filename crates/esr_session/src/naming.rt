@@ -1,8 +1,15 @@
 //! The name of an engine, which only contracts see.
 ghost use Rattle.std.specs.Prelude.{◌≡◌, ℕ, ℤ, List, []};
+ghost use Rattle.esr_session.specs.declared.naming.TheConstants.{LEDGER_PARTS};
 
 use std::marker::{Brand, PhantomData};
 use std::sync::ledger::Ledger;
+
+/// The most sessions of an engine.
+pub const MOST_SESSIONS: usize = 64;
+
+/// The parts of an engine's ledger: one for each session that there can be, and one for the engine.
+pub const LEDGER_PARTS: u64 = MOST_SESSIONS as u64 + 1;
 
 /// Which engine it is: its ledger, its opening values and the numbers of its metric. The call of a function that is
 /// generic over it picks them, so two engines never have the same one.
@@ -18,26 +25,26 @@ impl Naming for Brand {
     ghost weights = { [] };
 }
 
-/// Keeps in its type that the ledger has 65 parts: one for each of at most 64 sessions, and one for the engine.
+/// Keeps in its type how many parts the ledger has.
 #[derive(Drop)]
 pub(crate) struct Cut<N: Naming> {
     of: PhantomData<N>,
-    ghost parts: { N.parts ≡ 65 },
+    ghost parts: { N.parts ≡ LEDGER_PARTS },
 }
 
 impl<N: Naming> Cut<N> {
     pub(crate) fn new() -> Cut<N>
-        requires { N.parts ≡ 65 }
+        requires { N.parts ≡ LEDGER_PARTS }
     {
         Cut { of: PhantomData }
     }
 
     /// The number of parts, which brings what the type keeps into a proof.
     pub(crate) fn parts(&self) -> u64
-        ensures count { result ≡ 65 }
-        ensures parts { N.parts ≡ 65 }
+        ensures count { result ≡ LEDGER_PARTS }
+        ensures parts { N.parts ≡ LEDGER_PARTS }
     {
         let _of = &self.of;
-        65
+        LEDGER_PARTS
     }
 }

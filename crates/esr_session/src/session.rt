@@ -1,5 +1,6 @@
 //! Sessions, each of which one thread at a time calls an engine through.
 ghost use Rattle.std.specs.Prelude.{◌≡◌, ◌+◌, ◌<◌, ◌≤◌, List, [], ◌∷◌, ◌++◌, true, length, IfOk, OnErr, IfErr};
+ghost use Rattle.esr_history.specs.declared.limits.TheConstants.{MOST_ENTRIES};
 ghost use Rattle.esr_session.specs.Receipts.{IsReceipt, AreBlocked, is_blocked, is_block};
 ghost use Rattle.esr_session.specs.declared.receipt.Receipt.{Receipt};
 
@@ -74,7 +75,7 @@ impl<M: Metric + Drop, N: Naming> Session<M, N> {
         event: Event,
         turns: u32,
     ) -> Result<Receipt, StepError>
-        requires { (1 ≤ turns) × (turns ≤ 1000000) }
+        requires { (1 ≤ turns) × (turns ≤ MOST_ENTRIES) }
         ensures ok { IfOk result (λ r. (blocked : List Receipt) × (self.new ≡ self.old ++ blocked ++ r ∷ [])
             × AreBlocked M.distance_by N.opening N.weights event blocked × (length blocked < turns)
             × (is_blocked r.reply ≡ true → length blocked + 1 ≡ turns)) }

@@ -2,7 +2,7 @@
 ghost use Rattle.esr_items.specs.declared.TheConstants.{MOST_ITEMS};
 ghost use Rattle.std.specs.Prelude.{◌≡◌, ◌<◌, ◌≤◌, ◌↔◌, true, [], length, map, List, All, IfOk, OnOk, OnErr, IsErrOf};
 ghost use Rattle.std.specs.List.{list_any};
-ghost use Rattle.esr_items.specs.Values.{IsValue, opened};
+ghost use Rattle.esr_items.specs.Values.{IsValue, both_versions};
 ghost use Rattle.esr_history.specs.declared.event.Entry.{Entry};
 ghost use Rattle.esr_history.specs.Events.{committed_value};
 ghost use Rattle.esr_history.specs.Legal.{along};
@@ -32,7 +32,7 @@ pub enum RenewError {
 fn store_of(alloc: Global, values: Vec<i64>) -> Result<Store, NoMemory>
     requires few { length values.items ≤ MOST_ITEMS }
     requires range { All IsValue values.items }
-    ensures { IfOk result (λ s. s ≡ map opened values.items) }
+    ensures { IfOk result (λ s. s ≡ map both_versions values.items) }
 {
     Store::new(alloc, values).map_err(|_| NoMemory)
 }

@@ -1,5 +1,5 @@
 use Rattle.std.proofs.Common.{◌≡◌, ◌≤◌, take}
-use Rattle.esr_history.specs.Links.{begun_count}
+use Rattle.esr_history.specs.BackLinks.{begun_count}
 use Rattle.esr_drive.proofs.table.begun_count.Given as goal
 
 -- as many as began by the entries so far

@@ -1,6 +1,6 @@
 use Rattle.std.proofs.Common.{rules, ◌≡◌, ◌+◌, ◌-◌, ◌<◌, [], length, map, drop, replicate, sym, ap, ◌∙◌, arith}
 use Rattle.std.specs.List.{flat_map}
-use Rattle.esr_history.specs.Links.{begun_count}
+use Rattle.esr_history.specs.BackLinks.{begun_count}
 use Rattle.std.proofs.lemmas.List.{length-map}
 use Rattle.esr_drive.specs.Calls.{answers_of}
 use Rattle.esr_drive.specs.Driven.{all_answers}

@@ -1,7 +1,7 @@
 use Rattle.std.proofs.Common.{◌≡◌, ◌≤◌, [], length, drop, map}
 use Rattle.std.specs.Prelude.{replicate}
 use Rattle.std.specs.List.{flat_map}
-use Rattle.esr_history.specs.Links.{begun_count}
+use Rattle.esr_history.specs.BackLinks.{begun_count}
 use Rattle.esr_drive.specs.Driven.{all_answers}
 use Rattle.esr_drive.specs.Tables.{names_in, noted}
 use Rattle.esr_drive.proofs.table.begun_names.Given as goal

@@ -1,4 +1,4 @@
-use Rattle.esr_history.specs.Links.{coded}
+use Rattle.esr_history.specs.BackLinks.{coded}
 use Rattle.esr_order.proofs.Accessed.{IsBackTo}
 use Rattle.esr_order.proofs.accesses.list_accesses.Given as goal
 

@@ -1,5 +1,5 @@
 use Rattle.std.proofs.Common.{sym, subst}
-use Rattle.esr_history.specs.Links.{accepted_txn, txn_in}
+use Rattle.esr_history.specs.BackLinks.{accepted_txn, txn_in}
 use Rattle.esr_order.proofs.Linked.{IsWalk, walk_none, walk_done, walk_next, walk_smaller, accepted_owns}
 use Rattle.esr_order.proofs.walk.places_of_txn.Goals as goal
 

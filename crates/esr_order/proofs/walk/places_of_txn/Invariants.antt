@@ -1,4 +1,4 @@
-use Rattle.esr_history.specs.Links.{accepted_txn, coded}
+use Rattle.esr_history.specs.BackLinks.{accepted_txn, coded}
 use Rattle.esr_order.proofs.Linked.{IsWalk}
 use Rattle.esr_order.proofs.walk.places_of_txn.Given as goal
 

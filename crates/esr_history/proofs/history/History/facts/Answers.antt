@@ -1,6 +1,6 @@
 use Rattle.std.proofs.Common.{length, ◌∙◌, ap}
-use Rattle.esr_history.specs.Machine.{Held}
-use Rattle.esr_history.specs.Links.{facts_of}
+use Rattle.esr_history.specs.Machine.{HistoryView}
+use Rattle.esr_history.specs.BackLinks.{facts_of}
 use Rattle.esr_history.proofs.Fitting.{legal_fit}
 use Rattle.esr_history.proofs.history.History.facts.Goals as goal
 
@@ -9,4 +9,4 @@ returns g c =
     let h = c.self.inside in
     c.facts.ensures (length h.initial.items) h.list.entries c.self.invariant.3
     (legal_fit g.M.Metric.distance_by (record { opening = h.initial.items; weights = g.M.Metric.weights h.by; entries = h.list.entries }) c.self.invariant.2)
-    ∙ ap (λ (v : Held). facts_of v.schedule.entries c.args.t.0) c.self.view_is
+    ∙ ap (λ (v : HistoryView). facts_of v.schedule.entries c.args.t.0) c.self.view_is

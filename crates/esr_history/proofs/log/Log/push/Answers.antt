@@ -3,7 +3,7 @@ use Rattle.std.proofs.lemmas.List.{map-append, get_or_push}
 use Rattle.std.proofs.lemmas.List.Elements.{All-push}
 use Rattle.esr_history.specs.declared.short.Short.TheVariants.{Long}
 use Rattle.esr_history.specs.Logged.{Logged}
-use Rattle.esr_history.specs.Short.{entry_of, no_entry, IsWithin}
+use Rattle.esr_history.specs.Short.{unpacked, no_entry, IsWithin}
 use Rattle.esr_history.proofs.Packed.{entries_stay}
 use Rattle.esr_history.proofs.log.Log.push.Goals as goal
 
@@ -14,11 +14,11 @@ returns-in_default-clause-entries c =
     let e = c.args.entry in
     let place = c.len-place.result in
     let at : length long ≡ place = omega (arith, c.len-place.ensures) in
-    let last : entry_of (long ++ e ∷ []) (Long place) ≡ e = get_or_push long e no_entry place at in
+    let last : unpacked (long ++ e ∷ []) (Long place) ≡ e = get_or_push long e no_entry place at in
     rw c.push_reserved-in_default.ensures.items (rw c.push_reserved.ensures.items (
-    map-append (entry_of (long ++ e ∷ [])) list (Long place ∷ [])
-    ∙ (ap (λ es. es ++ entry_of (long ++ e ∷ []) (Long place) ∷ []) (entries_stay long e list c.self.invariant)
-    ∙ (ap (λ x. map (entry_of long) list ++ x ∷ []) last
+    map-append (unpacked (long ++ e ∷ [])) list (Long place ∷ [])
+    ∙ (ap (λ es. es ++ unpacked (long ++ e ∷ []) (Long place) ∷ []) (entries_stay long e list c.self.invariant)
+    ∙ (ap (λ x. map (unpacked long) list ++ x ∷ []) last
     ∙ ap (λ (v : Logged). v.entries ++ e ∷ []) c.self.view_is))))
 
 pub invariant_of-self-2 : goal.invariant_of-self-2

@@ -3,7 +3,7 @@ use Rattle.std.specs.Prelude.{slice_index}
 use Rattle.std.proofs.lemmas.Bool.{not-false}
 use Rattle.std.proofs.lemmas.List.{length-map}
 use Rattle.esr_history.specs.ItemLocks.{ItemLocks}
-use Rattle.esr_locks.specs.Rows.{RowOf, HeldOf, with_lock, has_such}
+use Rattle.esr_locks.specs.Rows.{RowOf, LockedItemsOf, with_lock, has_such}
 use Rattle.esr_locks.specs.Tables.{Table, room_for, locks_at, has_lock}
 use Rattle.esr_locks.proofs.Tables.{set_row, IsTable-push, IsTable-again, has_list, read_list, lock_more, such_has}
 use Rattle.esr_locks.proofs.table.LockTable.add.Goals as goal
@@ -14,7 +14,7 @@ inside c = rw (← length-map c.self.inside.rows.items (λ (r : RowOf). r.locks)
 
 in_list : (c : After-add) → c.args.t.0 < length c.self.inside.held.items
 in_list c =
-    let room : 0 < min (slice_index (map (λ (r : RowOf). r.room) c.self.inside.rows.items) c.args.x.0) (slice_index (map (λ (h : HeldOf). h.room) c.self.inside.held.items) c.args.t.0) =
+    let room : 0 < min (slice_index (map (λ (r : RowOf). r.room) c.self.inside.rows.items) c.args.x.0) (slice_index (map (λ (h : LockedItemsOf). h.room) c.self.inside.held.items) c.args.t.0) =
     subst (λ (v : Table). 0 < room_for v c.args.t.0 c.args.x.0) (sym c.self.view_is) c.requires.room in
     has_list c.self.inside.held.items c.args.t.0 (omega arith)
 

@@ -1,7 +1,7 @@
 use Rattle.std.proofs.Common.{◌≡◌, ◌<◌, ◌∙◌, sym, ap, subst, length, map, set, arith, rules, min}
 use Rattle.std.specs.Prelude.{slice_index}
 use Rattle.std.proofs.lemmas.List.{length-map}
-use Rattle.esr_locks.specs.Rows.{RowOf, HeldOf}
+use Rattle.esr_locks.specs.Rows.{RowOf, LockedItemsOf}
 use Rattle.esr_locks.specs.Tables.{Table}
 use Rattle.esr_locks.proofs.Tables.{set_same_row, room_of_row, room_of_list}
 use Rattle.esr_locks.proofs.table.LockTable.reserve.Goals as goal
@@ -30,5 +30,5 @@ returns-clause-ok c =
     let list : 0 < c.reserve-2.new.self.room = search rules in
     let a = room_of_row c.self.inside.rows.items c.args.x.0 c.reserve.new.self inside in
     let b = room_of_list c.make_lists.new.held.items c.args.t.0 c.reserve-2.new.self in_lists in
-    let both : 0 < min (slice_index (map (λ (r : RowOf). r.room) (set c.self.inside.rows.items c.args.x.0 c.reserve.new.self)) c.args.x.0) (slice_index (map (λ (h : HeldOf). h.room) (set c.make_lists.new.held.items c.args.t.0 c.reserve-2.new.self)) c.args.t.0) = rw (a, b) (omega arith) in
+    let both : 0 < min (slice_index (map (λ (r : RowOf). r.room) (set c.self.inside.rows.items c.args.x.0 c.reserve.new.self)) c.args.x.0) (slice_index (map (λ (h : LockedItemsOf). h.room) (set c.make_lists.new.held.items c.args.t.0 c.reserve-2.new.self)) c.args.t.0) = rw (a, b) (omega arith) in
     both

@@ -1,7 +1,7 @@
 use Rattle.std.proofs.Common.{◌∙◌, ap, Some}
-use Rattle.esr_history.specs.Links.{decoded, key_at, accepted_item, last_place}
+use Rattle.esr_history.specs.BackLinks.{decoded, key_at, accepted_item, last_place}
 use Rattle.esr_history.proofs.Linking.{at_key_is, decoded_coded}
-use Rattle.esr_history.proofs.links.Links.last_on_item.Goals as goal
+use Rattle.esr_history.proofs.back_links.BackLinks.last_on_item.Goals as goal
 
 pub returns : goal.returns
 returns c = λ n es are fit.

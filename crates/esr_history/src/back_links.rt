@@ -3,7 +3,7 @@ ghost use Rattle.esr_items.specs.declared.TheConstants.{MOST_ITEMS};
 ghost use Rattle.std.specs.Prelude.{◌≡◌, ◌+◌, ◌^◌, ◌<◌, ◌≤◌, ◌++◌, ◌∷◌, [], ℕ, List, Some, None, length, slice_index_or, slice_set, IfOk, OnOk, vec_capacity};
 ghost use Rattle.esr_history.specs.declared.event.Entry.{Entry};
 ghost use Rattle.esr_history.specs.declared.event.Reply.TheVariants.{Begun};
-ghost use Rattle.esr_history.specs.Links.{with_key, txns_after, ends_after, begins_after, IsNumbered, item_of, begun_by, txn_of, key_at, decoded, AreLinks, IsFit, HasRoom, HasRoomToBegin, last_place, earlier, facts_of, accepted_item, accepted_txn, item_in, txn_in};
+ghost use Rattle.esr_history.specs.BackLinks.{with_key, txns_after, ends_after, begins_after, IsNumbered, item_of, begun_by, txn_of, key_at, decoded, AreLinks, IsFit, HasRoom, HasRoomToBegin, last_place, earlier, facts_of, accepted_item, accepted_txn, item_in, txn_in};
 
 use crate::event::{Entry, Event, Reply};
 use std::alloc::{AllocError, Global};
@@ -27,7 +27,7 @@ struct Begin {
 /// last such place; and how each transaction began and where it ended. In a table, 0 stands
 /// for no place, and each place for one more.
 #[derive(Drop)]
-pub struct Links {
+pub struct BackLinks {
     on_item: Vec<u32>,
     of_txn: Vec<u32>,
     items: Vec<u32>,
@@ -119,9 +119,9 @@ pub fn spare<T>(list: &Vec<T>) -> usize
     list.capacity() - list.len()
 }
 
-impl Links {
+impl BackLinks {
     /// The tables of no entries.
-    pub fn new(alloc: Global, items: usize) -> Result<Links, AllocError>
+    pub fn new(alloc: Global, items: usize) -> Result<BackLinks, AllocError>
         requires { items ≤ MOST_ITEMS }
         ensures { IfOk result (λ l. AreLinks items [] l) }
     {
@@ -129,7 +129,7 @@ impl Links {
         txns.push(0)?;
         let mut ends = Vec::new(alloc);
         ends.push(0)?;
-        Ok(Links {
+        Ok(BackLinks {
             on_item: Vec::new(alloc),
             of_txn: Vec::new(alloc),
             items: vec![in alloc; 0; items]?,

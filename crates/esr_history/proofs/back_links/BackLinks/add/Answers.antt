@@ -1,10 +1,10 @@
 use Rattle.std.proofs.Common.{◌≡◌, ◌+◌, ◌++◌, ◌∷◌, [], length, sym, ◌∙◌, ap, rules, refl, arith}
 use Rattle.std.specs.Prelude.{vec_capacity}
 use Rattle.std.proofs.lemmas.List.{length-append}
-use Rattle.esr_history.specs.Links.{key_at, item_in, txn_in, accepted_item}
+use Rattle.esr_history.specs.BackLinks.{key_at, item_in, txn_in, accepted_item}
 use Rattle.esr_history.proofs.Linking.{accepted_more, refused_more, links_length}
-use Rattle.esr_history.proofs.links.Links.add.Goals as goal
-use Rattle.esr_history.proofs.links.Links.add.Goals.{After-push_reserved-2}
+use Rattle.esr_history.proofs.back_links.BackLinks.add.Goals as goal
+use Rattle.esr_history.proofs.back_links.BackLinks.add.Goals.{After-push_reserved-2}
 
 -- the places that the entry points back to, by its item and by its transaction, come last
 behind : (c : After-push_reserved-2) → (c.push_reserved.new.self.items ≡ c.args.self.now.on_item.items ++ key_at c.args.self.now.items.items (item_in c.args.entry) ∷ [])

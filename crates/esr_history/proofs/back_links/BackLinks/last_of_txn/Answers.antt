@@ -1,7 +1,7 @@
 use Rattle.std.proofs.Common.{◌∙◌, ap, Some, ◌+◌, ◌<◌, arith}
-use Rattle.esr_history.specs.Links.{decoded, key_at, accepted_txn, last_place, begun_count}
+use Rattle.esr_history.specs.BackLinks.{decoded, key_at, accepted_txn, last_place, begun_count}
 use Rattle.esr_history.proofs.Linking.{at_key_is, decoded_coded}
-use Rattle.esr_history.proofs.links.Links.last_of_txn.Goals as goal
+use Rattle.esr_history.proofs.back_links.BackLinks.last_of_txn.Goals as goal
 
 pub returns : goal.returns
 returns c = λ n es are fit.

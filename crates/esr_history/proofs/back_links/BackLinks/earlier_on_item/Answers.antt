@@ -1,6 +1,6 @@
 use Rattle.std.proofs.Common.{arith}
 use Rattle.esr_history.proofs.Linking.{link_at}
-use Rattle.esr_history.proofs.links.Links.earlier_on_item.Goals as goal
+use Rattle.esr_history.proofs.back_links.BackLinks.earlier_on_item.Goals as goal
 
 pub returns : goal.returns
 returns c = grind (arith, link_at)

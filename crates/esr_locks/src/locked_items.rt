@@ -1,5 +1,5 @@
 ghost use Rattle.std.specs.Prelude.{◌≡◌, ◌<◌, [], ◌∷◌, ◌++◌, OnOk, OnErr};
-ghost use Rattle.esr_locks.specs.Rows.{HeldOf};
+ghost use Rattle.esr_locks.specs.Rows.{LockedItemsOf};
 
 use crate::lists::reserve_one;
 use esr_items::ItemId;
@@ -10,24 +10,24 @@ use std::marker::Model;
 /// The items that a transaction has locked. Up to six lie in the list itself, more in an
 /// allocation.
 #[derive(Drop)]
-pub struct Held {
+pub struct LockedItems {
     list: SmallVec<ItemId, 6>,
 }
 
-impl Model for Held {
+impl Model for LockedItems {
     ghost use Rattle.std.specs.Prelude.{◌-◌, length};
-    ghost use Rattle.esr_locks.specs.Rows.{HeldOf};
+    ghost use Rattle.esr_locks.specs.Rows.{LockedItemsOf};
 
-    ghost Value = { HeldOf };
+    ghost Value = { LockedItemsOf };
 
     ghost view = { λ h. record { items = h.list.items; room = h.list.capacity - length h.list.items } };
 }
 
-impl Held {
-    pub fn new(alloc: Global) -> Held
+impl LockedItems {
+    pub fn new(alloc: Global) -> LockedItems
         ensures { result.items ≡ [] }
     {
-        Held {
+        LockedItems {
             list: SmallVec::new(alloc),
         }
     }

@@ -7,9 +7,9 @@ use Rattle.esr_history.specs.declared.event.Event.TheVariants.{BeginUpdate, Begi
 use Rattle.esr_history.specs.declared.event.Reply.{Reply}
 use Rattle.esr_history.specs.declared.event.Reply.TheVariants.{Begun}
 use Rattle.esr_history.specs.declared.event.Entry.{Entry}
-use Rattle.esr_history.specs.declared.links.Facts.{Facts}
-use Rattle.esr_history.specs.declared.links.Begin.{Begin}
-use Rattle.esr_history.specs.declared.links.Links.{Links}
+use Rattle.esr_history.specs.declared.back_links.Facts.{Facts}
+use Rattle.esr_history.specs.declared.back_links.Begin.{Begin}
+use Rattle.esr_history.specs.declared.back_links.BackLinks.{BackLinks}
 use Rattle.esr_history.specs.Events.{Beginning, is_refusal, accepted, beginnings, beginning}
 
 -- the item that an event is on
@@ -115,7 +115,7 @@ abbrev pub begun_count : List Entry → ℕ
 begun_count es = length (beginnings (accepted es))
 
 -- the tables are those of the entries, over n items
-pub record AreLinks (n : ℕ) (es : List Entry) (l : Links) : Type 0 where
+pub record AreLinks (n : ℕ) (es : List Entry) (l : BackLinks) : Type 0 where
   pub on_item : l.on_item.items ≡ links_by accepted_item item_in es
   pub of_txn : l.of_txn.items ≡ links_by accepted_txn txn_in es
   pub items : l.items.items ≡ lasts_by accepted_item es n
@@ -130,13 +130,13 @@ pub record IsFit (n : ℕ) (es : List Entry) : Type 0 where
   pub ends : (t : ℕ) → begun_count es < t → last_place accepted_end t es ≡ None
 
 -- there is room for so many more begins, and for so many more entries, whose places have codes of 32 bits
-abbrev pub HasRoomToBegin : ℕ → Links → Type 0
+abbrev pub HasRoomToBegin : ℕ → BackLinks → Type 0
 HasRoomToBegin k l =
     (length l.txns.items + k ≤ vec_capacity l.txns)
     × (length l.ends.items + k ≤ vec_capacity l.ends)
     × (length l.begins.items + k ≤ vec_capacity l.begins)
 
-abbrev pub HasRoom : ℕ → Links → Type 0
+abbrev pub HasRoom : ℕ → BackLinks → Type 0
 HasRoom k l =
     (length l.on_item.items + k < 2 ^ 32)
     × (length l.on_item.items + k ≤ vec_capacity l.on_item)
