@@ -1,5 +1,6 @@
 -- The locks on one item, as a row of the table.
-use Rattle.std.specs.Prelude.{◌≡◌, ℕ, Bool, ◌+◌, ◌<◌, List, [], length, true, All, slice_index_or}
+use Rattle.std.specs.Prelude.{◌≡◌, ℕ, Bool, ◌+◌, ◌<◌, ◌≤◌, List, [], length, true, All, slice_index_or, Result, OnOk, OnErr}
+use Rattle.smallvec.specs.SmallVec.{SmallVec, HasRoomFor}
 use Rattle.esr_items.specs.declared.metric.ItemId.{ItemId}
 use Rattle.esr_history.specs.declared.event.TxnId.{TxnId}
 use Rattle.esr_history.specs.ItemLocks.{ItemLocks}
@@ -13,6 +14,14 @@ use Rattle.esr_locks.specs.Tables.{no_locks, has_lock, is_update, is_query, with
 pub record RowOf : Type 0 where
   pub locks : ItemLocks
   pub room : ℕ
+
+-- what making room for one more element of a list does
+pub record MakesRoom {T A E : Type 0} (old new : SmallVec T) (result : Result A E) : Type 0 where
+  pub items : new.items ≡ old.items
+  pub capacity : old.capacity ≤ new.capacity
+  pub ok : OnOk result (HasRoomFor new 1)
+  pub full : OnErr result (¬ HasRoomFor old 1)
+  pub err : OnErr result (new ≡ old)
 
 -- an update as a reader
 abbrev pub reader : TxnId → Reader
@@ -29,7 +38,8 @@ first_reads q = record { query = q; count = 1 }
 abbrev pub more_reads : QueryReads → QueryReads
 more_reads r = record r { count = r.count + 1 }
 
--- the locks of an item with one more, and whether a transaction holds such a lock: an update's read and write count alike
+-- the locks of an item with one more, and whether a transaction holds such a lock: an update's read and write count
+-- alike
 abbrev pub with_lock : Lock → ℕ → ItemLocks → ItemLocks
 with_lock Read = with_reader
 with_lock Write = with_writer
