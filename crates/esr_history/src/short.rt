@@ -16,8 +16,8 @@ pub enum Bar {
     Export,
 }
 
-/// An entry in 16 bytes. Numbers of transactions and of items have 16 bits, and each transaction that has begun and each
-/// item that is declared has such a number. What has no form here is in a list of its own, at `place`.
+/// An entry in 16 bytes. Numbers of transactions and of items have 16 bits, and each transaction that has begun and
+/// each item that is declared has such a number. What has no form here is in a list of its own, at `place`.
 #[derive(Clone, Copy)]
 pub enum Short {
     UpdateBegun {
