@@ -8,7 +8,7 @@ use Rattle.esr_locks.specs.declared.lists.Reader.{Reader}
 use Rattle.esr_locks.specs.declared.lists.QueryReads.{QueryReads}
 use Rattle.esr_locks.specs.declared.row.Lock.{Lock}
 use Rattle.esr_locks.specs.declared.row.Lock.TheVariants.{Read, Write, QueryRead}
-use Rattle.esr_locks.specs.Tables.{no_locks, has_lock, is_update, is_query, with_reader, with_writer, with_query_read, lists_item}
+use Rattle.esr_locks.specs.Tables.{no_locks, has_lock, has_update_lock, has_query_lock, with_reader, with_writer, with_query_read, lists_item}
 
 -- what a row is to contracts: the locks, and for how many more there is room
 pub record RowOf : Type 0 where
@@ -28,8 +28,8 @@ abbrev pub reader : TxnId → Reader
 reader t = record { update = t }
 
 -- a query with its count of reads
-abbrev pub reads_of : QueryReads → ℕ × ℕ
-reads_of r = (r.query.0, r.count)
+abbrev pub query_and_count : QueryReads → ℕ × ℕ
+query_and_count r = (r.query.0, r.count)
 
 -- a query's first read, and one more
 abbrev pub first_reads : TxnId → QueryReads
@@ -46,9 +46,9 @@ with_lock Write = with_writer
 with_lock QueryRead = with_query_read
 
 abbrev pub has_such : Lock → ItemLocks → ℕ → Bool
-has_such Read = is_update
-has_such Write = is_update
-has_such QueryRead = is_query
+has_such Read = has_update_lock
+has_such Write = has_update_lock
+has_such QueryRead = has_query_lock
 
 -- what the items that a transaction has locked are to contracts: the items, and for how many more there is room
 pub record LockedItemsOf : Type 0 where
