@@ -24,7 +24,7 @@ use Rattle.esr_history.proofs.Words.{query_not_update}
 use Rattle.esr_history.proofs.Sums.{query_begun}
 use Rattle.esr_history.proofs.Orderly.{update_begun}
 use Rattle.esr_ledgers.specs.declared.account.Account.{Account}
-use Rattle.esr_ledgers.specs.Books.{number, is_open_query, limit_at, amount_at, total_of, would_pass, quoted, quote_of, raised, imported, charged, AreCharges}
+use Rattle.esr_ledgers.specs.Books.{number, is_open_query, limit_at, amount_at, total_of, would_pass, quoted, quote_of, raised, charged_to_queries, charged, AreCharges}
 use Rattle.esr_core.specs.Tied.{account_after, books_of}
 use Rattle.esr_core.specs.States.{reason_of, charges_to}
 use Rattle.esr_core.proofs.Held.{numbers-kept, query-kept, limit-kept}
@@ -74,10 +74,10 @@ map_agree f g same (u ∷ us) = rw (same u, map_agree f g same us) refl
 more_none : (a : Account) → more 0 a ≡ a
 more_none a = ap (λ n. record a { amount = n }) (add-zero a.amount)
 
-imported_row : (u : ℕ) (cs : List (TxnId × ℕ)) (f : ℕ → Account) → ((v : ℕ) → number (f v) ≡ v) → (us : List ℕ) → imported (map f us) cs ≡ map (λ v. more (import_in (charges_by u cs) v) (f v)) us
+imported_row : (u : ℕ) (cs : List (TxnId × ℕ)) (f : ℕ → Account) → ((v : ℕ) → number (f v) ≡ v) → (us : List ℕ) → charged_to_queries (map f us) cs ≡ map (λ v. more (import_in (charges_by u cs) v) (f v)) us
 imported_row u [] f own us = map_agree f (λ v. more 0 (f v)) (λ v. sym (more_none (f v))) us
 imported_row u (c ∷ cs) f own us =
-    ap (λ (as' : List Account). imported as' cs) (raised_row c.0.0 c.1 f own us)
+    ap (λ (as' : List Account). charged_to_queries as' cs) (raised_row c.0.0 c.1 f own us)
     ∙ (imported_row u cs (λ v. if v == c.0.0 then more c.1 (f v) else f v) (λ v. stays v (v == c.0.0)) us
     ∙ map_agree (λ v. more (import_in (charges_by u cs) v) (if v == c.0.0 then more c.1 (f v) else f v)) (λ v. more (import_in (charges_by u (c ∷ cs)) v) (f v)) join us)
   where

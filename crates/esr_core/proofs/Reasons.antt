@@ -21,7 +21,7 @@ use Rattle.esr_ledgers.specs.declared.account.Account.{Account}
 use Rattle.esr_ledgers.specs.Books.{quote_of, AreCharges, is_open_query}
 use Rattle.esr_locks.specs.Tables.{locks_at, keeps_from_reading, keeps_from_writing, IsLeast}
 use Rattle.esr_core.specs.declared.state.Transaction.{Transaction}
-use Rattle.esr_core.specs.Tied.{IsTied, books_of, row_of}
+use Rattle.esr_core.specs.Tied.{IsTied, books_of, transaction_after}
 use Rattle.esr_core.specs.States.{reason_of, read_charge}
 use Rattle.esr_core.proofs.Rows.{row_is}
 use Rattle.esr_core.proofs.Locks.{locks_len, locks_here, least_writer, least_holder}
@@ -51,10 +51,10 @@ module _ (d : Distance) (h : Schedule) (items : List Versions) (table : List Tra
 
   -- the row that is found at a transaction's number
   module _ (t : ℕ) (r : Transaction) (known : (0 < t) × (t ≤ length table)) (at : (k : ℕ) → t ≡ k + 1 → r ≡ get_or table k r) where
-    row_known : r ≡ row_of (done h) t
+    row_known : r ≡ transaction_after (done h) t
     row_known =
         let number : t ≡ suc (t - 1) = omega arith in
-        row_is (done h) table tie.rows (t - 1) r (omega arith) (at (t - 1) (omega arith)) ∙ ap (row_of (done h)) (sym number)
+        row_is (done h) table tie.rows (t - 1) r (omega arith) (at (t - 1) (omega arith)) ∙ ap (transaction_after (done h)) (sym number)
 
     pub row_query : r.query ≡ is_query (done h) t
     row_query = ap (λ (q : Transaction). q.query) row_known

@@ -13,15 +13,15 @@ use Rattle.esr_history.proofs.Laws.{legal_serializable}
 use Rattle.esr_history.specs.ItemLocks.{ItemLocks}
 use Rattle.esr_ledgers.specs.declared.account.Account.{Account}
 use Rattle.esr_core.specs.declared.state.Transaction.{Transaction}
-use Rattle.esr_core.specs.Tied.{IsTied, row_of, rows_of}
+use Rattle.esr_core.specs.Tied.{IsTied, transaction_after, transactions_after}
 use Rattle.esr_core.specs.Renewed.{committed_values, state_over, AreSerializableAsOne}
 
 -- the rows of active transactions
-active_in : (events : List Event) (ts : List ℕ) → list_any (λ (r : Transaction). r.active) (map (row_of events) ts) ≡ list_any (is_active events) ts
+active_in : (events : List Event) (ts : List ℕ) → list_any (λ (r : Transaction). r.active) (map (transaction_after events) ts) ≡ list_any (is_active events) ts
 active_in events [] = refl
 active_in events (t ∷ ts) = ap (λ b. is_active events t || b) (active_in events ts)
 
-pub active_rows : (events : List Event) → list_any (λ (r : Transaction). r.active) (rows_of events) ≡ list_any (is_active events) (numbers events)
+pub active_rows : (events : List Event) → list_any (λ (r : Transaction). r.active) (transactions_after events) ≡ list_any (is_active events) (numbers events)
 active_rows events = active_in events (numbers events)
 
 -- the committed values of a state, in their order

@@ -18,16 +18,16 @@ use Rattle.esr_history.proofs.Ranges.{map_same, set_range}
 use Rattle.esr_history.proofs.Reaches.{count_none}
 use Rattle.esr_history.proofs.Orderly.{names_aborter}
 use Rattle.esr_core.specs.declared.state.Transaction.{Transaction}
-use Rattle.esr_core.specs.Tied.{row_of, rows_of}
+use Rattle.esr_core.specs.Tied.{transaction_after, transactions_after}
 use Rattle.esr_core.proofs.Held.{active-kept, active-same, IsBegin, numbers-kept, query-kept, beginnings-begin, beginning-begin, beginning-new, not_named, commits_name}
 
 -- there is a row for each transaction
-pub rows_len : (done : List Event) (table : List Transaction) → table ≡ rows_of done → length table ≡ length (beginnings done)
-rows_len done table is = ap length is ∙ length-map-range_with_len (row_of done) 1 (length (beginnings done))
+pub rows_len : (done : List Event) (table : List Transaction) → table ≡ transactions_after done → length table ≡ length (beginnings done)
+rows_len done table is = ap length is ∙ length-map-range_with_len (transaction_after done) 1 (length (beginnings done))
 
-pub row_is : (done : List Event) (table : List Transaction) → table ≡ rows_of done → (k : ℕ) (r : Transaction) → k < length table → r ≡ get_or table k r → r ≡ row_of done (suc k)
+pub row_is : (done : List Event) (table : List Transaction) → table ≡ transactions_after done → (k : ℕ) (r : Transaction) → k < length table → r ≡ get_or table k r → r ≡ transaction_after done (suc k)
 row_is done table is k r l at =
-    at ∙ (ap (λ (rs : List Transaction). get_or rs k r) is ∙ get_or-map-range_with_len (row_of done) 1 (length (beginnings done)) k (suc k) r (rw (← rows_len done table is) l) (omega arith))
+    at ∙ (ap (λ (rs : List Transaction). get_or rs k r) is ∙ get_or-map-range_with_len (transaction_after done) 1 (length (beginnings done)) k (suc k) r (rw (← rows_len done table is) l) (omega arith))
 
 pub begun_at : (done : List Event) (k : ℕ) → k < length (beginnings done) → is_begun done (suc k) ≡ true
 begun_at done k l = some (beginnings done) k l
@@ -43,7 +43,7 @@ reason_at true false b = refl
 reason_at false act b = absurd (false≢true b)
 
 -- what the table says of a transaction
-module _ (h : Schedule) (table : List Transaction) (is : table ≡ rows_of (done h)) where
+module _ (h : Schedule) (table : List Transaction) (is : table ≡ transactions_after (done h)) where
   pub row_reason : (k : ℕ) (r : Transaction) → k < length table → r ≡ get_or table k r → first_reason (not_begun h (suc k) ∷ ended h (suc k) ∷ []) ≡ (if r.active then None else Some AlreadyEnded)
   row_reason k r l at =
       reason_at (is_begun (done h) (suc k)) (is_active (done h) (suc k)) (begun_at (done h) k (rw (← rows_len (done h) table is) l))
@@ -63,14 +63,14 @@ reads_any_name t (Read u y) is = is
 reads_any_name t _ is = absurd (false≢true is)
 
 -- the table after a begin
-pub rows-begin : (done : List Event) → IsOrderly done → (e : Event) (b : Beginning) → IsBegin e b → (table : List Transaction) → table ≡ rows_of done
-    → table ++ record { query = b.query; active = true; reads = 0 } ∷ [] ≡ rows_of (done ++ e ∷ [])
+pub rows-begin : (done : List Event) → IsOrderly done → (e : Event) (b : Beginning) → IsBegin e b → (table : List Transaction) → table ≡ transactions_after done
+    → table ++ record { query = b.query; active = true; reads = 0 } ∷ [] ≡ transactions_after (done ++ e ∷ [])
 rows-begin done o e b is table was =
     ap (λ (rs : List Transaction). rs ++ record { query = b.query; active = true; reads = 0 } ∷ []) was
-    ∙ (ap (λ (rs : List Transaction). rs ++ record { query = b.query; active = true; reads = 0 } ∷ []) (map_same (row_of done) (row_of (done ++ e ∷ [])) 1 (length (beginnings done)) same)
-    ∙ (ap (λ (r : Transaction). map (row_of (done ++ e ∷ [])) (numbers done) ++ r ∷ []) new
-    ∙ (sym (map-range_with_len_more (row_of (done ++ e ∷ [])) 1 (length (beginnings done)) (suc (length (beginnings done))) (omega arith))
-    ∙ ap (λ n. map (row_of (done ++ e ∷ [])) (range_with_len 1 n)) (sym (longer)))))
+    ∙ (ap (λ (rs : List Transaction). rs ++ record { query = b.query; active = true; reads = 0 } ∷ []) (map_same (transaction_after done) (transaction_after (done ++ e ∷ [])) 1 (length (beginnings done)) same)
+    ∙ (ap (λ (r : Transaction). map (transaction_after (done ++ e ∷ [])) (numbers done) ++ r ∷ []) new
+    ∙ (sym (map-range_with_len_more (transaction_after (done ++ e ∷ [])) 1 (length (beginnings done)) (suc (length (beginnings done))) (omega arith))
+    ∙ ap (λ n. map (transaction_after (done ++ e ∷ [])) (range_with_len 1 n)) (sym (longer)))))
   where
     longer : length (beginnings (done ++ e ∷ [])) ≡ length (beginnings done) + 1
     longer = ap length (beginnings-begin done e b is) ∙ length_push (beginnings done) b
@@ -78,45 +78,45 @@ rows-begin done o e b is table was =
     no_more : (t : ℕ) → all_reads_of (done ++ e ∷ []) t ≡ all_reads_of done t
     no_more t = sum_by_push (λ f. if reads_any t f then 1 else 0) done e ∙ rw (is.reads_any_none t) (omega arith)
 
-    same : (t : ℕ) → 1 ≤ t → t < 1 + length (beginnings done) → row_of done t ≡ row_of (done ++ e ∷ []) t
+    same : (t : ℕ) → 1 ≤ t → t < 1 + length (beginnings done) → transaction_after done t ≡ transaction_after (done ++ e ∷ []) t
     same zero low high = absurd (omega arith)
     same (suc k) low high =
         let begun : is_begun done (suc k) ≡ true = begun_at done k (omega arith) in
         rw (active-same done e (suc k) is.commits_none is.aborts_none begun, no_more (suc k), beginning-begin done e (suc k) begun) refl
 
-    new : record { query = b.query; active = true; reads = 0 } ≡ row_of (done ++ e ∷ []) (suc (length (beginnings done)))
+    new : record { query = b.query; active = true; reads = 0 } ≡ transaction_after (done ++ e ∷ []) (suc (length (beginnings done)))
     new =
         grind (arith, no_more, count_none, not_named, reads_any_name, beginning-new done e b is, any_push_no, commits_name, names_aborter, row_same)
 
 module _ (done : List Event) (e : Event) (none : beginning_of e ≡ None) where
-  along : (table : List Transaction) → table ≡ map (row_of (done ++ e ∷ [])) (numbers done) → table ≡ rows_of (done ++ e ∷ [])
-  along table is = is ∙ ap (map (row_of (done ++ e ∷ []))) (sym (numbers-kept done e none))
+  along : (table : List Transaction) → table ≡ map (transaction_after (done ++ e ∷ [])) (numbers done) → table ≡ transactions_after (done ++ e ∷ [])
+  along table is = is ∙ ap (map (transaction_after (done ++ e ∷ []))) (sym (numbers-kept done e none))
 
   more_reads : (t : ℕ) → all_reads_of (done ++ e ∷ []) t ≡ all_reads_of done t + (if reads_any t e then 1 else 0)
   more_reads t = sum_by_push (λ f. if reads_any t f then 1 else 0) done e
 
-  after : (t : ℕ) (act : Bool) → is_active (done ++ e ∷ []) t ≡ act → row_of (done ++ e ∷ []) t ≡ row (is_query done t) act (all_reads_of done t + (if reads_any t e then 1 else 0))
+  after : (t : ℕ) (act : Bool) → is_active (done ++ e ∷ []) t ≡ act → transaction_after (done ++ e ∷ []) t ≡ row (is_query done t) act (all_reads_of done t + (if reads_any t e then 1 else 0))
   after t act is = row_same (is_query (done ++ e ∷ []) t) (is_query done t) (is_active (done ++ e ∷ []) t) act (all_reads_of (done ++ e ∷ []) t) (all_reads_of done t + (if reads_any t e then 1 else 0)) (query-kept done e none t) is (more_reads t)
 
   -- an event that ends nothing and that no query reads by leaves the table
-  pub rows-kept : ((t : ℕ) → commits t e ≡ false) → ((t : ℕ) → aborts t e ≡ false) → ((t : ℕ) → is_query done t ≡ true → reads_any t e ≡ false) → (table : List Transaction) → table ≡ rows_of done → table ≡ rows_of (done ++ e ∷ [])
-  rows-kept c a r table was = along table (was ∙ map_same (row_of done) (row_of (done ++ e ∷ [])) 1 (length (beginnings done)) (λ t low high. same t))
+  pub rows-kept : ((t : ℕ) → commits t e ≡ false) → ((t : ℕ) → aborts t e ≡ false) → ((t : ℕ) → is_query done t ≡ true → reads_any t e ≡ false) → (table : List Transaction) → table ≡ transactions_after done → table ≡ transactions_after (done ++ e ∷ [])
+  rows-kept c a r table was = along table (was ∙ map_same (transaction_after done) (transaction_after (done ++ e ∷ [])) 1 (length (beginnings done)) (λ t low high. same t))
     where
-      same : (t : ℕ) → row_of done t ≡ row_of (done ++ e ∷ []) t
+      same : (t : ℕ) → transaction_after done t ≡ transaction_after (done ++ e ∷ []) t
       same t =
           grind (arith, after t (is_active done t) (active-kept done e none c a t), active-kept done e none c a t, add-zero (all_reads_of done t))
 
   -- a read by a query is counted
   pub rows-read : (k : ℕ) (r : Transaction) → ((t : ℕ) → commits t e ≡ false) → ((t : ℕ) → aborts t e ≡ false) → is_query done (suc k) ≡ true → ((t : ℕ) → reads_any t e ≡ (suc k == t))
-      → (table : List Transaction) → table ≡ rows_of done → k < length table → r ≡ get_or table k r → set table k (record r { reads = r.reads + 1 }) ≡ rows_of (done ++ e ∷ [])
+      → (table : List Transaction) → table ≡ transactions_after done → k < length table → r ≡ get_or table k r → set table k (record r { reads = r.reads + 1 }) ≡ transactions_after (done ++ e ∷ [])
   rows-read k r c a query by table was l at =
       along (set table k (record r { reads = r.reads + 1 }))
       (ap (λ (rs : List Transaction). set rs k (record r { reads = r.reads + 1 })) was
-      ∙ set_range (row_of done) (row_of (done ++ e ∷ [])) 1 (length (beginnings done)) k (record r { reads = r.reads + 1 }) (rw (← rows_len done table was) l) here other)
+      ∙ set_range (transaction_after done) (transaction_after (done ++ e ∷ [])) 1 (length (beginnings done)) k (record r { reads = r.reads + 1 }) (rw (← rows_len done table was) l) here other)
     where
-      here : row_of (done ++ e ∷ []) (1 + k) ≡ record r { reads = r.reads + 1 }
+      here : transaction_after (done ++ e ∷ []) (1 + k) ≡ record r { reads = r.reads + 1 }
       here =
-          (let num : 1 + k ≡ suc k = omega arith in ap (row_of (done ++ e ∷ [])) num)
+          (let num : 1 + k ≡ suc k = omega arith in ap (transaction_after (done ++ e ∷ [])) num)
           ∙ (after (suc k) (is_active done (suc k)) (active-kept done e none c a (suc k))
           ∙ (ap (λ (b : Bool). row (is_query done (suc k)) (is_active done (suc k)) (all_reads_of done (suc k) + (if b then 1 else 0))) (by (suc k) ∙ eq-eqb (suc k) (suc k) refl)
           ∙ (counts (is_query done (suc k)) query
@@ -126,26 +126,26 @@ module _ (done : List Event) (e : Event) (none : beginning_of e ≡ None) where
           counts true is = refl
           counts false is = absurd (false≢true is)
 
-      other : (t : ℕ) → (t ≡ 1 + k → ⊥) → row_of (done ++ e ∷ []) t ≡ row_of done t
+      other : (t : ℕ) → (t ≡ 1 + k → ⊥) → transaction_after (done ++ e ∷ []) t ≡ transaction_after done t
       other t ne = grind (arith, after, active-kept, ne_eqb, add-zero)
 
   -- the end of a transaction
   pub rows-end : (k : ℕ) (r : Transaction) → ((t : ℕ) → is_active (done ++ e ∷ []) t ≡ (is_active done t && not (suc k == t))) → ((t : ℕ) → reads_any t e ≡ false)
-      → (table : List Transaction) → table ≡ rows_of done → k < length table → r ≡ get_or table k r → set table k (record r { active = false }) ≡ rows_of (done ++ e ∷ [])
+      → (table : List Transaction) → table ≡ transactions_after done → k < length table → r ≡ get_or table k r → set table k (record r { active = false }) ≡ transactions_after (done ++ e ∷ [])
   rows-end k r ends by table was l at =
       along (set table k (record r { active = false }))
       (ap (λ (rs : List Transaction). set rs k (record r { active = false })) was
-      ∙ set_range (row_of done) (row_of (done ++ e ∷ [])) 1 (length (beginnings done)) k (record r { active = false }) (rw (← rows_len done table was) l) here other)
+      ∙ set_range (transaction_after done) (transaction_after (done ++ e ∷ [])) 1 (length (beginnings done)) k (record r { active = false }) (rw (← rows_len done table was) l) here other)
     where
       count : (t : ℕ) → all_reads_of done t + (if reads_any t e then 1 else 0) ≡ all_reads_of done t
       count t = ap (λ (b : Bool). all_reads_of done t + (if b then 1 else 0)) (by t) ∙ add-zero (all_reads_of done t)
 
-      here : row_of (done ++ e ∷ []) (1 + k) ≡ record r { active = false }
+      here : transaction_after (done ++ e ∷ []) (1 + k) ≡ record r { active = false }
       here =
-          (let num : 1 + k ≡ suc k = omega arith in ap (row_of (done ++ e ∷ [])) num)
+          (let num : 1 + k ≡ suc k = omega arith in ap (transaction_after (done ++ e ∷ [])) num)
           ∙ (after (suc k) false (ends (suc k) ∙ (ap (λ (b : Bool). is_active done (suc k) && not b) (eq-eqb (suc k) (suc k) refl) ∙ and_right (is_active done (suc k)) false refl))
           ∙ (ap (λ (m : ℕ). row (is_query done (suc k)) false m) (count (suc k))
           ∙ ap (λ (q : Transaction). record q { active = false }) (sym (row_is done table was k r l at))))
 
-      other : (t : ℕ) → (t ≡ 1 + k → ⊥) → row_of (done ++ e ∷ []) t ≡ row_of done t
+      other : (t : ℕ) → (t ≡ 1 + k → ⊥) → transaction_after (done ++ e ∷ []) t ≡ transaction_after done t
       other t ne = grind (arith, after, ne_eqb, count)

@@ -12,33 +12,33 @@ use Rattle.esr_history.specs.declared.short.Bar.TheVariants.{Lock, Import, Expor
 use Rattle.esr_history.specs.declared.short.Short.{Short}
 use Rattle.esr_history.specs.declared.short.Short.TheVariants.{UpdateBegun, QueryBegun, WasRead, WasWritten, HasCommitted, HasAborted, ReadBlocked, WriteBlocked, Long}
 
-abbrev pub txn_of : ℕ → TxnId
-txn_of t = record { 0 = t }
+abbrev pub txn_id : ℕ → TxnId
+txn_id t = record { 0 = t }
 
-abbrev pub item_of : ℕ → ItemId
-item_of x = record { 0 = x }
+abbrev pub item_id : ℕ → ItemId
+item_id x = record { 0 = x }
 
 -- the reply that says what is in the way
 abbrev pub blocked : Bar → ℕ → Reply
-blocked Lock other = Refused (BlockedByLock (txn_of other))
-blocked Import other = Refused (BlockedByImport (txn_of other))
-blocked Export other = Refused (BlockedByExport (txn_of other))
+blocked Lock other = Refused (BlockedByLock (txn_id other))
+blocked Import other = Refused (BlockedByImport (txn_id other))
+blocked Export other = Refused (BlockedByExport (txn_id other))
 
 -- no entry has this form
 abbrev pub no_entry : Entry
-no_entry = record { event = Abort (txn_of 0); reply = Aborted }
+no_entry = record { event = Abort (txn_id 0); reply = Aborted }
 
 -- the entry of a short form, given the list of those that have none
 abbrev pub unpacked : List Entry → Short → Entry
-unpacked long (UpdateBegun t limit) = record { event = BeginUpdate limit; reply = Begun (txn_of t) }
-unpacked long (QueryBegun strict t limit) = record { event = BeginQuery limit strict; reply = Begun (txn_of t) }
-unpacked long (WasRead t x value) = record { event = Read (txn_of t) (item_of x); reply = Value value }
-unpacked long (WasWritten t x value) = record { event = Write (txn_of t) (item_of x) value; reply = Wrote }
-unpacked long (HasCommitted t) = record { event = Commit (txn_of t); reply = Committed }
-unpacked long (HasAborted t) = record { event = Abort (txn_of t); reply = Aborted }
-unpacked long (ReadBlocked bar t x other) = record { event = Read (txn_of t) (item_of x); reply = blocked bar other }
+unpacked long (UpdateBegun t limit) = record { event = BeginUpdate limit; reply = Begun (txn_id t) }
+unpacked long (QueryBegun strict t limit) = record { event = BeginQuery limit strict; reply = Begun (txn_id t) }
+unpacked long (WasRead t x value) = record { event = Read (txn_id t) (item_id x); reply = Value value }
+unpacked long (WasWritten t x value) = record { event = Write (txn_id t) (item_id x) value; reply = Wrote }
+unpacked long (HasCommitted t) = record { event = Commit (txn_id t); reply = Committed }
+unpacked long (HasAborted t) = record { event = Abort (txn_id t); reply = Aborted }
+unpacked long (ReadBlocked bar t x other) = record { event = Read (txn_id t) (item_id x); reply = blocked bar other }
 unpacked long (WriteBlocked bar t x other value) =
-    record { event = Write (txn_of t) (item_of x) value; reply = blocked bar other }
+    record { event = Write (txn_id t) (item_id x) value; reply = blocked bar other }
 unpacked long (Long place) = slice_index_or long place no_entry
 
 -- a place in the list is one that it has

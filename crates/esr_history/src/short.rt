@@ -3,7 +3,7 @@
 ghost use Rattle.std.specs.Prelude.{◌≡◌, List, IfSome};
 ghost use Rattle.esr_history.specs.declared.event.Entry.{Entry};
 ghost use Rattle.esr_history.specs.declared.event.Event.TheVariants.{Read, Write};
-ghost use Rattle.esr_history.specs.Short.{blocked, unpacked, item_of, txn_of, IsWithin};
+ghost use Rattle.esr_history.specs.Short.{blocked, unpacked, item_id, txn_id, IsWithin};
 
 use crate::event::{Entry, Event, Refusal, Reply, TxnId};
 use esr_items::ItemId;
@@ -16,8 +16,8 @@ pub enum Bar {
     Export,
 }
 
-/// An entry in 16 bytes. Numbers of transactions and of items have 16 bits, and each transaction that has begun and each
-/// item that is declared has such a number. What has no form here is in a list of its own, at `place`.
+/// An entry in 16 bytes. Numbers of transactions and of items have 16 bits, and each transaction that has begun and
+/// each item that is declared has such a number. What has no form here is in a list of its own, at `place`.
 #[derive(Clone, Copy)]
 pub enum Short {
     UpdateBegun {
@@ -135,13 +135,13 @@ fn short_write(txn: TxnId, item: ItemId, value: i64, reply: Reply) -> Option<Sho
 }
 
 fn id(txn: u16) -> TxnId
-    ensures { result ≡ txn_of txn }
+    ensures { result ≡ txn_id txn }
 {
     TxnId(u32::from(txn))
 }
 
 fn read(txn: u16, item: u16) -> Event
-    ensures { result ≡ Read (txn_of txn) (item_of item) }
+    ensures { result ≡ Read (txn_id txn) (item_id item) }
 {
     Event::Read {
         txn: id(txn),
@@ -150,7 +150,7 @@ fn read(txn: u16, item: u16) -> Event
 }
 
 fn write(txn: u16, item: u16, value: i64) -> Event
-    ensures { result ≡ Write (txn_of txn) (item_of item) value }
+    ensures { result ≡ Write (txn_id txn) (item_id item) value }
 {
     Event::Write {
         txn: id(txn),

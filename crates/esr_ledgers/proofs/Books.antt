@@ -10,7 +10,7 @@ use Rattle.esr_history.specs.declared.event.TxnId.{TxnId}
 use Rattle.esr_history.specs.Ascending.{IsAscendingBy, IsPlaceOf}
 use Rattle.esr_history.proofs.Ascending.{place_tail, placed_ascends, all_placed}
 use Rattle.esr_ledgers.specs.declared.account.Account.{Account}
-use Rattle.esr_ledgers.specs.Books.{number, account_of, is_open, is_open_query, is_open_update, limit_at, amount_at, total_of, would_pass, raised, imported, charged, imports, exports, IsWithinLimit, AreBooks, AreCharges, opened, quoted, quote_of}
+use Rattle.esr_ledgers.specs.Books.{number, account_of, is_open, is_open_query, is_open_update, limit_at, amount_at, total_of, would_pass, raised, charged_to_queries, charged, imports, exports, IsWithinLimit, AreBooks, AreCharges, opened, quoted, quote_of}
 use Rattle.esr_ledgers.specs.declared.ledgers.Quote.TheVariants.{Fits}
 use Rattle.esr_history.proofs.Lists.{find_none_all}
 
@@ -131,16 +131,16 @@ module _ (t n : ℕ) where
       ]
 
 -- one more charge
-pub imported-push : (xs : List Account) (cs : List (TxnId × ℕ)) (c : TxnId × ℕ) → imported xs (cs ++ c ∷ []) ≡ raised c.0.0 c.1 (imported xs cs)
-imported-push xs [] c = refl
-imported-push xs (b ∷ cs) c = imported-push (raised b.0.0 b.1 xs) cs c
+pub charged_to_queries-push : (xs : List Account) (cs : List (TxnId × ℕ)) (c : TxnId × ℕ) → charged_to_queries xs (cs ++ c ∷ []) ≡ raised c.0.0 c.1 (charged_to_queries xs cs)
+charged_to_queries-push xs [] c = refl
+charged_to_queries-push xs (b ∷ cs) c = charged_to_queries-push (raised b.0.0 b.1 xs) cs c
 
-pub imported_ascends : (cs : List (TxnId × ℕ)) (xs : List Account) → IsAscendingBy number xs → IsAscendingBy number (imported xs cs)
+pub imported_ascends : (cs : List (TxnId × ℕ)) (xs : List Account) → IsAscendingBy number xs → IsAscendingBy number (charged_to_queries xs cs)
 imported_ascends [] xs asc = asc
 imported_ascends (c ∷ cs) xs asc = imported_ascends cs (raised c.0.0 c.1 xs) (raised_ascends c.0.0 c.1 xs asc)
 
 -- who is charged nothing keeps the account
-pub account_imported_other : (s : ℕ) (cs : List (TxnId × ℕ)) (xs : List Account) → AllByRecursion (λ c. s ≡ c.0.0 → ⊥) cs → account_of (imported xs cs) s ≡ account_of xs s
+pub account_imported_other : (s : ℕ) (cs : List (TxnId × ℕ)) (xs : List Account) → AllByRecursion (λ c. s ≡ c.0.0 → ⊥) cs → account_of (charged_to_queries xs cs) s ≡ account_of xs s
 account_imported_other s [] xs others = refl
 account_imported_other s (c ∷ cs) xs others = account_imported_other s cs (raised c.0.0 c.1 xs) others.1 ∙ account_raised_other c.0.0 c.1 s others.0 xs
 
@@ -153,7 +153,7 @@ others_before (c ∷ cs) asc (suc i) d l =
     ((λ (e : (get_or cs i d).0.0 ≡ c.0.0). omega arith), others_before cs asc.1 i d (omega arith))
 
 pub account_at_turn : (xs : List Account) (cs : List (TxnId × ℕ)) → IsAscendingBy (λ (c : TxnId × ℕ). c.0.0) cs → (i : ℕ) (d : TxnId × ℕ) → i < length cs
-    → account_of (imported xs (take i cs)) (get_or cs i d).0.0 ≡ account_of xs (get_or cs i d).0.0
+    → account_of (charged_to_queries xs (take i cs)) (get_or cs i d).0.0 ≡ account_of xs (get_or cs i d).0.0
 account_at_turn xs cs asc i d l = account_imported_other (get_or cs i d).0.0 (take i cs) xs (others_before cs asc i d l)
 
 -- charges whose queries were opened and stay within their limits
@@ -182,12 +182,12 @@ imports_tail xs c cs are = record {
         (subst (λ (a : Option Account). unwrap_or (option_map (λ (e : Account). e.amount) a) 0 + b.1 ≤ unwrap_or (option_map (λ (e : Account). e.limit) a) 0) (sym (other b low.0)) all.0, fits bs low.1 all.1)
 
 -- the books after the imports
-pub within_imported : (cs : List (TxnId × ℕ)) (xs : List Account) → AreImports xs cs → IsAscendingBy number xs → AllByRecursion IsWithinLimit xs → AllByRecursion IsWithinLimit (imported xs cs)
+pub within_imported : (cs : List (TxnId × ℕ)) (xs : List Account) → AreImports xs cs → IsAscendingBy number xs → AllByRecursion IsWithinLimit xs → AllByRecursion IsWithinLimit (charged_to_queries xs cs)
 within_imported [] xs are asc all = all
 within_imported (c ∷ cs) xs are asc all =
     within_imported cs (raised c.0.0 c.1 xs) (imports_tail xs c cs are) (raised_ascends c.0.0 c.1 xs asc) (within_raised c.0.0 c.1 xs asc all are.fit.0)
 
-pub imports_imported : (cs : List (TxnId × ℕ)) (xs : List Account) → AreImports xs cs → IsAscendingBy number xs → (imports (imported xs cs) ≡ imports xs + total_of cs) × (exports (imported xs cs) ≡ exports xs)
+pub imports_imported : (cs : List (TxnId × ℕ)) (xs : List Account) → AreImports xs cs → IsAscendingBy number xs → (imports (charged_to_queries xs cs) ≡ imports xs + total_of cs) × (exports (charged_to_queries xs cs) ≡ exports xs)
 imports_imported [] xs are asc = (omega arith, refl)
 imports_imported (c ∷ cs) xs are asc =
     let one = imports_raised_query c.0.0 c.1 xs asc are.queries.0 in
@@ -214,14 +214,14 @@ AreBooks-charged xs total u cs books update queries asc none room =
     let are : AreImports xs cs = record { ascending = asc; queries = queries; fit = fitting cs (find_none_all (λ (c : TxnId × ℕ). would_pass xs c.0.0 c.1) cs none) } in
     let asc_then = imported_ascends cs xs books.ascending in
     let sums = imports_imported cs xs are books.ascending in
-    let same : account_of (imported xs cs) u.0 ≡ account_of xs u.0 = account_imported_other u.0 cs xs (not_charged xs u.0 cs update queries) in
-    let is_u : is_open_update (imported xs cs) u.0 ≡ true = ap (λ (a : Option Account). unwrap_or (option_map (λ (b : Account). not b.query) a) false) same ∙ update in
-    let fits : amount_at (imported xs cs) u.0 + total_of cs ≤ limit_at (imported xs cs) u.0 =
+    let same : account_of (charged_to_queries xs cs) u.0 ≡ account_of xs u.0 = account_imported_other u.0 cs xs (not_charged xs u.0 cs update queries) in
+    let is_u : is_open_update (charged_to_queries xs cs) u.0 ≡ true = ap (λ (a : Option Account). unwrap_or (option_map (λ (b : Account). not b.query) a) false) same ∙ update in
+    let fits : amount_at (charged_to_queries xs cs) u.0 + total_of cs ≤ limit_at (charged_to_queries xs cs) u.0 =
     subst (λ (a : Option Account). unwrap_or (option_map (λ (e : Account). e.amount) a) 0 + total_of cs ≤ unwrap_or (option_map (λ (e : Account). e.limit) a) 0) (sym same) (ltb-false (limit_at xs u.0) (amount_at xs u.0 + total_of cs) room) in
-    let last = exports_raised_update u.0 (total_of cs) (imported xs cs) asc_then is_u in
+    let last = exports_raised_update u.0 (total_of cs) (charged_to_queries xs cs) asc_then is_u in
     record {
-      ascending = raised_ascends u.0 (total_of cs) (imported xs cs) asc_then;
-      within = within_raised u.0 (total_of cs) (imported xs cs) asc_then (within_imported cs xs are books.ascending books.within) fits;
+      ascending = raised_ascends u.0 (total_of cs) (charged_to_queries xs cs) asc_then;
+      within = within_raised u.0 (total_of cs) (charged_to_queries xs cs) asc_then (within_imported cs xs are books.ascending books.within) fits;
       import_sum = last.0 ∙ (sums.0 ∙ ap (λ m. m + total_of cs) books.import_sum);
       export_sum = last.1 ∙ ap (λ m. m + total_of cs) (sums.1 ∙ books.export_sum);
     }
@@ -264,14 +264,14 @@ module _ (xs : List Account) (total : ℕ) (books : AreBooks xs total) (u : TxnI
         let lim : limit_at xs u.0 < 2 ^ 64 = limit_small u.0 xs books.within in
         omega arith
 
-    pub account_stays : account_of (imported xs cs) u.0 ≡ account_of xs u.0
+    pub account_stays : account_of (charged_to_queries xs cs) u.0 ≡ account_of xs u.0
     account_stays = account_imported_other u.0 cs xs (not_charged xs u.0 cs are.update (recursion_from_All (λ (c : TxnId × ℕ). is_open_query xs c.0.0 ≡ true) cs are.queries))
 
-    pub export_fits_then : amount_at (imported xs cs) u.0 + total_of cs < 2 ^ 64
+    pub export_fits_then : amount_at (charged_to_queries xs cs) u.0 + total_of cs < 2 ^ 64
     export_fits_then = subst (λ (a : Option Account). unwrap_or (option_map (λ (e : Account). e.amount) a) 0 + total_of cs < 2 ^ 64) (sym account_stays) export_fits
 
-    pub still_open : is_open (imported xs cs) u.0 ≡ true
-    still_open = update_open u.0 (imported xs cs) (ap (λ (a : Option Account). unwrap_or (option_map (λ (b : Account). not b.query) a) false) account_stays ∙ are.update)
+    pub still_open : is_open (charged_to_queries xs cs) u.0 ≡ true
+    still_open = update_open u.0 (charged_to_queries xs cs) (ap (λ (a : Option Account). unwrap_or (option_map (λ (b : Account). not b.query) a) false) account_stays ∙ are.update)
 
     pub books_then : AreBooks (charged xs u cs) (total + total_of cs)
     books_then = AreBooks-charged xs total u cs books are.update (recursion_from_All (λ (c : TxnId × ℕ). is_open_query xs c.0.0 ≡ true) cs are.queries) are.ascending parts.0 parts.1

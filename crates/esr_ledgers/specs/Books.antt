@@ -61,13 +61,13 @@ abbrev pub raised : ℕ → ℕ → List Account → List Account
 raised t amount accounts = map (λ a. if number a == t then record a { amount = a.amount + amount } else a) accounts
 
 -- each query's amount added to its account
-abbrev pub imported : List Account → List (TxnId × ℕ) → List Account
-imported accounts [] = accounts
-imported accounts (c ∷ charges) = imported (raised c.0.0 c.1 accounts) charges
+abbrev pub charged_to_queries : List Account → List (TxnId × ℕ) → List Account
+charged_to_queries accounts [] = accounts
+charged_to_queries accounts (c ∷ charges) = charged_to_queries (raised c.0.0 c.1 accounts) charges
 
 -- and the sum to that of the update
 abbrev pub charged : List Account → TxnId → List (TxnId × ℕ) → List Account
-charged accounts u charges = raised u.0 (total_of charges) (imported accounts charges)
+charged accounts u charges = raised u.0 (total_of charges) (charged_to_queries accounts charges)
 
 -- the charges are of an update that was opened, to queries that were opened, each listed once
 pub record AreCharges (accounts : List Account) (u : TxnId) (charges : List (TxnId × ℕ)) : Type 0 where

@@ -1,6 +1,6 @@
 ghost use Rattle.std.specs.Prelude.{◌≡◌, ◌+◌, ◌*◌, ◌<◌, ◌≤◌, ◌^◌, [], true, false, All, OnOk, OnErr, find};
 ghost use Rattle.esr_history.specs.Ascending.{IsAscendingBy};
-ghost use Rattle.esr_ledgers.specs.Books.{number, is_open, is_open_query, is_open_update, amount_at, new_account, opened, total_of, would_pass, quote_of, imported, charged, AreCharges, imports, exports};
+ghost use Rattle.esr_ledgers.specs.Books.{number, is_open, is_open_query, is_open_update, amount_at, new_account, opened, total_of, would_pass, quote_of, charged_to_queries, charged, AreCharges, imports, exports};
 
 use crate::account::{Account, find_account, place_of, raise};
 use esr_history::{NoMemory, TxnId};
@@ -81,7 +81,7 @@ fn import_each(accounts: &mut Vec<Account>, charges: &[(TxnId, u64)])
     requires queries { All (λ c. is_open accounts.old.items c.0.0 ≡ true) charges.now }
     requires listed { IsAscendingBy (λ c. c.0.0) charges.now }
     requires fits { All (λ c. amount_at accounts.old.items c.0.0 + c.1 < 2 ^ 64) charges.now }
-    ensures items { accounts.new.items ≡ imported accounts.old.items charges.now }
+    ensures items { accounts.new.items ≡ charged_to_queries accounts.old.items charges.now }
     ensures ascending { IsAscendingBy number accounts.new.items }
 {
     for charge in charges {

@@ -16,7 +16,7 @@ use Rattle.esr_history.proofs.Lists.{any_push, or_false}
 use Rattle.esr_locks.specs.declared.row.Lock.{Lock}
 use Rattle.esr_locks.specs.declared.row.Lock.TheVariants.{Read, Write, QueryRead}
 use Rattle.esr_locks.specs.Rows.{RowOf, LockedItemsOf, nothing_held, empty_row, row_at, held_at, IsTable, with_lock, has_such}
-use Rattle.esr_locks.specs.Tables.{no_locks, locks_at, is_writer, is_reader, is_query, has_lock, released, lists_item}
+use Rattle.esr_locks.specs.Tables.{no_locks, locks_at, is_writer, is_reader, has_query_lock, has_lock, released, lists_item}
 
 -- the locks at an item, by the rows
 pub locks_at-rows : (rows : List RowOf) (x : ℕ) → x < length rows → locks_at (map (λ r. r.locks) rows) x ≡ (row_at rows x).locks
@@ -103,8 +103,8 @@ list_any_none p (x ∷ xs) none =
 
 pub released_none : (t : ℕ) (l : ItemLocks) → has_lock l t ≡ false → released t l ≡ l
 released_none t l none =
-    let a : (is_writer l t ≡ false) × ((is_reader l t || is_query l t) ≡ false) = or_parts (is_writer l t) (is_reader l t || is_query l t) none in
-    let b : (is_reader l t ≡ false) × (is_query l t ≡ false) = or_parts (is_reader l t) (is_query l t) a.1 in
+    let a : (is_writer l t ≡ false) × ((is_reader l t || has_query_lock l t) ≡ false) = or_parts (is_writer l t) (is_reader l t || has_query_lock l t) none in
+    let b : (is_reader l t ≡ false) × (has_query_lock l t ≡ false) = or_parts (is_reader l t) (has_query_lock l t) a.1 in
     rw (a.0, list_any_none (λ u. u == t) l.readers b.0, list_any_none (λ (r : ℕ × ℕ). r.0 == t) l.queries b.1) refl
 
 any_filter : {X : Type 0} (p q : X → Bool) (xs : List X) → list_any p (filter q xs) ≡ true → list_any p xs ≡ true
@@ -132,11 +132,11 @@ released_gone t l = rw (writer_gone l.writer, none_left (λ u. u == t) l.readers
 
 pub released_less : (t u : ℕ) (l : ItemLocks) → has_lock (released t l) u ≡ true → has_lock l u ≡ true
 released_less t u l is =
-    elim (or_cases (is_writer (released t l) u) (is_reader (released t l) u || is_query (released t l) u) is) [
-      | inl w ↦ or_left (is_writer l u) (is_reader l u || is_query l u) (writer_less l.writer w)
-      | inr rest ↦ or_right (is_writer l u) (is_reader l u || is_query l u) (elim (or_cases (is_reader (released t l) u) (is_query (released t l) u) rest) [
-        | inl r ↦ or_left (is_reader l u) (is_query l u) (any_filter (λ v. v == u) (λ v. not (v == t)) l.readers r)
-        | inr q ↦ or_right (is_reader l u) (is_query l u) (any_filter (λ (v : ℕ × ℕ). v.0 == u) (λ (v : ℕ × ℕ). not (v.0 == t)) l.queries q)
+    elim (or_cases (is_writer (released t l) u) (is_reader (released t l) u || has_query_lock (released t l) u) is) [
+      | inl w ↦ or_left (is_writer l u) (is_reader l u || has_query_lock l u) (writer_less l.writer w)
+      | inr rest ↦ or_right (is_writer l u) (is_reader l u || has_query_lock l u) (elim (or_cases (is_reader (released t l) u) (has_query_lock (released t l) u) rest) [
+        | inl r ↦ or_left (is_reader l u) (has_query_lock l u) (any_filter (λ v. v == u) (λ v. not (v == t)) l.readers r)
+        | inr q ↦ or_right (is_reader l u) (has_query_lock l u) (any_filter (λ (v : ℕ × ℕ). v.0 == u) (λ (v : ℕ × ℕ). not (v.0 == t)) l.queries q)
       ])
     ]
   where

@@ -1,5 +1,6 @@
 -- The locks on one item, as a row of the table.
-use Rattle.std.specs.Prelude.{◌≡◌, ℕ, Bool, ◌+◌, ◌<◌, List, [], length, true, All, slice_index_or}
+use Rattle.std.specs.Prelude.{◌≡◌, ℕ, Bool, ◌+◌, ◌<◌, ◌≤◌, List, [], length, true, All, slice_index_or, Result, OnOk, OnErr}
+use Rattle.smallvec.specs.SmallVec.{SmallVec, HasRoomFor}
 use Rattle.esr_items.specs.declared.metric.ItemId.{ItemId}
 use Rattle.esr_history.specs.declared.event.TxnId.{TxnId}
 use Rattle.esr_history.specs.ItemLocks.{ItemLocks}
@@ -7,20 +8,28 @@ use Rattle.esr_locks.specs.declared.lists.Reader.{Reader}
 use Rattle.esr_locks.specs.declared.lists.QueryReads.{QueryReads}
 use Rattle.esr_locks.specs.declared.row.Lock.{Lock}
 use Rattle.esr_locks.specs.declared.row.Lock.TheVariants.{Read, Write, QueryRead}
-use Rattle.esr_locks.specs.Tables.{no_locks, has_lock, is_update, is_query, with_reader, with_writer, with_query_read, lists_item}
+use Rattle.esr_locks.specs.Tables.{no_locks, has_lock, has_update_lock, has_query_lock, with_reader, with_writer, with_query_read, lists_item}
 
 -- what a row is to contracts: the locks, and for how many more there is room
 pub record RowOf : Type 0 where
   pub locks : ItemLocks
   pub room : ℕ
 
+-- what making room for one more element of a list does
+pub record MakesRoom {T A E : Type 0} (old new : SmallVec T) (result : Result A E) : Type 0 where
+  pub items : new.items ≡ old.items
+  pub capacity : old.capacity ≤ new.capacity
+  pub ok : OnOk result (HasRoomFor new 1)
+  pub full : OnErr result (¬ HasRoomFor old 1)
+  pub err : OnErr result (new ≡ old)
+
 -- an update as a reader
 abbrev pub reader : TxnId → Reader
 reader t = record { update = t }
 
 -- a query with its count of reads
-abbrev pub reads_of : QueryReads → ℕ × ℕ
-reads_of r = (r.query.0, r.count)
+abbrev pub query_and_count : QueryReads → ℕ × ℕ
+query_and_count r = (r.query.0, r.count)
 
 -- a query's first read, and one more
 abbrev pub first_reads : TxnId → QueryReads
@@ -29,16 +38,17 @@ first_reads q = record { query = q; count = 1 }
 abbrev pub more_reads : QueryReads → QueryReads
 more_reads r = record r { count = r.count + 1 }
 
--- the locks of an item with one more, and whether a transaction holds such a lock: an update's read and write count alike
+-- the locks of an item with one more, and whether a transaction holds such a lock: an update's read and write count
+-- alike
 abbrev pub with_lock : Lock → ℕ → ItemLocks → ItemLocks
 with_lock Read = with_reader
 with_lock Write = with_writer
 with_lock QueryRead = with_query_read
 
 abbrev pub has_such : Lock → ItemLocks → ℕ → Bool
-has_such Read = is_update
-has_such Write = is_update
-has_such QueryRead = is_query
+has_such Read = has_update_lock
+has_such Write = has_update_lock
+has_such QueryRead = has_query_lock
 
 -- what the items that a transaction has locked are to contracts: the items, and for how many more there is room
 pub record LockedItemsOf : Type 0 where

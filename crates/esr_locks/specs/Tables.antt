@@ -32,14 +32,14 @@ is_writer l t = unwrap_or (option_map (λ u. u == t) l.writer) false
 abbrev pub is_reader : ItemLocks → ℕ → Bool
 is_reader l t = list_any (λ u. u == t) l.readers
 
-abbrev pub is_update : ItemLocks → ℕ → Bool
-is_update l t = is_writer l t || is_reader l t
+abbrev pub has_update_lock : ItemLocks → ℕ → Bool
+has_update_lock l t = is_writer l t || is_reader l t
 
-abbrev pub is_query : ItemLocks → ℕ → Bool
-is_query l t = list_any (λ r. r.0 == t) l.queries
+abbrev pub has_query_lock : ItemLocks → ℕ → Bool
+has_query_lock l t = list_any (λ r. r.0 == t) l.queries
 
 abbrev pub has_lock : ItemLocks → ℕ → Bool
-has_lock l t = is_writer l t || (is_reader l t || is_query l t)
+has_lock l t = is_writer l t || (is_reader l t || has_query_lock l t)
 
 -- whether update u keeps transaction t, as an update, from reading the item, and from writing it
 abbrev pub keeps_from_reading : ItemLocks → ℕ → ℕ → Bool

@@ -1,10 +1,10 @@
-ghost use Rattle.std.specs.Prelude.{◌≡◌, ℕ, ◌+◌, ◌<◌, ◌≤◌, ◌==◌, length, filter, find, not, All, IfOk, IfErr, OnOk, OnErr};
+ghost use Rattle.std.specs.Prelude.{◌≡◌, ℕ, ◌+◌, ◌<◌, ◌≤◌, ◌==◌, length, filter, find, not, All, IfOk, IfErr};
 ghost use Rattle.std.specs.List.{list_any, insert, AllByRecursion};
 ghost use Rattle.std.specs.Option.{option_map};
 ghost use Rattle.smallvec.specs.SmallVec.{HasRoomFor};
 ghost use Rattle.esr_history.specs.declared.limits.TheConstants.{MOST_READS};
 ghost use Rattle.esr_history.specs.Ascending.{IsAscendingBy, IsPlaceOf, IsGapFor, placed};
-ghost use Rattle.esr_locks.specs.Rows.{reader, first_reads, more_reads};
+ghost use Rattle.esr_locks.specs.Rows.{MakesRoom, reader, first_reads, more_reads};
 
 use esr_history::TxnId;
 use smallvec::SmallVec;
@@ -81,11 +81,7 @@ pub type Queries = SmallVec<QueryReads, 2>;
 fn grow<T: MadeWith<Global> + Drop, const N: usize>(
     list: &mut SmallVec<T, N>,
 ) -> Result<(), AllocError>
-    ensures items { list.new.items ≡ list.old.items }
-    ensures ok { OnOk result (HasRoomFor list.new 1) }
-    ensures capacity { list.old.capacity ≤ list.new.capacity }
-    ensures err { OnErr result (list.new ≡ list.old) }
-    ensures full { OnErr result (¬ HasRoomFor list.old 1) }
+    ensures { MakesRoom list.old list.new result }
 {
     list.reserve(1)
 }
@@ -94,11 +90,7 @@ fn grow<T: MadeWith<Global> + Drop, const N: usize>(
 pub fn reserve_one<T: MadeWith<Global> + Drop, const N: usize>(
     list: &mut SmallVec<T, N>,
 ) -> Result<(), AllocError>
-    ensures items { list.new.items ≡ list.old.items }
-    ensures ok { OnOk result (HasRoomFor list.new 1) }
-    ensures capacity { list.old.capacity ≤ list.new.capacity }
-    ensures err { OnErr result (list.new ≡ list.old) }
-    ensures full { OnErr result (¬ HasRoomFor list.old 1) }
+    ensures { MakesRoom list.old list.new result }
 {
     if list.len() < list.capacity() {
         return Ok(());

@@ -2,8 +2,8 @@ ghost use Rattle.std.specs.Prelude.{◌≡◌, ℕ, ◌<◌, ◌≤◌, ◌==◌
 ghost use Rattle.std.specs.Option.{option_map};
 ghost use Rattle.esr_history.specs.declared.limits.TheConstants.{MOST_READS};
 ghost use Rattle.esr_history.specs.Ascending.{IsAscendingBy};
-ghost use Rattle.esr_locks.specs.Rows.{RowOf, reads_of, with_lock, has_such};
-ghost use Rattle.esr_locks.specs.Tables.{no_locks, is_update, is_query, keeps_from_reading, keeps_from_writing, IsLeast, with_reader, with_writer, with_query_read, released};
+ghost use Rattle.esr_locks.specs.Rows.{RowOf, query_and_count, with_lock, has_such};
+ghost use Rattle.esr_locks.specs.Tables.{no_locks, has_update_lock, has_query_lock, keeps_from_reading, keeps_from_writing, IsLeast, with_reader, with_writer, with_query_read, released};
 
 use crate::lists::{
     Queries, QueryReads, Readers, add_reader, count_read, drop_row, is_reader, other_reader,
@@ -36,7 +36,7 @@ impl Model for Row {
     ghost use Rattle.std.specs.Option.{option_map};
     ghost use Rattle.esr_history.specs.declared.limits.TheConstants.{MOST_READS};
     ghost use Rattle.esr_history.specs.Ascending.{IsAscendingBy};
-    ghost use Rattle.esr_locks.specs.Rows.{RowOf, reads_of};
+    ghost use Rattle.esr_locks.specs.Rows.{RowOf, query_and_count};
 
     ghost Value = { RowOf };
 
@@ -44,7 +44,7 @@ impl Model for Row {
       locks = record {
         writer = option_map (λ u. u.0) r.writer;
         readers = map (λ u. u.update.0) r.readers.items;
-        queries = map reads_of r.queries.items;
+        queries = map query_and_count r.queries.items;
       };
       room = min (r.readers.capacity - length r.readers.items) (r.queries.capacity - length r.queries.items);
     } };
@@ -103,7 +103,7 @@ impl Row {
 
     /// The queries that have read the item, with their counts.
     pub fn queries(&self) -> &[QueryReads]
-        ensures reads { map reads_of result.now ≡ self.now.locks.queries }
+        ensures reads { map query_and_count result.now ≡ self.now.locks.queries }
         ensures ascending { IsAscendingBy (λ r. r.query.0) result.now }
         ensures most { All (λ r. r.count ≤ MOST_READS) result.now }
     {
@@ -140,7 +140,7 @@ impl Row {
     fn add_reader(&mut self, t: TxnId) -> bool
         requires { 0 < self.old.room }
         ensures locks { self.new.locks ≡ with_reader t.0 self.old.locks }
-        ensures fresh { result ≡ not (is_update self.old.locks t.0) }
+        ensures fresh { result ≡ not (has_update_lock self.old.locks t.0) }
     {
         let has_written = writer_is(self.writer, t);
         let has_read = !add_reader(&mut self.readers, t);
@@ -150,7 +150,7 @@ impl Row {
     /// Adds a write, and answers whether the update had neither read nor written the item.
     fn add_writer(&mut self, t: TxnId) -> bool
         ensures locks { self.new.locks ≡ with_writer t.0 self.old.locks }
-        ensures fresh { result ≡ not (is_update self.old.locks t.0) }
+        ensures fresh { result ≡ not (has_update_lock self.old.locks t.0) }
     {
         let has_written = writer_is(self.writer, t);
         let has_read = is_reader(&self.readers, t);
@@ -163,7 +163,7 @@ impl Row {
         requires room { 0 < self.old.room }
         requires few { All (λ r. r.0 ≡ q.0 → r.1 < MOST_READS) self.old.locks.queries }
         ensures locks { self.new.locks ≡ with_query_read q.0 self.old.locks }
-        ensures fresh { result ≡ not (is_query self.old.locks q.0) }
+        ensures fresh { result ≡ not (has_query_lock self.old.locks q.0) }
     {
         count_read(&mut self.queries, q)
     }

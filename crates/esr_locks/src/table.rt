@@ -3,7 +3,7 @@ ghost use Rattle.std.specs.List.{range_with_len};
 ghost use Rattle.std.specs.Option.{option_map};
 ghost use Rattle.esr_history.specs.declared.limits.TheConstants.{MOST_READS};
 ghost use Rattle.esr_history.specs.Ascending.{IsAscendingBy};
-ghost use Rattle.esr_locks.specs.Rows.{reads_of, row_at, held_at, with_lock};
+ghost use Rattle.esr_locks.specs.Rows.{query_and_count, row_at, held_at, with_lock};
 ghost use Rattle.esr_locks.specs.Tables.{no_locks, locks_at, room_for, has_lock, lists_item, keeps_from_reading, keeps_from_writing, IsLeast, with_reader, with_writer, with_query_read, released};
 
 use crate::lists::QueryReads;
@@ -147,7 +147,7 @@ impl LockTable {
     /// The queries that have read the item, ascending, each with its count of reads.
     pub fn query_reads(&self, x: ItemId) -> &[QueryReads]
         requires { x.0 < length self.now.locks }
-        ensures reads { map reads_of result.now ≡ (locks_at self.now.locks x.0).queries }
+        ensures reads { map query_and_count result.now ≡ (locks_at self.now.locks x.0).queries }
         ensures ascending { IsAscendingBy (λ r. r.query.0) result.now }
         ensures most { All (λ r. r.count ≤ MOST_READS) result.now }
     {

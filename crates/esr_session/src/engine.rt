@@ -118,8 +118,8 @@ impl<M: Metric + Drop, N: Naming> Engine<M, N> {
     /// Gathers the receipts, compares them with the history and takes it, all in one hold of the lock.
     ///
     /// # Errors
-    /// `SessionMissing` only where fewer sessions came than were opened; `ForeignReceipt` and `NoMemory` as `match_receipts`
-    /// answers them. Engine and sessions come back as they were, and the engine can still be used.
+    /// `SessionMissing` only where fewer sessions came than were opened; `ForeignReceipt` and `NoMemory` as
+    /// `match_receipts` answers them. Engine and sessions come back as they were, and the engine can still be used.
     pub fn close<R: Wait>(
         self,
         rt: &R,
@@ -263,8 +263,8 @@ fn close_on<M: Metric + Drop, N: Naming>(
     }
 }
 
-/// Shows that a share and those of the sessions are within the total, and are all of it where they have all parts: lends each
-/// session's part to the share in turn, audits the share, and gives all back.
+/// Shows that a share and those of the sessions are within the total, and are all of it where they have all parts:
+/// lends each session's part to the share in turn, audits the share, and gives all back.
 fn audit_from<M: Metric + Drop, N: Naming>(
     total: &mut Book<N>,
     seen: &mut Share<N>,

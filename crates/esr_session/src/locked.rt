@@ -14,8 +14,8 @@ use std::sync::ledger::{Book, Share};
 /// What an engine's lock holds: the machine until the engine is closed, and the total of the answered calls.
 /// Contracts see the machine's history.
 ///
-/// While the engine is open the total is the length of the history and 1,000,001 more, the engine's own share; after a close
-/// it is at most 1,000,000. So whoever has the engine's share knows that the engine is open.
+/// While the engine is open the total is the length of the history and `SEAL` more, the engine's own share; after a
+/// close it is at most `MOST_ENTRIES`. So whoever has the engine's share knows that the engine is open.
 #[derive(Drop)]
 pub struct Locked<M: Metric, N: Naming> {
     pub(crate) machine: Option<Machine<M>>,

@@ -13,8 +13,8 @@ use std::alloc::{AllocError, Global};
 /// entry's event and reply, and within each list the places rise.
 ///
 /// # Errors
-/// `SessionMissing` exactly where there are fewer receipts than entries; else `ForeignReceipt` with the first receipt, list
-/// by list, that does not fit; `NoMemory` if an allocation failed.
+/// `SessionMissing` exactly where there are fewer receipts than entries; else `ForeignReceipt` with the first receipt,
+/// list by list, that does not fit; `NoMemory` if an allocation failed.
 pub fn match_receipts<M: Metric>(
     alloc: Global,
     history: &History<M>,

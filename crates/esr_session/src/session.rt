@@ -64,8 +64,8 @@ impl<M: Metric + Drop, N: Naming> Session<M, N> {
         step_on(&mut *locked, &mut self.pocket, event)
     }
 
-    /// Calls until the reply is not that the event is blocked (by a lock or a limit), at most `turns` times in all. Each
-    /// call is an entry of the history and leaves a receipt. The last receipt is the answer.
+    /// Calls until the reply is not that the event is blocked (by a lock or a limit), at most `turns` times in all.
+    /// Each call is an entry of the history and leaves a receipt. The last receipt is the answer.
     ///
     /// # Errors
     /// Those of `step_on`, at the first call that answers one.

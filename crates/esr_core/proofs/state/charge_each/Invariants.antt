@@ -1,7 +1,7 @@
 use Rattle.std.proofs.Common.{◌≡◌, take, map}
-use Rattle.esr_locks.specs.Rows.{reads_of}
+use Rattle.esr_locks.specs.Rows.{query_and_count}
 use Rattle.esr_core.specs.States.{charges_to}
 use Rattle.esr_core.proofs.state.charge_each.Given as goal
 
 abbrev pub invariant-loop-r : goal.invariant-loop-r
-invariant-loop-r l = l.charges.items ≡ charges_to l.amount (map reads_of (take l.r-index l.reads))
+invariant-loop-r l = l.charges.items ≡ charges_to l.amount (map query_and_count (take l.r-index l.reads))

@@ -4,8 +4,8 @@ use Rattle.std.specs.Option.{option_map}
 use Rattle.std.proofs.lemmas.List.{take_more}
 use Rattle.esr_history.specs.declared.event.TxnId.{TxnId}
 use Rattle.esr_ledgers.specs.declared.account.Account.{Account}
-use Rattle.esr_ledgers.specs.Books.{account_of, raised, imported}
-use Rattle.esr_ledgers.proofs.Books.{account_at_turn, open_by_account, imported-push, raised_ascends}
+use Rattle.esr_ledgers.specs.Books.{account_of, raised, charged_to_queries}
+use Rattle.esr_ledgers.proofs.Books.{account_at_turn, open_by_account, charged_to_queries-push, raised_ascends}
 use Rattle.esr_ledgers.proofs.ledgers.import_each.Goals as goal
 
 pub raise-requires-clause-open : goal.raise-requires-clause-open
@@ -27,7 +27,7 @@ loop-charge-preserved c =
     let charge : TxnId × ℕ = get_or c.args.charges.now c.loop-charge.charge-index (record { 0 = 0 }, 0) in
     record {
       items = c.raise.ensures ∙ (ap (raised charge.0.0 charge.1) c.loop-charge.invariant.items
-          ∙ (sym (imported-push c.args.accounts.now.items (take c.loop-charge.charge-index c.args.charges.now) charge)
-          ∙ ap (imported c.args.accounts.now.items) (sym (take_more c.args.charges.now c.loop-charge.charge-index (record { 0 = 0 }, 0) c.loop-charge-test.true))));
+          ∙ (sym (charged_to_queries-push c.args.accounts.now.items (take c.loop-charge.charge-index c.args.charges.now) charge)
+          ∙ ap (charged_to_queries c.args.accounts.now.items) (sym (take_more c.args.charges.now c.loop-charge.charge-index (record { 0 = 0 }, 0) c.loop-charge-test.true))));
       ascending = rw c.raise.ensures (raised_ascends charge.0.0 charge.1 c.loop-charge.accounts.items c.loop-charge.invariant.ascending);
     }

@@ -1,14 +1,14 @@
 use Rattle.std.proofs.Common.{◌≡◌, ◌∙◌, sym, ap, subst, refl, not, ℕ, map, ◌<◌, arith}
 use Rattle.std.specs.Prelude.{All}
 use Rattle.esr_history.proofs.Ascending.{placed_ascends, map-placed, any-map}
-use Rattle.esr_locks.specs.Rows.{RowOf, reads_of}
-use Rattle.esr_locks.specs.Tables.{is_query}
+use Rattle.esr_locks.specs.Rows.{RowOf, query_and_count}
+use Rattle.esr_locks.specs.Tables.{has_query_lock}
 use Rattle.esr_locks.proofs.Least.{All-from_map}
 use Rattle.esr_locks.proofs.row.Row.add_query_read.Goals as goal
 
 pub count_read-requires-clause-few : goal.count_read-requires-clause-few
 count_read-requires-clause-few c =
-    All-from_map reads_of (λ r. r.0 ≡ c.args.q.0 → r.1 < 1000) c.self.inside.queries.items
+    All-from_map query_and_count (λ r. r.0 ≡ c.args.q.0 → r.1 < 1000) c.self.inside.queries.items
     (subst (λ (v : RowOf). All (λ r. r.0 ≡ c.args.q.0 → r.1 < 1000) v.locks.queries) (sym c.self.view_is) c.requires.few)
 
 pub invariant_of-self : goal.invariant_of-self
@@ -16,9 +16,9 @@ invariant_of-self c = grind (arith, placed_ascends)
 
 pub returns-clause-locks : goal.returns-clause-locks
 returns-clause-locks c =
-    grind (arith, map, map reads_of c.count_read.new.queries.items, map reads_of c.self.inside.queries.items, map-placed)
+    grind (arith, map, map query_and_count c.count_read.new.queries.items, map query_and_count c.self.inside.queries.items, map-placed)
 
 pub returns-clause-fresh : goal.returns-clause-fresh
 returns-clause-fresh c =
-    subst (λ (v : RowOf). c.count_read.result ≡ not (is_query v.locks c.args.q.0)) c.self.view_is
-    (c.count_read.ensures.fresh ∙ ap not (sym (any-map (λ r. r.query.0) (λ (r : ℕ × ℕ). r.0) reads_of (λ r. refl) c.args.q.0 c.self.inside.queries.items)))
+    subst (λ (v : RowOf). c.count_read.result ≡ not (has_query_lock v.locks c.args.q.0)) c.self.view_is
+    (c.count_read.ensures.fresh ∙ ap not (sym (any-map (λ r. r.query.0) (λ (r : ℕ × ℕ). r.0) query_and_count (λ r. refl) c.args.q.0 c.self.inside.queries.items)))

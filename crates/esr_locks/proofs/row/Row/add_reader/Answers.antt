@@ -3,8 +3,8 @@ use Rattle.std.specs.List.{list_any}
 use Rattle.std.specs.Option.{option_map}
 use Rattle.esr_history.specs.Ascending.{placed}
 use Rattle.esr_history.proofs.Ascending.{placed_ascends, map-placed, any-map}
-use Rattle.esr_locks.specs.Rows.{RowOf, reader, reads_of}
-use Rattle.esr_locks.specs.Tables.{with_reader, is_update}
+use Rattle.esr_locks.specs.Rows.{RowOf, reader, query_and_count}
+use Rattle.esr_locks.specs.Tables.{with_reader, has_update_lock}
 use mathlib.Core.Bool.{not-not}
 use Rattle.esr_locks.proofs.Tables.{wrote}
 use Rattle.esr_locks.proofs.row.Row.add_reader.Goals as goal
@@ -14,7 +14,7 @@ invariant_of-self c = grind (arith, placed_ascends)
 
 pub returns-clause-locks : goal.returns-clause-locks
 returns-clause-locks c =
-    subst (λ (v : RowOf). record { writer = option_map (λ u. u.0) c.self.inside.writer; readers = map (λ r. r.update.0) c.add_reader-has_read.new.readers.items; queries = map reads_of c.self.inside.queries.items } ≡ with_reader c.args.t.0 v.locks) c.self.view_is
+    subst (λ (v : RowOf). record { writer = option_map (λ u. u.0) c.self.inside.writer; readers = map (λ r. r.update.0) c.add_reader-has_read.new.readers.items; queries = map query_and_count c.self.inside.queries.items } ≡ with_reader c.args.t.0 v.locks) c.self.view_is
     (let mapped : map (λ r. r.update.0) c.add_reader-has_read.new.readers.items ≡ placed (λ u. u) c.args.t.0 c.args.t.0 (λ u. u) (map (λ r. r.update.0) c.self.inside.readers.items) =
     rw c.add_reader-has_read.ensures.items (map-placed (λ r. r.update.0) (λ u. u) (λ r. r.update.0) (λ r. refl) c.args.t.0 (reader c.args.t) (λ r. r) (λ u. u) (λ u. refl) c.self.inside.readers.items) in
     rw mapped refl)
@@ -25,5 +25,5 @@ returns-clause-fresh c =
     let read = any-map (λ r. r.update.0) (λ u. u) (λ r. r.update.0) (λ r. refl) c.args.t.0 readers in
     let has_read = ap not c.add_reader-has_read.ensures.fresh ∙ (not-not (list_any (λ r. r.update.0 == c.args.t.0) readers) ∙ sym read) in
     let has_written = c.writer_is-has_written.ensures ∙ wrote c.self.inside.writer c.args.t.0 in
-    subst (λ (v : RowOf). not (c.writer_is-has_written.result || not c.add_reader-has_read.result) ≡ not (is_update v.locks c.args.t.0)) c.self.view_is
+    subst (λ (v : RowOf). not (c.writer_is-has_written.result || not c.add_reader-has_read.result) ≡ not (has_update_lock v.locks c.args.t.0)) c.self.view_is
     (rw has_written (rw has_read refl))

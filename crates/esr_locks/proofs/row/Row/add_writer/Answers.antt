@@ -2,7 +2,7 @@ use Rattle.std.proofs.Common.{◌≡◌, ◌∙◌, ◌||◌, ◌==◌, sym, ap,
 use Rattle.std.specs.List.{list_any}
 use Rattle.esr_history.proofs.Ascending.{any-map}
 use Rattle.esr_locks.specs.Rows.{RowOf}
-use Rattle.esr_locks.specs.Tables.{is_update}
+use Rattle.esr_locks.specs.Tables.{has_update_lock}
 use Rattle.esr_locks.proofs.Tables.{wrote}
 use Rattle.esr_locks.proofs.row.Row.add_writer.Goals as goal
 
@@ -12,5 +12,5 @@ returns-clause-fresh c =
     let read = any-map (λ r. r.update.0) (λ u. u) (λ r. r.update.0) (λ r. refl) c.args.t.0 readers in
     let has_read = c.is_reader-has_read.ensures ∙ (ap (list_any (λ r. r.update.0 == c.args.t.0)) c.deref.ensures ∙ sym read) in
     let has_written = c.writer_is-has_written.ensures ∙ wrote c.self.inside.writer c.args.t.0 in
-    subst (λ (v : RowOf). not (c.writer_is-has_written.result || c.is_reader-has_read.result) ≡ not (is_update v.locks c.args.t.0)) c.self.view_is
+    subst (λ (v : RowOf). not (c.writer_is-has_written.result || c.is_reader-has_read.result) ≡ not (has_update_lock v.locks c.args.t.0)) c.self.view_is
     (rw has_written (rw has_read refl))

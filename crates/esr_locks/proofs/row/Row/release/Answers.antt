@@ -3,7 +3,7 @@ use Rattle.std.specs.Prelude.{filter, unwrap_or}
 use Rattle.std.specs.Option.{option_map}
 use Rattle.esr_history.specs.declared.event.TxnId.{TxnId}
 use Rattle.esr_history.proofs.Ascending.{filter_ascends, all_filter, map-others}
-use Rattle.esr_locks.specs.Rows.{RowOf, reads_of}
+use Rattle.esr_locks.specs.Rows.{RowOf, query_and_count}
 use Rattle.esr_locks.specs.Tables.{released}
 use Rattle.esr_locks.proofs.row.Row.release.Goals as goal
 use Rattle.std.proofs.lemmas.Grind.{common_steps}
@@ -17,11 +17,11 @@ other_writer (Some u) t = grind (arith, common_steps)
 
 pub returns : goal.returns
 returns c =
-    subst (λ (v : RowOf). record { writer = option_map (λ u. u.0) c.writer_unless-self-inside.result; readers = map (λ r. r.update.0) c.drop_row.new.rows.items; queries = map reads_of c.drop_row-2.new.rows.items } ≡ released c.args.t.0 v.locks) c.self.view_is
+    subst (λ (v : RowOf). record { writer = option_map (λ u. u.0) c.writer_unless-self-inside.result; readers = map (λ r. r.update.0) c.drop_row.new.rows.items; queries = map query_and_count c.drop_row-2.new.rows.items } ≡ released c.args.t.0 v.locks) c.self.view_is
     (let w : option_map (λ u. u.0) c.writer_unless-self-inside.result ≡ (if unwrap_or (option_map (λ u. u == c.args.t.0) (option_map (λ u. u.0) c.self.inside.writer)) false then None else option_map (λ u. u.0) c.self.inside.writer) =
     ap (option_map (λ (u : TxnId). u.0)) c.writer_unless-self-inside.ensures ∙ other_writer c.self.inside.writer c.args.t.0 in
     let r : map (λ r. r.update.0) c.drop_row.new.rows.items ≡ filter (λ u. not (u == c.args.t.0)) (map (λ r. r.update.0) c.self.inside.readers.items) =
     rw c.drop_row.ensures (map-others (λ r. r.update.0) (λ u. u) (λ r. r.update.0) (λ r. refl) c.args.t.0 c.self.inside.readers.items) in
-    let q : map reads_of c.drop_row-2.new.rows.items ≡ filter (λ (p : ℕ × ℕ). not (p.0 == c.args.t.0)) (map reads_of c.self.inside.queries.items) =
-    rw c.drop_row-2.ensures (map-others (λ r. r.query.0) (λ (p : ℕ × ℕ). p.0) reads_of (λ r. refl) c.args.t.0 c.self.inside.queries.items) in
+    let q : map query_and_count c.drop_row-2.new.rows.items ≡ filter (λ (p : ℕ × ℕ). not (p.0 == c.args.t.0)) (map query_and_count c.self.inside.queries.items) =
+    rw c.drop_row-2.ensures (map-others (λ r. r.query.0) (λ (p : ℕ × ℕ). p.0) query_and_count (λ r. refl) c.args.t.0 c.self.inside.queries.items) in
     rw (w, r, q) refl)
