@@ -5,7 +5,7 @@ use Rattle.std.proofs.lemmas.Int.{ints}
 use Rattle.std.proofs.lemmas.List.{take_more, map-append}
 use Rattle.esr_history.proofs.Charges.{range-push}
 use Rattle.esr_items.specs.Values.{IsValue}
-use Rattle.esr_audit.specs.declared.reads.Reading.{Reading}
+use Rattle.esr_audit.specs.declared.reads.ItemRead.{ItemRead}
 use Rattle.esr_audit.specs.Reads.{values_of}
 
 pub value_fits : (v : ℤ) → IsValue v → FitsSigned w64 v
@@ -51,18 +51,18 @@ chain_skip view G P n chains so_far fails =
     so_far ∙ sym (ap (map G) (items_more P n ∙ ap (λ b. filter P (range_with_len 0 n) ++ (cond b (n ∷ []) [])) fails ∙ append-nil (filter P (range_with_len 0 n))))
 
 -- the values that were read of one item
-pub values_few : (readings : List Reading) (x : ℕ) → length (values_of readings x) ≤ length readings
+pub values_few : (reads : List ItemRead) (x : ℕ) → length (values_of reads x) ≤ length reads
 values_few [] x = omega arith
-values_few (r ∷ readings) x = at (eqb r.item x) (values_few readings x)
+values_few (r ∷ reads) x = at (eqb r.item x) (values_few reads x)
   where
-    at : (b : Bool) → length (values_of readings x) ≤ length readings → length (map (λ (s : Reading). s.value) (cond b (r ∷ filter (λ (s : Reading). eqb s.item x) readings) (filter (λ (s : Reading). eqb s.item x) readings))) ≤ length (r ∷ readings)
+    at : (b : Bool) → length (values_of reads x) ≤ length reads → length (map (λ (s : ItemRead). s.value) (cond b (r ∷ filter (λ (s : ItemRead). eqb s.item x) reads) (filter (λ (s : ItemRead). eqb s.item x) reads))) ≤ length (r ∷ reads)
     at true l = omega arith
     at false l = omega arith
 
-pub values_in_range : (readings : List Reading) (x : ℕ) → AllByRecursion (λ (r : Reading). IsValue r.value) readings → AllByRecursion IsValue (values_of readings x)
+pub values_in_range : (reads : List ItemRead) (x : ℕ) → AllByRecursion (λ (r : ItemRead). IsValue r.value) reads → AllByRecursion IsValue (values_of reads x)
 values_in_range [] x a = tt
-values_in_range (r ∷ readings) x a = at (eqb r.item x) (values_in_range readings x a.1)
+values_in_range (r ∷ reads) x a = at (eqb r.item x) (values_in_range reads x a.1)
   where
-    at : (b : Bool) → AllByRecursion IsValue (values_of readings x) → AllByRecursion IsValue (map (λ (s : Reading). s.value) (cond b (r ∷ filter (λ (s : Reading). eqb s.item x) readings) (filter (λ (s : Reading). eqb s.item x) readings)))
+    at : (b : Bool) → AllByRecursion IsValue (values_of reads x) → AllByRecursion IsValue (map (λ (s : ItemRead). s.value) (cond b (r ∷ filter (λ (s : ItemRead). eqb s.item x) reads) (filter (λ (s : ItemRead). eqb s.item x) reads)))
     at true rest = (a.0, rest)
     at false rest = rest

@@ -10,7 +10,7 @@ pub mod Versions
 pub mod Standing
 pub mod Shape
 pub mod Within
-pub mod Readings
+pub mod ItemReads
 pub mod Posed
 pub mod Committed
-pub mod Told
+pub mod Summaries

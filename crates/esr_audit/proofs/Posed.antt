@@ -15,19 +15,19 @@ use Rattle.esr_order.specs.Near.{AreNear, has_written}
 use Rattle.esr_cert.specs.declared.problem.Chain.{Chain}
 use Rattle.esr_cert.specs.Views.{chain_of, problem_of}
 use Rattle.esr_cert.specs.Problem.{Problem, is_sound}
-use Rattle.esr_audit.specs.declared.reads.Reading.{Reading}
-use Rattle.esr_audit.specs.Reads.{gathered, items_in, values_in, reading_of}
+use Rattle.esr_audit.specs.declared.reads.ItemRead.{ItemRead}
+use Rattle.esr_audit.specs.Reads.{gathered, items_in, values_in, item_read_of}
 use Rattle.esr_audit.proofs.Versions.{versions_are}
 use Rattle.esr_audit.proofs.Standing.{problem_from}
 use Rattle.esr_audit.proofs.Within.{state_in_range, sound, each_mapped}
-use Rattle.esr_audit.proofs.Readings as readings
+use Rattle.esr_audit.proofs.ItemReads as reads
 
 module _ (d : Distance) (h : Schedule) (q : ℕ) (legal : IsLegal d h) (opened : All IsValue h.opening) where
-  pub readings_few : (rs : List Reading) → rs ≡ map reading_of (reads_by h q) → IsTrue (is_query (done h) q) → length rs ≤ 1000
-  readings_few rs are query = subst (λ (rs : List Reading). length rs ≤ 1000) (sym are) (readings.readings_few h q (legal_within_ranges d h opened legal) opened query)
+  pub item_reads_few : (rs : List ItemRead) → rs ≡ map item_read_of (reads_by h q) → IsTrue (is_query (done h) q) → length rs ≤ 1000
+  item_reads_few rs are query = subst (λ (rs : List ItemRead). length rs ≤ 1000) (sym are) (reads.item_reads_few h q (legal_within_ranges d h opened legal) opened query)
 
-  pub readings_in_range : (rs : List Reading) → rs ≡ map reading_of (reads_by h q) → All (λ (r : Reading). IsValue r.value) rs
-  readings_in_range rs are = subst (All (λ (r : Reading). IsValue r.value)) (sym are) (readings.readings_in_range h q (legal_within_ranges d h opened legal) opened)
+  pub item_reads_in_range : (rs : List ItemRead) → rs ≡ map item_read_of (reads_by h q) → All (λ (r : ItemRead). IsValue r.value) rs
+  item_reads_in_range rs are = subst (All (λ (r : ItemRead). IsValue r.value)) (sym are) (reads.item_reads_in_range h q (legal_within_ranges d h opened legal) opened)
 
   module _ (us : List ℕ) (near : AreNear h q us) (o : Ordered) (good : IsOrderAmong h q us o) where
     pub versions_in_range : (x : ℕ) → All IsValue (values_in (chain_at o x))
@@ -35,11 +35,11 @@ module _ (d : Distance) (h : Schedule) (q : ℕ) (legal : IsLegal d h) (opened :
         subst (All IsValue) (sym (versions_are h us o x (good.chains x)))
         (All-from_recursion IsValue _ (each_mapped IsValue (λ j. state h (take (suc j) (filter (has_written h x) us)) x) (range_with_len 0 (length (filter (has_written h x) us))) (λ j. state_in_range h (legal_within_ranges d h opened legal) opened (take (suc j) (filter (has_written h x) us)) x)))
 
-    pub posed : (rs : List Reading) → rs ≡ map reading_of (reads_by h q) → (ts : List TxnId) (before : List (ℕ × ℕ)) (chains : List Chain) (must : List ℕ)
+    pub posed : (rs : List ItemRead) → rs ≡ map item_read_of (reads_by h q) → (ts : List TxnId) (before : List (ℕ × ℕ)) (chains : List Chain) (must : List ℕ)
         → ts ≡ o.commits → before ≡ o.before → must ≡ o.must → map chain_of chains ≡ map (gathered (distance_in d h) h.opening o rs) (items_in rs (length h.opening))
         → problem_of ts before chains must ≡ problem_from d h q o
     posed rs are ts before chains must a b c e =
-        let parts : map chain_of chains ≡ (problem_from d h q o).chains = e ∙ ap (λ (rs : List Reading). map (gathered (distance_in d h) h.opening o rs) (items_in rs (length h.opening))) are in
+        let parts : map chain_of chains ≡ (problem_from d h q o).chains = e ∙ ap (λ (rs : List ItemRead). map (gathered (distance_in d h) h.opening o rs) (items_in rs (length h.opening))) are in
         let A : List TxnId → Problem = λ ts. record { updates = map (λ (t : TxnId). t.0) ts; before = before; chains = map chain_of chains; must = must } in
         let B : List (ℕ × ℕ) → Problem = λ before. record { updates = map (λ (t : TxnId). t.0) o.commits; before = before; chains = map chain_of chains; must = must } in
         let C : List ℕ → Problem = λ must. record { updates = map (λ (t : TxnId). t.0) o.commits; before = o.before; chains = map chain_of chains; must = must } in

@@ -19,10 +19,10 @@ use Rattle.esr_order.specs.Near.{AreNear}
 use Rattle.esr_order.proofs.NearLaws.{near_closed, near_writers}
 use Rattle.esr_cert.specs.Problem.{Problem, is_closed, in_set, is_ascending}
 use Rattle.esr_cert.proofs.Sound as sound
-use Rattle.esr_audit.specs.declared.reads.Reading.{Reading}
+use Rattle.esr_audit.specs.declared.reads.ItemRead.{ItemRead}
 use Rattle.esr_order.specs.Near.{has_written}
 use Rattle.esr_audit.specs.Problems.{passes_at, places, items_read, writers_of, chain_for, StandsFor}
-use Rattle.esr_audit.specs.Reads.{gathered, items_in, reading_of}
+use Rattle.esr_audit.specs.Reads.{gathered, items_in, item_read_of}
 use Rattle.esr_audit.proofs.Smallest.{passes_here, among_element}
 use Rattle.esr_audit.proofs.Positions.{filter_agree, ascending_range}
 use Rattle.esr_audit.proofs.Versions.{read_alike, gathered_stands}
@@ -32,7 +32,7 @@ abbrev pub problem_from : Distance → Schedule → ℕ → Ordered → Problem
 problem_from d h q o = record {
   updates = map (λ (t : TxnId). t.0) o.commits;
   before = o.before;
-  chains = map (gathered (distance_in d h) h.opening o (map reading_of (reads_by h q))) (items_in (map reading_of (reads_by h q)) (length h.opening));
+  chains = map (gathered (distance_in d h) h.opening o (map item_read_of (reads_by h q))) (items_in (map item_read_of (reads_by h q)) (length h.opening));
   must = o.must;
 }
 
@@ -97,8 +97,8 @@ module _ (d : Distance) (h : Schedule) (q : ℕ) (legal : IsLegal d h) (us : Lis
       ∙ ap (λ ms. is_among ms (nth us i)) (sym good.musts)
       ∙ must_there o.must must_inside i l))
 
-  items_same : items_in (map reading_of (reads_by h q)) (length h.opening) ≡ items_read h q
-  items_same = filter_agree (λ x. list_any (λ (r : Reading). eqb r.item x) (map reading_of (reads_by h q))) (λ x. list_any (λ (p : Operation). eqb p.item x) (reads_by h q)) 0 (length h.opening) (λ x low high. read_alike (reads_by h q) x)
+  items_same : items_in (map item_read_of (reads_by h q)) (length h.opening) ≡ items_read h q
+  items_same = filter_agree (λ x. list_any (λ (r : ItemRead). eqb r.item x) (map item_read_of (reads_by h q))) (λ x. list_any (λ (p : Operation). eqb p.item x) (reads_by h q)) 0 (length h.opening) (λ x low high. read_alike (reads_by h q) x)
 
   -- all writers of an item that was read are listed
   pub all_writers : (x : ℕ) → In x (items_read h q) → filter (has_written h x) us ≡ writers_of h q x
@@ -106,10 +106,10 @@ module _ (d : Distance) (h : Schedule) (q : ℕ) (legal : IsLegal d h) (us : Lis
       let r = In-any (λ (p : Operation). eqb p.item x) (reads_by h q) (In-of_filter (λ x. list_any (λ (p : Operation). eqb p.item x) (reads_by h q)) (range_with_len 0 (length h.opening)) x i).1 in
       subst (λ y. filter (has_written h y) us ≡ writers_of h q y) (eqb-true r.0.item x r.2) (near_writers d h q legal us near r.0 r.1)
 
-  chains_same : (xs : List ℕ) → ((x : ℕ) → In x xs → In x (items_read h q)) → map (gathered (distance_in d h) h.opening o (map reading_of (reads_by h q))) xs ≡ map (chain_for d h q us) xs
+  chains_same : (xs : List ℕ) → ((x : ℕ) → In x xs → In x (items_read h q)) → map (gathered (distance_in d h) h.opening o (map item_read_of (reads_by h q))) xs ≡ map (chain_for d h q us) xs
   chains_same [] inside = refl
   chains_same (x ∷ xs) inside =
-      ap (λ c. c ∷ map (gathered (distance_in d h) h.opening o (map reading_of (reads_by h q))) xs) (gathered_stands d h q us o x (good.chains x) (all_writers x (inside x (inl refl))))
+      ap (λ c. c ∷ map (gathered (distance_in d h) h.opening o (map item_read_of (reads_by h q))) xs) (gathered_stands d h q us o x (good.chains x) (all_writers x (inside x (inl refl))))
       ∙ ap (λ cs. chain_for d h q us x ∷ cs) (chains_same xs (λ y i. inside y (inr i)))
 
   -- ---- closed sets
@@ -154,6 +154,6 @@ module _ (d : Distance) (h : Schedule) (q : ℕ) (legal : IsLegal d h) (us : Lis
     updates = good.commits ∙ near.in_order ∙ ap (λ vs. filter (is_among vs) (updates_of h q)) (sym good.commits);
     writers = All-from_recursion (λ x. filter (has_written h x) (map (λ (t : TxnId). t.0) o.commits) ≡ writers_of h q x) (items_read h q) (each_in (λ x. filter (has_written h x) (map (λ (t : TxnId). t.0) o.commits) ≡ writers_of h q x) (items_read h q) (λ x i. ap (filter (has_written h x)) good.commits ∙ all_writers x i));
     must = must_places ∙ ap (λ vs. places vs (is_among (must h q))) (sym good.commits);
-    chains = ap (map (gathered (distance_in d h) h.opening o (map reading_of (reads_by h q)))) items_same ∙ chains_same (items_read h q) (λ x i. i) ∙ ap (λ vs. map (chain_for d h q vs) (items_read h q)) (sym good.commits);
+    chains = ap (map (gathered (distance_in d h) h.opening o (map item_read_of (reads_by h q)))) items_same ∙ chains_same (items_read h q) (λ x i. i) ∙ ap (λ vs. map (chain_for d h q vs) (items_read h q)) (sym good.commits);
     closed = λ S. subst (λ (vs : List ℕ). (is_closed (problem_from d h q o) (passes_at vs S) ≡ true) ↔ IsClosed h q (λ u. is_among vs u && S u)) (sym good.commits) (same_closed S);
   }

@@ -16,7 +16,7 @@ use Rattle.esr_order.proofs.Ordered.{law_of_placements}
 use Rattle.esr_audit.specs.declared.finding.Finding.{Finding}
 use Rattle.esr_audit.specs.declared.finding.Book.{Book}
 use Rattle.esr_audit.specs.declared.finding.AuditError.{AuditError}
-use Rattle.esr_audit.specs.Findings.{IsAnswer, IsFinding, committed_queries}
+use Rattle.esr_audit.specs.Findings.{IsAnswer, IsFinding, IsBook}
 use Rattle.esr_audit.proofs.Committed.{query_committed}
 
 module _ (d : Distance) (h longer : Schedule) (q : ℕ) (alike : IsAlike d h longer q) where
@@ -74,14 +74,14 @@ stays d h q distance import before committed a = λ rest legal. answer_stays d h
 
 -- and what is found of each committed query
 pub findings_stay : (d : Distance) (h : Schedule) (r : Result Book AuditError)
-    → IfOk r (λ b. map (λ (f : Finding). f.query.0) b.findings.items ≡ committed_queries h) → IfOk r (λ b. All (IsFinding d h) b.findings.items)
+    → IfOk r (IsBook d h)
     → IfOk r (λ b. (rest : List Entry) → IsLegal d (along h rest) → All (λ (f : Finding). IsAnswer d (along h rest) f.query.0 f.distance f.import (map (λ (t : TxnId). t.0) f.before.items)) b.findings.items)
-findings_stay d h (Err e) queries found = tt
-findings_stay d h (Ok b) queries found = λ rest legal.
+findings_stay d h (Err e) book = tt
+findings_stay d h (Ok b) book = λ rest legal.
     All-from_recursion (λ (f : Finding). IsAnswer d (along h rest) f.query.0 f.distance f.import (map (λ (t : TxnId). t.0) f.before.items)) b.findings.items
     (each_in (λ (f : Finding). IsAnswer d (along h rest) f.query.0 f.distance f.import (map (λ (t : TxnId). t.0) f.before.items)) b.findings.items (λ f i.
-    let finding : IsFinding d h f = each_at (IsFinding d h) b.findings.items f (recursion_from_All (IsFinding d h) b.findings.items found) i in
-    stays d h f.query.0 f.distance f.import (map (λ (t : TxnId). t.0) f.before.items) (query_committed h f.query.0 (subst (In f.query.0) queries (listed b.findings.items f i))) finding.answer rest legal))
+    let finding : IsFinding d h f = each_at (IsFinding d h) b.findings.items f (recursion_from_All (IsFinding d h) b.findings.items book.findings) i in
+    stays d h f.query.0 f.distance f.import (map (λ (t : TxnId). t.0) f.before.items) (query_committed h f.query.0 (subst (In f.query.0) book.queries (listed b.findings.items f i))) finding.answer rest legal))
   where
     listed : (fs : List Finding) (f : Finding) → In f fs → In f.query.0 (map (λ (f : Finding). f.query.0) fs)
     listed [] f i = absurd i

@@ -15,10 +15,10 @@ use Rattle.esr_history.proofs.LastWriter.{last_value-append, last_value-some}
 use Rattle.esr_order.specs.Chains.{Chain, chain_from, some_chain, if_written, last_of, last_among, chain_among, writers_in}
 use Rattle.esr_order.specs.Orders.{Ordered, chain_at}
 use Rattle.esr_cert.specs.Problem as problems
-use Rattle.esr_audit.specs.declared.reads.Reading.{Reading}
+use Rattle.esr_audit.specs.declared.reads.ItemRead.{ItemRead}
 use Rattle.esr_order.specs.Near.{has_written}
 use Rattle.esr_audit.specs.Problems.{passes_at, places, writers_of, version_cost, chain_for}
-use Rattle.esr_audit.specs.Reads.{values_of, distance_sum, values_in, gathered, reading_of}
+use Rattle.esr_audit.specs.Reads.{values_of, distance_sum, values_in, gathered, item_read_of}
 use Rattle.esr_audit.proofs.Values.{values_none, values_some, writers_leave}
 use Rattle.esr_audit.proofs.Places.{length-places}
 
@@ -125,20 +125,20 @@ written_values c same = at c.writers c.values same
     at [] (v ∷ vs) e = absurd (omega (arith, e))
     at (w ∷ ws) vs e = refl
 
-sum_of_reads : (D : ℕ → ℤ → ℤ → ℕ) (x : ℕ) (v : ℤ) (os : List Operation) → distance_sum D x (values_of (map reading_of os) x) v ≡ sum_by (λ (o : Operation). cond (eqb o.item x) (D x o.value v) 0) os
+sum_of_reads : (D : ℕ → ℤ → ℤ → ℕ) (x : ℕ) (v : ℤ) (os : List Operation) → distance_sum D x (values_of (map item_read_of os) x) v ≡ sum_by (λ (o : Operation). cond (eqb o.item x) (D x o.value v) 0) os
 sum_of_reads D x v [] = refl
 sum_of_reads D x v (o ∷ os) = at (eqb o.item x) refl (sum_of_reads D x v os)
   where
-    at : (b : Bool) → eqb o.item x ≡ b → distance_sum D x (values_of (map reading_of os) x) v ≡ sum_by (λ (o : Operation). cond (eqb o.item x) (D x o.value v) 0) os
-        → distance_sum D x (map (λ (r : Reading). r.value) (cond b (reading_of o ∷ filter (λ (r : Reading). eqb r.item x) (map reading_of os)) (filter (λ (r : Reading). eqb r.item x) (map reading_of os)))) v ≡ sum_by (λ (o : Operation). cond (eqb o.item x) (D x o.value v) 0) (o ∷ os)
+    at : (b : Bool) → eqb o.item x ≡ b → distance_sum D x (values_of (map item_read_of os) x) v ≡ sum_by (λ (o : Operation). cond (eqb o.item x) (D x o.value v) 0) os
+        → distance_sum D x (map (λ (r : ItemRead). r.value) (cond b (item_read_of o ∷ filter (λ (r : ItemRead). eqb r.item x) (map item_read_of os)) (filter (λ (r : ItemRead). eqb r.item x) (map item_read_of os)))) v ≡ sum_by (λ (o : Operation). cond (eqb o.item x) (D x o.value v) 0) (o ∷ os)
     at true e rest =
         let here : cond (eqb o.item x) (D x o.value v) 0 ≡ D x o.value v = ap (λ b. cond b (D x o.value v) 0) e in
-        omega (arith, sum_by-cons (λ a. D x a v) o.value (values_of (map reading_of os) x), sum_by-cons (λ (o : Operation). cond (eqb o.item x) (D x o.value v) 0) o os, here, rest)
+        omega (arith, sum_by-cons (λ a. D x a v) o.value (values_of (map item_read_of os) x), sum_by-cons (λ (o : Operation). cond (eqb o.item x) (D x o.value v) 0) o os, here, rest)
     at false e rest =
         let here : cond (eqb o.item x) (D x o.value v) 0 ≡ 0 = ap (λ b. cond b (D x o.value v) 0) e in
         omega (arith, sum_by-cons (λ (o : Operation). cond (eqb o.item x) (D x o.value v) 0) o os, here, rest)
 
-pub read_alike : (os : List Operation) (x : ℕ) → list_any (λ (r : Reading). eqb r.item x) (map reading_of os) ≡ list_any (λ (o : Operation). eqb o.item x) os
+pub read_alike : (os : List Operation) (x : ℕ) → list_any (λ (r : ItemRead). eqb r.item x) (map item_read_of os) ≡ list_any (λ (o : Operation). eqb o.item x) os
 read_alike [] x = refl
 read_alike (o ∷ os) x = ap (λ b. eqb o.item x || b) (read_alike os x)
 
@@ -169,13 +169,13 @@ versions_are h us o x is =
 
 -- the chain that is gathered of an item is that of the problem that stands for the query, where all its writers are listed
 pub gathered_stands : (d : Distance) (h : Schedule) (q : ℕ) (us : List ℕ) (o : Ordered) (x : ℕ) → chain_at o x ≡ chain_among h us x → filter (has_written h x) us ≡ writers_of h q x
-    → gathered (distance_in d h) h.opening o (map reading_of (reads_by h q)) x ≡ chain_for d h q us x
+    → gathered (distance_in d h) h.opening o (map item_read_of (reads_by h q)) x ≡ chain_for d h q us x
 gathered_stands d h q us o x is all =
     let c : Chain = chain_from (last_among h us x) (length us) in
     let writers : writers_in (chain_at o x) ≡ places us (has_written h x) = ap writers_in is ∙ written_writers c ∙ chain_writers h us x in
     let values : values_in (chain_at o x) ≡ map (λ j. state h (take (suc j) (writers_of h q x)) x) (range_with_len 0 (length (writers_of h q x))) =
     versions_are h us o x is ∙ ap (λ ws. map (λ j. state h (take (suc j) ws) x) (range_with_len 0 (length ws))) all in
-    let D : ℤ → ℕ = distance_sum (distance_in d h) x (values_of (map reading_of (reads_by h q)) x) in
+    let D : ℤ → ℕ = distance_sum (distance_in d h) x (values_of (map item_read_of (reads_by h q)) x) in
     let costs : map D (value_at h.opening x ∷ values_in (chain_at o x)) ≡ map (version_cost d h q x) (range_with_len 0 (suc (length (writers_of h q x)))) =
     ap (λ vs. map D (value_at h.opening x ∷ vs)) values
     ∙ ap (map D) (versions_from (λ j. state h (take j (writers_of h q x)) x) (length (writers_of h q x)))

@@ -26,7 +26,10 @@ use Rattle.esr_order.specs.Chains.{nth}
 use Rattle.esr_order.specs.Orders.{Ordered, IsOrderAmong}
 use Rattle.esr_order.specs.Near.{AreNear}
 use Rattle.esr_order.proofs.NearLaws.{near_updates}
-use Rattle.esr_cert.specs.Problem.{Chain, Problem, size, greatest, chain_is_in_range, is_in_range, is_sound, max_txn, max_item, max_cost}
+use Rattle.esr_items.specs.declared.TheConstants.{MOST_ITEMS}
+use Rattle.esr_history.specs.declared.limits.TheConstants.{MOST_TRANSACTIONS}
+use Rattle.esr_cert.specs.declared.range.TheConstants.{MAX_COST}
+use Rattle.esr_cert.specs.Problem.{Chain, Problem, size, greatest, chain_is_in_range, is_in_range, is_sound}
 use Rattle.esr_cert.proofs.Sound.{all_from}
 use Rattle.esr_order.specs.Near.{has_written}
 use Rattle.esr_audit.specs.Problems.{passes_at, places, items_read, writers_of, version_cost, chain_for}
@@ -166,11 +169,11 @@ module _ (d : Distance) (h : Schedule) (q : ℕ) (range : IsWithinRanges h) (ope
     sized : size p ≡ length o.commits
     sized = length-map o.commits (λ (t : TxnId). t.0)
 
-    numbers : list_all (λ t. nat_lt 0 t && nat_le t max_txn) p.updates ≡ true
-    numbers = all_from (λ t. nat_lt 0 t && nat_le t max_txn) p.updates (λ t c.
+    numbers : list_all (λ t. nat_lt 0 t && nat_le t MOST_TRANSACTIONS) p.updates ≡ true
+    numbers = all_from (λ t. nat_lt 0 t && nat_le t MOST_TRANSACTIONS) p.updates (λ t c.
         let i : In t (updates_of h q) = Contains-In (updates_of h q) t (near_updates d h q legal us near t (subst (λ vs. Contains vs t) good.commits c)) in
         let r = number_in_range h range opened t (In-of_filter (is_update (done h)) (before_first (λ t. eqb t q) (commit_order (done h))) t i).1 in
-        and_from (nat_lt 0 t) (nat_le t max_txn) (lt-ltb 0 t r.0) (le-leb t max_txn r.1))
+        and_from (nat_lt 0 t) (nat_le t MOST_TRANSACTIONS) (lt-ltb 0 t r.0) (le-leb t MOST_TRANSACTIONS r.1))
 
     before : list_all (λ (e : ℕ × ℕ). nat_lt e.0 (size p) && nat_lt e.1 (size p)) o.before ≡ true
     before = all_from (λ (e : ℕ × ℕ). nat_lt e.0 (size p) && nat_lt e.1 (size p)) o.before (λ e c.
@@ -183,8 +186,8 @@ module _ (d : Distance) (h : Schedule) (q : ℕ) (range : IsWithinRanges h) (ope
     chain_within : (x : ℕ) → In x (items_read h q) → chain_is_in_range (size p) (chain_for d h q us x) ≡ true
     chain_within x i =
         let l = below (λ x. list_any (λ (o : Operation). eqb o.item x) (reads_by h q)) 0 (length h.opening) x i in
-        and_from (nat_le x max_item) (list_all (λ w. nat_lt w (size p)) (places us (has_written h x)))
-        (le-leb x max_item (omega arith))
+        and_from (nat_lt x MOST_ITEMS) (list_all (λ w. nat_lt w (size p)) (places us (has_written h x)))
+        (lt-ltb x MOST_ITEMS (omega arith))
         (all_from (λ w. nat_lt w (size p)) (places us (has_written h x)) (λ w c.
         let k = below (passes_at us (has_written h x)) 0 (length us) w (Contains-In (places us (has_written h x)) w c) in
         lt-ltb w (size p) (omega (arith, k, ap length good.commits))))
@@ -201,12 +204,12 @@ module _ (d : Distance) (h : Schedule) (q : ℕ) (range : IsWithinRanges h) (ope
     chains_within [] all = refl
     chains_within (x ∷ xs) all = and_from (chain_is_in_range (size p) (chain_for d h q us x)) (list_all (chain_is_in_range (size p)) (map (chain_for d h q us) xs)) (chain_within x (all x (inl refl))) (chains_within xs (λ y i. all y (inr i)))
 
-    costs : nat_le (sum_by (λ (c : Chain). greatest c.costs) p.chains) max_cost ≡ true
+    costs : nat_le (sum_by (λ (c : Chain). greatest c.costs) p.chains) MAX_COST ≡ true
     costs =
         let same : sum_by (λ (c : Chain). greatest c.costs) p.chains ≡ sum_by (λ (c : Chain). greatest c.costs) (map (chain_for d h q us) (items_read h q)) = ap (sum_by (λ (c : Chain). greatest c.costs)) (shape.chains_of d h q legal us near o good) in
         let sum = sum_of_greatest us in
         let many : length (reads_by h q) ≤ 1000 = subst (λ n. n ≤ 1000) (sym (reads_counted h q)) (range.reads q query) in
-        le-leb (sum_by (λ (c : Chain). greatest c.costs) p.chains) max_cost (omega arith)
+        le-leb (sum_by (λ (c : Chain). greatest c.costs) p.chains) MAX_COST (omega arith)
 
     pub within : is_in_range p ≡ true
     within =

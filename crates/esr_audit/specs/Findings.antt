@@ -1,10 +1,11 @@
 -- What an audit finds of a committed query.
-use Rattle.std.specs.Prelude.{◌≡◌, ◌≤◌, ℕ, List, filter, map, Some}
+use Rattle.std.specs.Prelude.{◌≡◌, ◌≤◌, ℕ, List, All, filter, map, Some}
 use Rattle.std.specs.List.{filter_map, slice_get}
 use Rattle.esr_history.specs.Events.{is_query}
 use Rattle.esr_history.specs.Machine.{Distance, Schedule, done, charges_in, import_in}
 use Rattle.esr_history.specs.Operations.{commit_order}
 use Rattle.esr_history.specs.Queries.{members, cost}
+use Rattle.esr_history.specs.Serial.{committed_updates}
 use Rattle.esr_order.specs.Placements.{is_among, IsLeastDistance, IsSmallestLeastSet}
 use Rattle.esr_order.specs.Near.{AreNear}
 use Rattle.esr_order.specs.Least.{least_set, least_cost}
@@ -16,6 +17,7 @@ use Rattle.esr_order.specs.declared.order.OrderError.{OrderError}
 use Rattle.esr_order.specs.declared.order.OrderError.TheVariants.{NotACommittedQuery, NoMemory}
 use Rattle.esr_cert.specs.Views.{certificate_of}
 use Rattle.esr_audit.specs.declared.finding.Finding.{Finding}
+use Rattle.esr_audit.specs.declared.finding.Book.{Book}
 use Rattle.esr_audit.specs.declared.finding.AuditError.{AuditError}
 use Rattle.esr_audit.specs.declared.finding.AuditError.TheVariants as refusals
 use Rattle.esr_audit.specs.Problems.{StandsFor}
@@ -48,20 +50,32 @@ pub record IsShown (d : Distance) (h : Schedule) (q distance : ℕ) (before : Li
   pub worth_is : certificate.worth ≡ distance
   pub counted : IsCounted problem certificate
 
--- what is found of a query
-pub record IsFinding (d : Distance) (h : Schedule) (f : Finding) : Type 0 where
-  pub answer : IsAnswer d h f.query.0 f.distance f.import (map (λ t. t.0) f.before.items)
-  pub shown : IsShown d h f.query.0 f.distance (map (λ t. t.0) f.before.items) f.problem (certificate_of f.certificate)
-  pub near : AreNear h f.query.0 f.problem.updates
+-- what is found of query q
+pub record IsFindingOf (d : Distance) (h : Schedule) (q : ℕ) (f : Finding) : Type 0 where
+  pub answer : IsAnswer d h q f.distance f.import (map (λ t. t.0) f.before.items)
+  pub shown : IsShown d h q f.distance (map (λ t. t.0) f.before.items) f.problem (certificate_of f.certificate)
+  pub near : AreNear h q f.problem.updates
+
+-- what is found of the query that it names
+abbrev pub IsFinding : Distance → Schedule → Finding → Type 0
+IsFinding d h f = IsFindingOf d h f.query.0 f
 
 -- the committed queries, in commit order
 abbrev pub committed_queries : Schedule → List ℕ
 committed_queries h = filter (is_query (done h)) (commit_order (done h))
 
--- what is told of a finding: its query, its distance, its import, and the updates before the position
-abbrev pub told : Finding → ℕ × ℕ × ℕ × List ℕ
-told f = (f.query.0, f.distance, f.import, map (λ t. t.0) f.before.items)
+-- the summary of a finding: its query, its distance, its import, and the updates before the position
+abbrev pub summary : Finding → ℕ × ℕ × ℕ × List ℕ
+summary f = (f.query.0, f.distance, f.import, map (λ t. t.0) f.before.items)
 
--- what there is to tell of a committed query: all of it is fixed by the history
-abbrev pub told_of : Distance → Schedule → ℕ → ℕ × ℕ × ℕ × List ℕ
-told_of d h q = (q, least_cost d h q, import_in (charges_in d h) q, least_set d h q)
+-- the summary of a committed query: all of it is fixed by the history
+abbrev pub summary_of : Distance → Schedule → ℕ → ℕ × ℕ × ℕ × List ℕ
+summary_of d h q = (q, least_cost d h q, import_in (charges_in d h) q, least_set d h q)
+
+-- what is found of a history: its committed updates, in commit order, and a finding of each committed query, whose
+-- summary is the query's
+pub record IsBook (d : Distance) (h : Schedule) (b : Book) : Type 0 where
+  pub order : map (λ t. t.0) b.order.items ≡ committed_updates h
+  pub queries : map (λ f. f.query.0) b.findings.items ≡ committed_queries h
+  pub findings : All (IsFinding d h) b.findings.items
+  pub summaries : map summary b.findings.items ≡ map (summary_of d h) (committed_queries h)

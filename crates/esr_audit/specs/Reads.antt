@@ -8,19 +8,19 @@ use Rattle.esr_order.specs.Chains.{writers_in}
 use Rattle.esr_order.specs.Chains as orders
 use Rattle.esr_order.specs.Orders.{Ordered, chain_at}
 use Rattle.esr_cert.specs.Problem.{Chain}
-use Rattle.esr_audit.specs.declared.reads.Reading.{Reading}
+use Rattle.esr_audit.specs.declared.reads.ItemRead.{ItemRead}
 
 -- a read, as what was read of an item
-abbrev pub reading_of : Operation → Reading
-reading_of o = record { item = o.item; value = o.value }
+abbrev pub item_read_of : Operation → ItemRead
+item_read_of o = record { item = o.item; value = o.value }
 
 -- the same of a read as it is listed
-abbrev pub read_of : Access → Reading
-read_of a = record { item = a.item.0; value = a.value }
+abbrev pub item_read_in : Access → ItemRead
+item_read_in a = record { item = a.item.0; value = a.value }
 
 -- the values read of item x
-abbrev pub values_of : List Reading → ℕ → List ℤ
-values_of readings x = map (λ r. r.value) (filter (λ r. r.item == x) readings)
+abbrev pub values_of : List ItemRead → ℕ → List ℤ
+values_of reads x = map (λ r. r.value) (filter (λ r. r.item == x) reads)
 
 -- the distance of values of item x from a version, summed
 abbrev pub distance_sum : (ℕ → ℤ → ℤ → ℕ) → ℕ → List ℤ → ℤ → ℕ
@@ -31,17 +31,17 @@ values_in None = []
 values_in (Some c) = c.values
 
 -- the chain of item x, from those who wrote it with the values that they left, and what was read
-abbrev pub gathered_from : (ℕ → ℤ → ℤ → ℕ) → List ℤ → Option orders.Chain → List Reading → ℕ → Chain
-gathered_from d opening chain readings x = record {
+abbrev pub gathered_from : (ℕ → ℤ → ℤ → ℕ) → List ℤ → Option orders.Chain → List ItemRead → ℕ → Chain
+gathered_from d opening chain reads x = record {
   item = x;
   writers = writers_in chain;
-  costs = map (distance_sum d x (values_of readings x)) (value_at opening x ∷ values_in chain);
+  costs = map (distance_sum d x (values_of reads x)) (value_at opening x ∷ values_in chain);
 }
 
 -- the same of an order
-abbrev pub gathered : (ℕ → ℤ → ℤ → ℕ) → List ℤ → Ordered → List Reading → ℕ → Chain
-gathered d opening order readings x = gathered_from d opening (chain_at order x) readings x
+abbrev pub gathered : (ℕ → ℤ → ℤ → ℕ) → List ℤ → Ordered → List ItemRead → ℕ → Chain
+gathered d opening order reads x = gathered_from d opening (chain_at order x) reads x
 
 -- the items below n that were read
-abbrev pub items_in : List Reading → ℕ → List ℕ
-items_in readings n = filter (λ x. list_any (λ r. r.item == x) readings) (range_with_len 0 n)
+abbrev pub items_in : List ItemRead → ℕ → List ℕ
+items_in reads n = filter (λ x. list_any (λ r. r.item == x) reads) (range_with_len 0 n)

@@ -6,14 +6,14 @@ ghost use Rattle.esr_history.specs.Legal.{along};
 ghost use Rattle.esr_history.specs.Machine.{IsLegal, done};
 ghost use Rattle.esr_history.specs.Operations.{commit_order};
 ghost use Rattle.esr_history.specs.Queries.{is_committed_query};
-ghost use Rattle.esr_history.specs.Serial.{IsSerializable, committed_updates};
+ghost use Rattle.esr_history.specs.Serial.{IsSerializable};
 ghost use Rattle.esr_history.specs.Totals.{IsWithinLimits};
 ghost use Rattle.esr_cert.specs.Certificate.{Certifies};
 ghost use Rattle.esr_cert.specs.Problem.{in_set, IsSmallestLeast};
 ghost use Rattle.esr_cert.specs.Views.{certificate_of};
 ghost use Rattle.esr_order.specs.Orders.{IsOrderAmong};
 ghost use Rattle.esr_order.specs.Near.{AreNear};
-ghost use Rattle.esr_audit.specs.Findings.{IsAnswer, IsShown, IsCounted, IsFinding, committed_queries, told, told_of};
+ghost use Rattle.esr_audit.specs.Findings.{IsAnswer, IsCounted, IsFinding, IsFindingOf, IsBook};
 
 use crate::commits::{CommitLists, commit_lists};
 use crate::finding::{AuditError, Book, Finding};
@@ -62,11 +62,7 @@ fn find<M: Metric>(
     requires near { AreNear history.now.schedule q.0 (map (λ t. t.0) order.commits) }
     requires committed { IsTrue (is_committed_query history.now.schedule q.0) }
     ensures query { IfOk result (λ f. f.query ≡ q) }
-    ensures answer { IfOk result (λ f. IsAnswer M.distance_by history.now.schedule q.0 f.distance f.import
-        (map (λ t. t.0) f.before.items)) }
-    ensures shown { IfOk result (λ f. IsShown M.distance_by history.now.schedule q.0 f.distance
-        (map (λ t. t.0) f.before.items) f.problem (certificate_of f.certificate)) }
-    ensures near { IfOk result (λ f. AreNear history.now.schedule q.0 f.problem.updates) }
+    ensures finding { IfOk result (IsFindingOf M.distance_by history.now.schedule q.0) }
     ensures err { IfErr result (λ e. e ≡ AuditError.NoMemory) }
 {
     let _legal = history.log(); // brings the invariant into the proof
@@ -98,11 +94,7 @@ pub fn audit_query<M: Metric>(
     q: TxnId,
 ) -> Result<Finding, AuditError>
     ensures query { IfOk result (λ f. f.query ≡ q) }
-    ensures answer { IfOk result (λ f. IsAnswer M.distance_by history.now.schedule q.0 f.distance f.import
-        (map (λ t. t.0) f.before.items)) }
-    ensures shown { IfOk result (λ f. IsShown M.distance_by history.now.schedule q.0 f.distance
-        (map (λ t. t.0) f.before.items) f.problem (certificate_of f.certificate)) }
-    ensures near { IfOk result (λ f. AreNear history.now.schedule q.0 f.problem.updates) }
+    ensures finding { IfOk result (IsFindingOf M.distance_by history.now.schedule q.0) }
     ensures refused { IsErrOf result AuditError.NotACommittedQuery
         ↔ (is_committed_query history.now.schedule q.0 ≡ false) }
     ensures workers { ¬ IsErrOf result AuditError.WorkersOutOfRange }
@@ -125,7 +117,7 @@ fn find_committed<M: Metric>(
     requires list { map (λ t. t.0) committed.now ≡ commit_order (done history.now.schedule) }
     requires query { IsTrue (is_committed_query history.now.schedule q.0) }
     ensures query { IfOk result (λ f. f.query ≡ q) }
-    ensures finding { IfOk result (IsFinding M.distance_by history.now.schedule) }
+    ensures finding { IfOk result (IsFindingOf M.distance_by history.now.schedule q.0) }
     ensures err { IfErr result (λ e. e ≡ AuditError.NoMemory) }
 {
     let near = Order::near_in(alloc, history, committed, q)?;
@@ -159,10 +151,7 @@ fn findings_of<M: Metric>(
 
 /// The committed updates of a history, and what is found of its committed queries.
 fn book_of<M: Metric>(alloc: Global, history: &History<M>) -> Result<Book, AuditError>
-    ensures order { IfOk result (λ b. map (λ t. t.0) b.order.items ≡ committed_updates history.now.schedule) }
-    ensures queries { IfOk result (λ b. map (λ f. f.query.0) b.findings.items
-        ≡ committed_queries history.now.schedule) }
-    ensures findings { IfOk result (λ b. All (IsFinding M.distance_by history.now.schedule) b.findings.items) }
+    ensures book { IfOk result (IsBook M.distance_by history.now.schedule) }
     ensures err { IfErr result (λ e. e ≡ AuditError.NoMemory) }
 {
     let CommitLists {
@@ -193,12 +182,7 @@ pub fn audit_history<M: Metric>(alloc: Global, history: &History<M>) -> Result<B
     ensures legal { IsLegal M.distance_by history.now.schedule }
     ensures serializable { IsSerializable history.now.schedule }
     ensures limits { IsWithinLimits M.distance_by history.now.schedule }
-    ensures order { IfOk result (λ b. map (λ t. t.0) b.order.items ≡ committed_updates history.now.schedule) }
-    ensures queries { IfOk result (λ b. map (λ f. f.query.0) b.findings.items
-        ≡ committed_queries history.now.schedule) }
-    ensures findings { IfOk result (λ b. All (IsFinding M.distance_by history.now.schedule) b.findings.items) }
-    ensures told { IfOk result (λ b. map told b.findings.items
-        ≡ map (told_of M.distance_by history.now.schedule) (committed_queries history.now.schedule)) }
+    ensures book { IfOk result (IsBook M.distance_by history.now.schedule) }
     ensures err { IfErr result (λ e. e ≡ AuditError.NoMemory) }
     ensures stays { IfOk result (λ b. (rest : List Entry) → IsLegal M.distance_by (along history.now.schedule rest)
         → All (λ f. IsAnswer M.distance_by (along history.now.schedule rest) f.query.0 f.distance f.import

@@ -2,6 +2,7 @@
 ghost use Rattle.std.specs.Prelude.{◌≡◌, ◌+◌, ◌*◌, ◌<◌, ◌≤◌, ◌∷◌, ◌==◌, ℕ, Some, length, map, All, IfOk};
 ghost use Rattle.std.specs.List.{list_any};
 ghost use Rattle.esr_items.specs.Values.{IsValue};
+ghost use Rattle.esr_history.specs.declared.limits.TheConstants.{MOST_READS};
 ghost use Rattle.esr_order.specs.Chains as orders;
 ghost use Rattle.esr_order.specs.Orders.{chain_at};
 ghost use Rattle.esr_cert.specs.Views.{chain_of as chain_view};
@@ -10,7 +11,7 @@ ghost use Rattle.esr_order.specs.Chains.{seen_links};
 ghost use Rattle.esr_order.specs.Chains.{writers_in};
 ghost use Rattle.esr_audit.specs.Reads.{values_of, distance_sum, values_in, gathered, gathered_from, items_in};
 
-use crate::reads::Reading;
+use crate::reads::ItemRead;
 use esr_cert::Chain;
 use esr_history::History;
 use esr_items::{ItemId, Metric};
@@ -18,10 +19,10 @@ use esr_order::{Links, Order};
 use std::alloc::{AllocError, Global};
 
 /// The values that were read of an item.
-fn values_read(alloc: Global, readings: &[Reading], item: u32) -> Result<Vec<i64>, AllocError>
-    ensures { IfOk result (λ v. v.items ≡ values_of readings.now item) }
+fn values_read(alloc: Global, reads: &[ItemRead], item: u32) -> Result<Vec<i64>, AllocError>
+    ensures { IfOk result (λ v. v.items ≡ values_of reads.now item) }
 {
-    readings
+    reads
         .iter()
         .filter(|r| r.item == item)
         .map(|r| r.value)
@@ -29,15 +30,15 @@ fn values_read(alloc: Global, readings: &[Reading], item: u32) -> Result<Vec<i64
 }
 
 /// Whether the item was read.
-fn is_read(readings: &[Reading], item: u32) -> bool
-    ensures { result ≡ list_any (λ r. r.item == item) readings.now }
+fn is_read(reads: &[ItemRead], item: u32) -> bool
+    ensures { result ≡ list_any (λ r. r.item == item) reads.now }
 {
-    readings.iter().any(|r| r.item == item)
+    reads.iter().any(|r| r.item == item)
 }
 
 /// The distance of the values from a version of the item, summed.
 fn distance_to<M: Metric>(metric: &M, x: ItemId, values: &[i64], version: i64) -> u64
-    requires few { length values.now ≤ 1000 }
+    requires few { length values.now ≤ MOST_READS }
     requires values { All IsValue values.now }
     requires version { IsValue version }
     ensures { result ≡ distance_sum (M.distance_by (M.weights metric.now)) x.0 values.now version }
@@ -58,7 +59,7 @@ fn costs_of<M: Metric>(
     opening: i64,
     versions: &[i64],
 ) -> Result<Vec<u64>, AllocError>
-    requires few { length values.now ≤ 1000 }
+    requires few { length values.now ≤ MOST_READS }
     requires values { All IsValue values.now }
     requires opening { IsValue opening }
     requires versions { All IsValue versions.now }
@@ -89,17 +90,17 @@ fn chain_of<M: Metric>(
     alloc: Global,
     history: &History<M>,
     links: Option<Links>,
-    readings: &[Reading],
+    reads: &[ItemRead],
     x: ItemId,
 ) -> Result<Chain, AllocError>
     requires item { x.0 < length history.now.schedule.opening }
-    requires few { length readings.now ≤ 1000 }
-    requires readings { All (λ r. IsValue r.value) readings.now }
+    requires few { length reads.now ≤ MOST_READS }
+    requires reads { All (λ r. IsValue r.value) reads.now }
     requires versions { All IsValue (values_in (option_map seen_links links)) }
     ensures { IfOk result (λ c. chain_view c ≡ gathered_from (M.distance_by history.now.schedule.weights)
-        history.now.schedule.opening (option_map seen_links links) readings.now x.0) }
+        history.now.schedule.opening (option_map seen_links links) reads.now x.0) }
 {
-    let values = values_read(alloc, readings, x.0)?;
+    let values = values_read(alloc, reads, x.0)?;
     let (writers, versions) = writers_and_values(alloc, links);
     let costs = costs_of(
         alloc,
@@ -121,24 +122,24 @@ pub fn chains_of<M: Metric>(
     alloc: Global,
     history: &History<M>,
     order: &mut Order,
-    readings: &[Reading],
+    reads: &[ItemRead],
 ) -> Result<Vec<Chain>, AllocError>
-    requires few { length readings.now ≤ 1000 }
-    requires readings { All (λ r. IsValue r.value) readings.now }
+    requires few { length reads.now ≤ MOST_READS }
+    requires reads { All (λ r. IsValue r.value) reads.now }
     requires versions { (x : ℕ) → All IsValue (values_in (chain_at order.old x)) }
     ensures chains { IfOk result (λ v. map chain_view v.items
         ≡ map
-        (gathered (M.distance_by history.now.schedule.weights) history.now.schedule.opening order.old readings.now)
-        (items_in readings.now (length history.now.schedule.opening))) }
+        (gathered (M.distance_by history.now.schedule.weights) history.now.schedule.opening order.old reads.now)
+        (items_in reads.now (length history.now.schedule.opening))) }
     ensures commits { order.new.commits ≡ order.old.commits }
     ensures before { order.new.before ≡ order.old.before }
     ensures must { order.new.must ≡ order.old.must }
 {
     let mut chains = Vec::new(alloc);
     for x in 0..history.items() {
-        if is_read(readings, x) {
+        if is_read(reads, x) {
             let links = order.take_chain(alloc, ItemId(x));
-            chains.push(chain_of(alloc, history, links, readings, ItemId(x))?)?;
+            chains.push(chain_of(alloc, history, links, reads, ItemId(x))?)?;
         }
     }
     Ok(chains)

@@ -1,5 +1,6 @@
 //! The transactions that committed: the updates, and the queries.
 ghost use Rattle.std.specs.Prelude.{◌≡◌, ◌≤◌, not, filter, map, All, IfOk, IsTrue, vec_len};
+ghost use Rattle.esr_history.specs.declared.limits.TheConstants.{MOST_TRANSACTIONS};
 ghost use Rattle.esr_history.specs.Events.{is_query};
 ghost use Rattle.esr_history.specs.Machine.{done};
 ghost use Rattle.esr_history.specs.Operations.{commit_order};
@@ -59,7 +60,7 @@ pub fn commit_lists<M: Metric>(alloc: Global, history: &History<M>) -> Result<Co
         ≡ committed_queries history.now.schedule) }
     ensures committed { IfOk result (λ lists. All (λ t. IsTrue
         (is_committed_query history.now.schedule t.0)) lists.queries.items) }
-    ensures few { IfOk result (λ lists. vec_len lists.queries ≤ 65535) }
+    ensures few { IfOk result (λ lists. vec_len lists.queries ≤ MOST_TRANSACTIONS) }
 {
     let _legal = history.log(); // brings the invariant into the proof
     let txns = committed(alloc, history)?;

@@ -8,7 +8,7 @@ ghost use Rattle.esr_audit.specs.Problems.{StandsFor};
 
 use crate::chains::chains_of;
 use crate::finding::AuditError;
-use crate::reads::readings;
+use crate::reads::item_reads;
 use esr_cert::Problem;
 use esr_history::{History, TxnId};
 use esr_items::Metric;
@@ -30,8 +30,8 @@ pub fn problem_of<M: Metric>(
     ensures err { IfErr result (λ e. e ≡ AuditError.NoMemory) }
 {
     let _legal = history.log(); // brings the invariant into the proof
-    let readings = readings(alloc, history, q)?;
-    let chains = chains_of(alloc, history, &mut order, &readings)?;
+    let reads = item_reads(alloc, history, q)?;
+    let chains = chains_of(alloc, history, &mut order, &reads)?;
     let (updates, before, must) = order.into_parts();
     let problem = Problem::of_sound(alloc, updates, before, chains, must)?;
     Ok(problem)

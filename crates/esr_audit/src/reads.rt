@@ -3,7 +3,7 @@ ghost use Rattle.std.specs.Prelude.{◌≡◌, not, filter, map, IfOk};
 ghost use Rattle.esr_history.specs.Events.{is_query};
 ghost use Rattle.esr_history.specs.Machine.{done};
 ghost use Rattle.esr_history.specs.Queries.{reads_by};
-ghost use Rattle.esr_audit.specs.Reads.{read_of, reading_of};
+ghost use Rattle.esr_audit.specs.Reads.{item_read_in, item_read_of};
 
 use esr_history::{History, TxnId};
 use esr_items::Metric;
@@ -12,19 +12,19 @@ use std::alloc::{AllocError, Global};
 
 /// A value that was read of an item.
 #[derive(Clone, Copy)]
-pub struct Reading {
+pub struct ItemRead {
     pub item: u32,
     pub value: i64,
 }
 
 /// The reads among these accesses.
-fn readings_among(alloc: Global, accesses: &[Access]) -> Result<Vec<Reading>, AllocError>
-    ensures { IfOk result (λ v. v.items ≡ map read_of (filter (λ a. not a.writes) accesses.now)) }
+fn item_reads_among(alloc: Global, accesses: &[Access]) -> Result<Vec<ItemRead>, AllocError>
+    ensures { IfOk result (λ v. v.items ≡ map item_read_in (filter (λ a. not a.writes) accesses.now)) }
 {
     accesses
         .iter()
         .filter(|a| !a.writes)
-        .map(|a| Reading {
+        .map(|a| ItemRead {
             item: a.item.0,
             value: a.value,
         })
@@ -32,15 +32,15 @@ fn readings_among(alloc: Global, accesses: &[Access]) -> Result<Vec<Reading>, Al
 }
 
 /// What the query read, in order.
-pub fn readings<M: Metric>(
+pub fn item_reads<M: Metric>(
     alloc: Global,
     history: &History<M>,
     q: TxnId,
-) -> Result<Vec<Reading>, AllocError>
-    ensures { IfOk result (λ v. v.items ≡ map reading_of (reads_by history.now.schedule q.0)) }
+) -> Result<Vec<ItemRead>, AllocError>
+    ensures { IfOk result (λ v. v.items ≡ map item_read_of (reads_by history.now.schedule q.0)) }
 {
     let accesses = accesses_of(alloc, history, q)?;
-    readings_among(alloc, &accesses)
+    item_reads_among(alloc, &accesses)
 }
 
 /// Whether the transaction is a query.

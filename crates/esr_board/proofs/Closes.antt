@@ -5,7 +5,7 @@ use lib.ListN.{get_elem?}
 use Rattle.std.proofs.lemmas.Bool.{cases_lt}
 use Rattle.std.proofs.lemmas.List.Sums.{sum_by-cons, sum_by-append, sum_by_push}
 use Rattle.atomic_table.specs.Table.{State, Me}
-use Rattle.esr_board.specs.declared.hand.Plan.{Plan}
+use Rattle.esr_board.specs.declared.hand.BoardSize.{BoardSize}
 use Rattle.std.proofs.lemmas.List.Concat.{flat_map-cons}
 use Rattle.esr_audit.proofs.Costs.{sum_mapped}
 use Rattle.atomic_table.proofs.Lists.{at_set}
@@ -129,8 +129,8 @@ missing jobs seats word given st its less = ⊎_elim (λ (l : length given < sea
     at_end t = shift (map hand_of given) t.0 t.1.2
 
 -- what the table says as it is closed
-pub settles : (plan : Plan) (jobs seats word : ℕ) (words : List ℕ) (s : State (Unit {0}) Hand) → IsKept plan s → plan.jobs ≡ jobs → plan.seats ≡ seats → s.words ≡ words → get_elem? words 0 ≡ some word → IsFair jobs seats word s.views
-settles plan jobs seats word words s st j k e at =
+pub settles : (size : BoardSize) (jobs seats word : ℕ) (words : List ℕ) (s : State (Unit {0}) Hand) → IsKept size s → size.jobs ≡ jobs → size.seats ≡ seats → s.words ≡ words → get_elem? words 0 ≡ some word → IsFair jobs seats word s.views
+settles size jobs seats word words s st j k e at =
     let w : slice_index s.words 0 ≡ word = ap (λ l. slice_index l 0) e ∙ first words word at in
     subst (λ (z : ℕ × (ℕ × ℕ)). IsFair z.0 z.1.0 z.1.1 s.views) (λ i. (j i, (k i, w i))) st.3
   where

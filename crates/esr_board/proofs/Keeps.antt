@@ -7,7 +7,7 @@ use Rattle.std.proofs.lemmas.List.Sums.{sum_by-cons, sum_by-append, sum_by_push,
 use Rattle.atomic_table.specs.Table.{Me, step, keeps, stepped, Allows, Splits, Joins}
 use Rattle.atomic_table.proofs.Lists.{at_set, at_snoc, set_else}
 use Rattle.esr_board.specs.declared.hand.Hand.{Hand}
-use Rattle.esr_board.specs.declared.hand.Plan.{Plan}
+use Rattle.esr_board.specs.declared.hand.BoardSize.{BoardSize}
 use Rattle.esr_board.specs.Claims.{times, count_past, below, passes_of, IsFair, IsKept, first_hand, with_claim, Claimed, with_one_less, one_pass, joined, spent}
 use Rattle.esr_board.proofs.Weights.{sum_set, part_le, ones, length-below, past_yes, past_no, count_past_push, count_past-below, times-below-none, times_at}
 
@@ -45,38 +45,38 @@ has_pass : (p : ℕ) → false ≡ eqb p 0 → 0 < p
 has_pass p e = let n = false-eqb p 0 e in omega arith
 
 -- one number is claimed
-pub claims : (plan : Plan) (slots id : ℕ) (me : Me (Unit {0}) Hand) → me.0.jobs ≡ plan.jobs → plan.jobs ≤ 65535 → plan.seats ≤ 64 → 0 < me.0.passes
-    → Allows (IsKept plan) slots id me 0 (λ n. (n + 1) % 2 ^ 64) (Claimed (step slots 0 1 0 none) me)
-claims plan slots id me its few_jobs few_seats some_pass s r _ at fits =
+pub claims : (size : BoardSize) (slots id : ℕ) (me : Me (Unit {0}) Hand) → me.0.jobs ≡ size.jobs → size.jobs ≤ 65535 → size.seats ≤ 64 → 0 < me.0.passes
+    → Allows (IsKept size) slots id me 0 (λ n. (n + 1) % 2 ^ 64) (Claimed (step slots 0 1 0 none) me)
+claims size slots id me its few_jobs few_seats some_pass s r _ at fits =
     let word : ℕ = get_or s.words 0 0 in let v : Hand = me.0 in let w : Hand = with_claim v word in
-    let fair : IsFair v.jobs plan.seats word s.views = subst (λ (j : ℕ). IsFair j plan.seats word s.views) (sym its) r.3 in
-    let le = word_le v.jobs plan.seats word s.views fair in
+    let fair : IsFair v.jobs size.seats word s.views = subst (λ (j : ℕ). IsFair j size.seats word s.views) (sym its) r.3 in
+    let le = word_le v.jobs size.seats word s.views fair in
     let next : suc word ≡ (word + 1) % 18446744073709551616 = omega arith in
     let wide : length s.words ≡ 3 = r.0 in
-    let now : IsKept plan (stepped s 0 (suc word) id me.1 w keeps) = (
+    let now : IsKept size (stepped s 0 (suc word) id me.1 w keeps) = (
       length-set s.words 0 (suc word) ∙ wide,
       get_or-set_other s.words 0 1 (suc word) 0 (omega arith) ∙ r.1,
       get_or-set_other s.words 0 2 (suc word) 0 (omega arith) ∙ r.2,
-      subst (λ (n : ℕ). IsFair plan.jobs plan.seats n (set s.views id w)) (sym (get_or-set_same s.words 0 (suc word) 0 (omega arith)))
-          (subst (λ (j : ℕ). IsFair j plan.seats (suc word) (set s.views id w)) its (fair-claim v plan.seats word s.views id some_pass fair at)),
+      subst (λ (n : ℕ). IsFair size.jobs size.seats n (set s.views id w)) (sym (get_or-set_same s.words 0 (suc word) 0 (omega arith)))
+          (subst (λ (j : ℕ). IsFair j size.seats (suc word) (set s.views id w)) its (fair-claim v size.seats word s.views id some_pass fair at)),
     ) in (
       w,
       keeps,
       tt,
-      subst (λ (n : ℕ). IsKept plan (stepped s 0 n id me.1 w keeps)) next now,
-      (refl, drawn_below v.jobs plan.seats word s.views id v fair at, drawn_le v.jobs plan.seats word s.views id v fair at, omega arith),
+      subst (λ (n : ℕ). IsKept size (stepped s 0 n id me.1 w keeps)) next now,
+      (refl, drawn_below v.jobs size.seats word s.views id v fair at, drawn_le v.jobs size.seats word s.views id v fair at, omega arith),
     )
 
-pub opens : (plan : Plan) → IsKept plan record { words = 0 ∷ plan.jobs ∷ plan.seats ∷ []; homes = []; views = first_hand plan ∷ [] }
-opens plan = grind (arith, sum_by-cons (passes_of plan.jobs) (first_hand plan))
+pub opens : (size : BoardSize) → IsKept size record { words = 0 ∷ size.jobs ∷ size.seats ∷ []; homes = []; views = first_hand size ∷ [] }
+opens size = grind (arith, sum_by-cons (passes_of size.jobs) (first_hand size))
 
 -- one pass goes to a new seat
-pub splits : (plan : Plan) (id : ℕ) (v : Hand) → v.jobs ≡ plan.jobs → 0 < v.passes → v.drawn ≡ [] → Splits (IsKept plan) id v (with_one_less v) (one_pass v)
-splits plan id v its some_pass nothing s r at = grind (arith, sum_set, sum_by, sum_by_push, set, ⊎_elim, at_set, at_snoc)
+pub splits : (size : BoardSize) (id : ℕ) (v : Hand) → v.jobs ≡ size.jobs → 0 < v.passes → v.drawn ≡ [] → Splits (IsKept size) id v (with_one_less v) (one_pass v)
+splits size id v its some_pass nothing s r at = grind (arith, sum_set, sum_by, sum_by_push, set, ⊎_elim, at_set, at_snoc)
 
 -- a seat gets what another has
-pub joins : (plan : Plan) (id : ℕ) (v : Hand) (other : ℕ) (w : Hand) → Joins (IsKept plan) id v other w (joined v w) spent
-joins plan id v other w s r at apart there =
+pub joins : (size : BoardSize) (id : ℕ) (v : Hand) (other : ℕ) (w : Hand) → Joins (IsKept size) id v other w (joined v w) spent
+joins size id v other w s r at apart there =
     grind (arith, set, set_else, sum_by, sum_by-append, sum_set, cond, leb, ⊎_elim, at_set)
 
 -- what a claim leaves in its seat

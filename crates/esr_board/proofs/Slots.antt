@@ -8,18 +8,10 @@ use Rattle.esr_history.specs.Queries.{is_committed_query}
 use Rattle.esr_audit.specs.declared.finding.Finding.{Finding}
 use Rattle.esr_audit.specs.declared.finding.AuditError.{AuditError}
 use Rattle.esr_audit.specs.declared.finding.AuditError.TheVariants.{NotACommittedQuery, NoMemory, WorkersOutOfRange}
-use Rattle.esr_cert.specs.Views.{certificate_of}
-use Rattle.esr_order.specs.Near.{AreNear}
-use Rattle.esr_audit.specs.Findings.{IsAnswer, IsShown, IsFinding}
 use Rattle.esr_board.specs.declared.worker.Share.{Share}
 use Rattle.esr_board.specs.Claims.{times, Drew, count_past}
-use Rattle.esr_board.specs.Shares.{IsFindingOf, AreCommitted, AreFound, IsShareOf, IsFilled, AreRight, query_of}
+use Rattle.esr_board.specs.Shares.{IsFindingFor, AreCommitted, AreFound, IsShareOf, IsFilled, AreRight, query_of}
 use Rattle.esr_board.proofs.Closes.{all_popped}
-
--- what an audit of q says of a finding is what is found of its query
-pub finding_is : (d : Distance) (h : Schedule) (f : Finding) (q : TxnId) → f.query ≡ q → IsAnswer d h q.0 f.distance f.import (map (λ (t : TxnId). t.0) f.before.items)
-    → IsShown d h q.0 f.distance (map (λ (t : TxnId). t.0) f.before.items) f.problem (certificate_of f.certificate) → AreNear h q.0 f.problem.updates → IsFinding d h f
-finding_is d h f q is answer shown near = grind (arith, map)
 
 any_holds : (P : ℕ → Type 0) (xs : List ℕ) (a : Any P xs) → P a.1
 any_holds P xs a = a.4
@@ -45,7 +37,7 @@ module _ (d : Distance) (h : Schedule) (queries : List TxnId) (slots : List (Opt
   pub put_kept : (k : ℕ) → IsFilled slots k → IsFilled after k
   put_kept k was = grind (arith, same_here, get_or-set_other)
 
-  pub put_right : IsFindingOf d h queries job f → AreRight d h queries slots → AreRight d h queries after
+  pub put_right : IsFindingFor d h queries job f → AreRight d h queries slots → AreRight d h queries after
   put_right is right k l = grind (arith, same_here, get_or-set_other, length-set slots job (Some f))
 
   pub put_filled : (old new : List (ℕ × Finding)) (total k : ℕ) → old ≡ new ++ (job, f) ∷ [] → IsFilled slots k ⊎ (times k (map (λ p. p.0) old) ≡ total) → IsFilled after k ⊎ (times k (map (λ p. p.0) new) ≡ total)
@@ -54,4 +46,4 @@ module _ (d : Distance) (h : Schedule) (queries : List TxnId) (slots : List (Opt
 
   pub put_share : (old new : List (ℕ × Finding)) → old ≡ new ++ (job, f) ∷ [] → AreFound d h queries (length slots) old → AreFound d h queries (length after) new
   put_share old new e a = subst (λ (n : ℕ). AreFound d h queries n new) (sym (length-set slots job (Some f)))
-      (all_popped (λ (p : ℕ × Finding). (p.0 < length slots) × IsFindingOf d h queries p.0 p.1) old new (job, f) e a).0
+      (all_popped (λ (p : ℕ × Finding). (p.0 < length slots) × IsFindingFor d h queries p.0 p.1) old new (job, f) e a).0

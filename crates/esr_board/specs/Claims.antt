@@ -4,7 +4,7 @@ use mathlib.Core.Option.{some}
 use lib.ListN.{get_elem?}
 use Rattle.atomic_table.specs.Table.{State, Me, Step}
 use Rattle.esr_board.specs.declared.hand.Hand.{Hand}
-use Rattle.esr_board.specs.declared.hand.Plan.{Plan}
+use Rattle.esr_board.specs.declared.hand.BoardSize.{BoardSize}
 
 abbrev pub hand : ℕ → ℕ → List ℕ → Hand
 hand jobs passes drawn = record { jobs = jobs; passes = passes; drawn = drawn }
@@ -44,15 +44,15 @@ abbrev pub IsFair : ℕ → ℕ → ℕ → List Hand → Type 0
 IsFair jobs seats word hands =
     HoldsEachOnce word hands × (sum_by (passes_of jobs) hands ≡ seats) × IdleIsEmpty jobs hands
 
--- Word 0 is the next number. Words 1 and 2 are the plan, and never change.
-abbrev pub IsKept : Plan → State (Unit {0}) Hand → Type 0
-IsKept plan s =
-    (length s.words ≡ 3) × (slice_index s.words 1 ≡ plan.jobs) × (slice_index s.words 2 ≡ plan.seats)
-    × IsFair plan.jobs plan.seats (slice_index s.words 0) s.views
+-- Word 0 is the next number. Words 1 and 2 are the board's size, and never change.
+abbrev pub IsKept : BoardSize → State (Unit {0}) Hand → Type 0
+IsKept size s =
+    (length s.words ≡ 3) × (slice_index s.words 1 ≡ size.jobs) × (slice_index s.words 2 ≡ size.seats)
+    × IsFair size.jobs size.seats (slice_index s.words 0) s.views
 
 -- as the board is made, one seat has a pass for each seat
-abbrev pub first_hand : Plan → Hand
-first_hand plan = hand plan.jobs plan.seats []
+abbrev pub first_hand : BoardSize → Hand
+first_hand size = hand size.jobs size.seats []
 
 -- a claim: the hand after it drew n
 abbrev pub with_claim : Hand → ℕ → Hand

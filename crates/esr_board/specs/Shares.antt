@@ -17,8 +17,8 @@ abbrev pub query_of : List TxnId → ℕ → TxnId
 query_of queries job = slice_index_or queries job (record { 0 = 0 })
 
 -- what is found of the query of a job
-abbrev pub IsFindingOf : Distance → Schedule → List TxnId → ℕ → Finding → Type 0
-IsFindingOf d h queries job f = (f.query ≡ query_of queries job) × IsFinding d h f
+abbrev pub IsFindingFor : Distance → Schedule → List TxnId → ℕ → Finding → Type 0
+IsFindingFor d h queries job f = (f.query ≡ query_of queries job) × IsFinding d h f
 
 -- each of the transactions is a committed query
 abbrev pub AreCommitted : Schedule → List TxnId → Type 0
@@ -26,7 +26,7 @@ AreCommitted h queries = All (λ t. IsTrue (is_committed_query h t.0)) queries
 
 -- each job that was found is one of the board's, with what is found of its query
 abbrev pub AreFound : Distance → Schedule → List TxnId → ℕ → List (ℕ × Finding) → Type 0
-AreFound d h queries jobs found = All (λ p. (p.0 < jobs) × IsFindingOf d h queries p.0 p.1) found
+AreFound d h queries jobs found = All (λ p. (p.0 < jobs) × IsFindingFor d h queries p.0 p.1) found
 
 -- the jobs of a share are those that the seat drew, each with its finding, and the seat drew to the end
 abbrev pub IsShareOf : Distance → Schedule → List TxnId → ℕ → List ℕ → Share → Type 0
@@ -47,4 +47,4 @@ IsFilled slots k = IsSome (slice_index_or slots k None)
 -- each finding that is there is that of its job
 abbrev pub AreRight : Distance → Schedule → List TxnId → List (Option Finding) → Type 0
 AreRight d h queries slots =
-    (k : ℕ) → k < length slots → IfSome (slice_index_or slots k None) (IsFindingOf d h queries k)
+    (k : ℕ) → k < length slots → IfSome (slice_index_or slots k None) (IsFindingFor d h queries k)

@@ -1,17 +1,19 @@
 //! The board and its seats.
 ghost use Rattle.std.specs.Prelude.{◌≡◌, ◌≤◌, [], length, nat_eq};
+ghost use Rattle.esr_board.specs.declared.board.TheConstants.{MOST_JOBS, MOST_SEATS};
 ghost use Rattle.esr_board.specs.Claims.{passes_of};
 
-use crate::hand::{Hand, Plan};
+use crate::hand::{BoardSize, Hand};
 use crate::rule::Fair;
 use atomic_table::{Seat, Table};
+use esr_history::MOST_TRANSACTIONS;
 use std::alloc::Global;
 use thiserror::Error;
 
 mod calls;
 
-/// The most jobs that a board has.
-pub const MOST_JOBS: u64 = 65_535;
+/// The most jobs that a board has: one for each transaction of a history.
+pub const MOST_JOBS: u64 = MOST_TRANSACTIONS as u64;
 
 /// The most seats that a board has.
 pub const MOST_SEATS: u64 = 64;
@@ -19,15 +21,15 @@ pub const MOST_SEATS: u64 = 64;
 /// The numbers from 0 on, which seats claim.
 #[derive(Drop)]
 pub struct Board {
-    table: Table<(), Hand, Plan, Fair, Global>,
+    table: Table<(), Hand, BoardSize, Fair, Global>,
     jobs: u64,
     seats: u64,
     ghost words: { table.shared.table_id.words ≡ 3 },
     ghost slots: { table.shared.table_id.slots ≡ 0 },
     ghost jobs_told: { table.shared.key.jobs ≡ jobs },
     ghost seats_told: { table.shared.key.seats ≡ seats },
-    ghost few_jobs: { jobs ≤ 65535 },
-    ghost few_seats: { seats ≤ 64 },
+    ghost few_jobs: { jobs ≤ MOST_JOBS },
+    ghost few_seats: { seats ≤ MOST_SEATS },
 }
 
 /// The right to claim numbers of one board, until a claim gave none.

@@ -12,7 +12,7 @@ pub struct Hand {
 
 /// How many jobs and seats a board has.
 #[derive(Clone, Copy)]
-pub struct Plan {
+pub struct BoardSize {
     pub jobs: u64,
     pub seats: u64,
 }

@@ -1,7 +1,7 @@
 //! The audit of a whole history by several workers.
 ghost use Rattle.std.specs.Prelude.{◌≡◌, ℕ, ◌+◌, ◌<◌, ◌≤◌, ◌↔◌, ◌⊎◌, [], length, map, All, IfOk, IfErr, vec_len, slice_index_or, None};
-ghost use Rattle.esr_history.specs.Serial.{committed_updates};
-ghost use Rattle.esr_audit.specs.Findings.{IsFinding, committed_queries, told, told_of};
+ghost use Rattle.esr_audit.specs.Findings.{IsFinding, IsBook};
+ghost use Rattle.esr_board.specs.declared.board.TheConstants.{MOST_JOBS};
 ghost use Rattle.esr_board.specs.Claims.{times, count_past};
 ghost use Rattle.esr_board.specs.Boards.{IsSeatOf, drawn, all_drawn, jobs_of};
 ghost use Rattle.esr_board.specs.Shares.{AreCommitted, AreFound, IsWorked, IsFilled, AreRight};
@@ -64,7 +64,7 @@ fn shares<M: Metric + Sync, R: Threads + Sync, G: Gate + Sync>(
 
 /// The findings at the places of their jobs, and the seats.
 #[derive(Drop)]
-struct Gathered {
+struct FindingsAndSeats {
     slots: Vec<Option<Finding>>,
     seats: Vec<BoardSeat>,
 }
@@ -87,7 +87,7 @@ fn gather<M: Metric>(
     jobs: &[TxnId],
     board: &Board,
     mut all: Vec<Worked>,
-) -> Result<Gathered, AuditError>
+) -> Result<FindingsAndSeats, AuditError>
     requires all { All (IsWorked M.distance_by history.now.schedule jobs.now board.now) all.items }
     requires len { length jobs.now ≡ jobs_of board.now }
     ensures seats { IfOk result (λ g. (vec_len g.seats ≡ vec_len all)
@@ -113,7 +113,7 @@ fn gather<M: Metric>(
             return Err(AuditError::NoMemory);
         }
     }
-    Ok(Gathered { slots, seats })
+    Ok(FindingsAndSeats { slots, seats })
 }
 
 /// The findings out of their places, which are all filled.
@@ -151,8 +151,8 @@ fn findings_by<M: Metric + Sync, R: Threads + Sync, G: Gate + Sync>(
     workers: u64,
     gate: &G,
 ) -> Result<Vec<Finding>, AuditError>
-    requires jobs { (length jobs.now ≤ 65535) × AreCommitted history.now.schedule jobs.now }
-    requires workers { (1 ≤ workers) × (workers ≤ 64) }
+    requires jobs { (length jobs.now ≤ MOST_JOBS) × AreCommitted history.now.schedule jobs.now }
+    requires workers { (1 ≤ workers) × (workers ≤ MOST_SEATS) }
     ensures queries { IfOk result (λ v. map (λ f. f.query) v.items ≡ jobs.now) }
     ensures findings { IfOk result (λ v. All (IsFinding M.distance_by history.now.schedule) v.items) }
     ensures err { IfErr result (λ e. e ≡ AuditError.NoMemory) }
@@ -166,7 +166,7 @@ fn findings_by<M: Metric + Sync, R: Threads + Sync, G: Gate + Sync>(
     let Ok(all) = shares(rt, alloc, history, jobs, &board, seats, gate) else {
         return Err(AuditError::NoMemory);
     };
-    let Gathered { slots, seats } = match gather(alloc, history, jobs, &board, all) {
+    let FindingsAndSeats { slots, seats } = match gather(alloc, history, jobs, &board, all) {
         Ok(gathered) => gathered,
         Err(failed) => return Err(failed),
     };
@@ -190,13 +190,8 @@ pub fn audit_parallel<M: Metric + Sync, R: Threads + Sync, G: Gate + Sync>(
     workers: u64,
     gate: &G,
 ) -> Result<Book, AuditError>
-    ensures order { IfOk result (λ b. map (λ t. t.0) b.order.items ≡ committed_updates history.now.schedule) }
-    ensures queries { IfOk result (λ b. map (λ f. f.query.0) b.findings.items
-        ≡ committed_queries history.now.schedule) }
-    ensures findings { IfOk result (λ b. All (IsFinding M.distance_by history.now.schedule) b.findings.items) }
-    ensures told { IfOk result (λ b. map told b.findings.items
-        ≡ map (told_of M.distance_by history.now.schedule) (committed_queries history.now.schedule)) }
-    ensures workers { (result ≡ Err AuditError.WorkersOutOfRange) ↔ ((workers ≡ 0) ⊎ (64 < workers)) }
+    ensures book { IfOk result (IsBook M.distance_by history.now.schedule) }
+    ensures workers { (result ≡ Err AuditError.WorkersOutOfRange) ↔ ((workers ≡ 0) ⊎ (MOST_SEATS < workers)) }
     ensures err { IfErr result (λ e. (e ≡ AuditError.NoMemory) ⊎ (e ≡ AuditError.WorkersOutOfRange)) }
 {
     if workers == 0 || workers > MOST_SEATS {

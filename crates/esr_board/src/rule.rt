@@ -1,13 +1,13 @@
 //! The rule of a board's table, and what its steps tell.
 ghost use Rattle.esr_board.specs.Claims.{IsKept, first_hand, Claimed, with_one_less, one_pass, joined, spent};
 
-use crate::hand::{Hand, Plan};
+use crate::hand::{BoardSize, Hand};
 use atomic_table::{Join, Play, Split, TableRule};
 
 /// Each number below the word was drawn once, and the seats hold the passes between them.
 pub struct Fair;
 
-impl TableRule<(), Hand, Plan> for Fair {
+impl TableRule<(), Hand, BoardSize> for Fair {
     ghost holds = { IsKept };
 
     ghost first = { first_hand };

@@ -7,7 +7,7 @@ use Rattle.serde_json.specs.Written.{has_float, items_have_float, members_have_f
 use Rattle.esr_cert.specs.Problem.{Chain, Problem}
 use Rattle.esr_cert.specs.Certificate.{Certificate}
 use Rattle.esr_cert.specs.Faults.{problem_fault}
-use Rattle.esr_bundle.specs.Fields.{number_of, each, numbers_of, pair_of}
+use Rattle.esr_bundle.specs.Fields.{natural_in, each, naturals_in, pair_of}
 use Rattle.esr_bundle.specs.Bundle.{number_data, numbers_data, pair_data, rows_data, chain_data, list_member, number_member, problem_data, certificate_data, bundle_data, chain_of, problem_of, certificate_of, parts_of, stands_for, judged_parts, is_position}
 use Rattle.esr_bundle.proofs.Judged.{judged_ok}
 
@@ -17,8 +17,8 @@ each_of : {A : Type 0} (f : Data → Option A) (g : A → Data) → ((a : A) →
 each_of f g h [] = refl
 each_of f g h (x ∷ xs) = rw (h x, each_of f g h xs) refl
 
-numbers_back : (ns : List ℕ) → numbers_of (numbers_data ns) ≡ Some ns
-numbers_back ns = each_of number_of number_data (λ n. refl) ns
+numbers_back : (ns : List ℕ) → naturals_in (numbers_data ns) ≡ Some ns
+numbers_back ns = each_of natural_in number_data (λ n. refl) ns
 
 chain_back : (chain : Chain) → chain_of (chain_data chain) ≡ Some chain
 chain_back chain = rw (numbers_back chain.costs, numbers_back chain.writers) refl
@@ -33,8 +33,8 @@ problem_back p = go p.must
 certificate_back : (c : Certificate) → certificate_of (certificate_data c) ≡ Some c
 certificate_back c = go c.augmentations c.must_flow
   where
-    rows : each numbers_of (items_of (map numbers_data c.chain_flow)) ≡ Some c.chain_flow
-    rows = each_of numbers_of numbers_data numbers_back c.chain_flow
+    rows : each naturals_in (items_of (map numbers_data c.chain_flow)) ≡ Some c.chain_flow
+    rows = each_of naturals_in numbers_data numbers_back c.chain_flow
 
     go : (a : Option ℕ) (m : List ℕ) → certificate_of (certificate_data (record c { augmentations = a; must_flow = m })) ≡ Some (record c { augmentations = a; must_flow = m })
     go None [] = rw (numbers_back c.back_flow, rows, numbers_back c.set) refl

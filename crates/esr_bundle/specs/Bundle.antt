@@ -10,7 +10,7 @@ use Rattle.esr_cert.specs.Certificate.{Certificate}
 use Rattle.esr_cert.specs.Faults.{problem_fault}
 use Rattle.esr_cert.specs.declared.problem.BundleFault.{BundleFault}
 use Rattle.esr_cert.specs.declared.problem.BundleFault.TheVariants.{Shape, Range}
-use Rattle.esr_bundle.specs.Fields.{number_of, numbers_of, pairs_of, rows_of, list_of, has_keys, one_if, field, numbers_if, number_if}
+use Rattle.esr_bundle.specs.Fields.{natural_in, naturals_in, pairs_of, rows_of, list_of, has_keys, one_if, field, numbers_if, number_if}
 
 -- ---- the tree that is written
 
@@ -86,9 +86,9 @@ o >>= f = option_and_then f o
 
 abbrev pub chain_of : Data → Option Chain
 chain_of d = if has_keys 3 d then (do
-  costs ← field numbers_of (codes "costs") d
-  item ← field number_of (codes "item") d
-  writers ← field numbers_of (codes "writers") d
+  costs ← field naturals_in (codes "costs") d
+  item ← field natural_in (codes "item") d
+  writers ← field naturals_in (codes "writers") d
   Some (record { item = item; writers = writers; costs = costs })) else None
 
 abbrev pub problem_of : Data → Option Problem
@@ -96,18 +96,18 @@ problem_of d = if has_keys (3 + one_if (get (codes "must") d)) d then (do
   before ← field pairs_of (codes "before") d
   chains ← field (list_of chain_of) (codes "chains") d
   must ← numbers_if (get (codes "must") d)
-  updates ← field numbers_of (codes "updates") d
+  updates ← field naturals_in (codes "updates") d
   Some (record { updates = updates; before = before; chains = chains; must = must })) else None
 
 abbrev pub certificate_of : Data → Option Certificate
 certificate_of d =
     if has_keys (4 + one_if (get (codes "augmentations") d) + one_if (get (codes "must_flow") d)) d then (do
       augmentations ← number_if (get (codes "augmentations") d)
-      back_flow ← field numbers_of (codes "back_flow") d
+      back_flow ← field naturals_in (codes "back_flow") d
       chain_flow ← field rows_of (codes "chain_flow") d
       must_flow ← numbers_if (get (codes "must_flow") d)
-      set ← field numbers_of (codes "set") d
-      worth ← field number_of (codes "worth") d
+      set ← field naturals_in (codes "set") d
+      worth ← field natural_in (codes "worth") d
       Some (record {
         set = set;
         chain_flow = chain_flow;

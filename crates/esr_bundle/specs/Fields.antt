@@ -6,8 +6,8 @@ use Rattle.serde_json.specs.Events.{members_len}
 use Rattle.serde_json.specs.Find.{as_array, as_number, as_u64, as_object, get}
 
 -- a whole number that fits 64 bits
-abbrev pub number_of : Data → Option ℕ
-number_of d = option_and_then as_u64 (as_number d)
+abbrev pub natural_in : Data → Option ℕ
+natural_in d = option_and_then as_u64 (as_number d)
 
 -- the items, each read by f, if f reads all of them
 abbrev pub each : {A : Type 0} → (Data → Option A) → Items → Option (List A)
@@ -17,12 +17,12 @@ each f (item d ds) = option_and_then (λ a. option_map (λ rest. a ∷ rest) (ea
 abbrev pub list_of : {A : Type 0} → (Data → Option A) → Data → Option (List A)
 list_of f d = option_and_then (each f) (as_array d)
 
-abbrev pub numbers_of : Data → Option (List ℕ)
-numbers_of = list_of number_of
+abbrev pub naturals_in : Data → Option (List ℕ)
+naturals_in = list_of natural_in
 
 -- exactly two numbers
 abbrev pub two_of : Items → Option (ℕ × ℕ)
-two_of (item a (item b no_items)) = option_and_then (λ x. option_map (λ y. (x, y)) (number_of b)) (number_of a)
+two_of (item a (item b no_items)) = option_and_then (λ x. option_map (λ y. (x, y)) (natural_in b)) (natural_in a)
 two_of _ = None
 
 abbrev pub pair_of : Data → Option (ℕ × ℕ)
@@ -32,7 +32,7 @@ abbrev pub pairs_of : Data → Option (List (ℕ × ℕ))
 pairs_of = list_of pair_of
 
 abbrev pub rows_of : Data → Option (List (List ℕ))
-rows_of = list_of numbers_of
+rows_of = list_of naturals_in
 
 -- ---- objects, which have each key once
 
@@ -51,9 +51,9 @@ field f key d = option_and_then f (get key d)
 -- a list that is empty where it is missing
 abbrev pub numbers_if : Option Data → Option (List ℕ)
 numbers_if None = Some []
-numbers_if (Some d) = numbers_of d
+numbers_if (Some d) = naturals_in d
 
 -- a number that may be missing
 abbrev pub number_if : Option Data → Option (Option ℕ)
 number_if None = Some None
-number_if (Some d) = option_map (λ n. Some n) (number_of d)
+number_if (Some d) = option_map (λ n. Some n) (natural_in d)

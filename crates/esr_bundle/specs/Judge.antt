@@ -11,6 +11,7 @@ use Rattle.esr_bundle.specs.declared.judging.Verdict.{Verdict}
 use Rattle.esr_bundle.specs.declared.judging.Verdict.TheVariants.{Valid, Invalid, Bad}
 use Rattle.esr_bundle.specs.declared.judging.JudgeFault.{JudgeFault}
 use Rattle.esr_bundle.specs.declared.judging.JudgeFault.TheVariants as ends
+use Rattle.esr_bundle.specs.declared.judging.TheConstants.{MAX_BYTES}
 use Rattle.esr_bundle.specs.Reading.{Means}
 
 -- ---- the verdict
@@ -35,19 +36,16 @@ verdict_line (Bad fault) = codes "bad " ++ decimal fault ++ 10 ∷ []
 
 -- ---- how it ends
 
-abbrev pub max_bytes : ℕ
-max_bytes = 64000000
-
 -- A judgement that was given the input, left these bytes of it and ended so wrote this.
 abbrev pub IsJudgedBy : List ℕ → Option (List ℕ) → Result Verdict JudgeFault → List ℕ → Type 0
 -- the input was read to its end, and the line of its verdict was written
 IsJudgedBy input left (Ok v) written =
-    Consumes (Some input) left input × (length input ≤ max_bytes) × IsVerdictOf input v × (written ≡ verdict_line v)
+    Consumes (Some input) left input × (length input ≤ MAX_BYTES) × IsVerdictOf input v × (written ≡ verdict_line v)
 IsJudgedBy input left (Err ends.Read) written = written ≡ []
 -- a prefix of the line of its verdict
 IsJudgedBy input left (Err ends.Write) written =
-    (length input ≤ max_bytes) × (v : Verdict) × IsVerdictOf input v × BeginsWith (verdict_line v) written
-IsJudgedBy input left (Err ends.TooLong) written = (max_bytes < length input) × (written ≡ [])
+    (length input ≤ MAX_BYTES) × (v : Verdict) × IsVerdictOf input v × BeginsWith (verdict_line v) written
+IsJudgedBy input left (Err ends.TooLong) written = (MAX_BYTES < length input) × (written ≡ [])
 IsJudgedBy input left (Err ends.NoMemory) written = written ≡ []
 
 -- whether a read failed, and whether a write did

@@ -2,7 +2,7 @@
 ghost use Rattle.std.specs.Prelude.{◌≡◌, ◌≢◌, ◌≤◌, Some, None, IfOk, IfErr, map};
 ghost use Rattle.serde_json.specs.Find.{get};
 ghost use Rattle.serde_json.specs.View.{view};
-ghost use Rattle.esr_bundle.specs.Fields.{number_of, numbers_of, pair_of, pairs_of, rows_of, has_keys, one_if, field, numbers_if, number_if};
+ghost use Rattle.esr_bundle.specs.Fields.{natural_in, naturals_in, pair_of, pairs_of, rows_of, has_keys, one_if, field, numbers_if, number_if};
 
 use esr_cert::BundleFault;
 use serde_json::Value;
@@ -10,9 +10,9 @@ use std::alloc::Global;
 
 /// A list of numbers.
 pub fn numbers(alloc: Global, value: &Value) -> Result<Vec<u64>, BundleFault>
-    ensures ok { IfOk result (λ v. numbers_of (view value.now) ≡ Some v.items) }
+    ensures ok { IfOk result (λ v. naturals_in (view value.now) ≡ Some v.items) }
     ensures err { IfErr result (λ e. e ≢ BundleFault.NoMemory → (e ≡ BundleFault.Shape)
-        × (numbers_of (view value.now) ≡ None)) }
+        × (naturals_in (view value.now) ≡ None)) }
 {
     let Some(items) = value.as_array() else {
         return Err(BundleFault::Shape);
@@ -113,8 +113,8 @@ pub fn at<'a>(value: &'a Value, key: &str) -> Result<&'a Value, BundleFault>
 
 /// The number at a key.
 pub fn number_at(value: &Value, key: &str) -> Result<u64, BundleFault>
-    ensures ok { IfOk result (λ n. field number_of key.now (view value.now) ≡ Some n) }
-    ensures err { IfErr result (λ e. (e ≡ BundleFault.Shape) × (field number_of key.now (view value.now) ≡ None)) }
+    ensures ok { IfOk result (λ n. field natural_in key.now (view value.now) ≡ Some n) }
+    ensures err { IfErr result (λ e. (e ≡ BundleFault.Shape) × (field natural_in key.now (view value.now) ≡ None)) }
 {
     let Some(found) = value.get(key) else {
         return Err(BundleFault::Shape);
@@ -127,9 +127,9 @@ pub fn number_at(value: &Value, key: &str) -> Result<u64, BundleFault>
 
 /// The list of numbers at a key.
 pub fn numbers_at(alloc: Global, value: &Value, key: &str) -> Result<Vec<u64>, BundleFault>
-    ensures ok { IfOk result (λ v. field numbers_of key.now (view value.now) ≡ Some v.items) }
+    ensures ok { IfOk result (λ v. field naturals_in key.now (view value.now) ≡ Some v.items) }
     ensures err { IfErr result (λ e. e ≢ BundleFault.NoMemory → (e ≡ BundleFault.Shape)
-        × (field numbers_of key.now (view value.now) ≡ None)) }
+        × (field naturals_in key.now (view value.now) ≡ None)) }
 {
     let Some(found) = value.get(key) else {
         return Err(BundleFault::Shape);

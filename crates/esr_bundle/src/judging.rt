@@ -3,7 +3,7 @@ ghost use Rattle.std.specs.Prelude.{◌≡◌, ◌≢◌, ◌⊎◌, ◌||◌, �
 ghost use Rattle.std.specs.Io.KnownBytes.{Appends, Consumes, IsAtEnd};
 ghost use Rattle.esr_history.specs.Watch.{inner, failed};
 ghost use Rattle.esr_cert.specs.Faults.{bundle_fault_number};
-ghost use Rattle.esr_bundle.specs.Judge.{IsVerdictOf, IsJudgedBy, verdict_line, max_bytes, is_read_fault, is_write_fault};
+ghost use Rattle.esr_bundle.specs.Judge.{IsVerdictOf, IsJudgedBy, verdict_line, is_read_fault, is_write_fault};
 
 use crate::reading::from_json;
 use esr_cert::{BundleFault, check};
@@ -39,6 +39,7 @@ pub enum JudgeFault {
     NoMemory = 4,
 }
 
+/// The most bytes of a bundle that is judged.
 const MAX_BYTES: usize = 64_000_000;
 
 /// The most bytes of one read.
@@ -77,10 +78,10 @@ fn read_some<R: Read>(
 /// Reads to the end of the input.
 fn read_all<R: Read>(alloc: Global, reader: &mut Watched<R>) -> Result<Vec<u8>, JudgeFault>
     ensures ok { IfOk result (λ v. Consumes (R.remaining (inner reader.old)) (R.remaining (inner reader.new)) v.items
-        × IsAtEnd (R.remaining (inner reader.new)) × (length v.items ≤ max_bytes)) }
+        × IsAtEnd (R.remaining (inner reader.new)) × (length v.items ≤ MAX_BYTES)) }
     ensures long { IsErrOf result JudgeFault.TooLong → (taken : List ℕ)
         × Consumes (R.remaining (inner reader.old)) (R.remaining (inner reader.new)) taken
-        × (max_bytes < length taken) }
+        × (MAX_BYTES < length taken) }
     ensures failed { failed reader.new ≡ (failed reader.old || is_read_fault result) }
     ensures write { is_write_fault result ≡ false }
 {

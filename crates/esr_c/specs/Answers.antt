@@ -1,5 +1,5 @@
 -- What C is told: replies and refusals by numbers.
-use Rattle.std.specs.Prelude.{◌≡◌, ◌≢◌, ◌↔◌, ◌*◌, ◌+◌, ◌^◌, ℕ, ℤ, List, [], length, map, Option, Some, None, IfSome, pos, take, ◌⊎◌}
+use Rattle.std.specs.Prelude.{◌≡◌, ◌≢◌, ◌↔◌, ◌*◌, ◌+◌, ◌^◌, ℕ, ℤ, List, [], length, Option, Some, None, IfSome, pos, take, ◌⊎◌}
 use Rattle.esr_items.specs.Values.{gap}
 use Rattle.esr_history.specs.declared.limits.TheConstants.{MOST_ENTRIES}
 use Rattle.esr_history.specs.declared.event.Entry.{Entry}
@@ -17,7 +17,7 @@ use Rattle.esr_history.specs.Totals.{IsWithinLimits, all_imports}
 use Rattle.esr_core.specs.Renewed.{committed_values, AreSerializableAsOne}
 use Rattle.esr_cert.specs.Certificate.{Certificate}
 use Rattle.esr_cert.specs.Views.{certificate_of}
-use Rattle.esr_audit.specs.Findings.{IsAnswer, IsShown}
+use Rattle.esr_audit.specs.Findings.{IsAnswer, IsFindingOf}
 use Rattle.esr_audit.specs.declared.finding.Finding.{Finding}
 use Rattle.esr_bundle.specs.Bundle.{bundle}
 use Rattle.esr_c.specs.declared.audit.EsrFinding.{EsrFinding}
@@ -41,27 +41,24 @@ named (BlockedByImport t) = t.0
 named (BlockedByExport t) = t.0
 named _ = 0
 
-abbrev pub told : Reply → EsrReply
-told (Begun t) = record { kind = 1; refusal = 0; txn = t.0; value = pos 0 }
-told (Value v) = record { kind = 2; refusal = 0; txn = 0; value = v }
-told Wrote = record { kind = 3; refusal = 0; txn = 0; value = pos 0 }
-told Committed = record { kind = 4; refusal = 0; txn = 0; value = pos 0 }
-told Aborted = record { kind = 5; refusal = 0; txn = 0; value = pos 0 }
-told (Refused why) = record { kind = 6; refusal = refusal_number why; txn = named why; value = pos 0 }
+-- the fields of a reply
+abbrev pub reply_fields : Reply → EsrReply
+reply_fields (Begun t) = record { kind = 1; refusal = 0; txn = t.0; value = pos 0 }
+reply_fields (Value v) = record { kind = 2; refusal = 0; txn = 0; value = v }
+reply_fields Wrote = record { kind = 3; refusal = 0; txn = 0; value = pos 0 }
+reply_fields Committed = record { kind = 4; refusal = 0; txn = 0; value = pos 0 }
+reply_fields Aborted = record { kind = 5; refusal = 0; txn = 0; value = pos 0 }
+reply_fields (Refused why) = record { kind = 6; refusal = refusal_number why; txn = named why; value = pos 0 }
 
 -- what an answered event does: the machine's reply is told, and the history has it at its end
 abbrev pub IsReply : Event → Option Schedule → Option Schedule → EsrReply → Type 0
 IsReply event old new reply =
-    IfSome old (λ h. (new ≡ Some (extended h event (reply_to plain h event))) × (reply ≡ told (reply_to plain h event)))
+    IfSome old (λ h. (new ≡ Some (extended h event (reply_to plain h event)))
+    × (reply ≡ reply_fields (reply_to plain h event)))
 
 -- all imports, by two words of 64 bits, and the count of entries
 abbrev pub IsTotal : EsrTotals → Schedule → Type 0
 IsTotal t h = (t.high * 2 ^ 64 + t.low ≡ all_imports plain h) × (t.entries ≡ length h.entries)
-
--- what the audit of a query finds
-pub record IsFindingOf (h : Schedule) (q : ℕ) (f : Finding) : Type 0 where
-  pub answer : IsAnswer plain h q f.distance f.import (map (λ t. t.0) f.before.items)
-  pub shown : IsShown plain h q f.distance (map (λ t. t.0) f.before.items) f.problem (certificate_of f.certificate)
 
 -- the answer of an audit, with the count of the updates before the position, which are listed
 abbrev pub IsTold : Schedule → ℕ → EsrFinding → List ℕ → Type 0
@@ -82,7 +79,7 @@ untold c = record c { augmentations = None }
 -- the bytes are the bundle of what the audit of a query finds
 pub record IsBundleOf (h : Schedule) (q : ℕ) (bytes : List ℕ) : Type 0 where
   pub finding : Finding
-  pub found : IsFindingOf h q finding
+  pub found : IsFindingOf plain h q finding
   pub text : bytes ≡ bundle finding.problem (untold (certificate_of finding.certificate))
 
 -- such bytes are at the head of a room

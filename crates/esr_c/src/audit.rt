@@ -2,7 +2,8 @@
 ghost use Rattle.std.specs.Prelude.{◌↔◌, ◌⊎◌, ◌<◌, ◌≤◌, IfOk, IfErr, IsErrOf, IsTrue, true, false, ◌≡◌, ◌≢◌, length, map, take};
 ghost use Rattle.esr_history.specs.Queries.{is_committed_query};
 ghost use Rattle.esr_history.specs.Totals.{IsWithinLimits};
-ghost use Rattle.esr_c.specs.Answers.{plain, IsTotal, IsFindingOf, IsFound, IsCounted, IsBundleOf, IsBundleIn, IsBundleLong, AreValuesIn, IsAuditStatus, IsValuesStatus, status_number};
+ghost use Rattle.esr_audit.specs.Findings.{IsFindingOf};
+ghost use Rattle.esr_c.specs.Answers.{plain, IsTotal, IsFound, IsCounted, IsBundleOf, IsBundleIn, IsBundleLong, AreValuesIn, IsAuditStatus, IsValuesStatus, status_number};
 
 use crate::engine::Status;
 use esr_audit::{AuditError, Finding, audit_query};
@@ -101,7 +102,7 @@ fn numbers(alloc: Global, txns: &[TxnId]) -> Result<Vec<u32>, AllocError>
 
 /// The audit of a query, or why there is none.
 fn found(alloc: Global, machine: &Machine<Plain>, query: u32) -> Result<Finding, Status>
-    ensures ok { IfOk result (IsFindingOf machine.now query) }
+    ensures ok { IfOk result (IsFindingOf plain machine.now query) }
     ensures refused { IsErrOf result Status.NotACommittedQuery ↔ (is_committed_query machine.now query ≡ false) }
     ensures err { IfErr result (λ e. (e ≡ Status.NotACommittedQuery) ⊎ (e ≡ Status.NoMemory)) }
 {

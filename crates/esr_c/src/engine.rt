@@ -4,7 +4,7 @@ ghost use Rattle.esr_items.specs.Values.{IsValue};
 ghost use Rattle.esr_core.specs.Renewed.{committed_values, has_active};
 ghost use Rattle.esr_c.specs.Answers.{fresh, status_number, IsEventCall, IsOpenStatus, IsRenewStatus, IsSound, GoesOn};
 
-use crate::held::{Held, give, nothing, take};
+use crate::handle::{MachineHandle, give, nothing, take};
 use crate::reply::{EsrReply, tell};
 use esr_core::{Machine, RenewError, StepError};
 use esr_history::Event;
@@ -17,7 +17,7 @@ use std::mem;
 #[derive(Drop)]
 pub struct EsrEngine {
     is_open: bool,
-    pub(crate) held: Held,
+    pub(crate) held: MachineHandle,
     ghost agrees: { is_open ≡ is_some held.machine },
 }
 

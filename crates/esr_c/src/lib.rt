@@ -13,7 +13,7 @@ ghost use Rattle.esr_c.specs.Answers.{plain, fresh, IsEventCall, IsTotal, IsFoun
 
 mod audit;
 mod engine;
-mod held;
+mod handle;
 mod loose;
 mod reply;
 

@@ -10,14 +10,14 @@ crosses has arc = has arc.from && not (has arc.to)
 abbrev pub comes_back : (ℕ → Bool) → Arc → Bool
 comes_back has arc = not (has arc.from) && has arc.to
 
-abbrev pub limit_of : Option ℕ → ℕ
-limit_of None = 0
-limit_of (Some c) = c
+abbrev pub capacity_or_zero : Option ℕ → ℕ
+capacity_or_zero None = 0
+capacity_or_zero (Some c) = c
 
 -- the capacity of a cut: the capacities of the arcs that leave it
 abbrev pub across : (ℕ → Bool) → List Arc → ℕ
 across has [] = 0
-across has (arc ∷ arcs) = (if crosses has arc then limit_of arc.capacity else 0) + across has arcs
+across has (arc ∷ arcs) = (if crosses has arc then capacity_or_zero arc.capacity else 0) + across has arcs
 
 abbrev pub IsLimited : Option ℕ → Type 0
 IsLimited None = ⊥

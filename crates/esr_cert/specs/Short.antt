@@ -8,13 +8,13 @@ use Rattle.esr_cert.specs.declared.residual.ResidualArc.TheVariants.{Forward, Ba
 abbrev pub step_of : ℕ → ResidualArc
 step_of n = if nat_lt n 2147483648 then Forward n else Backward (n - 2147483648)
 
-abbrev pub number_of : ResidualArc → ℕ
-number_of (Forward i) = i
-number_of (Backward i) = i + 2147483648
+abbrev pub packed_arc : ResidualArc → ℕ
+packed_arc (Forward i) = i
+packed_arc (Backward i) = i + 2147483648
 
-pub number_of-step_of : (n : ℕ) → number_of (step_of n) ≡ n
-number_of-step_of n =
+pub packed_arc-step_of : (n : ℕ) → packed_arc (step_of n) ≡ n
+packed_arc-step_of n =
     elim (cases_lt n 2147483648) [
-      | inl l ↦ ap (λ b. number_of (cond b (Forward n) (Backward (n - 2147483648)))) (lt-ltb n 2147483648 l)
-      | inr m ↦ let back : n - 2147483648 + 2147483648 ≡ n = omega arith in ap (λ b. number_of (cond b (Forward n) (Backward (n - 2147483648)))) (le-ltb n 2147483648 m) ∙ back
+      | inl l ↦ ap (λ b. packed_arc (cond b (Forward n) (Backward (n - 2147483648)))) (lt-ltb n 2147483648 l)
+      | inr m ↦ let back : n - 2147483648 + 2147483648 ≡ n = omega arith in ap (λ b. packed_arc (cond b (Forward n) (Backward (n - 2147483648)))) (le-ltb n 2147483648 m) ∙ back
     ]

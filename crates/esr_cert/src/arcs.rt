@@ -1,5 +1,7 @@
 //! The arcs of a problem's network.
 ghost use Rattle.std.specs.Prelude.{◌≡◌, ◌+◌, ◌^◌, ◌<◌, ◌≤◌, length, map, sum_by};
+ghost use Rattle.esr_items.specs.declared.TheConstants.{MOST_ITEMS};
+ghost use Rattle.esr_history.specs.declared.limits.TheConstants.{MOST_TRANSACTIONS};
 ghost use Rattle.esr_cert.specs.Views.{chain_of};
 ghost use Rattle.esr_cert.specs.Network.{arc_at, chain_links};
 
@@ -13,7 +15,7 @@ use std::marker::Model;
 fn link_at(chain: &Chain, source: u32, j: usize) -> Arc
     requires count { length chain.now.costs.items ≡ length chain.now.writers.items + 1 }
     requires place { j < length chain.now.costs.items }
-    requires source { source ≤ 65535 }
+    requires source { source ≤ MOST_TRANSACTIONS }
     ensures { result ≡ arc_at (chain_links source (chain_of chain.now)) j }
 {
     let from = if j == 0 { source } else { chain.writers[j - 1] };
@@ -94,7 +96,7 @@ impl<'a> Arcs<'a> {
 
 /// How many arcs the chains have.
 fn link_count(chains: &[Chain]) -> u128
-    requires { length chains.now ≤ 4096 }
+    requires { length chains.now ≤ MOST_ITEMS }
     ensures value { result ≡ sum_by (λ chain. length chain.costs) (map chain_of chains.now) }
     ensures small { result < 2 ^ 76 }
 {
@@ -107,7 +109,7 @@ fn link_count(chains: &[Chain]) -> u128
 
 /// How many arcs the network of a problem of these parts has.
 pub fn arc_count(before: &[(u32, u32)], chains: &[Chain], must: &[u32]) -> u128
-    requires { length chains.now ≤ 4096 }
+    requires { length chains.now ≤ MOST_ITEMS }
     ensures value { result
         ≡ sum_by (λ chain. length chain.costs) (map chain_of chains.now) + length before.now + length must.now }
     ensures small { result < 2 ^ 77 }

@@ -1,4 +1,5 @@
 ghost use Rattle.std.specs.Prelude.{◌≡◌, ◌≢◌, ◌<◌, ◌≤◌, length, map, true, IsOk, IfOk, IfErr, Some, None};
+ghost use Rattle.esr_history.specs.declared.limits.TheConstants.{MOST_TRANSACTIONS};
 ghost use Rattle.esr_cert.specs.Problem.{size, has_shape, is_sound};
 ghost use Rattle.esr_cert.specs.Faults.{problem_fault, bundle_fault_number};
 ghost use Rattle.esr_cert.specs.Network.{arc_at, network};
@@ -189,7 +190,7 @@ impl Problem {
     /// The numbers of the updates. Elsewhere an update is named by its position here.
     pub fn updates(&self) -> &[TxnId]
         ensures list { map (λ t. t.0) result.now ≡ self.now.updates }
-        ensures few { size self.now ≤ 65535 }
+        ensures few { size self.now ≤ MOST_TRANSACTIONS }
         ensures sound { is_sound self.now ≡ true }
     {
         &self.updates

@@ -1,30 +1,26 @@
 //! The rules of range.
 ghost use Rattle.std.specs.Prelude.{◌≡◌, ◌+◌, ◌-◌, ◌*◌, ◌<◌, ◌&&◌, map, nat_lt, nat_le, true};
 ghost use Rattle.std.specs.List.{list_all, sum_by};
-ghost use Rattle.esr_cert.specs.Problem.{max_txn, greatest, chain_is_in_range, is_in_range};
+ghost use Rattle.esr_cert.specs.Problem.{greatest, chain_is_in_range, is_in_range};
 ghost use Rattle.esr_cert.specs.Views.{chain_of, problem_of};
 
 use crate::lists::are_below;
 use crate::problem::Chain;
-use esr_history::TxnId;
+use esr_history::{MOST_READS, MOST_TRANSACTIONS, TxnId};
+use esr_items::{LARGEST_VALUE, LARGEST_WEIGHT, MOST_ITEMS};
 
-/// The largest number of a transaction.
-const MAX_TXN: u32 = 65_535;
-
-/// The largest number of an item.
-const MAX_ITEM: u32 = 4_095;
-
-/// The largest sum of the greatest cost of each chain.
-const MAX_COST: u128 = 2_000_000_000_000_000_000;
+/// The largest sum of the greatest cost of each chain: each read of a query is off by at most twice the largest value,
+/// weighed.
+pub const MAX_COST: u128 = MOST_READS as u128 * 2 * LARGEST_VALUE as u128 * LARGEST_WEIGHT as u128;
 
 fn is_update_in_range(number: u32) -> bool
-    ensures { result ≡ (nat_lt 0 number && nat_le number max_txn) }
+    ensures { result ≡ (nat_lt 0 number && nat_le number MOST_TRANSACTIONS) }
 {
-    0 < number && number <= MAX_TXN
+    0 < number && number as usize <= MOST_TRANSACTIONS
 }
 
 fn are_updates_in_range(updates: &[TxnId]) -> bool
-    ensures { result ≡ list_all (λ t. nat_lt 0 t && nat_le t max_txn) (map (λ t. t.0) updates.now) }
+    ensures { result ≡ list_all (λ t. nat_lt 0 t && nat_le t MOST_TRANSACTIONS) (map (λ t. t.0) updates.now) }
 {
     for update in updates {
         if !is_update_in_range(update.0) {
@@ -37,7 +33,7 @@ fn are_updates_in_range(updates: &[TxnId]) -> bool
 fn chain_is_in_range(chain: &Chain, n: usize) -> bool
     ensures { result ≡ chain_is_in_range n (chain_of chain.now) }
 {
-    if chain.item.0 > MAX_ITEM {
+    if chain.item.0 as usize >= MOST_ITEMS {
         return false;
     }
     are_below(&chain.writers, n)

@@ -56,13 +56,13 @@ impl Model for ShortArc {
     ghost Value = { ResidualArc };
 
     ghost use Rattle.std.proofs.Common.{ap};
-    ghost use Rattle.esr_cert.specs.Short.{step_of, number_of, number_of-step_of};
+    ghost use Rattle.esr_cert.specs.Short.{step_of, packed_arc, packed_arc-step_of};
 
     ghost view = { λ s. step_of s.number };
 
-    ghost inverse = { λ s. record { number = number_of s } };
+    ghost inverse = { λ s. record { number = packed_arc s } };
 
-    ghost inverse_ok = { λ a h. ap (λ n. record { number = n }) (number_of-step_of a.number) };
+    ghost inverse_ok = { λ a h. ap (λ n. record { number = n }) (packed_arc-step_of a.number) };
 }
 
 impl ShortArc {

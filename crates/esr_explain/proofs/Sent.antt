@@ -2,7 +2,7 @@
 use Rattle.std.proofs.Common.{◌≡◌, ◌++◌, ℕ, List, ◌∙◌, ap, arith}
 use Rattle.esr_items.specs.Weights.{weighted}
 use Rattle.esr_history.specs.Machine.{Schedule}
-use Rattle.esr_audit.specs.Findings.{told, told_of}
+use Rattle.esr_audit.specs.Findings.{summary, summary_of}
 use Rattle.esr_script.specs.declared.asked.Asked.{Asked}
 use Rattle.esr_script.specs.Ask.{IsAnswered}
 use Rattle.esr_script.specs.Text.{State, transaction_called}
@@ -18,7 +18,7 @@ joined r c b a s after_r after_c after_b after_a after_s is_r is_c is_b is_a is_
 query_is : (s : State) (name : List ℕ) (a : Asked) → IsAnswered s name a → a.finding.query.0 ≡ (transaction_called s name).0
 query_is s name a h = ap (λ (t : ℕ × ℕ × ℕ × List ℕ). t.0) h.told
 
-pub told_so : (s : State) (name : List ℕ) (a : Asked) → IsAnswered s name a → told a.finding ≡ told_of weighted a.history.schedule a.finding.query.0
+pub told_so : (s : State) (name : List ℕ) (a : Asked) → IsAnswered s name a → summary a.finding ≡ summary_of weighted a.history.schedule a.finding.query.0
 told_so s name a h = grind (arith, query_is s name a h)
 
 -- the explanation of what was asked for

@@ -1,7 +1,7 @@
 //! The text of an explanation.
 ghost use Rattle.std.specs.Prelude.{◌≡◌, ◌++◌, IfOk, OnOk};
 ghost use Rattle.esr_items.specs.Weights.{weighted};
-ghost use Rattle.esr_audit.specs.Findings.{told, told_of};
+ghost use Rattle.esr_audit.specs.Findings.{summary, summary_of};
 ghost use Rattle.esr_explain.specs.Explain.{explanation, sums_line};
 
 use crate::charges::push_charges;
@@ -35,7 +35,7 @@ pub fn explanation(
     history: &History<Weighted>,
     finding: &Finding,
 ) -> Result<Vec<u8>, NoMemory>
-    ensures { told finding.now ≡ told_of weighted history.now.schedule finding.now.query.0
+    ensures { summary finding.now ≡ summary_of weighted history.now.schedule finding.now.query.0
         → IfOk result
         (λ v. v.items ≡ explanation weighted history.now.schedule items.now transactions.now finding.now.query.0) }
 {

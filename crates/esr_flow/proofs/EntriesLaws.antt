@@ -12,7 +12,7 @@ use Rattle.esr_flow.specs.declared.graph.Graph.{Graph}
 use Rattle.esr_cert.specs.Flow.{within, amount_at}
 use Rattle.esr_cert.specs.Steps.{arc_of, start}
 use Rattle.esr_flow.specs.Residual.{residual_capacity, left_of}
-use Rattle.esr_flow.specs.Graph.{arcs_of, net_of, IsGraph, entry_of, entry_at, AreEntries, IsEntry, Lists}
+use Rattle.esr_flow.specs.Graph.{arcs_of, net_of, IsGraph, adjacency_entry, entry_at, AreEntries, IsEntry, Lists}
 use Rattle.esr_cert.specs.Steps.{step_at, same_step, has_step, HasSteps}
 use Rattle.esr_cert.specs.Rows.{span_at, row_in}
 use Rattle.esr_flow.proofs.WalkLaws.{start_in}
@@ -33,12 +33,12 @@ contains_from (t ∷ steps) s h =
     ]
 
 -- the entries of a node's steps
-lists_from : (arcs : List Arc) (flow : List ℕ) (v : ℕ) (steps : List ResidualArc) → HasSteps arcs v steps → Lists arcs flow v steps (map (entry_of arcs flow) steps)
+lists_from : (arcs : List Arc) (flow : List ℕ) (v : ℕ) (steps : List ResidualArc) → HasSteps arcs v steps → Lists arcs flow v steps (map (adjacency_entry arcs flow) steps)
 lists_from arcs flow v steps h = record {
-  count = length-map steps (entry_of arcs flow);
+  count = length-map steps (adjacency_entry arcs flow);
   entries = λ k l.
-      let inside : k < length steps = omega (arith, length-map steps (entry_of arcs flow)) in
-      let is : entry_at (map (entry_of arcs flow) steps) k ≡ entry_of arcs flow (step_at steps k) = get_or-map (entry_of arcs flow) steps k (Forward 0) (entry_at [] 0) inside in
+      let inside : k < length steps = omega (arith, length-map steps (adjacency_entry arcs flow)) in
+      let is : entry_at (map (adjacency_entry arcs flow) steps) k ≡ adjacency_entry arcs flow (step_at steps k) = get_or-map (adjacency_entry arcs flow) steps k (Forward 0) (entry_at [] 0) inside in
       let (a, s) = h.starts k inside in
       subst (IsEntry arcs flow v (step_at steps k)) (sym is) (record { in_arcs = a; starts = s; leads = refl; ahead = refl; back = refl });
   all = λ step l e. contains_from steps step (h.all step l e);
@@ -67,18 +67,18 @@ module _ {S E : Type 0} (f h : S → E) (steps : List S) (entries : List E) (p q
       each_written are lp lq at_p at_q others k inside ∙ sym (get_or-map h steps k d z inside))
 
 -- the entries of an arc's two steps
-pub along_is : (arcs : List Arc) (flow : List ℕ) (i x : ℕ) (arc : Arc) → arc ≡ arc_at arcs i → x ≡ amount_at flow i → record { to = arc.to; ahead = within 1 (left_of arc.capacity x); back = within 1 (Some x) } ≡ entry_of arcs flow (Forward i)
+pub along_is : (arcs : List Arc) (flow : List ℕ) (i x : ℕ) (arc : Arc) → arc ≡ arc_at arcs i → x ≡ amount_at flow i → record { to = arc.to; ahead = within 1 (left_of arc.capacity x); back = within 1 (Some x) } ≡ adjacency_entry arcs flow (Forward i)
 along_is arcs flow i x arc is x_is =
     let by : Arc → ℕ → AdjacencyEntry = λ a n. record { to = a.to; ahead = within 1 (left_of a.capacity n); back = within 1 (Some n) } in
     ap (λ a. by a x) is ∙ ap (by (arc_at arcs i)) x_is
 
-pub against_is : (arcs : List Arc) (flow : List ℕ) (i x : ℕ) (arc : Arc) → arc ≡ arc_at arcs i → x ≡ amount_at flow i → record { to = arc.from; ahead = within 1 (Some x); back = within 1 (left_of arc.capacity x) } ≡ entry_of arcs flow (Backward i)
+pub against_is : (arcs : List Arc) (flow : List ℕ) (i x : ℕ) (arc : Arc) → arc ≡ arc_at arcs i → x ≡ amount_at flow i → record { to = arc.from; ahead = within 1 (Some x); back = within 1 (left_of arc.capacity x) } ≡ adjacency_entry arcs flow (Backward i)
 against_is arcs flow i x arc is x_is =
     let by : Arc → ℕ → AdjacencyEntry = λ a n. record { to = a.from; ahead = within 1 (Some n); back = within 1 (left_of a.capacity n) } in
     ap (λ a. by a x) is ∙ ap (by (arc_at arcs i)) x_is
 
 -- the entry of a step of another arc
-same_entry : (arcs : List Arc) (flow : List ℕ) (i x : ℕ) (t : ResidualArc) → arc_of t ≢ i → entry_of arcs (set flow i x) t ≡ entry_of arcs flow t
+same_entry : (arcs : List Arc) (flow : List ℕ) (i x : ℕ) (t : ResidualArc) → arc_of t ≢ i → adjacency_entry arcs (set flow i x) t ≡ adjacency_entry arcs flow t
 same_entry arcs flow i x (Forward j) ne =
     let by : ℕ → AdjacencyEntry = λ n. record { to = (arc_at arcs j).to; ahead = within 1 (left_of (arc_at arcs j).capacity n); back = within 1 (Some n) } in
     ap by (get_or-set_other flow i j x 0 ne)
@@ -106,8 +106,8 @@ module _ (g : Graph) (ok : IsGraph g) where
   row_lists : (flow : List ℕ) (entries : List AdjacencyEntry) → AreEntries g flow entries → (v : ℕ) → v < g.nodes → Lists (arcs_of g) flow v (row_in g.rows.now.steps.items (span_at g.rows.now.spans.items v)) (row_in entries (span_at g.rows.now.spans.items v))
   row_lists flow entries are v l =
       let span : Span = span_at g.rows.now.spans.items v in
-      let same : row_in entries span ≡ map (entry_of (arcs_of g) flow) (row_in g.rows.now.steps.items span) =
-      ap (λ es. row_in es span) are ∙ ap (take (span.end - span.begin)) (drop-map (entry_of (arcs_of g) flow) span.begin g.rows.now.steps.items) ∙ take-map (entry_of (arcs_of g) flow) (span.end - span.begin) (drop span.begin g.rows.now.steps.items) in
+      let same : row_in entries span ≡ map (adjacency_entry (arcs_of g) flow) (row_in g.rows.now.steps.items span) =
+      ap (λ es. row_in es span) are ∙ ap (take (span.end - span.begin)) (drop-map (adjacency_entry (arcs_of g) flow) span.begin g.rows.now.steps.items) ∙ take-map (adjacency_entry (arcs_of g) flow) (span.end - span.begin) (drop span.begin g.rows.now.steps.items) in
       subst (Lists (arcs_of g) flow v (row_in g.rows.now.steps.items span)) (sym same) (lists_from (arcs_of g) flow v (row_in g.rows.now.steps.items span) (ok.lists v l))
 
   -- the steps and the entries of a node as they were read
@@ -124,10 +124,10 @@ module _ (g : Graph) (ok : IsGraph g) where
 
   pub renewed : (flow : List ℕ) (entries : List AdjacencyEntry) (i x p q : ℕ) (a b : AdjacencyEntry) → AreEntries g flow entries
       → p < length g.rows.now.steps.items → step_at g.rows.now.steps.items p ≡ Forward i → q < length g.rows.now.steps.items → step_at g.rows.now.steps.items q ≡ Backward i
-      → a ≡ entry_of (arcs_of g) (set flow i x) (Forward i) → b ≡ entry_of (arcs_of g) (set flow i x) (Backward i) → AreEntries g (set flow i x) (set (set entries p a) q b)
+      → a ≡ adjacency_entry (arcs_of g) (set flow i x) (Forward i) → b ≡ adjacency_entry (arcs_of g) (set flow i x) (Backward i) → AreEntries g (set flow i x) (set (set entries p a) q b)
   renewed flow entries i x p q a b are lp at_p lq at_q along against =
-      let f : ResidualArc → AdjacencyEntry = entry_of (arcs_of g) flow in
-      let h : ResidualArc → AdjacencyEntry = entry_of (arcs_of g) (set flow i x) in
+      let f : ResidualArc → AdjacencyEntry = adjacency_entry (arcs_of g) flow in
+      let h : ResidualArc → AdjacencyEntry = adjacency_entry (arcs_of g) (set flow i x) in
       ap (λ e. set (set entries p e) q b) along ∙ ap (λ e. set (set entries p (h (Forward i))) q e) against
       ∙ written f h g.rows.now.steps.items entries p q (Forward i) (Backward i) (Forward 0) (entry_at [] 0) are lp lq at_p at_q
       (λ k l np nq. same_entry (arcs_of g) flow i x (step_at g.rows.now.steps.items k) (other_arc i k p q l lp lq at_p at_q np nq (step_at g.rows.now.steps.items k) refl))
@@ -136,7 +136,7 @@ module _ (g : Graph) (ok : IsGraph g) where
   pub unchanged : (flow : List ℕ) (entries : List AdjacencyEntry) (i x : ℕ) (arc : Arc) → i < length flow → arc ≡ arc_at (arcs_of g) i → AreEntries g flow entries
       → within 1 (left_of arc.capacity (amount_at flow i)) ≡ within 1 (left_of arc.capacity x) → within 1 (Some (amount_at flow i)) ≡ within 1 (Some x) → AreEntries g (set flow i x) entries
   unchanged flow entries i x arc l is are same_ahead same_back =
-      are ∙ map_same (entry_of (arcs_of g) flow) (entry_of (arcs_of g) (set flow i x)) (λ s. elim (cases_eq (arc_of s) i) [
+      are ∙ map_same (adjacency_entry (arcs_of g) flow) (adjacency_entry (arcs_of g) (set flow i x)) (λ s. elim (cases_eq (arc_of s) i) [
         | inl e ↦ here s e
         | inr ne ↦ sym (same_entry (arcs_of g) flow i x s ne)
       ]) g.rows.now.steps.items
@@ -152,6 +152,6 @@ module _ (g : Graph) (ok : IsGraph g) where
       back : within 1 (residual_capacity (arcs_of g) flow (Backward i)) ≡ within 1 (residual_capacity (arcs_of g) (set flow i x) (Backward i))
       back = same_back ∙ ap (λ n. within 1 (Some n)) now
 
-      here : (s : ResidualArc) → arc_of s ≡ i → entry_of (arcs_of g) flow s ≡ entry_of (arcs_of g) (set flow i x) s
-      here (Forward j) e = subst (λ n. entry_of (arcs_of g) flow (Forward n) ≡ entry_of (arcs_of g) (set flow i x) (Forward n)) (sym e) (same_rooms (arc_at (arcs_of g) i).to ahead back)
-      here (Backward j) e = subst (λ n. entry_of (arcs_of g) flow (Backward n) ≡ entry_of (arcs_of g) (set flow i x) (Backward n)) (sym e) (same_rooms (arc_at (arcs_of g) i).from back ahead)
+      here : (s : ResidualArc) → arc_of s ≡ i → adjacency_entry (arcs_of g) flow s ≡ adjacency_entry (arcs_of g) (set flow i x) s
+      here (Forward j) e = subst (λ n. adjacency_entry (arcs_of g) flow (Forward n) ≡ adjacency_entry (arcs_of g) (set flow i x) (Forward n)) (sym e) (same_rooms (arc_at (arcs_of g) i).to ahead back)
+      here (Backward j) e = subst (λ n. adjacency_entry (arcs_of g) flow (Backward n) ≡ adjacency_entry (arcs_of g) (set flow i x) (Backward n)) (sym e) (same_rooms (arc_at (arcs_of g) i).from back ahead)

@@ -16,7 +16,7 @@ use Rattle.esr_cert.proofs.RowsLaws.{row_length, at_row, Counted, counted_more}
 use Rattle.esr_flow.specs.declared.entry.AdjacencyEntry.{AdjacencyEntry}
 use Rattle.esr_flow.specs.declared.graph.Graph.{Graph}
 use Rattle.esr_flow.specs.Residual.{left_of}
-use Rattle.esr_flow.specs.Graph.{arcs_of, IsGraph, entry_of, entry_at, AreEntries}
+use Rattle.esr_flow.specs.Graph.{arcs_of, IsGraph, adjacency_entry, entry_at, AreEntries}
 use Rattle.esr_flow.proofs.EntriesLaws.{along_is, against_is}
 
 -- the first steps are those before an arc, its two, and later ones
@@ -37,7 +37,7 @@ pub record ArePut (g : Graph) (flow : List ℕ) (done : List ResidualArc) (count
   pub counted : Counted (arcs_of g) g.nodes done counts
   pub long : length entries ≡ length g.rows.now.steps.items
   pub put : (k : ℕ) → k < length g.rows.now.steps.items → Contains done (step_at g.rows.now.steps.items k)
-      → entry_at entries k ≡ entry_of (arcs_of g) flow (step_at g.rows.now.steps.items k)
+      → entry_at entries k ≡ adjacency_entry (arcs_of g) flow (step_at g.rows.now.steps.items k)
 
 module _ (g : Graph) (ok : IsGraph g) where
   abbrev steps : List ResidualArc
@@ -89,14 +89,14 @@ module _ (g : Graph) (ok : IsGraph g) where
       step_there : step_at steps at ≡ s
       step_there = ap (step_at steps) at_is ∙ lies
 
-      pub put_more : (a : AdjacencyEntry) → a ≡ entry_of (arcs_of g) flow s → ArePut g flow (done ++ s ∷ []) (set counts v (get_or counts v 0 + 1)) (set entries at a)
+      pub put_more : (a : AdjacencyEntry) → a ≡ adjacency_entry (arcs_of g) flow s → ArePut g flow (done ++ s ∷ []) (set counts v (get_or counts v 0 + 1)) (set entries at a)
       put_more a is = record {
         counted = counted_more s starts known (get_or_default counts v 0 (get_or counts v 0) (omega (arith, are.counted.count))) are.counted;
         long = length-set entries at a ∙ are.long;
         put = λ k l c. elim (cases_eq k at) [
           | inl e ↦
               ap (entry_at (set entries at a)) e ∙ get_or-set_same entries at a (entry_at [] 0) put_within ∙ is
-              ∙ ap (entry_of (arcs_of g) flow) (sym step_there ∙ ap (step_at steps) (sym e))
+              ∙ ap (adjacency_entry (arcs_of g) flow) (sym step_there ∙ ap (step_at steps) (sym e))
           | inr ne ↦
               get_or-set_other entries at k a (entry_at [] 0) ne
               ∙ are.put k l (⊎_elim (λ old. old) (λ same. absurd (ne (ok.steps.once k at l (omega (arith, put_within, are.long)) (sym same ∙ sym step_there)))) (Contains-push_cases done s (step_at steps k) c))
@@ -105,10 +105,10 @@ module _ (g : Graph) (ok : IsGraph g) where
 
   pub all_put : (flow counts : List ℕ) (entries : List AdjacencyEntry) → ArePut g flow (first_steps (length (arcs_of g))) counts entries → AreEntries g flow entries
   all_put flow counts entries are =
-      ext_get_or (entry_at [] 0) entries (map (entry_of (arcs_of g) flow) steps) (are.long ∙ sym (length-map steps (entry_of (arcs_of g) flow))) (λ k l.
+      ext_get_or (entry_at [] 0) entries (map (adjacency_entry (arcs_of g) flow) steps) (are.long ∙ sym (length-map steps (adjacency_entry (arcs_of g) flow))) (λ k l.
       let inside : k < length steps = omega (arith, are.long) in
       are.put k inside (first_all (length (arcs_of g)) (step_at steps k) (ok.steps.in_arcs k inside))
-      ∙ sym (get_or-map (entry_of (arcs_of g) flow) steps k (Forward 0) (entry_at [] 0) inside))
+      ∙ sym (get_or-map (adjacency_entry (arcs_of g) flow) steps k (Forward 0) (entry_at [] 0) inside))
 
   -- the two steps of an arc
   module _ (flow counts : List ℕ) (entries : List AdjacencyEntry) (i : ℕ) (l : i < length (arcs_of g)) (are : ArePut g flow (first_steps i) counts entries) (arc : Arc) (is : arc ≡ arc_at (arcs_of g) i) (x : ℕ) (x_is : x ≡ amount_at flow i) where

@@ -3,7 +3,7 @@ use Rattle.std.proofs.Common.{◌≡◌, ℕ, ◌+◌, ◌-◌, ◌<◌, ◌≤�
 use Rattle.std.proofs.lemmas.Bool.{cases_Bool}
 use Rattle.esr_cert.specs.Network.{arc_at, Network, IsNetwork}
 use Rattle.esr_cert.specs.Flow.{within, amount_at, carried, IsFlow, worth}
-use Rattle.esr_cert.specs.Cut.{crosses, comes_back, limit_of, across, IsLimited, AreLimited}
+use Rattle.esr_cert.specs.Cut.{crosses, comes_back, capacity_or_zero, across, IsLimited, AreLimited}
 use Rattle.esr_cert.proofs.Cut.{cut, carried_at_most, carried_full, full_from, nothing_back, nothing_from}
 use Rattle.esr_cert.specs.declared.residual.ResidualArc.{ResidualArc}
 use Rattle.esr_cert.specs.declared.residual.ResidualArc.TheVariants.{Forward, Backward}
@@ -24,7 +24,7 @@ back_of false true h = (refl, refl)
 back_of false false h = cc
 back_of true c h = cc
 
-no_room_full : (o : Option ℕ) (x : ℕ) → within x o ≡ true → (within 1 (left_of o x) ≡ true → ⊥) → (IsLimited o) × (x ≡ limit_of o)
+no_room_full : (o : Option ℕ) (x : ℕ) → within x o ≡ true → (within 1 (left_of o x) ≡ true → ⊥) → (IsLimited o) × (x ≡ capacity_or_zero o)
 no_room_full None x w h = absurd (h refl)
 no_room_full (Some c) x w h =
     let small : (1 ≤ c - x) → ⊥ = λ l. h (le-leb 1 (c - x) l) in
@@ -34,7 +34,7 @@ no_room_full (Some c) x w h =
 
 module _ (net : Network) (ok : IsNetwork net) (flow : List ℕ) (f : IsFlow net flow) (has : ℕ → Bool) where
   -- an arc that leaves a set which residual steps do not leave is limited and full
-  keeps_full : Keeps net flow has → (i : ℕ) → i < length net.arcs → crosses has (arc_at net.arcs i) ≡ true → (IsLimited (arc_at net.arcs i).capacity) × (amount_at flow i ≡ limit_of (arc_at net.arcs i).capacity)
+  keeps_full : Keeps net flow has → (i : ℕ) → i < length net.arcs → crosses has (arc_at net.arcs i) ≡ true → (IsLimited (arc_at net.arcs i).capacity) × (amount_at flow i ≡ capacity_or_zero (arc_at net.arcs i).capacity)
   keeps_full keeps i l c =
       let ends : (has (arc_at net.arcs i).from ≡ true) × (has (arc_at net.arcs i).to ≡ false) = both_of (has (arc_at net.arcs i).from) (has (arc_at net.arcs i).to) c in
       no_room_full (arc_at net.arcs i).capacity (amount_at flow i) (f.within_capacity i l)
@@ -57,7 +57,7 @@ module _ (net : Network) (ok : IsNetwork net) (flow : List ℕ) (f : IsFlow net 
         nothing_back has net.arcs flow (keeps_empty keeps),
       )
 
-  full_no_room : (o : Option ℕ) (x : ℕ) → IsLimited o → x ≡ limit_of o → within 1 (left_of o x) ≡ true → ⊥
+  full_no_room : (o : Option ℕ) (x : ℕ) → IsLimited o → x ≡ capacity_or_zero o → within 1 (left_of o x) ≡ true → ⊥
   full_no_room None x l e w = absurd l
   full_no_room (Some c) x l e w = let k : 1 ≤ c - x = leb-true 1 (c - x) w in omega arith
 
@@ -66,7 +66,7 @@ module _ (net : Network) (ok : IsNetwork net) (flow : List ℕ) (f : IsFlow net 
   keeps_from at_source at_sink limited least s res h =
       let whole : worth net flow + carried (comes_back has) net.arcs flow ≡ carried (crosses has) net.arcs flow = cut net ok flow f has at_source at_sink in
       let most : carried (crosses has) net.arcs flow ≤ across has net.arcs = carried_at_most has net.arcs flow f.within_capacity limited in
-      let full : (i : ℕ) → i < length net.arcs → crosses has (arc_at net.arcs i) ≡ true → amount_at flow i ≡ limit_of (arc_at net.arcs i).capacity = full_from has net.arcs flow f.same_length f.within_capacity limited (omega arith) in
+      let full : (i : ℕ) → i < length net.arcs → crosses has (arc_at net.arcs i) ≡ true → amount_at flow i ≡ capacity_or_zero (arc_at net.arcs i).capacity = full_from has net.arcs flow f.same_length f.within_capacity limited (omega arith) in
       let none : (i : ℕ) → i < length net.arcs → comes_back has (arc_at net.arcs i) ≡ true → amount_at flow i ≡ 0 = nothing_from has net.arcs flow f.same_length (omega arith) in
       stays full none s res h
     where
@@ -80,7 +80,7 @@ module _ (net : Network) (ok : IsNetwork net) (flow : List ℕ) (f : IsFlow net 
       returning false false e g = cc
       returning true c e g = cc
 
-      stays : ((i : ℕ) → i < length net.arcs → crosses has (arc_at net.arcs i) ≡ true → amount_at flow i ≡ limit_of (arc_at net.arcs i).capacity) → ((i : ℕ) → i < length net.arcs → comes_back has (arc_at net.arcs i) ≡ true → amount_at flow i ≡ 0) → (s : ResidualArc) → IsResidual net.arcs flow s → has (start net.arcs s) ≡ true → has (finish net.arcs s) ≡ true
+      stays : ((i : ℕ) → i < length net.arcs → crosses has (arc_at net.arcs i) ≡ true → amount_at flow i ≡ capacity_or_zero (arc_at net.arcs i).capacity) → ((i : ℕ) → i < length net.arcs → comes_back has (arc_at net.arcs i) ≡ true → amount_at flow i ≡ 0) → (s : ResidualArc) → IsResidual net.arcs flow s → has (start net.arcs s) ≡ true → has (finish net.arcs s) ≡ true
       stays full none (Forward i) res h =
           elim (cases_Bool (has (arc_at net.arcs i).to)) [
             | inl e ↦ e

@@ -1,13 +1,14 @@
 -- Least rooms from left to right, and that raised amounts fit.
 use Rattle.std.proofs.Common.{◌≡◌, ℕ, zero, suc, ◌+◌, ◌^◌, ◌<◌, ◌≤◌, List, [], ◌∷◌, ◌++◌, length, get_or, take, Some, refl, ap, ◌∙◌, arith, add-one}
 use Rattle.std.proofs.lemmas.List.{take_more}
+use Rattle.esr_cert.specs.declared.range.TheConstants.{MAX_COST}
 use Rattle.esr_cert.specs.declared.network.Arc.{Arc}
 use Rattle.esr_cert.specs.declared.residual.ResidualArc.{ResidualArc}
 use Rattle.esr_cert.specs.Flow.{amount_at, IsFlow, worth}
 use Rattle.esr_flow.specs.Residual.{finish, IsPath, bottleneck, shift, raise}
 use Rattle.esr_cert.specs.Network.{Network, IsNetwork}
 use Rattle.esr_flow.specs.Augmentation.{Augments, Takes}
-use Rattle.esr_flow.specs.Maximum.{InArcs, LIMIT}
+use Rattle.esr_flow.specs.Maximum.{InArcs}
 use Rattle.esr_flow.specs.Search.{IsShortestPath}
 use Rattle.esr_flow.proofs.Labels.{Levels}
 use Rattle.esr_flow.proofs.FlowLaws.{After, augmented, path_labels, raise_at_most}
@@ -33,7 +34,7 @@ abbrev pub augments : (net : Network) (flow : List ℕ) (path : List ResidualArc
 augments net flow path x p e = record { path = path; amount = x; is_path = p.is_path; is_shortest = p.is_shortest; is_least = e; is_raised = refl }
 
 -- the amounts on the way fit
-pub raise_fits : (net : Network) → IsNetwork net → (flow : List ℕ) (path : List ResidualArc) (x : ℕ) → IsFlow net flow → ((i : ℕ) → amount_at flow i ≤ LIMIT) → ((f : List ℕ) → IsFlow net f → worth net f ≤ LIMIT) → IsShortestPath net flow path → bottleneck net.arcs flow path ≡ Some x → (k i : ℕ) → amount_at (raise flow x (take k path)) i + x < 2 ^ 64
+pub raise_fits : (net : Network) → IsNetwork net → (flow : List ℕ) (path : List ResidualArc) (x : ℕ) → IsFlow net flow → ((i : ℕ) → amount_at flow i ≤ MAX_COST) → ((f : List ℕ) → IsFlow net f → worth net f ≤ MAX_COST) → IsShortestPath net flow path → bottleneck net.arcs flow path ≡ Some x → (k i : ℕ) → amount_at (raise flow x (take k path)) i + x < 2 ^ 64
 raise_fits net ok flow path x f amounts small p e k i =
     let a : Augments net flow (raise flow x path) = augments net flow path x p e in
     let after : After net flow (raise flow x path) x = augmented net ok flow (raise flow x path) f a in

@@ -3,6 +3,7 @@ use Rattle.std.proofs.Common.{◌≡◌, ℕ, zero, suc, ◌+◌, ◌<◌, ◌�
 use Rattle.std.proofs.lemmas.Bool.{cases_eq, cases_lt}
 use Rattle.std.proofs.lemmas.List.{get_or_append_left, length-map, get_or-map}
 use Rattle.std.proofs.lemmas.List.Sums.{sum_by-cons}
+use Rattle.esr_cert.specs.declared.range.TheConstants.{MAX_COST}
 use Rattle.esr_cert.specs.declared.network.Arc.{Arc}
 use Rattle.esr_cert.specs.Problem.{Chain, Problem, size, version, chain_cost, cost, greatest, IsSmallestLeast}
 use Rattle.esr_cert.specs.Network.{arc_at, Network, back_arc, must_arc, chain_arcs, back_arcs, must_arcs, network}
@@ -121,7 +122,7 @@ costs_at_most has (c ∷ chains) =
       costs_at_most has chains,
     )
 
-pub worth_small : (p : Problem) → IsProblem p → (flow : List ℕ) → IsFlow (network p) flow → worth (network p) flow ≤ 2000000000000000000
+pub worth_small : (p : Problem) → IsProblem p → (flow : List ℕ) → IsFlow (network p) flow → worth (network p) flow ≤ MAX_COST
 worth_small p ok flow f =
     let all : IsClosed p (λ u. true) = record { before = λ u v c h. refl; must = λ u c. refl } in
     omega (arith, worth_le_cost p ok (λ u. true) flow f (closed_from p (λ u. true) all), costs_at_most (λ u. true) p.chains, ok.small)

@@ -32,8 +32,8 @@ pub record IsGraph (g : Graph) : Type 0 where
   pub few : g.nodes < 2 ^ 30
 
 -- the entry of a step: where it leads, and whether the step and its opposite have residual capacity
-abbrev pub entry_of : List Arc → List ℕ → ResidualArc → AdjacencyEntry
-entry_of arcs flow step = record {
+abbrev pub adjacency_entry : List Arc → List ℕ → ResidualArc → AdjacencyEntry
+adjacency_entry arcs flow step = record {
   to = finish arcs step;
   ahead = within 1 (residual_capacity arcs flow step);
   back = within 1 (residual_capacity arcs flow (opposite step));
@@ -44,7 +44,7 @@ entry_at entries k = get_or entries k (record { to = 0; ahead = false; back = fa
 
 -- the entries of a graph's steps, with the residual capacities of a flow
 abbrev pub AreEntries : Graph → List ℕ → List AdjacencyEntry → Type 0
-AreEntries g flow entries = entries ≡ map (entry_of (arcs_of g) flow) g.rows.now.steps.items
+AreEntries g flow entries = entries ≡ map (adjacency_entry (arcs_of g) flow) g.rows.now.steps.items
 
 -- a step that starts at a node and its entry: where the step leads, and what has residual capacity
 pub record IsEntry (arcs : List Arc) (flow : List ℕ) (v : ℕ) (step : ResidualArc) (e : AdjacencyEntry) : Type 0 where

@@ -6,9 +6,6 @@ use Rattle.esr_cert.specs.Network.{Network}
 use Rattle.esr_cert.specs.Steps.{arc_of}
 use Rattle.esr_flow.specs.Residual.{bottleneck, IsPath}
 
-abbrev pub LIMIT : ℕ
-LIMIT = 2000000000000000000
-
 abbrev pub InArcs : List Arc → List ResidualArc → Type 0
 InArcs arcs path = (k : ℕ) (d : ResidualArc) → k < length path → arc_of (get_or path k d) < length arcs
 

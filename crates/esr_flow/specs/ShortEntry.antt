@@ -8,11 +8,11 @@ use Rattle.esr_flow.specs.declared.entry.AdjacencyEntry.{AdjacencyEntry}
 abbrev pub entry_in : ℕ → AdjacencyEntry
 entry_in n = record { to = n / 4; ahead = n % 2 == 1; back = nat_lt 1 (n % 4) }
 
-abbrev pub number_of : AdjacencyEntry → ℕ
-number_of e = e.to * 4 + (if e.back then 2 else 0) + (if e.ahead then 1 else 0)
+abbrev pub packed_entry : AdjacencyEntry → ℕ
+packed_entry e = e.to * 4 + (if e.back then 2 else 0) + (if e.ahead then 1 else 0)
 
-pub number_of-entry_in : (n : ℕ) → number_of (entry_in n) ≡ n
-number_of-entry_in n =
+pub packed_entry-entry_in : (n : ℕ) → packed_entry (entry_in n) ≡ n
+packed_entry-entry_in n =
     elim (cases_eq (n % 2) 1) [
       | inl odd ↦ ap (λ a. n / 4 * 4 + cond (nat_lt 1 (n % 4)) 2 0 + cond a 1 0) (eq-eqb (n % 2) 1 odd) ∙ elim (cases_lt 1 (n % 4)) [
         | inl l ↦ let all : n / 4 * 4 + 2 + 1 ≡ n = omega arith in ap (λ b. n / 4 * 4 + cond b 2 0 + 1) (lt-ltb 1 (n % 4) l) ∙ all

@@ -23,13 +23,13 @@ impl Model for ShortEntry {
     ghost Value = { AdjacencyEntry };
 
     ghost use Rattle.std.proofs.Common.{ap};
-    ghost use Rattle.esr_flow.specs.ShortEntry.{entry_in, number_of, number_of-entry_in};
+    ghost use Rattle.esr_flow.specs.ShortEntry.{entry_in, packed_entry, packed_entry-entry_in};
 
     ghost view = { λ e. entry_in e.number };
 
-    ghost inverse = { λ e. record { number = number_of e } };
+    ghost inverse = { λ e. record { number = packed_entry e } };
 
-    ghost inverse_ok = { λ a h. ap (λ n. record { number = n }) (number_of-entry_in a.number) };
+    ghost inverse_ok = { λ a h. ap (λ n. record { number = n }) (packed_entry-entry_in a.number) };
 }
 
 impl ShortEntry {

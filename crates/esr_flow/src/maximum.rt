@@ -1,5 +1,6 @@
 //! A maximum flow, by shortest augmenting paths.
 ghost use Rattle.std.specs.Prelude.{◌≡◌, ℕ, ◌+◌, ◌*◌, ◌^◌, ◌<◌, ◌≤◌, false, length, set, take, IfOk, List, None};
+ghost use Rattle.esr_cert.specs.declared.range.TheConstants.{MAX_COST};
 ghost use Rattle.esr_cert.specs.declared.residual.ResidualArc.{ResidualArc};
 ghost use Rattle.esr_cert.specs.Network.{network};
 ghost use Rattle.esr_cert.specs.Steps.{arc_of};
@@ -8,7 +9,7 @@ ghost use Rattle.esr_cert.specs.Flow.{amount_at, IsFlow, worth};
 ghost use Rattle.esr_flow.specs.Augmentation.{IsReach, Augments, Takes};
 ghost use Rattle.esr_flow.specs.Graph.{arcs_of, net_of, IsGraph, AreEntries};
 ghost use Rattle.esr_flow.specs.Search.{IsShortestPath, Guides, IsGuided, is_marked};
-ghost use Rattle.esr_flow.specs.Maximum.{InArcs, HasLimit, LIMIT};
+ghost use Rattle.esr_flow.specs.Maximum.{InArcs, HasLimit};
 
 use crate::entry::ShortEntry;
 use crate::graph::{Graph, residual_capacity_of};
@@ -81,8 +82,8 @@ fn augment(graph: &Graph, flow: &mut [u64], entries: &mut [ShortEntry], path: &[
     requires graph { IsGraph graph.now }
     requires flow { IsFlow (net_of graph.now) flow.old }
     requires entries { AreEntries graph.now flow.old entries.old }
-    requires amounts { (i : ℕ) → amount_at flow.old i ≤ LIMIT }
-    requires small { (f : List ℕ) → IsFlow (net_of graph.now) f → worth (net_of graph.now) f ≤ LIMIT }
+    requires amounts { (i : ℕ) → amount_at flow.old i ≤ MAX_COST }
+    requires small { (f : List ℕ) → IsFlow (net_of graph.now) f → worth (net_of graph.now) f ≤ MAX_COST }
     requires path { IsShortestPath (net_of graph.now) flow.old path.now }
     requires limited { HasLimit (net_of graph.now) }
     ensures augments { Augments (net_of graph.now) flow.old flow.new }
@@ -100,7 +101,7 @@ fn augment(graph: &Graph, flow: &mut [u64], entries: &mut [ShortEntry], path: &[
 
 /// How many augmentations a flow took, in how many phases, and its value.
 #[derive(Clone, Copy)]
-pub struct Progress {
+pub struct FlowSoFar {
     pub augmentations: u64,
     pub phases: u64,
     pub worth: u64,
@@ -114,10 +115,10 @@ fn run_phase(
     first: Vec<ResidualArc>,
     flow: &mut [u64],
     entries: &mut [ShortEntry],
-    before: Progress,
-) -> Result<Progress, AllocError>
+    before: FlowSoFar,
+) -> Result<FlowSoFar, AllocError>
     requires graph { IsGraph graph.now }
-    requires small { (f : List ℕ) → IsFlow (net_of graph.now) f → worth (net_of graph.now) f ≤ LIMIT }
+    requires small { (f : List ℕ) → IsFlow (net_of graph.now) f → worth (net_of graph.now) f ≤ MAX_COST }
     requires limited { HasLimit (net_of graph.now) }
     requires entries { AreEntries graph.now flow.old entries.old }
     requires guides { Guides (net_of graph.now) flow.old labels.now }
@@ -140,7 +141,7 @@ fn run_phase(
         augmentations += 1;
         put_back(graph, &mut next, &path);
         match next_path(alloc, graph, flow, entries, labels, &mut next)? {
-            None => return Ok(Progress {
+            None => return Ok(FlowSoFar {
                 augmentations,
                 phases: before.phases + 1,
                 worth,
@@ -163,7 +164,7 @@ pub struct MaximumFlow {
 /// Augments the flow of zeros along shortest paths until there is none.
 pub fn find_maximum(alloc: Global, graph: &Graph) -> Result<MaximumFlow, AllocError>
     requires graph { IsGraph graph.now }
-    requires small { (f : List ℕ) → IsFlow (net_of graph.now) f → worth (net_of graph.now) f ≤ LIMIT }
+    requires small { (f : List ℕ) → IsFlow (net_of graph.now) f → worth (net_of graph.now) f ≤ MAX_COST }
     requires limited { HasLimit (net_of graph.now) }
     ensures takes { IfOk result (λ m. Takes (net_of graph.now) m.augmentations m.flow.items) }
     ensures few { IfOk result (λ m. m.augmentations ≤ graph.now.nodes * length (arcs_of graph.now)) }
@@ -178,7 +179,7 @@ pub fn find_maximum(alloc: Global, graph: &Graph) -> Result<MaximumFlow, AllocEr
 {
     let mut flow = vec![in alloc; 0u64; graph.rows.steps.len() / 2]?;
     let mut entries = graph.entries(alloc, &flow)?;
-    let mut progress = Progress {
+    let mut progress = FlowSoFar {
         augmentations: 0,
         phases: 0,
         worth: 0,

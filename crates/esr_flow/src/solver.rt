@@ -1,6 +1,7 @@
 //! Problems solved: a certificate with the smallest least set.
 ghost use Rattle.std.specs.Prelude.{◌≡◌, ℕ, ◌+◌, ◌*◌, ◌<◌, ◌≤◌, true, false, Some, length, map, sum_by, get_or, IfOk};
 ghost use Rattle.std.specs.List.{concat};
+ghost use Rattle.esr_history.specs.declared.limits.TheConstants.{MOST_TRANSACTIONS};
 ghost use Rattle.esr_cert.specs.Problem.{size, in_set, IsSmallestLeast};
 ghost use Rattle.esr_cert.specs.Network.{network};
 ghost use Rattle.esr_cert.specs.Flow as flows;
@@ -19,7 +20,7 @@ use std::alloc::{AllocError, Global};
 /// The marked positions, ascending.
 fn members(alloc: Global, marks: &[bool], count: usize) -> Result<Vec<u32>, AllocError>
     requires room { count ≤ length marks.now }
-    requires few { count ≤ 65535 }
+    requires few { count ≤ MOST_TRANSACTIONS }
     ensures { IfOk result (λ set. set.items ≡ positions (is_marked marks.now) count) }
 {
     let mut set = Vec::new(alloc);

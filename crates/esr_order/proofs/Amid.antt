@@ -8,12 +8,12 @@ use Rattle.esr_history.specs.Operations.{operations}
 use Rattle.esr_history.specs.Serial.{is_before}
 use Rattle.esr_history.specs.Queries.{must}
 use Rattle.esr_history.proofs.Membership.{Pairs-from_all}
-use Rattle.esr_order.specs.Steps.{Step}
+use Rattle.esr_order.specs.UpdateOperations.{UpdateOperation}
 use Rattle.esr_order.specs.Turns.{turns}
 use Rattle.esr_order.specs.Placements.{is_among}
 use Rattle.esr_order.specs.Listing.{IsBelow}
 use Rattle.esr_order.specs.Ties.{on_item, IsTied, AreNextPaired}
-use Rattle.esr_order.specs.Chains.{Chain, chain_from, last_step, nth}
+use Rattle.esr_order.specs.Chains.{Chain, chain_from, last_by_update, nth}
 use Rattle.esr_order.specs.Orders.{IsOrderAmong}
 use Rattle.esr_order.proofs.Turns as turns_of
 use Rattle.esr_order.proofs.Complete.{order_found}
@@ -22,7 +22,7 @@ module _ (d : Distance) (h : Schedule) (legal : IsLegal d h) (commits : List Txn
   abbrev us : List ℕ
   us = map (λ (t : TxnId). t.0) commits
 
-  abbrev steps : List Step
+  abbrev steps : List UpdateOperation
   steps = turns (operations h) 0 us
 
   len : length (map (λ (t : TxnId). t.0) commits) ≡ length commits
@@ -32,13 +32,13 @@ module _ (d : Distance) (h : Schedule) (legal : IsLegal d h) (commits : List Txn
   few_pairs before tied = omega (arith, tied.few, turns_of.counted (operations h) 0 us (Pairs-from_all (λ u v. u ≢ v) us once))
 
   pub made : (before : List (ℕ × ℕ)) → AllPairs IsBelow before → IsTied steps before × ((x : ℕ) → AreNextPaired before (filter (λ s. s.writes) (on_item x steps)))
-      → (chains : List Chain) → chains ≡ map (λ x. chain_from (last_step steps x) (length commits)) (range_with_len 0 (length h.opening))
+      → (chains : List Chain) → chains ≡ map (λ x. chain_from (last_by_update steps x) (length commits)) (range_with_len 0 (length h.opening))
       → (n : ℕ) → n ≤ length commits → (first : List ℕ) → first ≡ range_with_len 0 n
       → (q : ℕ) → map (nth (map (λ t. t.0) commits)) (range_with_len 0 n) ≡ must h q
       → IsOrderAmong h q (map (λ t. t.0) commits) (record { commits = commits; before = before; must = first; chains = chains })
   made before ascends pairs chains links n part first firsts q musts =
-      let chained : chains ≡ map (λ x. chain_from (last_step steps x) (length us)) (range_with_len 0 (length h.opening)) =
-      links ∙ ap (λ k. map (λ x. chain_from (last_step steps x) k) (range_with_len 0 (length h.opening))) (sym len) in
+      let chained : chains ≡ map (λ x. chain_from (last_by_update steps x) (length us)) (range_with_len 0 (length h.opening)) =
+      links ∙ ap (λ k. map (λ x. chain_from (last_by_update steps x) k) (range_with_len 0 (length h.opening))) (sym len) in
       let within : n ≤ length us = omega (arith, part, len) in
       let most : length us ≤ 65535 = omega (arith, few, len) in
       subst (λ ms. IsOrderAmong h q us (record { commits = commits; before = before; must = ms; chains = chains })) (sym firsts)

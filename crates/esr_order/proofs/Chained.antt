@@ -5,8 +5,8 @@ use Rattle.std.specs.List.{filter_map, cons_option, range_with_len}
 use Rattle.std.proofs.lemmas.Bool.{eq-eqb, ne_eqb, eqb-true, eqb-false, cases_order}
 use Rattle.std.proofs.lemmas.List.{reverse-append}
 use Rattle.esr_history.proofs.Membership.{In, In-of_filter, Pairs, Pairs-filter, each_at, filter_none_in}
-use Rattle.esr_order.specs.Steps.{Step}
-use Rattle.esr_order.specs.Chains.{Chain, chain_from, last_in, last_of, last_step, last_writer, is_writer, with_write, turned}
+use Rattle.esr_order.specs.UpdateOperations.{UpdateOperation}
+use Rattle.esr_order.specs.Chains.{Chain, chain_from, last_in, last_of, last_by_update, last_writer, is_writer, with_write, turned}
 use Rattle.esr_order.specs.Later.{nobody, chain_back}
 use Rattle.esr_order.proofs.Kept.{last_put}
 use Rattle.esr_order.proofs.Placing.{chain_agree}
@@ -75,14 +75,14 @@ none_from n = λ k. record { writers = sym (ws 0 n) k; values = sym (vs 0 n) k }
     vs b (suc m) = vs (b + 1) m
 
 -- the chain of some writes of one item, back from the last
-abbrev back : List Step → Chain
+abbrev back : List UpdateOperation → Chain
 back [] = nobody
 back (w ∷ ws) = with_write (back ws) w.place w.value
 
-abbrev writes_of : ℕ → List Step → List Step
-writes_of x ss = filter (λ (s : Step). s.writes && (s.item == x)) ss
+abbrev writes_of : ℕ → List UpdateOperation → List UpdateOperation
+writes_of x ss = filter (λ (s : UpdateOperation). s.writes && (s.item == x)) ss
 
-chain_of_writes : (x : ℕ) (ss : List Step) → chain_back x ss ≡ back (writes_of x ss)
+chain_of_writes : (x : ℕ) (ss : List UpdateOperation) → chain_back x ss ≡ back (writes_of x ss)
 chain_of_writes x [] = refl
 chain_of_writes x (s ∷ ss) = at (eqb s.item x) s.writes (chain_of_writes x ss)
   where
@@ -94,34 +94,34 @@ chain_of_writes x (s ∷ ss) = at (eqb s.item x) s.writes (chain_of_writes x ss)
     at false false rest = rest
 
 -- what the update at a position wrote last, with a write before
-last_more : (w : Step) (ws : List Step) (i : ℕ) → (w.place ≡ i → ⊥) → last_in (w ∷ ws) i ≡ last_in ws i
-last_more w ws i ne = ap (λ b. last_of (map (λ (s : Step). s.value) (cond b (w ∷ filter (λ (s : Step). s.place == i) ws) (filter (λ (s : Step). s.place == i) ws)))) (ne_eqb w.place i ne)
+last_more : (w : UpdateOperation) (ws : List UpdateOperation) (i : ℕ) → (w.place ≡ i → ⊥) → last_in (w ∷ ws) i ≡ last_in ws i
+last_more w ws i ne = ap (λ b. last_of (map (λ (s : UpdateOperation). s.value) (cond b (w ∷ filter (λ (s : UpdateOperation). s.place == i) ws) (filter (λ (s : UpdateOperation). s.place == i) ws)))) (ne_eqb w.place i ne)
 
-last_covered : (w v : Step) (ws : List Step) → v.place ≡ w.place → (i : ℕ) → last_in (w ∷ v ∷ ws) i ≡ last_in (v ∷ ws) i
+last_covered : (w v : UpdateOperation) (ws : List UpdateOperation) → v.place ≡ w.place → (i : ℕ) → last_in (w ∷ v ∷ ws) i ≡ last_in (v ∷ ws) i
 last_covered w v ws e i = at (eqb w.place i) (eqb v.place i) (ap (λ p. eqb p i) e)
   where
-    own : List Step
-    own = filter (λ (s : Step). s.place == i) ws
+    own : List UpdateOperation
+    own = filter (λ (s : UpdateOperation). s.place == i) ws
 
-    at : (a b : Bool) → b ≡ a → last_of (map (λ (s : Step). s.value) (cond a (w ∷ cond b (v ∷ own) own) (cond b (v ∷ own) own))) ≡ last_of (map (λ (s : Step). s.value) (cond b (v ∷ own) own))
+    at : (a b : Bool) → b ≡ a → last_of (map (λ (s : UpdateOperation). s.value) (cond a (w ∷ cond b (v ∷ own) own) (cond b (v ∷ own) own))) ≡ last_of (map (λ (s : UpdateOperation). s.value) (cond b (v ∷ own) own))
     at true true same = refl
     at true false same = absurd (cc)
     at false b same = refl
 
-first_of : (w : Step) (ws : List Step) → ((s : Step) → In s ws → w.place < s.place) → last_in (w ∷ ws) w.place ≡ Some w.value
+first_of : (w : UpdateOperation) (ws : List UpdateOperation) → ((s : UpdateOperation) → In s ws → w.place < s.place) → last_in (w ∷ ws) w.place ≡ Some w.value
 first_of w ws above =
-    ap (λ b. last_of (map (λ (s : Step). s.value) (cond b (w ∷ filter (λ (s : Step). s.place == w.place) ws) (filter (λ (s : Step). s.place == w.place) ws)))) (eq-eqb w.place w.place refl)
-    ∙ ap (λ l. last_of (w.value ∷ map (λ (s : Step). s.value) l)) (filter_none_in (λ (s : Step). s.place == w.place) ws (λ s i. ne_eqb s.place w.place (λ e. let l : w.place < s.place = above s i in absurd (omega (arith, e, l)))))
+    ap (λ b. last_of (map (λ (s : UpdateOperation). s.value) (cond b (w ∷ filter (λ (s : UpdateOperation). s.place == w.place) ws) (filter (λ (s : UpdateOperation). s.place == w.place) ws)))) (eq-eqb w.place w.place refl)
+    ∙ ap (λ l. last_of (w.value ∷ map (λ (s : UpdateOperation). s.value) l)) (filter_none_in (λ (s : UpdateOperation). s.place == w.place) ws (λ s i. ne_eqb s.place w.place (λ e. let l : w.place < s.place = above s i in absurd (omega (arith, e, l)))))
 
-none_before : (w : Step) (ws : List Step) → ((s : Step) → In s ws → w.place < s.place) → (i : ℕ) → i ≤ w.place → last_in ws i ≡ None
+none_before : (w : UpdateOperation) (ws : List UpdateOperation) → ((s : UpdateOperation) → In s ws → w.place < s.place) → (i : ℕ) → i ≤ w.place → last_in ws i ≡ None
 none_before w ws above i l =
-    ap (λ l. last_of (map (λ (s : Step). s.value) l)) (filter_none_in (λ (s : Step). s.place == i) ws (λ s j. ne_eqb s.place i (λ e. let m : w.place < s.place = above s j in absurd (omega (arith, e, l, m)))))
+    ap (λ l. last_of (map (λ (s : UpdateOperation). s.value) l)) (filter_none_in (λ (s : UpdateOperation). s.place == i) ws (λ s j. ne_eqb s.place i (λ e. let m : w.place < s.place = above s j in absurd (omega (arith, e, l, m)))))
 
 turned_more : (c : Chain) (i : ℕ) (v : ℤ) → turned (record { writers = c.writers ++ i ∷ []; values = c.values ++ v ∷ [] }) ≡ record { writers = i ∷ (turned c).writers; values = v ∷ (turned c).values }
 turned_more c i v = λ k. record { writers = reverse-append c.writers (i ∷ []) k; values = reverse-append c.values (v ∷ []) k }
 
 module _ (n : ℕ) where
-  turned_first : (w : Step) (ws : List Step) → w.place < n → is_writer (last_writer (back ws)) w.place ≡ false → ((s : Step) → In s ws → w.place < s.place) → turned (back ws) ≡ chain_from (last_in ws) n
+  turned_first : (w : UpdateOperation) (ws : List UpdateOperation) → w.place < n → is_writer (last_writer (back ws)) w.place ≡ false → ((s : UpdateOperation) → In s ws → w.place < s.place) → turned (back ws) ≡ chain_from (last_in ws) n
       → turned (back (w ∷ ws)) ≡ chain_from (last_in (w ∷ ws)) n
   turned_first w ws below other above so_far =
       ap (λ b. turned (cond b (back ws) (record { writers = (back ws).writers ++ w.place ∷ []; values = (back ws).values ++ w.value ∷ [] }))) other
@@ -129,7 +129,7 @@ module _ (n : ℕ) where
       ∙ (ap (λ (c : Chain). record { writers = w.place ∷ c.writers; values = w.value ∷ c.values }) so_far
       ∙ chain_first (last_in ws) (last_in (w ∷ ws)) w.place w.value (first_of w ws above) (none_before w ws above) (last_more w ws) n below))
 
-  turned_back : (ws : List Step) → Pairs (λ a b. a.place ≤ b.place) ws → ((s : Step) → In s ws → s.place < n) → turned (back ws) ≡ chain_from (last_in ws) n
+  turned_back : (ws : List UpdateOperation) → Pairs (λ a b. a.place ≤ b.place) ws → ((s : UpdateOperation) → In s ws → s.place < n) → turned (back ws) ≡ chain_from (last_in ws) n
   turned_back [] rise below = none_from n
   turned_back (w ∷ []) rise below = turned_first w [] (below w (inl refl)) refl (λ s i. absurd i) (turned_back [] tt (λ s i. absurd i))
   turned_back (w ∷ v ∷ ws) rise below = at (eqb v.place w.place) refl (turned_back (v ∷ ws) rise.1 (λ s i. below s (inr i)))
@@ -145,10 +145,10 @@ module _ (n : ℕ) where
           let low : w.place ≤ v.place = rise.0.0 in
           let lt : w.place < v.place = ⊎_elim (λ e. absurd (eqb-false v.place w.place is (sym e))) (λ o. ⊎_elim (λ l. l) (λ g. absurd (omega (arith, g, low))) o) (cases_order w.place v.place) in
           turned_first w (v ∷ ws) (below w (inl refl)) (known ∙ is)
-          (λ s i. ⊎_elim (λ e. let z : v.place ≡ s.place = ap (λ (s : Step). s.place) e in omega (arith, z, lt)) (λ j. let m : v.place ≤ s.place = each_at (λ (t : Step). v.place ≤ t.place) ws s rise.1.0 j in omega (arith, m, lt)) i)
+          (λ s i. ⊎_elim (λ e. let z : v.place ≡ s.place = ap (λ (s : UpdateOperation). s.place) e in omega (arith, z, lt)) (λ j. let m : v.place ≤ s.place = each_at (λ (t : UpdateOperation). v.place ≤ t.place) ws s rise.1.0 j in omega (arith, m, lt)) i)
           rest
 
-pub chain_turned : (x n : ℕ) (ss : List Step) → Pairs (λ a b. a.place ≤ b.place) ss → ((s : Step) → In s ss → s.place < n) → turned (chain_back x ss) ≡ chain_from (last_step ss x) n
+pub chain_turned : (x n : ℕ) (ss : List UpdateOperation) → Pairs (λ a b. a.place ≤ b.place) ss → ((s : UpdateOperation) → In s ss → s.place < n) → turned (chain_back x ss) ≡ chain_from (last_by_update ss x) n
 chain_turned x n ss rise below =
     ap turned (chain_of_writes x ss)
-    ∙ turned_back n (writes_of x ss) (Pairs-filter (λ (a b : Step). a.place ≤ b.place) (λ (s : Step). s.writes && (s.item == x)) ss rise) (λ s i. below s (In-of_filter (λ (s : Step). s.writes && (s.item == x)) ss s i).0)
+    ∙ turned_back n (writes_of x ss) (Pairs-filter (λ (a b : UpdateOperation). a.place ≤ b.place) (λ (s : UpdateOperation). s.writes && (s.item == x)) ss rise) (λ s i. below s (In-of_filter (λ (s : UpdateOperation). s.writes && (s.item == x)) ss s i).0)

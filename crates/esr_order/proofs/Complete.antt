@@ -13,11 +13,11 @@ use Rattle.esr_history.proofs.Membership.{In, In-filter, Contains-In, In-Contain
 use Rattle.esr_history.proofs.Versions.{wrote_by, wrote_parts}
 use Rattle.esr_history.proofs.Words.{values_trace}
 use Rattle.esr_history.proofs.WithinRanges.{legal_items}
-use Rattle.esr_order.specs.Steps.{Step}
+use Rattle.esr_order.specs.UpdateOperations.{UpdateOperation}
 use Rattle.esr_order.specs.Turns.{turns}
 use Rattle.esr_order.specs.Listing.{is_pair, IsBelow}
 use Rattle.esr_order.specs.Ties.{IsTied, AreNextPaired}
-use Rattle.esr_order.specs.Chains.{Chain, chain_from, if_written, some_chain, last_of, last_in, last_step, last_among, nth, chain_among}
+use Rattle.esr_order.specs.Chains.{Chain, chain_from, if_written, some_chain, last_of, last_in, last_by_update, last_among, nth, chain_among}
 use Rattle.esr_order.specs.Orders.{Ordered, chain_at, written_chain, IsClosedAt, IsClosedOn, IsOrderAmong, IsOrderOf}
 use Rattle.esr_order.proofs.Kept.{on, writes_in}
 use Rattle.esr_order.proofs.Fewer.{writes_on, between, wrote_last, last_wrote, next_in}
@@ -53,24 +53,24 @@ get_past C f a (suc n) zero l = absurd (omega arith)
 get_past C f a (suc n) (suc x) l = get_past C f (a + 1) n x (omega arith)
 
 module _ (d : Distance) (h : Schedule) (q : ℕ) (legal : IsLegal d h) (us : List ℕ) (once : AllPairs (λ u v. u ≢ v) us) (keeps : AllPairs (λ u v. is_before h v u ≡ false) us) where
-  abbrev steps : List Step
+  abbrev steps : List UpdateOperation
   steps = turns (operations h) 0 us
 
   same_pairs : (i j : ℕ) → i < length us → j < length us → is_pair steps i j ≡ is_before h (nth us i) (nth us j)
   same_pairs i j li lj = pair_before h us once keeps i j li lj
 
-  last_same : (x i : ℕ) → i < length us → last_step steps x i ≡ last_among h us x i
+  last_same : (x i : ℕ) → i < length us → last_by_update steps x i ≡ last_among h us x i
   last_same x i l = last_written_by (operations h) us x i l ∙ sym (ap last_of (values_trace h x (nth us i)))
 
   all_placed : All (λ s. s.place < length us) steps
   all_placed = placed (operations h) us
 
-  rising : (x : ℕ) → Pairs (λ (a b : Step). a.place ≤ b.place) (writes_in (on x steps))
-  rising x = Pairs-filter (λ (a b : Step). a.place ≤ b.place) (λ (s : Step). s.writes) (on x steps) (Pairs-filter (λ (a b : Step). a.place ≤ b.place) (λ (s : Step). eqb s.item x) steps (rises (operations h) 0 us))
+  rising : (x : ℕ) → Pairs (λ (a b : UpdateOperation). a.place ≤ b.place) (writes_in (on x steps))
+  rising x = Pairs-filter (λ (a b : UpdateOperation). a.place ≤ b.place) (λ (s : UpdateOperation). s.writes) (on x steps) (Pairs-filter (λ (a b : UpdateOperation). a.place ≤ b.place) (λ (s : UpdateOperation). eqb s.item x) steps (rises (operations h) 0 us))
 
   module _ (before : List (ℕ × ℕ)) (ascends : AllPairs IsBelow before) (tied : IsTied steps before) (next : (x : ℕ) → AreNextPaired before (writes_in (on x steps))) (n : ℕ) (part : n ≤ length us) (musts : map (nth us) (range_with_len 0 n) ≡ must h q) (few : length us ≤ 65535) (commits : List TxnId) where
     abbrev found : Ordered
-    found = record { commits = commits; before = before; must = range_with_len 0 n; chains = map (λ x. chain_from (last_step steps x) (length us)) (range_with_len 0 (length h.opening)) }
+    found = record { commits = commits; before = before; must = range_with_len 0 n; chains = map (λ x. chain_from (last_by_update steps x) (length us)) (range_with_len 0 (length h.opening)) }
 
     upward : All (λ p. (p.0 < p.1) × (p.1 < length us) × IsTrue (is_before h (nth us p.0) (nth us p.1))) before
     upward k e l =
@@ -119,10 +119,10 @@ module _ (d : Distance) (h : Schedule) (q : ℕ) (legal : IsLegal d h) (us : Lis
     chains_found x =
         elim (Rattle.std.proofs.lemmas.Bool.cases_lt x (length h.opening)) [
           | inl inside ↦
-              ap written_chain (get_range Chain (λ x. chain_from (last_step steps x) (length us)) 0 (length h.opening) x inside)
-              ∙ ap some_chain (ap (λ k. chain_from (last_step steps k) (length us)) zero_more ∙ chain_agree (last_step steps x) (last_among h us x) (length us) (λ i l. last_same x i l))
+              ap written_chain (get_range Chain (λ x. chain_from (last_by_update steps x) (length us)) 0 (length h.opening) x inside)
+              ∙ ap some_chain (ap (λ k. chain_from (last_by_update steps k) (length us)) zero_more ∙ chain_agree (last_by_update steps x) (last_among h us x) (length us) (λ i l. last_same x i l))
           | inr past ↦
-              ap written_chain (get_past Chain (λ x. chain_from (last_step steps x) (length us)) 0 (length h.opening) x past)
+              ap written_chain (get_past Chain (λ x. chain_from (last_by_update steps x) (length us)) 0 (length h.opening) x past)
               ∙ sym (ap some_chain (chain_agree (last_among h us x) (λ i. None) (length us) (λ i l. ap last_of (none_past x past (nth us i)))) ∙ ap (λ ws. if_written ws (chain_from (λ i. None) (length us))) (none_write 0 (length us)))
         ]
       where
@@ -162,12 +162,12 @@ module _ (d : Distance) (h : Schedule) (q : ℕ) (legal : IsLegal d h) (us : Lis
         last_here : (w : ℕ) → w < length us → last_in (writes_in (on x steps)) w ≡ last_among h us x w
         last_here w l = ap (λ ss. last_in ss w) (writes_on x steps) ∙ last_same x w l
 
-        writer_there : (w : ℕ) → (w < length us) × (is_some (last_among h us x w) ≡ true) → (s : Step) × In s (writes_in (on x steps)) × (s.place ≡ w)
+        writer_there : (w : ℕ) → (w < length us) × (is_some (last_among h us x w) ≡ true) → (s : UpdateOperation) × In s (writes_in (on x steps)) × (s.place ≡ w)
         writer_there w p = last_wrote (writes_in (on x steps)) w (ap is_some (last_here w p.0) ∙ p.1)
 
-        writer_listed : (s : Step) → In s (writes_in (on x steps)) → In s.place (filter (λ i. is_some (last_among h us x i)) (range_with_len 0 (length us)))
+        writer_listed : (s : UpdateOperation) → In s (writes_in (on x steps)) → In s.place (filter (λ i. is_some (last_among h us x i)) (range_with_len 0 (length us)))
         writer_listed s j =
-            let at : s.place < length us = All-contains (λ (s : Step). s.place < length us) steps s all_placed (In-Contains steps s (In-of_filter (λ (s : Step). eqb s.item x) steps s (In-of_filter (λ (s : Step). s.writes) (on x steps) s j).0).0) in
+            let at : s.place < length us = All-contains (λ (s : UpdateOperation). s.place < length us) steps s all_placed (In-Contains steps s (In-of_filter (λ (s : UpdateOperation). eqb s.item x) steps s (In-of_filter (λ (s : UpdateOperation). s.writes) (on x steps) s j).0).0) in
             In-filter (λ i. is_some (last_among h us x i)) (range_with_len 0 (length us)) s.place (in_range 0 (length us) s.place (omega arith) (omega arith))
             (sym (ap is_some (last_here s.place at)) ∙ wrote_last (writes_in (on x steps)) s j)
 

@@ -4,17 +4,17 @@ use Rattle.std.specs.Prelude.{is_some}
 use Rattle.std.specs.List.{last_or}
 use Rattle.std.proofs.lemmas.Bool.{true≢false, cases_order, cases_eq, eqb-true, eq-eqb}
 use Rattle.esr_history.proofs.Membership.{In, In-Contains, In-filter, Pairs, each_at, filter-some}
-use Rattle.esr_order.specs.Steps.{Step}
+use Rattle.esr_order.specs.UpdateOperations.{UpdateOperation}
 use Rattle.esr_order.specs.Ties.{AreNextPaired}
 use Rattle.esr_order.specs.Chains.{last_of, last_in}
 use Rattle.esr_order.proofs.Kept.{on, writes_in}
 
-pub writes_on : (x : ℕ) (ss : List Step) → writes_in (on x ss) ≡ filter (λ s. s.writes && (s.item == x)) ss
+pub writes_on : (x : ℕ) (ss : List UpdateOperation) → writes_in (on x ss) ≡ filter (λ s. s.writes && (s.item == x)) ss
 writes_on x [] = refl
 writes_on x (s ∷ ss) = at (eqb s.item x) s.writes (writes_on x ss)
   where
     at : (b w : Bool) → writes_in (on x ss) ≡ filter (λ s. s.writes && (s.item == x)) ss
-        → filter (λ (s : Step). s.writes) (cond b (s ∷ on x ss) (on x ss)) ≡ cond (s.writes && b) (s ∷ filter (λ s. s.writes && (s.item == x)) ss) (filter (λ s. s.writes && (s.item == x)) ss)
+        → filter (λ (s : UpdateOperation). s.writes) (cond b (s ∷ on x ss) (on x ss)) ≡ cond (s.writes && b) (s ∷ filter (λ s. s.writes && (s.item == x)) ss) (filter (λ s. s.writes && (s.item == x)) ss)
     at true w rest = ap (λ l. cond s.writes (s ∷ l) l) rest ∙ both s.writes
       where
         both : (w : Bool) → cond w (s ∷ filter (λ s. s.writes && (s.item == x)) ss) (filter (λ s. s.writes && (s.item == x)) ss) ≡ cond (w && true) (s ∷ filter (λ s. s.writes && (s.item == x)) ss) (filter (λ s. s.writes && (s.item == x)) ss)
@@ -27,13 +27,13 @@ writes_on x (s ∷ ss) = at (eqb s.item x) s.writes (writes_on x ss)
         none false = refl
 
 -- of two positions that wrote with none between, the pair is there
-pub between : (ws : List Step) (ps : List (ℕ × ℕ)) → AreNextPaired ps ws → Pairs (λ a b. a.place ≤ b.place) ws → (v w : ℕ) → v < w → (a : Step) → In a ws → a.place ≡ v → (b : Step) → In b ws → b.place ≡ w
-    → ((s : Step) → In s ws → v < s.place → w ≤ s.place) → Contains ps (v, w)
+pub between : (ws : List UpdateOperation) (ps : List (ℕ × ℕ)) → AreNextPaired ps ws → Pairs (λ a b. a.place ≤ b.place) ws → (v w : ℕ) → v < w → (a : UpdateOperation) → In a ws → a.place ≡ v → (b : UpdateOperation) → In b ws → b.place ≡ w
+    → ((s : UpdateOperation) → In s ws → v < s.place → w ≤ s.place) → Contains ps (v, w)
 between [] ps n r v w lt a ia av b ib bw none = absurd ia
 between (c ∷ []) ps n r v w lt a ia av b ib bw none =
     ⊎_elim (λ ea. ⊎_elim (λ eb. let same : v ≡ w = sym av ∙ (ap (λ s. s.place) (sym ea) ∙ (ap (λ s. s.place) eb ∙ bw)) in absurd (omega arith)) (λ z. absurd z) ib) (λ z. absurd z) ia
 between (c ∷ d ∷ ws) ps n r v w lt a ia av b ib bw none =
-    let more : (a : Step) → In a (d ∷ ws) → a.place ≡ v → In b (d ∷ ws) → Contains ps (v, w) =
+    let more : (a : UpdateOperation) → In a (d ∷ ws) → a.place ≡ v → In b (d ∷ ws) → Contains ps (v, w) =
     λ a ja av jb. between (d ∷ ws) ps n.1 r.1 v w lt a ja av b jb bw (λ s i. none s (inr i)) in
     ⊎_elim
     (λ ea.
@@ -45,13 +45,13 @@ between (c ∷ d ∷ ws) ps n r v w lt a ia av b ib bw none =
     (λ dne.
     let low : c.place ≤ d.place = r.0.0 in
     let up : w ≤ d.place = none d (inr (inl refl)) (above v d.place (subst (λ z. z ≤ d.place) cv low) dne) in
-    let down : d.place ≤ w = ⊎_elim (λ e. let same : d.place ≡ w = ap (λ s. s.place) e ∙ bw in omega (arith, same)) (λ k. subst (λ z. d.place ≤ z) bw (each_at (λ (t : Step). d.place ≤ t.place) ws b r.1.0 k)) jb in
+    let down : d.place ≤ w = ⊎_elim (λ e. let same : d.place ≡ w = ap (λ s. s.place) e ∙ bw in omega (arith, same)) (λ k. subst (λ z. d.place ≤ z) bw (each_at (λ (t : UpdateOperation). d.place ≤ t.place) ws b r.1.0 k)) jb in
     let dw : d.place ≡ w = omega (arith, up, down) in
     subst (λ z. Contains ps (z, w)) cv (subst (λ z. Contains ps (c.place, z)) dw (n.0 (λ e. dne (sym e ∙ cv)))))
     (cases_eq d.place v))
     ib)
     (λ ja. ⊎_elim
-    (λ eb. let l : c.place ≤ a.place = each_at (λ (t : Step). c.place ≤ t.place) (d ∷ ws) a r.0 ja in let cw : c.place ≡ w = ap (λ s. s.place) eb ∙ bw in absurd (omega (arith, l, av, cw, lt)))
+    (λ eb. let l : c.place ≤ a.place = each_at (λ (t : UpdateOperation). c.place ≤ t.place) (d ∷ ws) a r.0 ja in let cw : c.place ≡ w = ap (λ s. s.place) eb ∙ bw in absurd (omega (arith, l, av, cw, lt)))
     (λ jb. more a ja av jb)
     ib)
     ia
@@ -68,16 +68,16 @@ some_last : (xs : List ℤ) → (xs ≡ [] → ⊥) → is_some (last_of xs) ≡
 some_last [] ne = absurd (ne refl)
 some_last (x ∷ xs) ne = last_or_some x xs
 
-pub wrote_last : (ws : List Step) (s : Step) → In s ws → is_some (last_in ws s.place) ≡ true
-wrote_last ws s i = some_last (map (λ (s : Step). s.value) (filter (λ (t : Step). t.place == s.place) ws)) (there (filter (λ (t : Step). t.place == s.place) ws) (In-filter (λ (t : Step). t.place == s.place) ws s i (eq-eqb s.place s.place refl)))
+pub wrote_last : (ws : List UpdateOperation) (s : UpdateOperation) → In s ws → is_some (last_in ws s.place) ≡ true
+wrote_last ws s i = some_last (map (λ (s : UpdateOperation). s.value) (filter (λ (t : UpdateOperation). t.place == s.place) ws)) (there (filter (λ (t : UpdateOperation). t.place == s.place) ws) (In-filter (λ (t : UpdateOperation). t.place == s.place) ws s i (eq-eqb s.place s.place refl)))
   where
-    there : (l : List Step) → In s l → map (λ (s : Step). s.value) l ≡ [] → ⊥
+    there : (l : List UpdateOperation) → In s l → map (λ (s : UpdateOperation). s.value) l ≡ [] → ⊥
     there [] i e = i
     there (t ∷ l) i e = cc
 
-pub last_wrote : (ws : List Step) (i : ℕ) → is_some (last_in ws i) ≡ true → (s : Step) × In s ws × (s.place ≡ i)
+pub last_wrote : (ws : List UpdateOperation) (i : ℕ) → is_some (last_in ws i) ≡ true → (s : UpdateOperation) × In s ws × (s.place ≡ i)
 last_wrote ws i some =
-    let r = filter-some (λ (s : Step). s.place == i) ws (λ e. true≢false (sym some ∙ ap (λ l. is_some (last_of (map (λ (s : Step). s.value) l))) e)) in
+    let r = filter-some (λ (s : UpdateOperation). s.place == i) ws (λ e. true≢false (sym some ∙ ap (λ l. is_some (last_of (map (λ (s : UpdateOperation). s.value) l))) e)) in
     (r.0, r.1, eqb-true r.0.place i r.2)
 
 -- the element after one in a rising list is at most each that is above that one

@@ -9,13 +9,13 @@ use Rattle.esr_history.specs.Machine.{Schedule}
 use Rattle.esr_history.specs.Operations.{Operation, operations}
 use Rattle.esr_history.proofs.Membership.{In, In-Contains, Contains-In, In-append_cases, In-append_left, In-append_right, Pairs, Pairs-append, Pairs-from_all, All-from_pairs, each_at}
 use Rattle.esr_order.specs.declared.accesses.Access.{Access}
-use Rattle.esr_order.specs.Steps.{Step}
+use Rattle.esr_order.specs.UpdateOperations.{UpdateOperation}
 use Rattle.esr_order.specs.Scans.{access_of, accesses_in}
 use Rattle.esr_order.specs.Listing.{IsBelow}
-use Rattle.esr_order.specs.Turns.{step_of, step_at, turn, turns}
+use Rattle.esr_order.specs.Turns.{placed_operation, operation_at, turn, turns}
 use Rattle.esr_order.specs.Ties.{pair_of, pairs_from, IsTied, AreNextPaired, on_item}
-use Rattle.esr_order.specs.Chains.{Chain, chain_from, last_step, turned}
-use Rattle.esr_order.specs.Later.{nobody, chain_back, readers_of, with_step, with_reader, ties_of, turn_ties, AreLater}
+use Rattle.esr_order.specs.Chains.{Chain, chain_from, last_by_update, turned}
+use Rattle.esr_order.specs.Later.{nobody, chain_back, readers_of, with_operation, with_reader, ties_of, turn_ties, AreLater}
 use Rattle.esr_order.proofs.Kept.{Pair, Kept, kept_same, kept_turn, open_reads, turn_count, pairs_few, in_pairs_from, of_pairs_from, next_paired, writes_in, on, tied_all}
 use Rattle.esr_order.proofs.Chained.{chain_turned}
 use Rattle.esr_order.proofs.Turns as turns_of
@@ -51,21 +51,21 @@ no_access = record { txn = record { 0 = 0 }; item = record { 0 = 0 }; writes = f
 abbrev pub no_txn : TxnId
 no_txn = record { 0 = 0 }
 
-pub later_step : (links : List Chain) (rows : List (List ℕ)) (steps : List Step) (s : Step) → AreLater links rows steps → s.item < length links → s.item < length rows
-    → (link : Chain) → link ≡ with_step (get_or links s.item nobody) s → (row : List ℕ) → row ≡ with_reader (get_or rows s.item []) s
+pub later_operation : (links : List Chain) (rows : List (List ℕ)) (steps : List UpdateOperation) (s : UpdateOperation) → AreLater links rows steps → s.item < length links → s.item < length rows
+    → (link : Chain) → link ≡ with_operation (get_or links s.item nobody) s → (row : List ℕ) → row ≡ with_reader (get_or rows s.item []) s
     → AreLater (slice_set links s.item link) (slice_set rows s.item row) (s ∷ steps)
-later_step links rows steps s are linked read link put row added = record {
+later_operation links rows steps s are linked read link put row added = record {
   chains = λ x l. ⊎_elim
       (λ e.
       ap (λ y. get_or (slice_set links s.item link) y nobody) (sym e)
       ∙ (get_or-set_same links s.item link nobody linked
       ∙ (put
-      ∙ (ap (λ c. with_step c s) (are.chains s.item linked ∙ ap (λ y. chain_back y steps) e)
-      ∙ ap (λ b. cond b (with_step (chain_back x steps) s) (chain_back x steps)) (sym (eq-eqb s.item x e))))))
+      ∙ (ap (λ c. with_operation c s) (are.chains s.item linked ∙ ap (λ y. chain_back y steps) e)
+      ∙ ap (λ b. cond b (with_operation (chain_back x steps) s) (chain_back x steps)) (sym (eq-eqb s.item x e))))))
       (λ ne.
       get_or-set_other links s.item x link nobody (λ e. ne (sym e))
       ∙ (are.chains x (omega (arith, l, length-set links s.item link))
-      ∙ ap (λ b. cond b (with_step (chain_back x steps) s) (chain_back x steps)) (sym (ne_eqb s.item x ne))))
+      ∙ ap (λ b. cond b (with_operation (chain_back x steps) s) (chain_back x steps)) (sym (ne_eqb s.item x ne))))
       (cases_eq s.item x);
   readers = λ x l. ⊎_elim
       (λ e.
@@ -86,13 +86,13 @@ module _ {V W : Type 0} (see : V → Chain) (read : W → List ℕ) (chains : Li
   abbrev access : Access
   access = get_or accesses i no_access
 
-  abbrev done : List Step
-  done = map (step_at place) (drop next accesses)
+  abbrev done : List UpdateOperation
+  done = map (operation_at place) (drop next accesses)
 
-  taken : step_at place access ∷ done ≡ map (step_at place) (drop i accesses)
-  taken = sym (ap (map (step_at place)) (drop_next accesses i no_access inside) ∙ ap (λ n. step_at place access ∷ map (step_at place) (drop n accesses)) (sym is))
+  taken : operation_at place access ∷ done ≡ map (operation_at place) (drop i accesses)
+  taken = sym (ap (map (operation_at place)) (drop_next accesses i no_access inside) ∙ ap (λ n. operation_at place access ∷ map (operation_at place) (drop n accesses)) (sym is))
 
-  module _ (linked : access.item.0 < length chains) (in_rows : access.item.0 < length readers) (steps : List Step) (are : AreLater (map see chains) (map read readers) (done ++ steps)) (d : V) (e : W) where
+  module _ (linked : access.item.0 < length chains) (in_rows : access.item.0 < length readers) (steps : List UpdateOperation) (are : AreLater (map see chains) (map read readers) (done ++ steps)) (d : V) (e : W) where
     abbrev link : Chain
     link = see (get_or chains access.item.0 d)
 
@@ -111,42 +111,42 @@ module _ {V W : Type 0} (see : V → Chain) (read : W → List ℕ) (chains : Li
     present : access.item.0 < length (map read readers)
     present = omega (arith, in_rows, length-map readers read)
 
-    pub turn_later : (v : V) → see v ≡ with_step link (step_at place access) → (w : W) → read w ≡ with_reader row (step_at place access)
-        → AreLater (map see (slice_set chains access.item.0 v)) (map read (slice_set readers access.item.0 w)) (map (step_at place) (drop i accesses) ++ steps)
+    pub turn_later : (v : V) → see v ≡ with_operation link (operation_at place access) → (w : W) → read w ≡ with_reader row (operation_at place access)
+        → AreLater (map see (slice_set chains access.item.0 v)) (map read (slice_set readers access.item.0 w)) (map (operation_at place) (drop i accesses) ++ steps)
     turn_later v put w added =
         subst (λ l. AreLater (map see (slice_set chains access.item.0 v)) (map read (slice_set readers access.item.0 w)) (l ++ steps)) taken
-        (subst (λ cs. AreLater cs (map read (slice_set readers access.item.0 w)) (step_at place access ∷ (done ++ steps))) (sym (map-set see chains access.item.0 v))
-        (subst (λ rs. AreLater (slice_set (map see chains) access.item.0 (see v)) rs (step_at place access ∷ (done ++ steps))) (sym (map-set read readers access.item.0 w))
-        (later_step (map see chains) (map read readers) (done ++ steps) (step_at place access) are there present
-        (see v) (put ∙ ap (λ c. with_step c (step_at place access)) (sym link_is)) (read w) (added ∙ ap (λ r. with_reader r (step_at place access)) (sym row_is)))))
+        (subst (λ cs. AreLater cs (map read (slice_set readers access.item.0 w)) (operation_at place access ∷ (done ++ steps))) (sym (map-set see chains access.item.0 v))
+        (subst (λ rs. AreLater (slice_set (map see chains) access.item.0 (see v)) rs (operation_at place access ∷ (done ++ steps))) (sym (map-set read readers access.item.0 w))
+        (later_operation (map see chains) (map read readers) (done ++ steps) (operation_at place access) are there present
+        (see v) (put ∙ ap (λ c. with_operation c (operation_at place access)) (sym link_is)) (read w) (added ∙ ap (λ r. with_reader r (operation_at place access)) (sym row_is)))))
 
-    pub turn_tied : (first ties : List ℕ) → ties ≡ first ++ turn_ties done steps → (more : List ℕ) → more ≡ ties ++ ties_of link row (step_at place access) → more ≡ first ++ turn_ties (map (step_at place) (drop i accesses)) steps
+    pub turn_tied : (first ties : List ℕ) → ties ≡ first ++ turn_ties done steps → (more : List ℕ) → more ≡ ties ++ ties_of link row (operation_at place access) → more ≡ first ++ turn_ties (map (operation_at place) (drop i accesses)) steps
     turn_tied first ties so_far more added =
         added
-        ∙ (ap (λ l. l ++ ties_of link row (step_at place access)) so_far
-        ∙ (append_assoc first (turn_ties done steps) (ties_of link row (step_at place access))
-        ∙ (ap (λ c. first ++ (turn_ties done steps ++ ties_of c row (step_at place access))) (sym link_is ∙ are.chains access.item.0 there)
-        ∙ (ap (λ r. first ++ (turn_ties done steps ++ ties_of (chain_back access.item.0 (done ++ steps)) r (step_at place access))) (sym row_is ∙ are.readers access.item.0 present)
+        ∙ (ap (λ l. l ++ ties_of link row (operation_at place access)) so_far
+        ∙ (append_assoc first (turn_ties done steps) (ties_of link row (operation_at place access))
+        ∙ (ap (λ c. first ++ (turn_ties done steps ++ ties_of c row (operation_at place access))) (sym link_is ∙ are.chains access.item.0 there)
+        ∙ (ap (λ r. first ++ (turn_ties done steps ++ ties_of (chain_back access.item.0 (done ++ steps)) r (operation_at place access))) (sym row_is ∙ are.readers access.item.0 present)
         ∙ ap (λ l. first ++ turn_ties l steps) taken))))
 
 -- ---- update by update
 
-pub turn_is : (h : Schedule) (i t : ℕ) → map (step_at i) (accesses_in h.entries t) ≡ turn (operations h) i t
+pub turn_is : (h : Schedule) (i t : ℕ) → map (operation_at i) (accesses_in h.entries t) ≡ turn (operations h) i t
 turn_is h i t = twice (filter (λ (o : Operation). eqb o.txn t) (operations h))
   where
-    twice : (os : List Operation) → map (step_at i) (map access_of os) ≡ map (step_of i) os
+    twice : (os : List Operation) → map (operation_at i) (map access_of os) ≡ map (placed_operation i) os
     twice [] = refl
-    twice (o ∷ os) = ap (λ l. step_of i o ∷ l) (twice os)
+    twice (o ∷ os) = ap (λ l. placed_operation i o ∷ l) (twice os)
 
-placed_at : (i : ℕ) (accesses : List Access) (s : Step) → In s (map (step_at i) accesses) → s.place ≡ i
+placed_at : (i : ℕ) (accesses : List Access) (s : UpdateOperation) → In s (map (operation_at i) accesses) → s.place ≡ i
 placed_at i [] s j = absurd j
-placed_at i (a ∷ accesses) s j = ⊎_elim (λ e. sym (ap (λ (s : Step). s.place) e)) (λ k. placed_at i accesses s k) j
+placed_at i (a ∷ accesses) s j = ⊎_elim (λ e. sym (ap (λ (s : UpdateOperation). s.place) e)) (λ k. placed_at i accesses s k) j
 
 -- the steps of the updates from a position on
-abbrev pub rest : Schedule → List TxnId → ℕ → List Step
+abbrev pub rest : Schedule → List TxnId → ℕ → List UpdateOperation
 rest h updates i = turns (operations h) i (map (λ t. t.0) (drop i updates))
 
-pub rest_more : (h : Schedule) (updates : List TxnId) (i : ℕ) → i < length updates → (d : TxnId) → rest h updates i ≡ map (step_at i) (accesses_in h.entries (get_or updates i d).0) ++ rest h updates (suc i)
+pub rest_more : (h : Schedule) (updates : List TxnId) (i : ℕ) → i < length updates → (d : TxnId) → rest h updates i ≡ map (operation_at i) (accesses_in h.entries (get_or updates i d).0) ++ rest h updates (suc i)
 rest_more h updates i inside d =
     let e : i + 1 ≡ suc i = omega arith in
     ap (λ l. turns (operations h) i (map (λ (t : TxnId). t.0) l)) (drop_next updates i d inside)
@@ -180,20 +180,20 @@ below_from i (j ∷ js) p = Pairs-append IsBelow (pair_of i j) (pairs_from i js)
 -- with one update more
 pub gathered_more : (h : Schedule) (updates : List TxnId) (i next : ℕ) → next ≡ suc i → i < length updates → (d : TxnId) (links : List Chain) (rows : List (List ℕ)) (pairs : List Pair) → IsGathered h updates next links rows pairs
     → (accesses : List Access) → accesses ≡ accesses_in h.entries (get_or updates i d).0
-    → (more_links : List Chain) (more_rows : List (List ℕ)) → AreLater more_links more_rows (map (step_at i) accesses ++ rest h updates next)
-    → (ties others : List ℕ) → ties ≡ turn_ties (map (step_at i) accesses) (rest h updates next)
+    → (more_links : List Chain) (more_rows : List (List ℕ)) → AreLater more_links more_rows (map (operation_at i) accesses ++ rest h updates next)
+    → (ties others : List ℕ) → ties ≡ turn_ties (map (operation_at i) accesses) (rest h updates next)
     → AllPairs (λ j k. j < k) others → ((j : ℕ) → Contains ties j → Contains others j) → ((j : ℕ) → Contains others j → Contains ties j) → length others ≤ length ties
     → (more : List Pair) → more ≡ pairs ++ reverse (pairs_from i others) → IsGathered h updates i more_links more_rows more
 gathered_more h updates i next is inside d links rows pairs g accesses made more_links more_rows are ties others tied ascends keeps adds few more grown =
     subst (IsGathered h updates i more_links more_rows) (sym grown) (record {
       later = subst (AreLater more_links more_rows) whole are;
       kept = subst (λ ss. Kept ss (pairs ++ reverse own)) whole
-          (kept_same (own_steps ++ later) (pairs_from i (turn_ties own_steps later) ++ pairs) (pairs ++ reverse own)
-          (λ p j. ⊎_elim (λ a. In-append_right pairs (reverse own) p (In-reverse own p (from_ties p a))) (λ a. In-append_left pairs (reverse own) p a) (In-append_cases (pairs_from i (turn_ties own_steps later)) pairs p j))
-          (λ p j. ⊎_elim (λ a. In-append_right (pairs_from i (turn_ties own_steps later)) pairs p a) (λ a. In-append_left (pairs_from i (turn_ties own_steps later)) pairs p (to_ties p (In-of_reverse own p a))) (In-append_cases pairs (reverse own) p j))
-          (kept_turn i own_steps later pairs (placed_at i accesses) g.kept));
+          (kept_same (own_operations ++ later) (pairs_from i (turn_ties own_operations later) ++ pairs) (pairs ++ reverse own)
+          (λ p j. ⊎_elim (λ a. In-append_right pairs (reverse own) p (In-reverse own p (from_ties p a))) (λ a. In-append_left pairs (reverse own) p a) (In-append_cases (pairs_from i (turn_ties own_operations later)) pairs p j))
+          (λ p j. ⊎_elim (λ a. In-append_right (pairs_from i (turn_ties own_operations later)) pairs p a) (λ a. In-append_left (pairs_from i (turn_ties own_operations later)) pairs p (to_ties p (In-of_reverse own p a))) (In-append_cases pairs (reverse own) p j))
+          (kept_turn i own_operations later pairs (placed_at i accesses) g.kept));
       few = subst (λ ss. length (pairs ++ reverse own) + length (open_reads ss) ≤ 2 * length ss) whole
-          (omega (arith, g.few, few, ap length tied, turn_count own_steps later, length-append pairs (reverse own), length-reverse own, pairs_few others i, length-append own_steps later));
+          (omega (arith, g.few, few, ap length tied, turn_count own_operations later, length-append pairs (reverse own), length-reverse own, pairs_few others i, length-append own_operations later));
       falling = Pairs-append (λ p r. IsBelow r p) pairs (reverse own) g.falling (Pairs-reverse IsBelow own (below_from i others (Pairs-from_all (λ j k. j < k) others ascends)))
           (λ p r j k.
           let high : next ≤ p.0 = g.above p j in
@@ -202,31 +202,31 @@ gathered_more h updates i next is inside d links rows pairs g accesses made more
       above = λ p j. ⊎_elim (λ a. let high : next ≤ p.0 = g.above p a in omega (arith, high, is)) (λ a. let low : p.0 ≡ i = (of_pairs_from others i p (In-of_reverse own p a)).0 in omega (arith, low)) (In-append_cases pairs (reverse own) p j);
     })
   where
-    own_steps : List Step
-    own_steps = map (step_at i) accesses
+    own_operations : List UpdateOperation
+    own_operations = map (operation_at i) accesses
 
-    later : List Step
+    later : List UpdateOperation
     later = rest h updates next
 
     own : List Pair
     own = pairs_from i others
 
-    whole : own_steps ++ later ≡ rest h updates i
-    whole = ap (λ l. map (step_at i) l ++ rest h updates next) made ∙ (ap (λ n. map (step_at i) (accesses_in h.entries (get_or updates i d).0) ++ rest h updates n) is ∙ sym (rest_more h updates i inside d))
+    whole : own_operations ++ later ≡ rest h updates i
+    whole = ap (λ l. map (operation_at i) l ++ rest h updates next) made ∙ (ap (λ n. map (operation_at i) (accesses_in h.entries (get_or updates i d).0) ++ rest h updates n) is ∙ sym (rest_more h updates i inside d))
 
     move : (js ks : List ℕ) → ((j : ℕ) → In j js → In j ks) → (p : Pair) → In p (pairs_from i js) → In p (pairs_from i ks)
     move js ks f p a = let q = of_pairs_from js i p a in subst (λ n. In (n, p.1) (pairs_from i ks)) (sym q.0) (in_pairs_from ks i p.1 (f p.1 q.1) q.2)
 
-    from_ties : (p : Pair) → In p (pairs_from i (turn_ties own_steps later)) → In p own
-    from_ties p a = move (turn_ties own_steps later) others (λ j k. Contains-In others j (keeps j (In-Contains ties j (subst (In j) (sym tied) k)))) p a
+    from_ties : (p : Pair) → In p (pairs_from i (turn_ties own_operations later)) → In p own
+    from_ties p a = move (turn_ties own_operations later) others (λ j k. Contains-In others j (keeps j (In-Contains ties j (subst (In j) (sym tied) k)))) p a
 
-    to_ties : (p : Pair) → In p own → In p (pairs_from i (turn_ties own_steps later))
-    to_ties p a = move others (turn_ties own_steps later) (λ j k. subst (In j) tied (Contains-In ties j (adds j (In-Contains others j k)))) p a
+    to_ties : (p : Pair) → In p own → In p (pairs_from i (turn_ties own_operations later))
+    to_ties p a = move others (turn_ties own_operations later) (λ j k. subst (In j) tied (Contains-In ties j (adds j (In-Contains others j k)))) p a
 
 -- ---- all updates
 
 module _ (h : Schedule) (updates : List TxnId) (i : ℕ) (is : i ≡ 0) (links : List Chain) (rows : List (List ℕ)) (pairs : List Pair) (g : IsGathered h updates i links rows pairs) where
-  abbrev steps : List Step
+  abbrev steps : List UpdateOperation
   steps = turns (operations h) 0 (map (λ (t : TxnId). t.0) updates)
 
   all : rest h updates i ≡ steps
@@ -244,20 +244,20 @@ module _ (h : Schedule) (updates : List TxnId) (i : ℕ) (is : i ≡ 0) (links :
   pub gathered_next : (x : ℕ) → AreNextPaired (reverse pairs) (filter (λ s. s.writes) (on_item x steps))
   gathered_next x = next_paired (writes_in (on x steps)) (reverse pairs) (kept.next x)
 
-  pub gathered_chains : map turned links ≡ map (λ x. chain_from (last_step steps x) (length updates)) (range_with_len 0 (length links))
+  pub gathered_chains : map turned links ≡ map (λ x. chain_from (last_by_update steps x) (length updates)) (range_with_len 0 (length links))
   gathered_chains = each links 0 (λ x l. let z : x ≡ 0 + x = omega arith in g.later.chains x l ∙ ap (λ y. chain_back y (rest h updates i)) z)
     where
-      below : (s : Step) → In s steps → s.place < length updates
-      below s j = let l : s.place < length (map (λ (t : TxnId). t.0) updates) = All-contains (λ (s : Step). s.place < length (map (λ (t : TxnId). t.0) updates)) steps s (turns_of.placed (operations h) (map (λ (t : TxnId). t.0) updates)) (In-Contains steps s j) in omega (arith, l, length-map updates (λ (t : TxnId). t.0))
+      below : (s : UpdateOperation) → In s steps → s.place < length updates
+      below s j = let l : s.place < length (map (λ (t : TxnId). t.0) updates) = All-contains (λ (s : UpdateOperation). s.place < length (map (λ (t : TxnId). t.0) updates)) steps s (turns_of.placed (operations h) (map (λ (t : TxnId). t.0) updates)) (In-Contains steps s j) in omega (arith, l, length-map updates (λ (t : TxnId). t.0))
 
-      turned_is : (x : ℕ) → turned (chain_back x (rest h updates i)) ≡ chain_from (last_step steps x) (length updates)
+      turned_is : (x : ℕ) → turned (chain_back x (rest h updates i)) ≡ chain_from (last_by_update steps x) (length updates)
       turned_is x = ap (λ ss. turned (chain_back x ss)) all ∙ chain_turned x (length updates) steps (turns_of.rises (operations h) 0 (map (λ (t : TxnId). t.0) updates)) below
 
-      each : (cs : List Chain) (a : ℕ) → ((x : ℕ) → x < length cs → get_or cs x nobody ≡ chain_back (a + x) (rest h updates i)) → map turned cs ≡ map (λ x. chain_from (last_step steps x) (length updates)) (range_with_len a (length cs))
+      each : (cs : List Chain) (a : ℕ) → ((x : ℕ) → x < length cs → get_or cs x nobody ≡ chain_back (a + x) (rest h updates i)) → map turned cs ≡ map (λ x. chain_from (last_by_update steps x) (length updates)) (range_with_len a (length cs))
       each [] a are = refl
       each (c ∷ cs) a are =
           let z : a + 0 ≡ a = omega arith in
           ap (λ c. turned c ∷ map turned cs) (are 0 (omega arith))
           ∙ (ap (λ y. turned (chain_back y (rest h updates i)) ∷ map turned cs) z
           ∙ (ap (λ c. c ∷ map turned cs) (turned_is a)
-          ∙ ap (λ l. chain_from (last_step steps a) (length updates) ∷ l) (each cs (a + 1) (λ x l. let e : a + suc x ≡ a + 1 + x = omega arith in are (suc x) (omega (arith, l)) ∙ ap (λ y. chain_back y (rest h updates i)) e))))
+          ∙ ap (λ l. chain_from (last_by_update steps a) (length updates) ∷ l) (each cs (a + 1) (λ x l. let e : a + suc x ≡ a + 1 + x = omega arith in are (suc x) (omega (arith, l)) ∙ ap (λ y. chain_back y (rest h updates i)) e))))

@@ -8,7 +8,7 @@ use Rattle.std.proofs.lemmas.List.{length-append, length-map, map-append}
 use Rattle.std.proofs.lemmas.List.Elements.{All-contains, All-from_recursion, filter-append}
 use Rattle.esr_history.specs.Serial.{any_pair}
 use Rattle.esr_history.proofs.Membership.{In, In-Contains, In-append_cases, In-append_left, In-append_right, any-from_In, In-any, each_in}
-use Rattle.esr_order.specs.Steps.{Step}
+use Rattle.esr_order.specs.UpdateOperations.{UpdateOperation}
 use Rattle.esr_order.specs.Listing.{clash, is_pair}
 use Rattle.esr_order.specs.Ties.{pair_of, pairs_from, IsTied, AreNextPaired}
 use Rattle.esr_order.specs.Chains.{Chain, last_writer, is_writer, with_write}
@@ -24,20 +24,20 @@ Holds S pairs = (p : Pair) → In p pairs → S p.1 ≡ true → S p.0 ≡ true
 pub fewer : (ps qs : List Pair) (S : ℕ → Bool) → Holds S (ps ++ qs) → Holds S ps
 fewer ps qs S h p i = h p (In-append_left ps qs p i)
 
-abbrev test : ℕ → ℕ → Step → Step → Bool
+abbrev test : ℕ → ℕ → UpdateOperation → UpdateOperation → Bool
 test i j a b = eqb a.place i && (eqb b.place j && clash a b)
 
 -- what a clash says
-pub clash_parts : (a b : Step) → clash a b ≡ true → (a.place ≡ b.place → ⊥) × ((a.writes || b.writes) ≡ true)
+pub clash_parts : (a b : UpdateOperation) → clash a b ≡ true → (a.place ≡ b.place → ⊥) × ((a.writes || b.writes) ≡ true)
 clash_parts a b h =
     let p = and_parts (not (eqb a.place b.place)) (eqb a.item b.item && (a.writes || b.writes)) h in
     let q = and_parts (eqb a.item b.item) (a.writes || b.writes) p.1 in
     ((λ e. eqb-false a.place b.place (Rattle.std.proofs.lemmas.Bool.not-true (eqb a.place b.place) p.0) e), q.1)
 
-clash_item : (a b : Step) → clash a b ≡ true → a.item ≡ b.item
+clash_item : (a b : UpdateOperation) → clash a b ≡ true → a.item ≡ b.item
 clash_item a b h = eqb-true a.item b.item (and_parts (eqb a.item b.item) (a.writes || b.writes) (and_parts (not (eqb a.place b.place)) (eqb a.item b.item && (a.writes || b.writes)) h).1).0
 
-pub clash_from : (a b : Step) → (a.place ≡ b.place → ⊥) → a.item ≡ b.item → (a.writes || b.writes) ≡ true → clash a b ≡ true
+pub clash_from : (a b : UpdateOperation) → (a.place ≡ b.place → ⊥) → a.item ≡ b.item → (a.writes || b.writes) ≡ true → clash a b ≡ true
 clash_from a b ne same w =
     and_from (not (eqb a.place b.place)) (eqb a.item b.item && (a.writes || b.writes)) (not_from_false (eqb a.place b.place) (ne_eqb a.place b.place ne))
     (and_from (eqb a.item b.item) (a.writes || b.writes) (eq-eqb a.item b.item same) w)
@@ -74,26 +74,26 @@ pairs_few [] i = omega arith
 pairs_few (j ∷ js) i = omega (arith, length-append (pair_of i j) (pairs_from i js), pair_few i j, pairs_few js i)
 
 -- two writes in a row, of two updates, are a pair
-abbrev pub Next : List Step → List Pair → Type 0
+abbrev pub Next : List UpdateOperation → List Pair → Type 0
 Next [] ps = ⊤
 Next (a ∷ []) ps = ⊤
 Next (a ∷ b ∷ ss) ps = ((a.place ≡ b.place → ⊥) → In (a.place, b.place) ps) × Next (b ∷ ss) ps
 
-pub next_more : (ss : List Step) (ps qs : List Pair) → ((p : Pair) → In p ps → In p qs) → Next ss ps → Next ss qs
+pub next_more : (ss : List UpdateOperation) (ps qs : List Pair) → ((p : Pair) → In p ps → In p qs) → Next ss ps → Next ss qs
 next_more [] ps qs f n = tt
 next_more (a ∷ []) ps qs f n = tt
 next_more (a ∷ b ∷ ss) ps qs f n = ((λ ne. f (a.place, b.place) (n.0 ne)), next_more (b ∷ ss) ps qs f n.1)
 
-pub next_paired : (ss : List Step) (ps : List Pair) → Next ss ps → AreNextPaired ps ss
+pub next_paired : (ss : List UpdateOperation) (ps : List Pair) → Next ss ps → AreNextPaired ps ss
 next_paired [] ps n = tt
 next_paired (a ∷ []) ps n = tt
 next_paired (a ∷ b ∷ ss) ps n = ((λ ne. In-Contains ps (a.place, b.place) (n.0 ne)), next_paired (b ∷ ss) ps n.1)
 
-abbrev pub writes_in : List Step → List Step
-writes_in ss = filter (λ (s : Step). s.writes) ss
+abbrev pub writes_in : List UpdateOperation → List UpdateOperation
+writes_in ss = filter (λ (s : UpdateOperation). s.writes) ss
 
-abbrev pub on : ℕ → List Step → List Step
-on x ss = filter (λ (s : Step). eqb s.item x) ss
+abbrev pub on : ℕ → List UpdateOperation → List UpdateOperation
+on x ss = filter (λ (s : UpdateOperation). eqb s.item x) ss
 
 -- ---- the next writer of an item, and the readers until then
 
@@ -116,12 +116,12 @@ last_put c i v = at (last_writer c) refl
         both false other = last_pushed c.writers i
 
 -- the next writer wrote the item
-writer_from : (x : ℕ) (ss : List Step) (w : ℕ) → last_writer (chain_back x ss) ≡ Some w → (b : Step) × In b ss × (b.item ≡ x) × (b.writes ≡ true) × (b.place ≡ w)
+writer_from : (x : ℕ) (ss : List UpdateOperation) (w : ℕ) → last_writer (chain_back x ss) ≡ Some w → (b : UpdateOperation) × In b ss × (b.item ≡ x) × (b.writes ≡ true) × (b.place ≡ w)
 writer_from x [] w is = absurd (cc)
 writer_from x (z ∷ zs) w is = at (eqb z.item x) refl z.writes refl (writer_from x zs w) is
   where
-    Found : List Step → Type 0
-    Found ss = (b : Step) × In b ss × (b.item ≡ x) × (b.writes ≡ true) × (b.place ≡ w)
+    Found : List UpdateOperation → Type 0
+    Found ss = (b : UpdateOperation) × In b ss × (b.item ≡ x) × (b.writes ≡ true) × (b.place ≡ w)
 
     later : Found zs → Found (z ∷ zs)
     later f = (f.0, inr f.1, f.2, f.3, f.4)
@@ -134,12 +134,12 @@ writer_from x (z ∷ zs) w is = at (eqb z.item x) refl z.writes refl (writer_fro
     at true e false wr rest h = later (rest h)
     at false e writes wr rest h = later (rest h)
 
-readers_from : (x : ℕ) (ss : List Step) (r : ℕ) → In r (readers_of x ss) → (b : Step) × In b ss × (b.item ≡ x) × (b.place ≡ r)
+readers_from : (x : ℕ) (ss : List UpdateOperation) (r : ℕ) → In r (readers_of x ss) → (b : UpdateOperation) × In b ss × (b.item ≡ x) × (b.place ≡ r)
 readers_from x [] r i = absurd i
 readers_from x (z ∷ zs) r i = at (eqb z.item x) refl z.writes (readers_from x zs r) i
   where
-    Found : List Step → Type 0
-    Found ss = (b : Step) × In b ss × (b.item ≡ x) × (b.place ≡ r)
+    Found : List UpdateOperation → Type 0
+    Found ss = (b : UpdateOperation) × In b ss × (b.item ≡ x) × (b.place ≡ r)
 
     later : Found zs → Found (z ∷ zs)
     later f = (f.0, inr f.1, f.2, f.3)
@@ -149,28 +149,28 @@ readers_from x (z ∷ zs) r i = at (eqb z.item x) refl z.writes (readers_from x 
     at true e false rest h = ⊎_elim (λ j. later (rest j)) (λ j. ⊎_elim (λ p. (z, inl refl, eqb-true z.item x e, p)) (λ b. absurd b) j) (In-append_cases (readers_of x zs) (z.place ∷ []) r h)
     at false e writes rest h = later (rest h)
 
-pair_front : (s : Step) (ss : List Step) (b : Step) → In b ss → clash s b ≡ true → is_pair (s ∷ ss) s.place b.place ≡ true
+pair_front : (s : UpdateOperation) (ss : List UpdateOperation) (b : UpdateOperation) → In b ss → clash s b ≡ true → is_pair (s ∷ ss) s.place b.place ≡ true
 pair_front s ss b i c =
     or_left (list_any (test s.place b.place s) ss) (any_pair (test s.place b.place) ss)
     (any-from_In (test s.place b.place s) ss b i
     (and_from (eqb s.place s.place) (eqb b.place b.place && clash s b) (eq-eqb s.place s.place refl) (and_from (eqb b.place b.place) (clash s b) (eq-eqb b.place b.place refl) c)))
 
-pair_later : (s : Step) (ss : List Step) (i j : ℕ) → is_pair ss i j ≡ true → is_pair (s ∷ ss) i j ≡ true
+pair_later : (s : UpdateOperation) (ss : List UpdateOperation) (i j : ℕ) → is_pair ss i j ≡ true → is_pair (s ∷ ss) i j ≡ true
 pair_later s ss i j h = or_right (list_any (test i j s) ss) (any_pair (test i j) ss) h
 
 -- the next writer is the step's, or before it
-abbrev Reached : List Step → ℕ → Option ℕ → Type 0
+abbrev Reached : List UpdateOperation → ℕ → Option ℕ → Type 0
 Reached ss place o = (w : ℕ) × (o ≡ Some w) × ((w ≡ place) ⊎ (is_pair ss w place ≡ true))
 
 -- a step is a read until the next write, or that write is before it
-reach : (x : ℕ) (ss : List Step) (b : Step) → In b ss → b.item ≡ x → (In b.place (readers_of x ss) × (b.writes ≡ false)) ⊎ Reached ss b.place (last_writer (chain_back x ss))
+reach : (x : ℕ) (ss : List UpdateOperation) (b : UpdateOperation) → In b ss → b.item ≡ x → (In b.place (readers_of x ss) × (b.writes ≡ false)) ⊎ Reached ss b.place (last_writer (chain_back x ss))
 reach x [] b i own = absurd i
 reach x (z ∷ zs) b i own = at (eqb z.item x) refl z.writes refl (λ k. reach x zs b k own) i
   where
     Chained : Bool → Bool → Chain
     Chained here writes = cond here (cond writes (with_write (chain_back x zs) z.place z.value) (chain_back x zs)) (chain_back x zs)
 
-    Outcome : List Step → List ℕ → Chain → Type 0
+    Outcome : List UpdateOperation → List ℕ → Chain → Type 0
     Outcome ss readers c = (In b.place readers × (b.writes ≡ false)) ⊎ Reached ss b.place (last_writer c)
 
     Readers : Bool → Bool → List ℕ
@@ -194,12 +194,12 @@ reach x (z ∷ zs) b i own = at (eqb z.item x) refl z.writes refl (λ k. reach x
         ⊎_elim (λ same. absurd (eqb-false z.item x e (ap (λ s. s.item) same ∙ own)))
         (λ k. ⊎_elim (λ r. inl r) (λ r. inr (further (last_writer (chain_back x zs)) r)) (rest k)) j
 
-abbrev first_place : List Step → Option ℕ
+abbrev first_place : List UpdateOperation → Option ℕ
 first_place [] = None
 first_place (s ∷ ss) = Some s.place
 
 -- the next writer is that of the first write
-first_write : (x : ℕ) (ss : List Step) → last_writer (chain_back x ss) ≡ first_place (writes_in (on x ss))
+first_write : (x : ℕ) (ss : List UpdateOperation) → last_writer (chain_back x ss) ≡ first_place (writes_in (on x ss))
 first_write x [] = refl
 first_write x (z ∷ zs) = at (eqb z.item x) z.writes (first_write x zs)
   where
@@ -214,13 +214,13 @@ first_write x (z ∷ zs) = at (eqb z.item x) z.writes (first_write x zs)
 
 -- ---- the pairs of some steps
 
-pub record Kept (ss : List Step) (pairs : List Pair) : Type 0 where
+pub record Kept (ss : List UpdateOperation) (pairs : List Pair) : Type 0 where
   pub sound : (p : Pair) → In p pairs → is_pair ss p.0 p.1 ≡ true
   pub covers : (S : ℕ → Bool) → Holds S pairs → (i j : ℕ) → is_pair ss i j ≡ true → S j ≡ true → S i ≡ true
   pub next : (x : ℕ) → Next (writes_in (on x ss)) pairs
 
 -- the same pairs in another order
-pub kept_same : (ss : List Step) (ps qs : List Pair) → ((p : Pair) → In p ps → In p qs) → ((p : Pair) → In p qs → In p ps) → Kept ss ps → Kept ss qs
+pub kept_same : (ss : List UpdateOperation) (ps qs : List Pair) → ((p : Pair) → In p ps → In p qs) → ((p : Pair) → In p qs → In p ps) → Kept ss ps → Kept ss qs
 kept_same ss ps qs to from k = record {
   sound = λ p i. k.sound p (from p i);
   covers = λ S h. k.covers S (λ p i. h p (to p i));
@@ -228,7 +228,7 @@ kept_same ss ps qs to from k = record {
 }
 
 -- with one more step before
-module _ (s : Step) (ss : List Step) (pairs : List Pair) (k : Kept ss pairs) where
+module _ (s : UpdateOperation) (ss : List UpdateOperation) (pairs : List Pair) (k : Kept ss pairs) where
   abbrev ties : List ℕ
   ties = later_ties s ss
 
@@ -269,15 +269,15 @@ module _ (s : Step) (ss : List Step) (pairs : List Pair) (k : Kept ss pairs) whe
           subst (λ z. is_pair (s ∷ ss) s.place z ≡ true) b.3 (pair_front s ss b.0 b.1 (clash_from s b.0 (λ e. ne (e ∙ b.3)) (sym b.2) (or_left s.writes b.0.writes wr)))
       read false wr a = absurd a
 
-  front : (S : ℕ → Bool) → Holds S (own ++ pairs) → (b : Step) → In b ss → clash s b ≡ true → S b.place ≡ true → S s.place ≡ true
+  front : (S : ℕ → Bool) → Holds S (own ++ pairs) → (b : UpdateOperation) → In b ss → clash s b ≡ true → S b.place ≡ true → S s.place ≡ true
   front S h b i c sb =
       ⊎_elim
       (λ r. holds S h b.place (to_reader b.place (⊎_elim (λ w. w) (λ w. absurd (true≢false (sym w ∙ r.1))) (or_cases s.writes b.writes (clash_parts s b c).1)) r.0) sb)
       (λ r. holds S h r.0 (to_writer r.0 r.1) (⊎_elim (λ e. ap S e ∙ sb) (λ before. k.covers S (later_holds S h) r.0 b.place before sb) r.2))
       (reach s.item ss b i (sym (clash_item s b c)))
 
-  pub kept_step : Kept (s ∷ ss) (own ++ pairs)
-  kept_step = record {
+  pub kept_operation : Kept (s ∷ ss) (own ++ pairs)
+  kept_operation = record {
     sound = λ p i. ⊎_elim
         (λ a. let q = of_pairs_from ties s.place p a in subst (λ z. is_pair (s ∷ ss) z p.1 ≡ true) (sym q.0) (sound_tie p.1 q.2 q.1))
         (λ b. pair_later s ss p.0 p.1 (k.sound p b))
@@ -296,7 +296,7 @@ module _ (s : Step) (ss : List Step) (pairs : List Pair) (k : Kept ss pairs) whe
       kept_next : (x : ℕ) → Next (writes_in (on x ss)) (own ++ pairs)
       kept_next x = next_more (writes_in (on x ss)) pairs (own ++ pairs) (λ p i. In-append_right own pairs p i) (k.next x)
 
-      first : (ws : List Step) → writer ≡ first_place ws → Next ws (own ++ pairs) → Next (s ∷ ws) (own ++ pairs)
+      first : (ws : List UpdateOperation) → writer ≡ first_place ws → Next ws (own ++ pairs) → Next (s ∷ ws) (own ++ pairs)
       first [] is n = tt
       first (b ∷ ws) is n = ((λ ne. In-append_left own pairs (s.place, b.place) (in_pairs_from ties s.place b.place (to_writer b.place is) ne)), n)
 
@@ -313,7 +313,7 @@ pairs_append i [] ks = refl
 pairs_append i (j ∷ js) ks = ap (λ l. pair_of i j ++ l) (pairs_append i js ks) ∙ sym (append_assoc (pair_of i j) (pairs_from i js) (pairs_from i ks))
 
 -- with the steps of one update before
-pub kept_turn : (i : ℕ) (turn ss : List Step) (pairs : List Pair) → ((s : Step) → In s turn → s.place ≡ i) → Kept ss pairs → Kept (turn ++ ss) (pairs_from i (turn_ties turn ss) ++ pairs)
+pub kept_turn : (i : ℕ) (turn ss : List UpdateOperation) (pairs : List Pair) → ((s : UpdateOperation) → In s turn → s.place ≡ i) → Kept ss pairs → Kept (turn ++ ss) (pairs_from i (turn_ties turn ss) ++ pairs)
 kept_turn i [] ss pairs places k = k
 kept_turn i (s ∷ turn) ss pairs places k =
     subst (λ l. Kept (s ∷ turn ++ ss) (l ++ pairs)) (sym (pairs_append i before own))
@@ -321,7 +321,7 @@ kept_turn i (s ∷ turn) ss pairs places k =
     (λ p j. ⊎_elim (λ a. left p (In-append_right (pairs_from i before) (pairs_from i own) p a)) (λ a. ⊎_elim (λ b. left p (In-append_left (pairs_from i before) (pairs_from i own) p b)) (λ b. In-append_right (pairs_from i before ++ pairs_from i own) pairs p b) (In-append_cases (pairs_from i before) pairs p a)) (In-append_cases (pairs_from i own) (pairs_from i before ++ pairs) p j))
     (λ p j. ⊎_elim (λ a. ⊎_elim (λ b. In-append_right (pairs_from i own) (pairs_from i before ++ pairs) p (In-append_left (pairs_from i before) pairs p b)) (λ b. In-append_left (pairs_from i own) (pairs_from i before ++ pairs) p b) (In-append_cases (pairs_from i before) (pairs_from i own) p a)) (λ a. In-append_right (pairs_from i own) (pairs_from i before ++ pairs) p (In-append_right (pairs_from i before) pairs p a)) (In-append_cases (pairs_from i before ++ pairs_from i own) pairs p j))
     (subst (λ n. Kept (s ∷ turn ++ ss) (pairs_from n own ++ (pairs_from i before ++ pairs))) (places s (inl refl))
-    (kept_step s (turn ++ ss) (pairs_from i before ++ pairs) (kept_turn i turn ss pairs (λ z j. places z (inr j)) k))))
+    (kept_operation s (turn ++ ss) (pairs_from i before ++ pairs) (kept_turn i turn ss pairs (λ z j. places z (inr j)) k))))
   where
     before : List ℕ
     before = turn_ties turn ss
@@ -335,19 +335,19 @@ kept_turn i (s ∷ turn) ss pairs places k =
 -- ---- how many there are
 
 -- the reads that no write of their item comes before
-abbrev pub open_reads : List Step → List Step
+abbrev pub open_reads : List UpdateOperation → List UpdateOperation
 open_reads [] = []
-open_reads (s ∷ ss) = cond s.writes (filter (λ (r : Step). not (eqb r.item s.item)) (open_reads ss)) (open_reads ss ++ s ∷ [])
+open_reads (s ∷ ss) = cond s.writes (filter (λ (r : UpdateOperation). not (eqb r.item s.item)) (open_reads ss)) (open_reads ss ++ s ∷ [])
 
-on_left : (x y : ℕ) (ss : List Step) → on x (filter (λ (r : Step). not (eqb r.item y)) ss) ≡ cond (eqb y x) [] (on x ss)
-on_left x y [] = cond_both (eqb y x) [] [] (λ (l : List Step). [] ≡ l) (λ _. refl) (λ _. refl)
+on_left : (x y : ℕ) (ss : List UpdateOperation) → on x (filter (λ (r : UpdateOperation). not (eqb r.item y)) ss) ≡ cond (eqb y x) [] (on x ss)
+on_left x y [] = cond_both (eqb y x) [] [] (λ (l : List UpdateOperation). [] ≡ l) (λ _. refl) (λ _. refl)
 on_left x y (s ∷ ss) = ⊎_elim
     (λ e. ap (λ b. on x (cond (not b) (s ∷ kept) kept)) (eq-eqb s.item y e) ∙ (on_left x y ss ∙ same e (eqb y x) refl))
     (λ ne. ap (λ b. on x (cond (not b) (s ∷ kept) kept)) (ne_eqb s.item y ne) ∙ (ap (λ l. cond (eqb s.item x) (s ∷ l) l) (on_left x y ss) ∙ other ne (eqb y x) refl))
     (cases_eq s.item y)
   where
-    kept : List Step
-    kept = filter (λ (r : Step). not (eqb r.item y)) ss
+    kept : List UpdateOperation
+    kept = filter (λ (r : UpdateOperation). not (eqb r.item y)) ss
 
     same : s.item ≡ y → (b : Bool) → eqb y x ≡ b → cond b [] (on x ss) ≡ cond b [] (cond (eqb s.item x) (s ∷ on x ss) (on x ss))
     same e true is = refl
@@ -357,32 +357,32 @@ on_left x y (s ∷ ss) = ⊎_elim
     other ne true is = ap (λ b. cond b (s ∷ []) []) (ne_eqb s.item x (λ e. ne (e ∙ sym (eqb-true y x is))))
     other ne false is = refl
 
-readers_open : (x : ℕ) (ss : List Step) → readers_of x ss ≡ map (λ (s : Step). s.place) (on x (open_reads ss))
+readers_open : (x : ℕ) (ss : List UpdateOperation) → readers_of x ss ≡ map (λ (s : UpdateOperation). s.place) (on x (open_reads ss))
 readers_open x [] = refl
 readers_open x (s ∷ ss) = at s.writes (readers_open x ss)
   where
-    places : List Step → List ℕ
-    places ss = map (λ (s : Step). s.place) ss
+    places : List UpdateOperation → List ℕ
+    places ss = map (λ (s : UpdateOperation). s.place) ss
 
     at : (w : Bool) → readers_of x ss ≡ places (on x (open_reads ss))
-        → cond (eqb s.item x) (cond w [] (readers_of x ss ++ s.place ∷ [])) (readers_of x ss) ≡ places (on x (cond w (filter (λ (r : Step). not (eqb r.item s.item)) (open_reads ss)) (open_reads ss ++ s ∷ [])))
+        → cond (eqb s.item x) (cond w [] (readers_of x ss ++ s.place ∷ [])) (readers_of x ss) ≡ places (on x (cond w (filter (λ (r : UpdateOperation). not (eqb r.item s.item)) (open_reads ss)) (open_reads ss ++ s ∷ [])))
     at true rest = here (eqb s.item x) ∙ ap places (sym (on_left x s.item (open_reads ss)))
       where
         here : (b : Bool) → cond b [] (readers_of x ss) ≡ places (cond b [] (on x (open_reads ss)))
         here true = refl
         here false = rest
-    at false rest = here (eqb s.item x) ∙ ap places (sym (filter-append (λ (s : Step). eqb s.item x) (open_reads ss) (s ∷ [])))
+    at false rest = here (eqb s.item x) ∙ ap places (sym (filter-append (λ (s : UpdateOperation). eqb s.item x) (open_reads ss) (s ∷ [])))
       where
         here : (b : Bool) → cond b (readers_of x ss ++ s.place ∷ []) (readers_of x ss) ≡ places (on x (open_reads ss) ++ cond b (s ∷ []) [])
-        here true = ap (λ l. l ++ s.place ∷ []) rest ∙ sym (map-append (λ (s : Step). s.place) (on x (open_reads ss)) (s ∷ []))
+        here true = ap (λ l. l ++ s.place ∷ []) rest ∙ sym (map-append (λ (s : UpdateOperation). s.place) (on x (open_reads ss)) (s ∷ []))
         here false = rest ∙ ap places (sym (append-nil (on x (open_reads ss))))
 
-split_count : (y : ℕ) (ss : List Step) → length (on y ss) + length (filter (λ (r : Step). not (eqb r.item y)) ss) ≡ length ss
+split_count : (y : ℕ) (ss : List UpdateOperation) → length (on y ss) + length (filter (λ (r : UpdateOperation). not (eqb r.item y)) ss) ≡ length ss
 split_count y [] = refl
 split_count y (s ∷ ss) = at (eqb s.item y) (split_count y ss)
   where
-    at : (b : Bool) → length (on y ss) + length (filter (λ (r : Step). not (eqb r.item y)) ss) ≡ length ss
-        → length (cond b (s ∷ on y ss) (on y ss)) + length (cond (not b) (s ∷ filter (λ (r : Step). not (eqb r.item y)) ss) (filter (λ (r : Step). not (eqb r.item y)) ss)) ≡ suc (length ss)
+    at : (b : Bool) → length (on y ss) + length (filter (λ (r : UpdateOperation). not (eqb r.item y)) ss) ≡ length ss
+        → length (cond b (s ∷ on y ss) (on y ss)) + length (cond (not b) (s ∷ filter (λ (r : UpdateOperation). not (eqb r.item y)) ss) (filter (λ (r : UpdateOperation). not (eqb r.item y)) ss)) ≡ suc (length ss)
     at true rest = omega (arith, rest)
     at false rest = omega (arith, rest)
 
@@ -390,23 +390,23 @@ one_writer : (o : Option ℕ) → length (writer_in o) ≤ 1
 one_writer None = omega arith
 one_writer (Some w) = omega arith
 
-step_count : (s : Step) (ss : List Step) → length (later_ties s ss) + length (open_reads (s ∷ ss)) ≤ 2 + length (open_reads ss)
-step_count s ss = at s.writes
+operation_count : (s : UpdateOperation) (ss : List UpdateOperation) → length (later_ties s ss) + length (open_reads (s ∷ ss)) ≤ 2 + length (open_reads ss)
+operation_count s ss = at s.writes
   where
     writer : Option ℕ
     writer = last_writer (chain_back s.item ss)
 
-    at : (w : Bool) → length (writer_in writer ++ cond w (readers_of s.item ss) []) + length (cond w (filter (λ (r : Step). not (eqb r.item s.item)) (open_reads ss)) (open_reads ss ++ s ∷ [])) ≤ 2 + length (open_reads ss)
-    at true = omega (arith, one_writer writer, length-append (writer_in writer) (readers_of s.item ss), ap length (readers_open s.item ss), length-map (on s.item (open_reads ss)) (λ (s : Step). s.place), split_count s.item (open_reads ss))
+    at : (w : Bool) → length (writer_in writer ++ cond w (readers_of s.item ss) []) + length (cond w (filter (λ (r : UpdateOperation). not (eqb r.item s.item)) (open_reads ss)) (open_reads ss ++ s ∷ [])) ≤ 2 + length (open_reads ss)
+    at true = omega (arith, one_writer writer, length-append (writer_in writer) (readers_of s.item ss), ap length (readers_open s.item ss), length-map (on s.item (open_reads ss)) (λ (s : UpdateOperation). s.place), split_count s.item (open_reads ss))
     at false = omega (arith, one_writer writer, ap length (append-nil (writer_in writer)), length-append (open_reads ss) (s ∷ []))
 
-pub turn_count : (turn ss : List Step) → length (turn_ties turn ss) + length (open_reads (turn ++ ss)) ≤ 2 * length turn + length (open_reads ss)
+pub turn_count : (turn ss : List UpdateOperation) → length (turn_ties turn ss) + length (open_reads (turn ++ ss)) ≤ 2 * length turn + length (open_reads ss)
 turn_count [] ss = omega arith
-turn_count (s ∷ turn) ss = omega (arith, turn_count turn ss, step_count s (turn ++ ss), length-append (turn_ties turn ss) (later_ties s (turn ++ ss)))
+turn_count (s ∷ turn) ss = omega (arith, turn_count turn ss, operation_count s (turn ++ ss), length-append (turn_ties turn ss) (later_ties s (turn ++ ss)))
 
 -- ---- all of them
 
-pub tied_all : (ss : List Step) (pairs : List Pair) → Kept ss pairs → length pairs ≤ 2 * length ss → IsTied ss pairs
+pub tied_all : (ss : List UpdateOperation) (pairs : List Pair) → Kept ss pairs → length pairs ≤ 2 * length ss → IsTied ss pairs
 tied_all ss pairs k few = record {
   sound = All-from_recursion (λ (p : Pair). is_pair ss p.0 p.1 ≡ true) pairs (each_in (λ (p : Pair). is_pair ss p.0 p.1 ≡ true) pairs (λ p i. k.sound p i));
   closed = λ S d. k.covers S (λ p i. All-contains (λ (p : Pair). S p.1 ≡ true → S p.0 ≡ true) pairs p d (In-Contains pairs p i));

@@ -9,11 +9,11 @@ use Rattle.esr_history.specs.Operations.{Operation, operations}
 use Rattle.esr_history.specs.Serial.{any_pair, conflict, is_before}
 use Rattle.esr_history.proofs.Membership.{In, In-Contains, In-append_cases, In-append_left, In-append_right, In-filter, In-of_filter, In-from_any, Pairs, Pairs-append, each_in, each_at, filter_none_in}
 use Rattle.esr_history.proofs.Versions.{wrote_by, conflict_of}
-use Rattle.esr_order.specs.Steps.{Step}
+use Rattle.esr_order.specs.UpdateOperations.{UpdateOperation}
 use Rattle.esr_order.specs.Placements.{is_among}
 use Rattle.esr_order.specs.Listing.{clash, is_pair}
-use Rattle.esr_order.specs.Turns.{step_of, turn, turns}
-use Rattle.esr_order.specs.Chains.{last_of, last_step, nth}
+use Rattle.esr_order.specs.Turns.{placed_operation, turn, turns}
+use Rattle.esr_order.specs.Chains.{last_of, last_by_update, nth}
 use Rattle.esr_order.proofs.Writers.{pair_total}
 use Rattle.esr_order.proofs.Kept.{clash_parts, clash_from}
 use Rattle.esr_order.proofs.Lists.{in_map, of_map, filter_all_in, same_truth, pair_parts, any_two}
@@ -21,7 +21,7 @@ use Rattle.esr_order.proofs.Lists.{in_map, of_map, filter_all_in, same_truth, pa
 abbrev by : ℕ → Operation → Bool
 by t o = eqb o.txn t
 
-abbrev in_place : ℕ → Step → Bool
+abbrev in_place : ℕ → UpdateOperation → Bool
 in_place i s = eqb s.place i
 
 -- no update is before itself
@@ -36,63 +36,63 @@ not_before_itself ops u h =
 module _ (os : List Operation) where
   -- ---- what the steps are of
 
-  pub in_turns : (n : ℕ) (us : List ℕ) (s : Step) → In s (turns os n us) → (k : ℕ) × (o : Operation) × (k < length us) × In o os × (o.txn ≡ nth us k) × (step_of (n + k) o ≡ s)
+  pub in_turns : (n : ℕ) (us : List ℕ) (s : UpdateOperation) → In s (turns os n us) → (k : ℕ) × (o : Operation) × (k < length us) × In o os × (o.txn ≡ nth us k) × (placed_operation (n + k) o ≡ s)
   in_turns n [] s i = absurd i
   in_turns n (u ∷ us) s i = ⊎_elim
       (λ here.
-      let m = of_map (step_of n) (filter (by u) os) s here in
+      let m = of_map (placed_operation n) (filter (by u) os) s here in
       let p = In-of_filter (by u) os m.0 m.1 in
       let z : n + 0 ≡ n = omega arith in
-      (0, m.0, omega arith, p.0, eqb-true m.0.txn u p.1, ap (λ k. step_of k m.0) z ∙ m.2))
+      (0, m.0, omega arith, p.0, eqb-true m.0.txn u p.1, ap (λ k. placed_operation k m.0) z ∙ m.2))
       (λ later.
       let r = in_turns (n + 1) us s later in
       let l : r.0 < length us = r.2 in
       let e : n + suc r.0 ≡ n + 1 + r.0 = omega arith in
-      (suc r.0, r.1, omega arith, r.3, r.4, ap (λ k. step_of k r.1) e ∙ r.5))
+      (suc r.0, r.1, omega arith, r.3, r.4, ap (λ k. placed_operation k r.1) e ∙ r.5))
       (In-append_cases (turn os n u) (turns os (n + 1) us) s i)
 
-  pub to_turns : (n : ℕ) (us : List ℕ) (k : ℕ) (o : Operation) → k < length us → In o os → o.txn ≡ nth us k → In (step_of (n + k) o) (turns os n us)
+  pub to_turns : (n : ℕ) (us : List ℕ) (k : ℕ) (o : Operation) → k < length us → In o os → o.txn ≡ nth us k → In (placed_operation (n + k) o) (turns os n us)
   to_turns n [] k o l i is = absurd (omega arith)
   to_turns n (u ∷ us) zero o l i is =
       let z : n ≡ n + 0 = omega arith in
-      In-append_left (turn os n u) (turns os (n + 1) us) (step_of (n + 0) o)
-      (subst (λ k. In (step_of k o) (turn os n u)) z (in_map (step_of n) (filter (by u) os) o (In-filter (by u) os o i (eq-eqb o.txn u is))))
+      In-append_left (turn os n u) (turns os (n + 1) us) (placed_operation (n + 0) o)
+      (subst (λ k. In (placed_operation k o) (turn os n u)) z (in_map (placed_operation n) (filter (by u) os) o (In-filter (by u) os o i (eq-eqb o.txn u is))))
   to_turns n (u ∷ us) (suc k) o l i is =
       let e : n + 1 + k ≡ n + suc k = omega arith in
-      In-append_right (turn os n u) (turns os (n + 1) us) (step_of (n + suc k) o) (subst (λ m. In (step_of m o) (turns os (n + 1) us)) e (to_turns (n + 1) us k o (omega arith) i is))
+      In-append_right (turn os n u) (turns os (n + 1) us) (placed_operation (n + suc k) o) (subst (λ m. In (placed_operation m o) (turns os (n + 1) us)) e (to_turns (n + 1) us k o (omega arith) i is))
 
-  in_turn : (n u : ℕ) (s : Step) → In s (turn os n u) → s.place ≡ n
-  in_turn n u s i = sym (ap (λ (s : Step). s.place) (of_map (step_of n) (filter (by u) os) s i).2)
+  in_turn : (n u : ℕ) (s : UpdateOperation) → In s (turn os n u) → s.place ≡ n
+  in_turn n u s i = sym (ap (λ (s : UpdateOperation). s.place) (of_map (placed_operation n) (filter (by u) os) s i).2)
 
-  from_turns : (n : ℕ) (us : List ℕ) (s : Step) → In s (turns os n us) → n ≤ s.place
-  from_turns n us s i = let r = in_turns n us s i in let e : n + r.0 ≡ s.place = ap (λ (s : Step). s.place) r.5 in omega arith
+  from_turns : (n : ℕ) (us : List ℕ) (s : UpdateOperation) → In s (turns os n us) → n ≤ s.place
+  from_turns n us s i = let r = in_turns n us s i in let e : n + r.0 ≡ s.place = ap (λ (s : UpdateOperation). s.place) r.5 in omega arith
 
   -- they are in the order of the positions
   pub rises : (n : ℕ) (us : List ℕ) → Pairs (λ a b. a.place ≤ b.place) (turns os n us)
   rises n [] = tt
-  rises n (u ∷ us) = Pairs-append (λ (a b : Step). a.place ≤ b.place) (turn os n u) (turns os (n + 1) us) (level (filter (by u) os)) (rises (n + 1) us)
+  rises n (u ∷ us) = Pairs-append (λ (a b : UpdateOperation). a.place ≤ b.place) (turn os n u) (turns os (n + 1) us) (level (filter (by u) os)) (rises (n + 1) us)
       (λ a b i j. let low : a.place ≡ n = in_turn n u a i in let high : n + 1 ≤ b.place = from_turns (n + 1) us b j in omega arith)
     where
-      level : (ps : List Operation) → Pairs (λ (a b : Step). a.place ≤ b.place) (map (step_of n) ps)
+      level : (ps : List Operation) → Pairs (λ (a b : UpdateOperation). a.place ≤ b.place) (map (placed_operation n) ps)
       level [] = tt
-      level (p ∷ ps) = (each_in (λ (b : Step). n ≤ b.place) (map (step_of n) ps) (λ b i. let e : n ≡ b.place = ap (λ (s : Step). s.place) (of_map (step_of n) ps b i).2 in omega arith), level ps)
+      level (p ∷ ps) = (each_in (λ (b : UpdateOperation). n ≤ b.place) (map (placed_operation n) ps) (λ b i. let e : n ≡ b.place = ap (λ (s : UpdateOperation). s.place) (of_map (placed_operation n) ps b i).2 in omega arith), level ps)
 
   pub placed : (us : List ℕ) → All (λ s. s.place < length us) (turns os 0 us)
-  placed us = All-from_recursion (λ (s : Step). s.place < length us) (turns os 0 us) (each_in (λ (s : Step). s.place < length us) (turns os 0 us) (λ s i.
+  placed us = All-from_recursion (λ (s : UpdateOperation). s.place < length us) (turns os 0 us) (each_in (λ (s : UpdateOperation). s.place < length us) (turns os 0 us) (λ s i.
       let r = in_turns 0 us s i in
       let l : r.0 < length us = r.2 in
-      let e : 0 + r.0 ≡ s.place = ap (λ (s : Step). s.place) r.5 in
+      let e : 0 + r.0 ≡ s.place = ap (λ (s : UpdateOperation). s.place) r.5 in
       omega arith))
 
   -- ---- what the update at a position did
 
-  here : (p : Step → Bool) (n u : ℕ) (s : Step) → In s (filter p (turn os n u)) → s.place ≡ n
+  here : (p : UpdateOperation → Bool) (n u : ℕ) (s : UpdateOperation) → In s (filter p (turn os n u)) → s.place ≡ n
   here p n u s j = in_turn n u s (In-of_filter p (turn os n u) s j).0
 
-  later : (p : Step → Bool) (n : ℕ) (us : List ℕ) (s : Step) → In s (filter p (turns os (n + 1) us)) → n + 1 ≤ s.place
+  later : (p : UpdateOperation → Bool) (n : ℕ) (us : List ℕ) (s : UpdateOperation) → In s (filter p (turns os (n + 1) us)) → n + 1 ≤ s.place
   later p n us s j = from_turns (n + 1) us s (In-of_filter p (turns os (n + 1) us) s j).0
 
-  own : (p : Step → Bool) (n : ℕ) (us : List ℕ) (i : ℕ) → i < length us → filter (in_place (n + i)) (filter p (turns os n us)) ≡ filter p (turn os (n + i) (nth us i))
+  own : (p : UpdateOperation → Bool) (n : ℕ) (us : List ℕ) (i : ℕ) → i < length us → filter (in_place (n + i)) (filter p (turns os n us)) ≡ filter p (turn os (n + i) (nth us i))
   own p n [] i l = absurd (omega arith)
   own p n (u ∷ us) zero l =
       let z : n + 0 ≡ n = omega arith in
@@ -111,22 +111,22 @@ module _ (os : List Operation) where
       ∙ (own p (n + 1) us i (omega arith)
       ∙ ap (λ k. filter p (turn os k (nth us i))) (sym e)))))
 
-  turn_writes : (i u x : ℕ) (ps : List Operation) → map (λ (s : Step). s.value) (filter (λ (s : Step). s.writes && eqb s.item x) (map (step_of i) (filter (by u) ps))) ≡ map (λ (o : Operation). o.value) (filter (wrote_by x u) ps)
+  turn_writes : (i u x : ℕ) (ps : List Operation) → map (λ (s : UpdateOperation). s.value) (filter (λ (s : UpdateOperation). s.writes && eqb s.item x) (map (placed_operation i) (filter (by u) ps))) ≡ map (λ (o : Operation). o.value) (filter (wrote_by x u) ps)
   turn_writes i u x [] = refl
   turn_writes i u x (o ∷ ps) = at (by u o) (o.writes && eqb o.item x) (turn_writes i u x ps)
     where
-      W : List Step → List ℤ
-      W ss = map (λ (s : Step). s.value) (filter (λ (s : Step). s.writes && eqb s.item x) ss)
+      W : List UpdateOperation → List ℤ
+      W ss = map (λ (s : UpdateOperation). s.value) (filter (λ (s : UpdateOperation). s.writes && eqb s.item x) ss)
 
       V : List ℤ
       V = map (λ (o : Operation). o.value) (filter (wrote_by x u) ps)
 
-      at : (b w : Bool) → map (λ (s : Step). s.value) (filter (λ (s : Step). s.writes && eqb s.item x) (map (step_of i) (filter (by u) ps))) ≡ map (λ (o : Operation). o.value) (filter (wrote_by x u) ps)
-          → map (λ (s : Step). s.value) (filter (λ (s : Step). s.writes && eqb s.item x) (map (step_of i) (cond b (o ∷ filter (by u) ps) (filter (by u) ps))))
+      at : (b w : Bool) → map (λ (s : UpdateOperation). s.value) (filter (λ (s : UpdateOperation). s.writes && eqb s.item x) (map (placed_operation i) (filter (by u) ps))) ≡ map (λ (o : Operation). o.value) (filter (wrote_by x u) ps)
+          → map (λ (s : UpdateOperation). s.value) (filter (λ (s : UpdateOperation). s.writes && eqb s.item x) (map (placed_operation i) (cond b (o ∷ filter (by u) ps) (filter (by u) ps))))
           ≡ map (λ (o : Operation). o.value) (cond ((o.writes && eqb o.item x) && b) (o ∷ filter (wrote_by x u) ps) (filter (wrote_by x u) ps))
       at true w rest = both (o.writes && eqb o.item x)
         where
-          both : (w : Bool) → map (λ (s : Step). s.value) (cond w (step_of i o ∷ filter (λ (s : Step). s.writes && eqb s.item x) (map (step_of i) (filter (by u) ps))) (filter (λ (s : Step). s.writes && eqb s.item x) (map (step_of i) (filter (by u) ps))))
+          both : (w : Bool) → map (λ (s : UpdateOperation). s.value) (cond w (placed_operation i o ∷ filter (λ (s : UpdateOperation). s.writes && eqb s.item x) (map (placed_operation i) (filter (by u) ps))) (filter (λ (s : UpdateOperation). s.writes && eqb s.item x) (map (placed_operation i) (filter (by u) ps))))
               ≡ map (λ (o : Operation). o.value) (cond (w && true) (o ∷ filter (wrote_by x u) ps) (filter (wrote_by x u) ps))
           both true = ap (λ l. o.value ∷ l) rest
           both false = rest
@@ -136,11 +136,11 @@ module _ (os : List Operation) where
           none true = refl
           none false = refl
 
-  pub last_written_by : (us : List ℕ) (x i : ℕ) → i < length us → last_step (turns os 0 us) x i ≡ last_of (map (λ o. o.value) (filter (wrote_by x (nth us i)) os))
+  pub last_written_by : (us : List ℕ) (x i : ℕ) → i < length us → last_by_update (turns os 0 us) x i ≡ last_of (map (λ o. o.value) (filter (wrote_by x (nth us i)) os))
   last_written_by us x i l =
       let z : i ≡ 0 + i = omega arith in
-      ap (λ k. last_of (map (λ (s : Step). s.value) (filter (in_place k) (filter (λ (s : Step). s.writes && eqb s.item x) (turns os 0 us))))) z
-      ∙ (ap (λ ss. last_of (map (λ (s : Step). s.value) ss)) (own (λ (s : Step). s.writes && eqb s.item x) 0 us i l)
+      ap (λ k. last_of (map (λ (s : UpdateOperation). s.value) (filter (in_place k) (filter (λ (s : UpdateOperation). s.writes && eqb s.item x) (turns os 0 us))))) z
+      ∙ (ap (λ ss. last_of (map (λ (s : UpdateOperation). s.value) ss)) (own (λ (s : UpdateOperation). s.writes && eqb s.item x) 0 us i l)
       ∙ ap last_of (turn_writes (0 + i) (nth us i) x os))
 
   -- ---- how many there are
@@ -149,7 +149,7 @@ module _ (os : List Operation) where
   counted n [] once = sym (ap length (filter_none_in (λ (o : Operation). false) os (λ o i. refl)))
   counted n (u ∷ us) once =
       length-append (turn os n u) (turns os (n + 1) us)
-      ∙ (ap (λ k. k + length (turns os (n + 1) us)) (Rattle.std.proofs.lemmas.List.length-map (filter (by u) os) (step_of n))
+      ∙ (ap (λ k. k + length (turns os (n + 1) us)) (Rattle.std.proofs.lemmas.List.length-map (filter (by u) os) (placed_operation n))
       ∙ (ap (λ k. length (filter (by u) os) + k) (counted (n + 1) us once.1) ∙ apart os))
     where
       apart : (ps : List Operation) → length (filter (by u) ps) + length (filter (λ (o : Operation). is_among us o.txn) ps) ≡ length (filter (λ (o : Operation). is_among (u ∷ us) o.txn) ps)
@@ -200,7 +200,7 @@ conflict_parts h u v is =
     (w.0, w.1, w.2, w.3, eqb-true w.0.txn u p.0, eqb-true w.1.txn v r.0, eqb-true w.0.item w.1.item same.0, same.1)
 
 module _ (h : Schedule) (us : List ℕ) (once : AllPairs (λ u v. u ≢ v) us) (keeps : AllPairs (λ u v. is_before h v u ≡ false) us) where
-  abbrev tests : ℕ → ℕ → Step → Step → Bool
+  abbrev tests : ℕ → ℕ → UpdateOperation → UpdateOperation → Bool
   tests i j a b = eqb a.place i && (eqb b.place j && clash a b)
 
   pub up : (i j : ℕ) → i < length us → j < length us → is_before h (nth us i) (nth us j) ≡ true → i < j
@@ -216,12 +216,12 @@ module _ (h : Schedule) (us : List ℕ) (once : AllPairs (λ u v. u ≢ v) us) (
       let p = and_parts (eqb w.0.place i) (eqb w.1.place j && clash w.0 w.1) w.4 in
       (below w.0 w.2 i (eqb-true w.0.place i p.0), below w.1 w.3 j (eqb-true w.1.place j (and_parts (eqb w.1.place j) (clash w.0 w.1) p.1).0))
     where
-      below : (s : Step) → In s (turns (operations h) 0 us) → (k : ℕ) → s.place ≡ k → k < length us
-      below s i k is = subst (λ m. m < length us) is (All-contains (λ (s : Step). s.place < length us) (turns (operations h) 0 us) s (placed (operations h) us) (In-Contains (turns (operations h) 0 us) s i))
+      below : (s : UpdateOperation) → In s (turns (operations h) 0 us) → (k : ℕ) → s.place ≡ k → k < length us
+      below s i k is = subst (λ m. m < length us) is (All-contains (λ (s : UpdateOperation). s.place < length us) (turns (operations h) 0 us) s (placed (operations h) us) (In-Contains (turns (operations h) 0 us) s i))
 
   pair_to : (i j : ℕ) → i < length us → j < length us → is_pair (turns (operations h) 0 us) i j ≡ true → is_before h (nth us i) (nth us j) ≡ true
   pair_to i j li lj is =
-      let w = pair_parts (λ (a b : Step). a.place ≤ b.place) (tests i j) (turns (operations h) 0 us) (rises (operations h) 0 us) is in
+      let w = pair_parts (λ (a b : UpdateOperation). a.place ≤ b.place) (tests i j) (turns (operations h) 0 us) (rises (operations h) 0 us) is in
       let p = and_parts (eqb w.0.place i) (eqb w.1.place j && clash w.0 w.1) w.4 in
       let r = and_parts (eqb w.1.place j) (clash w.0 w.1) p.1 in
       let c = clash_parts w.0 w.1 r.1 in
@@ -230,8 +230,8 @@ module _ (h : Schedule) (us : List ℕ) (once : AllPairs (λ u v. u ≢ v) us) (
       let b = in_turns (operations h) 0 us w.1 w.3 in
       let pi : w.0.place ≡ i = eqb-true w.0.place i p.0 in
       let pj : w.1.place ≡ j = eqb-true w.1.place j r.0 in
-      let ai : 0 + a.0 ≡ w.0.place = ap (λ (s : Step). s.place) a.5 in
-      let bj : 0 + b.0 ≡ w.1.place = ap (λ (s : Step). s.place) b.5 in
+      let ai : 0 + a.0 ≡ w.0.place = ap (λ (s : UpdateOperation). s.place) a.5 in
+      let bj : 0 + b.0 ≡ w.1.place = ap (λ (s : UpdateOperation). s.place) b.5 in
       let ei : a.0 ≡ i = omega arith in
       let ej : b.0 ≡ j = omega arith in
       let le : w.0.place ≤ w.1.place = w.5 in
@@ -239,19 +239,19 @@ module _ (h : Schedule) (us : List ℕ) (once : AllPairs (λ u v. u ≢ v) us) (
       let au : a.1.txn ≡ nth us i = a.4 ∙ ap (nth us) ei in
       let bv : b.1.txn ≡ nth us j = b.4 ∙ ap (nth us) ej in
       ahead h a.1 b.1 a.3 b.3 (λ e. once i j 0 lt lj (sym au ∙ (e ∙ bv)))
-      (ap (λ (s : Step). s.item) a.5 ∙ (eqb-true w.0.item w.1.item same.0 ∙ sym (ap (λ (s : Step). s.item) b.5)))
-      (ap (λ x. x || b.1.writes) (ap (λ (s : Step). s.writes) a.5) ∙ (ap (λ x. w.0.writes || x) (ap (λ (s : Step). s.writes) b.5) ∙ same.1))
+      (ap (λ (s : UpdateOperation). s.item) a.5 ∙ (eqb-true w.0.item w.1.item same.0 ∙ sym (ap (λ (s : UpdateOperation). s.item) b.5)))
+      (ap (λ x. x || b.1.writes) (ap (λ (s : UpdateOperation). s.writes) a.5) ∙ (ap (λ x. w.0.writes || x) (ap (λ (s : UpdateOperation). s.writes) b.5) ∙ same.1))
       (nth us i) (nth us j) au bv (keeps i j 0 lt lj)
 
   pair_from : (i j : ℕ) → i < length us → j < length us → is_before h (nth us i) (nth us j) ≡ true → is_pair (turns (operations h) 0 us) i j ≡ true
   pair_from i j li lj is =
       let lt : i < j = up i j li lj is in
       let w = conflict_parts h (nth us i) (nth us j) is in
-      let a : Step = step_of (0 + i) w.0 in
-      let b : Step = step_of (0 + j) w.1 in
+      let a : UpdateOperation = placed_operation (0 + i) w.0 in
+      let b : UpdateOperation = placed_operation (0 + j) w.1 in
       let ne : a.place ≡ b.place → ⊥ = λ e. absurd (omega (arith, e, lt)) in
       ⊎_elim (λ t. t)
-      (λ t. let back = pair_parts (λ (a b : Step). a.place ≤ b.place) (tests j i) (turns (operations h) 0 us) (rises (operations h) 0 us) t in
+      (λ t. let back = pair_parts (λ (a b : UpdateOperation). a.place ≤ b.place) (tests j i) (turns (operations h) 0 us) (rises (operations h) 0 us) t in
       let q = and_parts (eqb back.0.place j) (eqb back.1.place i && clash back.0 back.1) back.4 in
       let pj : back.0.place ≡ j = eqb-true back.0.place j q.0 in
       let pi : back.1.place ≡ i = eqb-true back.1.place i (and_parts (eqb back.1.place i) (clash back.0 back.1) q.1).0 in
@@ -259,7 +259,7 @@ module _ (h : Schedule) (us : List ℕ) (once : AllPairs (λ u v. u ≢ v) us) (
       absurd (omega arith))
       (pair_total (tests i j) (tests j i) (turns (operations h) 0 us) a b
       (to_turns (operations h) 0 us i w.0 li w.2 w.4) (to_turns (operations h) 0 us j w.1 lj w.3 w.5)
-      (λ e. ne (ap (λ (s : Step). s.place) e))
+      (λ e. ne (ap (λ (s : UpdateOperation). s.place) e))
       (and_from (eqb a.place i) (eqb b.place j && clash a b) (eq-eqb a.place i (omega arith)) (and_from (eqb b.place j) (clash a b) (eq-eqb b.place j (omega arith)) (clash_from a b ne w.6 w.7)))
       (and_from (eqb b.place j) (eqb a.place i && clash b a) (eq-eqb b.place j (omega arith)) (and_from (eqb a.place i) (clash b a) (eq-eqb a.place i (omega arith)) (clash_from b a (λ e. ne (sym e)) (sym w.6) (or_swap w.0.writes w.1.writes w.7)))))
 

@@ -4,7 +4,7 @@ use Rattle.std.specs.List.{filter_map, range_with_len, last_or}
 use Rattle.esr_history.specs.Machine.{Schedule}
 use Rattle.esr_history.specs.Serial.{values_by}
 use Rattle.esr_history.specs.Queries.{updates_of}
-use Rattle.esr_order.specs.Steps.{Step}
+use Rattle.esr_order.specs.UpdateOperations.{UpdateOperation}
 use Rattle.esr_order.specs.declared.chains.Links.{Links}
 
 -- the updates that wrote an item, by their positions in commit order, and the values that they wrote last
@@ -60,12 +60,12 @@ abbrev pub chain_of : Schedule → ℕ → ℕ → Option Chain
 chain_of h q x = some_chain (chain_from (last_written h q x) (length (updates_of h q)))
 
 -- the last value that the update at position i wrote, of writes of one item
-abbrev pub last_in : List Step → ℕ → Option ℤ
+abbrev pub last_in : List UpdateOperation → ℕ → Option ℤ
 last_in writes i = last_of (map (λ s. s.value) (filter (λ s. s.place == i) writes))
 
--- the same of the steps of updates
-abbrev pub last_step : List Step → ℕ → ℕ → Option ℤ
-last_step steps x i = last_in (filter (λ s. s.writes && (s.item == x)) steps) i
+-- the same of the operations of updates
+abbrev pub last_by_update : List UpdateOperation → ℕ → ℕ → Option ℤ
+last_by_update operations x i = last_in (filter (λ s. s.writes && (s.item == x)) operations) i
 
 -- A chain that goes back, from the last writer to the first.
 

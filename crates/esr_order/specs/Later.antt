@@ -1,47 +1,48 @@
--- What is kept of some steps while the steps before them are gone through, from the last to the first: the chain of each
--- item, and the readers of each item until its next write.
+-- What is kept of some operations while those before them are gone through, from the last to the first: the chain of
+-- each item, and the readers of each item until its next write.
 use Rattle.std.specs.Prelude.{◌≡◌, ◌<◌, ◌==◌, ℕ, List, [], ◌∷◌, ◌++◌, Option, None, Some, length, slice_index_or, if◌then◌else◌}
-use Rattle.esr_order.specs.Steps.{Step}
+use Rattle.esr_order.specs.UpdateOperations.{UpdateOperation}
 use Rattle.esr_order.specs.Chains.{Chain, last_writer, with_write}
 
 abbrev pub nobody : Chain
 nobody = record { writers = []; values = [] }
 
--- a chain, and the readers, with a step before
-abbrev pub with_step : Chain → Step → Chain
-with_step c s = if s.writes then with_write c s.place s.value else c
+-- a chain, and the readers, with an operation before
+abbrev pub with_operation : Chain → UpdateOperation → Chain
+with_operation c s = if s.writes then with_write c s.place s.value else c
 
-abbrev pub with_reader : List ℕ → Step → List ℕ
+abbrev pub with_reader : List ℕ → UpdateOperation → List ℕ
 with_reader readers s = if s.writes then [] else readers ++ s.place ∷ []
 
 -- the chain of item x, back from the last writer to the first
-abbrev pub chain_back : ℕ → List Step → Chain
+abbrev pub chain_back : ℕ → List UpdateOperation → Chain
 chain_back x [] = nobody
-chain_back x (s ∷ steps) = if s.item == x then with_step (chain_back x steps) s else chain_back x steps
+chain_back x (s ∷ operations) =
+    if s.item == x then with_operation (chain_back x operations) s else chain_back x operations
 
 -- the positions of the reads of item x that no write of it comes before, back from the last to the first
-abbrev pub readers_of : ℕ → List Step → List ℕ
+abbrev pub readers_of : ℕ → List UpdateOperation → List ℕ
 readers_of x [] = []
-readers_of x (s ∷ steps) = if s.item == x then with_reader (readers_of x steps) s else readers_of x steps
+readers_of x (s ∷ operations) = if s.item == x then with_reader (readers_of x operations) s else readers_of x operations
 
 abbrev pub writer_in : Option ℕ → List ℕ
 writer_in None = []
 writer_in (Some w) = w ∷ []
 
--- the positions of later steps to which a step is tied: of the next write of its item, and for a write of the reads
--- until then
-abbrev pub ties_of : Chain → List ℕ → Step → List ℕ
+-- the positions of later operations to which an operation is tied: of the next write of its item, and for a write of the
+-- reads until then
+abbrev pub ties_of : Chain → List ℕ → UpdateOperation → List ℕ
 ties_of c readers s = writer_in (last_writer c) ++ (if s.writes then readers else [])
 
-abbrev pub later_ties : Step → List Step → List ℕ
+abbrev pub later_ties : UpdateOperation → List UpdateOperation → List ℕ
 later_ties s later = ties_of (chain_back s.item later) (readers_of s.item later) s
 
--- those of the steps of one update
-abbrev pub turn_ties : List Step → List Step → List ℕ
+-- those of the operations of one update
+abbrev pub turn_ties : List UpdateOperation → List UpdateOperation → List ℕ
 turn_ties [] later = []
 turn_ties (s ∷ turn) later = turn_ties turn later ++ later_ties s (turn ++ later)
 
 -- the chains and the readers of the items, by number
-pub record AreLater (links : List Chain) (rows : List (List ℕ)) (steps : List Step) : Type 0 where
-  pub chains : (x : ℕ) → x < length links → slice_index_or links x nobody ≡ chain_back x steps
-  pub readers : (x : ℕ) → x < length rows → slice_index_or rows x [] ≡ readers_of x steps
+pub record AreLater (links : List Chain) (rows : List (List ℕ)) (operations : List UpdateOperation) : Type 0 where
+  pub chains : (x : ℕ) → x < length links → slice_index_or links x nobody ≡ chain_back x operations
+  pub readers : (x : ℕ) → x < length rows → slice_index_or rows x [] ≡ readers_of x operations

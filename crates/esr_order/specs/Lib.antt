@@ -2,7 +2,7 @@ pub mod Placements
 pub mod Least
 pub mod Statements
 pub mod Scans
-pub mod Steps
+pub mod UpdateOperations
 pub mod Listing
 pub mod Ties
 pub mod Turns

@@ -1,15 +1,15 @@
--- Steps of updates that conflict, and pairs of positions.
+-- Operations of updates that conflict, and pairs of positions.
 use Rattle.std.specs.Prelude.{◌≡◌, ◌<◌, ◌⊎◌, ℕ, Bool, not, ◌&&◌, ◌||◌, ◌==◌, List}
 use Rattle.esr_history.specs.Serial.{any_pair}
-use Rattle.esr_order.specs.Steps.{Step}
+use Rattle.esr_order.specs.UpdateOperations.{UpdateOperation}
 
 -- of two positions, on one item, and at least one of them writes
-abbrev pub clash : Step → Step → Bool
+abbrev pub clash : UpdateOperation → UpdateOperation → Bool
 clash a b = not (a.place == b.place) && ((a.item == b.item) && (a.writes || b.writes))
 
--- whether a step at position i precedes one at position j that conflicts with it
-abbrev pub is_pair : List Step → ℕ → ℕ → Bool
-is_pair steps i j = any_pair (λ a b. (a.place == i) && ((b.place == j) && clash a b)) steps
+-- whether an operation at position i precedes one at position j that conflicts with it
+abbrev pub is_pair : List UpdateOperation → ℕ → ℕ → Bool
+is_pair operations i j = any_pair (λ a b. (a.place == i) && ((b.place == j) && clash a b)) operations
 
 -- ascending by the first, and then by the second
 abbrev pub IsBelow : ℕ × ℕ → ℕ × ℕ → Type 0

@@ -4,24 +4,24 @@ use Rattle.esr_history.specs.declared.event.TxnId.{TxnId}
 use Rattle.esr_history.specs.Machine.{Schedule}
 use Rattle.esr_history.specs.Operations.{Operation, operations}
 use Rattle.esr_order.specs.declared.accesses.Access.{Access}
-use Rattle.esr_order.specs.Steps.{Step}
+use Rattle.esr_order.specs.UpdateOperations.{UpdateOperation}
 
 -- an operation, and an access, of the update at position i
-abbrev pub step_of : ℕ → Operation → Step
-step_of i o = record { place = i; item = o.item; writes = o.writes; value = o.value }
+abbrev pub placed_operation : ℕ → Operation → UpdateOperation
+placed_operation i o = record { place = i; item = o.item; writes = o.writes; value = o.value }
 
-abbrev pub step_at : ℕ → Access → Step
-step_at i a = record { place = i; item = a.item.0; writes = a.writes; value = a.value }
+abbrev pub operation_at : ℕ → Access → UpdateOperation
+operation_at i a = record { place = i; item = a.item.0; writes = a.writes; value = a.value }
 
 -- the operations of t, which has position i
-abbrev pub turn : List Operation → ℕ → ℕ → List Step
-turn os i t = map (step_of i) (filter (λ o. o.txn == t) os)
+abbrev pub turn : List Operation → ℕ → ℕ → List UpdateOperation
+turn os i t = map (placed_operation i) (filter (λ o. o.txn == t) os)
 
 -- those of some updates, of which the first has position i
-abbrev pub turns : List Operation → ℕ → List ℕ → List Step
+abbrev pub turns : List Operation → ℕ → List ℕ → List UpdateOperation
 turns os i [] = []
 turns os i (t ∷ ts) = turn os i t ++ turns os (i + 1) ts
 
 -- what some updates did
-abbrev pub steps_of : Schedule → List TxnId → List Step
-steps_of h updates = turns (operations h) 0 (map (λ t. t.0) updates)
+abbrev pub update_operations : Schedule → List TxnId → List UpdateOperation
+update_operations h updates = turns (operations h) 0 (map (λ t. t.0) updates)

@@ -4,10 +4,10 @@
 mod accesses;
 mod chains;
 mod laws;
+mod operations;
 mod order;
 mod scan;
 mod search;
-mod steps;
 mod ties;
 mod walk;
 

@@ -1,6 +1,7 @@
 ghost use Rattle.std.specs.Prelude.{◌≡◌, ◌↔◌, ◌<◌, ◌≤◌, ◌*◌, ◌^◌, length, map, filter, ℕ, All, AllPairs, ◌≢◌, false, IfOk, IsErrOf};
 ghost use Rattle.std.specs.List.{range_with_len};
 ghost use Rattle.std.specs.Option.{option_map};
+ghost use Rattle.esr_history.specs.declared.limits.TheConstants.{MOST_TRANSACTIONS};
 ghost use Rattle.esr_history.specs.Queries.{is_committed_query};
 ghost use Rattle.esr_order.specs.Chains.{seen_links};
 ghost use Rattle.esr_order.specs.Orders.{IsOrderOf, IsOrderAmong, chain_at, operations_of};
@@ -13,9 +14,9 @@ ghost use Rattle.esr_history.specs.Machine.{done};
 ghost use Rattle.esr_history.specs.Operations.{commit_order, operations};
 
 use crate::chains::Links;
+use crate::operations::gather;
 use crate::scan::{committed, count_must, is_committed_query, updates_before};
 use crate::search::near_of;
-use crate::steps::gather;
 use esr_history::{History, TxnId};
 use esr_items::{ItemId, Metric};
 use std::alloc::{AllocError, Global};
@@ -89,7 +90,7 @@ fn among<M: Metric>(
     writers: &[u32],
 ) -> Result<Order, AllocError>
     requires once { AllPairs (λ t u. t ≢ u) (map (λ t. t.0) commits.items) }
-    requires few { length commits.items ≤ 65535 }
+    requires few { length commits.items ≤ MOST_TRANSACTIONS }
     requires keeps { AllPairs (λ u v. is_before history.now.schedule v u ≡ false) (map (λ t. t.0) commits.items) }
     requires first { first ≤ length commits.items }
     ensures commits { IfOk result (λ o. o.commits ≡ commits.items) }

@@ -6,7 +6,7 @@ use Rattle.esr_history.specs.Machine.{Schedule, charges_in, import_in}
 use Rattle.esr_history.specs.Queries.{is_committed_query}
 use Rattle.esr_cert.specs.Views.{certificate_of}
 use Rattle.esr_order.specs.Least.{least_set, least_cost}
-use Rattle.esr_audit.specs.Findings.{IsShown, told, told_of}
+use Rattle.esr_audit.specs.Findings.{IsShown, summary, summary_of}
 use Rattle.esr_script.specs.declared.asked.Asked.{Asked}
 use Rattle.esr_script.specs.Ask.{IsAnswered}
 use Rattle.esr_script.specs.Certify.{IsFound}
@@ -38,7 +38,7 @@ module _ (s : State) (items names : List (List ℕ)) (was : Bool) (first h : Sch
     transactions = t ∙ ap (λ (z : State). z.transactions) seen;
     history = is ∙ history_is;
     committed = both (λ k n. is_committed_query k n ≡ true) committed;
-    told = both (λ k n. told a.finding ≡ told_of weighted k n) (four (ap (λ (t : TxnId). t.0) query) distance import before);
+    told = both (λ k n. summary a.finding ≡ summary_of weighted k n) (four (ap (λ (t : TxnId). t.0) query) distance import before);
     found = both (λ k n. IsFound k n a.finding.problem (certificate_of a.finding.certificate))
         (record { stands = shown.stands; certified = shown.certified; set_is = sym shown.set_is ∙ before; counted = shown.counted });
   }

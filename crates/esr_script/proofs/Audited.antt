@@ -7,7 +7,7 @@ use Rattle.std.proofs.lemmas.Grind.{flat_map-append}
 use Rattle.esr_history.specs.Machine.{Schedule}
 use Rattle.esr_history.specs.Serial.{committed_updates}
 use Rattle.esr_history.specs.Totals.{all_imports, all_exports}
-use Rattle.esr_audit.specs.Findings.{told_of, committed_queries}
+use Rattle.esr_audit.specs.Findings.{summary_of, committed_queries}
 use Rattle.esr_report.specs.Lines.{order_line, totals_line}
 use Rattle.esr_script.specs.declared.fault.RunFault.{RunFault}
 use Rattle.esr_items.specs.Weights.{weighted}
@@ -31,7 +31,7 @@ lines_of_map f g (x ∷ xs) = ap (λ l. f (g x) ++ l) (lines_of_map f g xs)
 pub book_lines : {E : Type 0} (r : Result (Unit {0}) RunFault) (p : Result (Unit {0}) E) (items names : List (List ℕ)) (was : Bool) (h0 h : Schedule) (s : State)
     (order : List ℕ) (tolds : List (ℕ × ℕ × ℕ × List ℕ)) (imports exports entries : ℕ) (out grown : List ℕ)
     → record { items = items; transactions = names; closed = was; history = h0 } ≡ s → h ≡ h0
-    → order ≡ committed_updates h → tolds ≡ map (told_of weighted h) (committed_queries h) → imports ≡ all_imports weighted h → exports ≡ all_exports weighted h → entries ≡ length h.entries
+    → order ≡ committed_updates h → tolds ≡ map (summary_of weighted h) (committed_queries h) → imports ≡ all_imports weighted h → exports ≡ all_exports weighted h → entries ≡ length h.entries
     → IsOk r ↔ IsOk p → OnOk p (grown ≡ out ++ order_line names order ++ flat_map (told_line names) tolds ++ totals_line imports exports entries)
     → OnOk r (grown ≡ out ++ audit_output s)
 book_lines {E} r p items names was h0 h s order tolds imports exports entries out grown seen same o t i e n said lines = ended r p said lines

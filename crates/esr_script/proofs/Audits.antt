@@ -4,13 +4,14 @@ use Rattle.std.specs.Prelude.{◌↔◌, IsErrOf, IsOk}
 use Rattle.esr_history.specs.declared.event.TxnId.{TxnId}
 use Rattle.esr_history.specs.Machine.{Distance, Schedule, charges_in, import_in}
 use Rattle.esr_history.specs.Queries.{is_committed_query}
+use Rattle.esr_cert.specs.Views.{certificate_of}
 use Rattle.esr_order.specs.Placements.{is_among}
 use Rattle.esr_order.specs.Least.{least_set, least_cost}
 use Rattle.esr_order.proofs.Least.{law_of_listed_sets}
 use Rattle.esr_audit.specs.declared.finding.Finding.{Finding}
 use Rattle.esr_audit.specs.declared.finding.AuditError.{AuditError}
 use Rattle.esr_audit.specs.declared.finding.AuditError.TheVariants.{NotACommittedQuery}
-use Rattle.esr_audit.specs.Findings.{IsAnswer}
+use Rattle.esr_audit.specs.Findings.{IsShown, IsFindingOf}
 use Rattle.esr_report.specs.Lines.{audit_line, error_line}
 use Rattle.esr_report.specs.declared.lines.LineError.TheVariants as errors
 use Rattle.esr_script.specs.declared.fault.RunFault.{RunFault}
@@ -19,20 +20,21 @@ use Rattle.esr_script.specs.Text.{State, transaction_called, audit_text}
 use Rattle.std.proofs.lemmas.Grind.{common_steps}
 
 module _ (d : Distance) (h : Schedule) (q : ℕ) where
-  abbrev pub Answers : Finding → Type 0
-  Answers f = IsAnswer d h q f.distance f.import (map (λ t. t.0) f.before.items)
-
-  pub distance_is : (r : Result Finding AuditError) → IfOk r Answers → IfOk r (λ f. f.distance ≡ least_cost d h q)
-  distance_is (Ok f) a = a.distance_is ∙ (law_of_listed_sets d h q (is_among (map (λ t. t.0) f.before.items)) a.smallest).1
+  pub distance_is : (r : Result Finding AuditError) → IfOk r (IsFindingOf d h q) → IfOk r (λ f. f.distance ≡ least_cost d h q)
+  distance_is (Ok f) a = a.answer.distance_is ∙ (law_of_listed_sets d h q (is_among (map (λ t. t.0) f.before.items)) a.answer.smallest).1
   distance_is (Err e) a = tt
 
-  pub import_is : (r : Result Finding AuditError) → IfOk r Answers → IfOk r (λ f. f.import ≡ import_in (charges_in d h) q)
-  import_is (Ok f) a = a.import_is
+  pub import_is : (r : Result Finding AuditError) → IfOk r (IsFindingOf d h q) → IfOk r (λ f. f.import ≡ import_in (charges_in d h) q)
+  import_is (Ok f) a = a.answer.import_is
   import_is (Err e) a = tt
 
-  pub before_is : (r : Result Finding AuditError) → IfOk r Answers → IfOk r (λ f. map (λ t. t.0) f.before.items ≡ least_set d h q)
-  before_is (Ok f) a = a.in_order ∙ (law_of_listed_sets d h q (is_among (map (λ t. t.0) f.before.items)) a.smallest).0
+  pub before_is : (r : Result Finding AuditError) → IfOk r (IsFindingOf d h q) → IfOk r (λ f. map (λ t. t.0) f.before.items ≡ least_set d h q)
+  before_is (Ok f) a = a.answer.in_order ∙ (law_of_listed_sets d h q (is_among (map (λ t. t.0) f.before.items)) a.answer.smallest).0
   before_is (Err e) a = tt
+
+  pub shown_is : (r : Result Finding AuditError) → IfOk r (IsFindingOf d h q) → IfOk r (λ f. IsShown d h q f.distance (map (λ t. t.0) f.before.items) f.problem (certificate_of f.certificate))
+  shown_is (Ok f) a = a.shown
+  shown_is (Err e) a = tt
 
   pub committed : (r : Result Finding AuditError) → IsErrOf r NotACommittedQuery ↔ (is_committed_query h q ≡ false) → IfOk r (λ f. is_committed_query h q ≡ true)
   committed (Ok f) refused = grind (arith, common_steps)

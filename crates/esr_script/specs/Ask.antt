@@ -4,7 +4,7 @@ use Rattle.std.specs.declared.alloc.Global.{Global}
 use Rattle.esr_items.specs.Weights.{weighted}
 use Rattle.esr_history.specs.Queries.{is_committed_query}
 use Rattle.esr_cert.specs.Views.{certificate_of}
-use Rattle.esr_audit.specs.Findings.{told, told_of}
+use Rattle.esr_audit.specs.Findings.{summary, summary_of}
 use Rattle.esr_script.specs.declared.asked.Asked.{Asked}
 use Rattle.esr_script.specs.declared.fault.RunFault.{RunFault}
 use Rattle.esr_script.specs.Text.{State, transaction_called, final}
@@ -19,7 +19,7 @@ pub record IsAnswered (s : State) (name : List ℕ) (a : Asked) : Type 0 where
   pub transactions : a.transactions ≡ s.transactions
   pub history : a.history.schedule ≡ s.history
   pub committed : is_committed_query s.history (transaction_called s name).0 ≡ true
-  pub told : told a.finding ≡ told_of weighted s.history (transaction_called s name).0
+  pub told : summary a.finding ≡ summary_of weighted s.history (transaction_called s name).0
   pub found : IsFound s.history (transaction_called s name).0 a.finding.problem (certificate_of a.finding.certificate)
 
 -- Asking for the query of that name, given the input, left these bytes of it and ended so.

@@ -3,7 +3,7 @@ use Rattle.std.specs.Prelude.{◌≡◌, ℕ, List, ◌++◌, Option, Result, ma
 use Rattle.std.specs.List.{flat_map}
 use Rattle.esr_history.specs.Serial.{committed_updates}
 use Rattle.esr_history.specs.Totals.{all_imports, all_exports}
-use Rattle.esr_audit.specs.Findings.{told_of, committed_queries}
+use Rattle.esr_audit.specs.Findings.{summary_of, committed_queries}
 use Rattle.esr_report.specs.Names.{name_of_transaction}
 use Rattle.esr_report.specs.Lines.{audit_line, order_line, totals_line}
 use Rattle.esr_script.specs.declared.fault.RunFault.{RunFault}
@@ -23,7 +23,7 @@ abbrev pub audit_output : State → List ℕ
 audit_output s =
     let h = s.history in
     order_line s.transactions (committed_updates h)
-    ++ flat_map (told_line s.transactions) (map (told_of weighted h) (committed_queries h))
+    ++ flat_map (told_line s.transactions) (map (summary_of weighted h) (committed_queries h))
     ++ totals_line (all_imports weighted h) (all_exports weighted h) (length h.entries)
 
 -- The audit of a script, given the input, left these bytes of it, ended so and wrote this. It asks for no one query.

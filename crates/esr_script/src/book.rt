@@ -3,7 +3,7 @@
 ghost use Rattle.std.specs.Prelude.{◌≡◌, ◌++◌, OnOk, map};
 ghost use Rattle.std.specs.List.{flat_map};
 ghost use Rattle.esr_report.specs.Lines.{order_line, totals_line};
-ghost use Rattle.esr_audit.specs.Findings.{told};
+ghost use Rattle.esr_audit.specs.Findings.{summary};
 ghost use Rattle.esr_script.specs.Audit.{told_line};
 
 use esr_audit::{Book, Finding};
@@ -13,7 +13,7 @@ use std::alloc::AllocError;
 
 /// Appends the line of what was found of a query.
 fn push_finding(out: &mut Vec<u8>, names: &Names, finding: &Finding) -> Result<(), AllocError>
-    ensures { OnOk result (out.new.items ≡ out.old.items ++ told_line names.now (told finding.now)) }
+    ensures { OnOk result (out.new.items ≡ out.old.items ++ told_line names.now (summary finding.now)) }
 {
     audit_line(
         out,
@@ -28,7 +28,7 @@ fn push_finding(out: &mut Vec<u8>, names: &Names, finding: &Finding) -> Result<(
 /// Appends the lines of what was found of queries.
 #[tactic(auto, using(crate::proofs::Audited::lines_more))]
 fn push_findings(out: &mut Vec<u8>, names: &Names, findings: &[Finding]) -> Result<(), AllocError>
-    ensures { OnOk result (out.new.items ≡ out.old.items ++ flat_map (told_line names.now) (map told findings.now)) }
+    ensures { OnOk result (out.new.items ≡ out.old.items ++ flat_map (told_line names.now) (map summary findings.now)) }
 {
     for finding in findings {
         push_finding(out, names, finding)?;
@@ -45,7 +45,7 @@ pub fn push_audit(
 ) -> Result<(), AllocError>
     ensures { OnOk result (out.new.items ≡ out.old.items
         ++ order_line names.now (map (λ t. t.0) book.now.order.items)
-        ++ flat_map (told_line names.now) (map told book.now.findings.items)
+        ++ flat_map (told_line names.now) (map summary book.now.findings.items)
         ++ totals_line totals.import totals.export totals.entries) }
 {
     order_line(out, names, &book.order)?;

@@ -3,12 +3,11 @@
 ghost use Rattle.esr_history.specs.declared.limits.TheConstants.{MOST_ENTRIES};
 ghost use Rattle.std.specs.Prelude.{◌≡◌, ◌≢◌, ◌≤◌, ◌⊎◌, true, false, length, map, IfOk, OnOk, OnErr, IfErr, IsErrOf};
 ghost use Rattle.esr_history.specs.Machine.{reply_to, extended, charges_in, import_in};
-ghost use Rattle.esr_history.specs.Serial.{committed_updates};
 ghost use Rattle.esr_history.specs.Totals.{all_imports, all_exports};
 ghost use Rattle.esr_history.specs.Queries.{is_committed_query};
 ghost use Rattle.esr_cert.specs.Views.{certificate_of};
 ghost use Rattle.esr_order.specs.Least.{least_set, least_cost};
-ghost use Rattle.esr_audit.specs.Findings.{IsShown, told, told_of, committed_queries};
+ghost use Rattle.esr_audit.specs.Findings.{IsShown, IsBook};
 ghost use Rattle.esr_items.specs.Weights.{weighted};
 
 use crate::fault::RunFault;
@@ -105,7 +104,7 @@ impl Stage {
     }
 
     /// What the audit of a transaction finds.
-    #[tactic(auto, using(crate::proofs::Audits::distance_is, crate::proofs::Audits::import_is, crate::proofs::Audits::before_is, crate::proofs::Audits::committed))]
+    #[tactic(auto, using(crate::proofs::Audits::distance_is, crate::proofs::Audits::import_is, crate::proofs::Audits::before_is, crate::proofs::Audits::shown_is, crate::proofs::Audits::committed))]
     pub fn audit(&self, alloc: Global, q: TxnId) -> Result<Finding, AuditError>
         requires { is_running self.now ≡ true }
         ensures query { IfOk result (λ f. f.query ≡ q) }
@@ -135,9 +134,7 @@ impl Stage {
     ) -> Result<Book, RunFault>
         requires running { is_running self.now ≡ true }
         requires workers { (1 ≤ workers) × (workers ≤ 64) }
-        ensures order { IfOk result (λ b. map (λ t. t.0) b.order.items ≡ committed_updates (history_of self.now)) }
-        ensures told { IfOk result (λ b. map told b.findings.items
-            ≡ map (told_of weighted (history_of self.now)) (committed_queries (history_of self.now))) }
+        ensures book { IfOk result (IsBook weighted (history_of self.now)) }
         ensures faults { IfErr result (λ e. e ≡ RunFault.NoMemory) }
     {
         let Stage::Running(machine) = self else {

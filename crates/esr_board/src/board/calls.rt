@@ -4,7 +4,7 @@ ghost use Rattle.esr_board.specs.Claims.{count_past, Drew, hand, EachOnceBelow, 
 ghost use Rattle.esr_board.specs.Boards.{IsSeatOf, drawn, hand_of, all_drawn, jobs_of, seats_of};
 
 use super::{Board, BoardError, BoardSeat, ClaimsMissing, MOST_JOBS, MOST_SEATS};
-use crate::hand::{Hand, Plan};
+use crate::hand::{BoardSize, Hand};
 use crate::rule::{Admit, Claim, Fair, Gather};
 use atomic_table::{Seat, Table};
 use std::alloc::{AllocError, Global};
@@ -24,7 +24,7 @@ fn fresh(seat: Seat<(), Hand>) -> BoardSeat
 /// The seats of a table whose only seat so far has all passes.
 fn admitted(
     alloc: Global,
-    table: &Table<(), Hand, Plan, Fair, Global>,
+    table: &Table<(), Hand, BoardSize, Fair, Global>,
     mut first: Seat<(), Hand>,
     seats: u64,
 ) -> Result<Vec<BoardSeat>, AllocError>
@@ -52,9 +52,9 @@ impl Board {
         ensures board { IfOk result (λ made. (jobs_of made.0 ≡ jobs) × (seats_of made.0 ≡ seats)) }
         ensures seats { IfOk result (λ made. (vec_len made.1 ≡ seats)
             × All (λ s. IsSeatOf made.0 s × (drawn s ≡ [])) made.1.items) }
-        ensures too_many_jobs { (result ≡ Err BoardError.TooManyJobs) ↔ (65535 < jobs) }
+        ensures too_many_jobs { (result ≡ Err BoardError.TooManyJobs) ↔ (MOST_JOBS < jobs) }
         ensures seats_out_of_range { (result ≡ Err BoardError.SeatsOutOfRange)
-            ↔ ((jobs ≤ 65535) × ((seats ≡ 0) ⊎ (64 < seats))) }
+            ↔ ((jobs ≤ MOST_JOBS) × ((seats ≡ 0) ⊎ (MOST_SEATS < seats))) }
     {
         if jobs > MOST_JOBS {
             return Err(BoardError::TooManyJobs);
@@ -62,8 +62,8 @@ impl Board {
         if seats == 0 || seats > MOST_SEATS {
             return Err(BoardError::SeatsOutOfRange);
         }
-        let plan = Plan { jobs, seats };
-        let Ok((table, first)) = Table::of_words(alloc, &[0, jobs, seats], &plan) else {
+        let size = BoardSize { jobs, seats };
+        let Ok((table, first)) = Table::of_words(alloc, &[0, jobs, seats], &size) else {
             return Err(BoardError::NoMemory);
         };
         let Ok(made) = admitted(alloc, &table, first, seats) else {

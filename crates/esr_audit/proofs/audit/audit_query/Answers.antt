@@ -9,15 +9,15 @@ use Rattle.esr_history.specs.Machine.{Distance, Schedule, IsLegal, done}
 use Rattle.esr_history.specs.Queries.{is_committed_query}
 use Rattle.esr_audit.specs.declared.finding.Finding.{Finding}
 use Rattle.esr_audit.specs.declared.finding.AuditError.{AuditError}
-use Rattle.esr_audit.specs.Findings.{IsAnswer}
+use Rattle.esr_audit.specs.Findings.{IsAnswer, IsFindingOf}
 use Rattle.esr_audit.proofs.Stays as answer
 use Rattle.esr_audit.proofs.audit.audit_query.Goals as goal
 
 -- where there is an answer, it stays
 stays : (d : Distance) (h : Schedule) (q : ℕ) (r : Result Finding AuditError) → is_committed (done h) q ≡ true
-    → IfOk r (λ f. IsAnswer d h q f.distance f.import (map (λ (t : TxnId). t.0) f.before.items))
+    → IfOk r (IsFindingOf d h q)
     → IfOk r (λ f. (rest : List Entry) → IsLegal d (along h rest) → IsAnswer d (along h rest) q f.distance f.import (map (λ (t : TxnId). t.0) f.before.items))
-stays d h q (Ok f) committed a = answer.stays d h q f.distance f.import (map (λ (t : TxnId). t.0) f.before.items) committed a
+stays d h q (Ok f) committed a = answer.stays d h q f.distance f.import (map (λ (t : TxnId). t.0) f.before.items) committed a.answer
 stays d h q (Err e) committed a = tt
 
 pub returns-clause-stays : goal.returns-clause-stays
@@ -26,4 +26,4 @@ returns-clause-stays g c =
       | inl is ↦ is
       | inr isnt ↦ let none = c.in_ok-order.ensures.refused.1 isnt in absurd (cc)
     ] in
-    stays g.M.Metric.distance_by c.args.history.now.schedule c.args.q.0 c.find.result (and_parts (is_query (done c.args.history.now.schedule) c.args.q.0) (is_committed (done c.args.history.now.schedule) c.args.q.0) both).1 c.find.ensures.answer
+    stays g.M.Metric.distance_by c.args.history.now.schedule c.args.q.0 c.find.result (and_parts (is_query (done c.args.history.now.schedule) c.args.q.0) (is_committed (done c.args.history.now.schedule) c.args.q.0) both).1 c.find.ensures.finding

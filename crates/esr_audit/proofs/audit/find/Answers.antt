@@ -12,8 +12,8 @@ use Rattle.esr_audit.proofs.audit.find.Goals as goal
 found : (g : Over) (c : goal.In_ok-before g) → map (λ (t : TxnId). t.0) c.in_ok-before.before.items ≡ filter_map (slice_get c.in_ok-problem.problem.updates) c.in_ok-certificate.certificate.set.items
 found g c = found_of c.in_ok-problem.problem c.updates.result.now c.in_ok-before.before.items c.updates.ensures.list c.in_ok-certificate.certificate.set.items (c.in_ok-before.ensures ∙ ap (filter_map (slice_get c.updates.result.now)) c.deref.ensures.value)
 
-pub returns-clause-answer : goal.returns-clause-answer
-returns-clause-answer g c =
+answer : (g : Over) (c : goal.In_ok-before g) → IsAnswer g.M.Metric.distance_by c.args.history.now.schedule c.args.q.0 c.in_ok-certificate.certificate.worth c.import-import.result (map (λ (t : TxnId). t.0) c.in_ok-before.before.items)
+answer g c =
     let d = g.M.Metric.distance_by in
     let h = c.args.history.now.schedule in
     let legal = c.log-legal.ensures.legal in
@@ -22,5 +22,9 @@ returns-clause-answer g c =
     subst (λ (n : ℕ). IsAnswer d h c.args.q.0 c.in_ok-certificate.certificate.worth n (map (λ (t : TxnId). t.0) c.in_ok-before.before.items)) (sym c.import-import.ensures)
     (subst (IsAnswer d h c.args.q.0 c.in_ok-certificate.certificate.worth _) (sym (found g c)) a)
 
-pub returns-clause-shown : goal.returns-clause-shown
-returns-clause-shown g c = record { stands = c.in_ok-problem.ensures.stands; certified = c.in_ok-certificate.ensures.certifies; set_is = found g c; worth_is = refl; counted = c.in_ok-certificate.ensures.counted }
+pub returns-clause-finding : goal.returns-clause-finding
+returns-clause-finding g c = record {
+  answer = answer g c;
+  shown = record { stands = c.in_ok-problem.ensures.stands; certified = c.in_ok-certificate.ensures.certifies; set_is = found g c; worth_is = refl; counted = c.in_ok-certificate.ensures.counted };
+  near = c.in_ok-problem.ensures.near;
+}

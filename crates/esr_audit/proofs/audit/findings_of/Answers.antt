@@ -3,7 +3,7 @@ use Rattle.std.proofs.lemmas.List.{map-append, take_more}
 use Rattle.std.proofs.lemmas.List.Elements.{All-push}
 use Rattle.esr_history.specs.declared.event.TxnId.{TxnId}
 use Rattle.esr_audit.specs.declared.finding.Finding.{Finding}
-use Rattle.esr_audit.specs.Findings.{IsFinding}
+use Rattle.esr_audit.specs.Findings.{IsFinding, IsFindingOf}
 use Rattle.esr_audit.proofs.audit.findings_of.Goals as goal
 
 pub loop-q-preserved : goal.loop-q-preserved
@@ -16,5 +16,6 @@ loop-q-preserved g c =
           ∙ ap (λ (q : TxnId). take c.loop-q.q-index c.args.queries.now ++ q ∷ []) c.in_ok-finding.ensures.query
           ∙ sym (take_more c.args.queries.now c.loop-q.q-index (record { 0 = 0 }) c.loop-q-test.true),
       subst (All (IsFinding g.M.Metric.distance_by c.args.history.now.schedule)) (sym new)
-          (All-push (IsFinding g.M.Metric.distance_by c.args.history.now.schedule) c.loop-q.findings.items f c.loop-q.invariant.1 c.in_ok-finding.ensures.finding),
+          (All-push (IsFinding g.M.Metric.distance_by c.args.history.now.schedule) c.loop-q.findings.items f c.loop-q.invariant.1
+          (subst (λ (q : TxnId). IsFindingOf g.M.Metric.distance_by c.args.history.now.schedule q.0 f) (sym c.in_ok-finding.ensures.query) c.in_ok-finding.ensures.finding)),
     )

@@ -6,7 +6,7 @@ use Rattle.esr_audit.proofs.chains.chains_of.Given as goal
 
 abbrev pub invariant-loop-x : goal.invariant-loop-x
 invariant-loop-x g l = record {
-  chains : map chain_view l.chains.items ≡ map (gathered (g.M.Metric.distance_by l.history.schedule.weights) l.history.schedule.opening l.initial.order l.readings) (items_in l.readings l.x);
+  chains : map chain_view l.chains.items ≡ map (gathered (g.M.Metric.distance_by l.history.schedule.weights) l.history.schedule.opening l.initial.order l.reads) (items_in l.reads l.x);
   left : (y : ℕ) → l.x ≤ y → chain_at l.order y ≡ chain_at l.initial.order y;
   commits : l.order.commits ≡ l.initial.order.commits;
   before : l.order.before ≡ l.initial.order.before;

@@ -11,21 +11,21 @@ use Rattle.esr_audit.proofs.problem.problem_of.Goals as goal
 
 pub chains_of-requires-clause-few : goal.chains_of-requires-clause-few
 chains_of-requires-clause-few g c =
-    posed.readings_few g.M.Metric.distance_by c.args.history.now.schedule c.args.q.0 c.log-legal.ensures.legal c.log-legal.ensures.range c.deref.result.now (c.deref.ensures.value ∙ c.in_ok-readings.ensures) c.requires.query
+    posed.item_reads_few g.M.Metric.distance_by c.args.history.now.schedule c.args.q.0 c.log-legal.ensures.legal c.log-legal.ensures.range c.deref.result.now (c.deref.ensures.value ∙ c.in_ok-reads.ensures) c.requires.query
 
-pub chains_of-requires-clause-readings : goal.chains_of-requires-clause-readings
-chains_of-requires-clause-readings g c =
-    posed.readings_in_range g.M.Metric.distance_by c.args.history.now.schedule c.args.q.0 c.log-legal.ensures.legal c.log-legal.ensures.range c.deref.result.now (c.deref.ensures.value ∙ c.in_ok-readings.ensures)
+pub chains_of-requires-clause-reads : goal.chains_of-requires-clause-reads
+chains_of-requires-clause-reads g c =
+    posed.item_reads_in_range g.M.Metric.distance_by c.args.history.now.schedule c.args.q.0 c.log-legal.ensures.legal c.log-legal.ensures.range c.deref.result.now (c.deref.ensures.value ∙ c.in_ok-reads.ensures)
 
 pub chains_of-requires-clause-versions : goal.chains_of-requires-clause-versions
 chains_of-requires-clause-versions g c =
     posed.versions_in_range g.M.Metric.distance_by c.args.history.now.schedule c.args.q.0 c.log-legal.ensures.legal c.log-legal.ensures.range (map (λ (t : TxnId). t.0) c.args.order.commits) c.requires.near c.args.order c.requires.order
 
 -- the parts of the problem are those gathered from the order
-posed_here : (g : Over) (c : goal.After-drop-readings-2 g) → problem_of c.into_parts-updates.result.0.items c.into_parts-updates.result.1.items c.in_ok-chains.chains.items c.into_parts-updates.result.2.items
+posed_here : (g : Over) (c : goal.After-drop-reads-2 g) → problem_of c.into_parts-updates.result.0.items c.into_parts-updates.result.1.items c.in_ok-chains.chains.items c.into_parts-updates.result.2.items
     ≡ problem_from g.M.Metric.distance_by c.args.history.now.schedule c.args.q.0 c.args.order
 posed_here g c =
-    posed.posed g.M.Metric.distance_by c.args.history.now.schedule c.args.q.0 c.log-legal.ensures.legal c.log-legal.ensures.range (map (λ (t : TxnId). t.0) c.args.order.commits) c.requires.near c.args.order c.requires.order c.deref.result.now (c.deref.ensures.value ∙ c.in_ok-readings.ensures)
+    posed.posed g.M.Metric.distance_by c.args.history.now.schedule c.args.q.0 c.log-legal.ensures.legal c.log-legal.ensures.range (map (λ (t : TxnId). t.0) c.args.order.commits) c.requires.near c.args.order c.requires.order c.deref.result.now (c.deref.ensures.value ∙ c.in_ok-reads.ensures)
     _ _ _ _
     (c.into_parts-updates.ensures.commits ∙ c.in_ok-chains.ensures.commits)
     (c.into_parts-updates.ensures.before ∙ c.in_ok-chains.ensures.before)
@@ -34,7 +34,7 @@ posed_here g c =
 
 pub of_sound-requires : goal.of_sound-requires
 of_sound-requires g c = record {
-  sound = ap is_sound (posed.posed g.M.Metric.distance_by c.args.history.now.schedule c.args.q.0 c.log-legal.ensures.legal c.log-legal.ensures.range (map (λ (t : TxnId). t.0) c.args.order.commits) c.requires.near c.args.order c.requires.order c.deref.result.now (c.deref.ensures.value ∙ c.in_ok-readings.ensures)
+  sound = ap is_sound (posed.posed g.M.Metric.distance_by c.args.history.now.schedule c.args.q.0 c.log-legal.ensures.legal c.log-legal.ensures.range (map (λ (t : TxnId). t.0) c.args.order.commits) c.requires.near c.args.order c.requires.order c.deref.result.now (c.deref.ensures.value ∙ c.in_ok-reads.ensures)
       _ _ _ _
       (c.into_parts-updates.ensures.commits ∙ c.in_ok-chains.ensures.commits)
       (c.into_parts-updates.ensures.before ∙ c.in_ok-chains.ensures.before)

@@ -1,18 +1,18 @@
 use Rattle.std.proofs.Common.{rules, ℕ, ◌<◌, length}
 use Rattle.esr_audit.specs.declared.finding.Finding.{Finding}
-use Rattle.esr_board.specs.Shares.{IsFindingOf}
+use Rattle.esr_board.specs.Shares.{IsFindingFor}
 use Rattle.esr_board.proofs.Closes.{all_popped}
 use Rattle.esr_board.proofs.Slots.{put_share, put_right, put_kept, put_filled}
 use Rattle.esr_board.proofs.parallel.put_in_order.Goals as goal
 
 pub index_mut-requires : goal.index_mut-requires
 index_mut-requires g c =
-    let below : c.in-Some.job < length c.loop-job.slots.items = (all_popped (λ (p : ℕ × Finding). (p.0 < length c.loop-job.slots.items) × IsFindingOf g.M.Metric.distance_by c.args.history.now.schedule c.args.jobs.now p.0 p.1) _ _ (c.in-Some.job, c.in-Some.finding) c.in-Some.ensures.items c.loop-job.invariant.share).1.0 in
+    let below : c.in-Some.job < length c.loop-job.slots.items = (all_popped (λ (p : ℕ × Finding). (p.0 < length c.loop-job.slots.items) × IsFindingFor g.M.Metric.distance_by c.args.history.now.schedule c.args.jobs.now p.0 p.1) _ _ (c.in-Some.job, c.in-Some.finding) c.in-Some.ensures.items c.loop-job.invariant.share).1.0 in
     search rules
 
 pub loop-job-preserved-in-Some : goal.loop-job-preserved-in-Some
 loop-job-preserved-in-Some g c = let e = c.in-Some.ensures.items in let was = c.loop-job.invariant in let d = g.M.Metric.distance_by in let h = c.args.history.now.schedule in let q = c.args.jobs.now in let job = c.in-Some.job in let f = c.in-Some.finding in
-    let here = (all_popped (λ (p : ℕ × Finding). (p.0 < length c.loop-job.slots.items) × IsFindingOf d h q p.0 p.1) _ _ (job, f) e was.share).1 in record {
+    let here = (all_popped (λ (p : ℕ × Finding). (p.0 < length c.loop-job.slots.items) × IsFindingFor d h q p.0 p.1) _ _ (job, f) e was.share).1 in record {
       len = search rules;
       share = put_share d h q c.loop-job.slots.items job f here.0 _ _ e was.share;
       right = put_right d h q c.loop-job.slots.items job f here.0 here.1 was.right;
@@ -22,7 +22,7 @@ loop-job-preserved-in-Some g c = let e = c.in-Some.ensures.items in let was = c.
 
 pub loop-job-preserved : goal.loop-job-preserved
 loop-job-preserved g c = let e = c.in-Some.ensures.items in let was = c.loop-job.invariant in let d = g.M.Metric.distance_by in let h = c.args.history.now.schedule in let q = c.args.jobs.now in let job = c.in-Some.job in let f = c.in-Some.finding in
-    let here = (all_popped (λ (p : ℕ × Finding). (p.0 < length c.loop-job.slots.items) × IsFindingOf d h q p.0 p.1) _ _ (job, f) e was.share).1 in record {
+    let here = (all_popped (λ (p : ℕ × Finding). (p.0 < length c.loop-job.slots.items) × IsFindingFor d h q p.0 p.1) _ _ (job, f) e was.share).1 in record {
       len = search rules;
       share = put_share d h q c.loop-job.slots.items job f here.0 _ _ e was.share;
       right = put_right d h q c.loop-job.slots.items job f here.0 here.1 was.right;

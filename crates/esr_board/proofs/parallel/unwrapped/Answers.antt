@@ -3,7 +3,7 @@ use Rattle.std.proofs.lemmas.List.{map-append, take_more, take_all, get_or_defau
 use Rattle.esr_history.specs.declared.event.TxnId.{TxnId}
 use Rattle.esr_audit.specs.declared.finding.Finding.{Finding}
 use Rattle.esr_audit.specs.Findings.{IsFinding}
-use Rattle.esr_board.specs.Shares.{IsFindingOf}
+use Rattle.esr_board.specs.Shares.{IsFindingFor}
 use Rattle.esr_board.proofs.Whole.{all_pushed}
 use Rattle.esr_board.proofs.parallel.unwrapped.Goals as goal
 
@@ -14,7 +14,7 @@ loop-k-preserved g c = let was = c.loop-k.invariant in let k = c.loop-k.k in let
     let there : get_or c.loop-k.slots.items k None ≡ Some f = get_or_default c.loop-k.slots.items k None c.index_mut.result.now (search rules) ∙ sym c.index_mut.ensures.value ∙ sym c.in-Some.ensures.value in
     let here : get_or c.args.slots.items k None ≡ Some f = sym same ∙ there in
     let more : c.push.new.self.items ≡ c.loop-k.found.items ++ f ∷ [] = search rules in
-    let is : IsFindingOf d h q k f = subst (λ (o : Option Finding). IfSome o (IsFindingOf d h q k)) here (c.requires.right k (search rules)) in record {
+    let is : IsFindingFor d h q k f = subst (λ (o : Option Finding). IfSome o (IsFindingFor d h q k)) here (c.requires.right k (search rules)) in record {
       len = search rules;
       rest = (λ j l. let ne : ¬ (j ≡ k) = λ e. omega arith in get_or-set_other c.loop-k.slots.items k j c.take.new.self None ne ∙ was.rest j (omega arith));
       queries = ap (map (λ (f : Finding). f.query)) more ∙ map-append (λ (f : Finding). f.query) c.loop-k.found.items (f ∷ [])

@@ -8,4 +8,4 @@ use Rattle.esr_drive.proofs.text.push_findings.Goals as goal
 pub returns-in-Ok : goal.returns-in-Ok
 returns-in-Ok g c =
     same_end _ _ _ _ _ (ap (flat_map (λ f. finding_text c.args.history.now.schedule (names_in c.args.names.now) f.query.0)) c.as_slice.ensures.value
-    ∙ by_queries c.args.history.now.schedule (names_in c.args.names.now) c.in-Ok.book.findings.items _ c.in-Ok.ensures.queries) c.push_each.ensures
+    ∙ by_queries c.args.history.now.schedule (names_in c.args.names.now) c.in-Ok.book.findings.items _ c.in-Ok.ensures.book.queries) c.push_each.ensures

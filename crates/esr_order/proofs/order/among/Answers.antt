@@ -3,7 +3,7 @@ use Rattle.std.specs.List.{range_with_len}
 use Rattle.esr_history.specs.Operations.{operations}
 use Rattle.esr_order.specs.Turns.{turns}
 use Rattle.esr_order.specs.Ties.{on_item, IsTied, AreNextPaired}
-use Rattle.esr_order.specs.Chains.{chain_from, last_step, seen_links}
+use Rattle.esr_order.specs.Chains.{chain_from, last_by_update, seen_links}
 use Rattle.esr_order.proofs.Amid.{few_pairs, made}
 use Rattle.esr_order.proofs.order.among.Goals as goal
 
@@ -25,5 +25,5 @@ returns-clause-order g c = λ q musts.
     )
     (map seen_links c.in_ok-gathered.gathered.chains.items)
     (c.in_ok-gathered.ensures.chains
-    ∙ ap (λ commits. map (λ x. chain_from (last_step (turns (operations h) 0 (map (λ t. t.0) commits)) x) (length commits)) (range_with_len 0 (length h.opening))) same)
+    ∙ ap (λ commits. map (λ x. chain_from (last_by_update (turns (operations h) 0 (map (λ t. t.0) commits)) x) (length commits)) (range_with_len 0 (length h.opening))) same)
     c.args.first c.requires.first c.in_ok-must.must.items c.in_ok-must.ensures q musts

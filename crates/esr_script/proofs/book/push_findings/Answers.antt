@@ -1,7 +1,7 @@
 use Rattle.std.proofs.Common.{rules, ◌++◌, ◌∙◌, ap}
 use Rattle.std.specs.List.{flat_map}
 use Rattle.std.proofs.lemmas.List.{take_all}
-use Rattle.esr_audit.specs.Findings.{told}
+use Rattle.esr_audit.specs.Findings.{summary}
 use Rattle.esr_script.specs.Audit.{told_line}
 use Rattle.esr_script.proofs.Audited.{lines_of_map}
 use Rattle.esr_script.proofs.book.push_findings.Goals as goal
@@ -9,5 +9,5 @@ use Rattle.esr_script.proofs.book.push_findings.Goals as goal
 pub returns : goal.returns
 returns c =
     c.loop-finding.invariant
-    ∙ ap (λ l. c.args.out.now.items ++ flat_map (λ f. told_line c.args.names.now (told f)) l) (take_all c.loop-finding.finding-index c.args.findings.now (search rules))
-    ∙ ap (λ l. c.args.out.now.items ++ l) (lines_of_map (told_line c.args.names.now) told c.args.findings.now)
+    ∙ ap (λ l. c.args.out.now.items ++ flat_map (λ f. told_line c.args.names.now (summary f)) l) (take_all c.loop-finding.finding-index c.args.findings.now (search rules))
+    ∙ ap (λ l. c.args.out.now.items ++ l) (lines_of_map (told_line c.args.names.now) summary c.args.findings.now)

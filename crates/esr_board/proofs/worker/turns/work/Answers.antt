@@ -1,9 +1,10 @@
-use Rattle.std.proofs.Common.{rules, false, ◌∙◌, ◌≡◌, ◌<◌, ◌++◌, [], ◌∷◌, ℕ, map, length, arith}
+use Rattle.std.proofs.Common.{rules, false, sym, subst, ◌∙◌, ◌≡◌, ◌<◌, ◌++◌, [], ◌∷◌, ℕ, map, length, arith}
 use Rattle.std.proofs.lemmas.List.{get_or_default}
 use Rattle.esr_history.specs.Queries.{is_committed_query}
+use Rattle.esr_history.specs.declared.event.TxnId.{TxnId}
 use Rattle.esr_audit.specs.declared.finding.Finding.{Finding}
-use Rattle.esr_board.specs.Shares.{IsFindingOf, query_of}
-use Rattle.esr_board.proofs.Slots.{finding_is}
+use Rattle.esr_audit.specs.Findings.{IsFindingOf}
+use Rattle.esr_board.specs.Shares.{IsFindingFor, query_of}
 use Rattle.esr_board.proofs.Whole.{all_pushed}
 use Rattle.esr_board.proofs.Draws.{drew_then, drew_job, drew_more, drew_last, any_last}
 use Rattle.esr_board.proofs.worker.turns.work.Goals as goal
@@ -31,8 +32,8 @@ loop-job-preserved g c = let job = c.in-Some.job in let f = c.in-Ok.finding in
     let more : c.push.new.self.items ≡ c.loop-job.found.items ++ (job, f) ∷ [] = search rules in
     let below : job < length q = omega (arith, c.in-Some.ensures.job.0, c.requires.jobs) in
     let e = c.in-Ok.ensures in
-    let is : IsFindingOf d h q job f = (e.query ∙ get_or_default q job _ (record { 0 = 0 }) below, finding_is d h f _ e.query e.answer e.shown e.near) in record {
+    let is : IsFindingFor d h q job f = (e.query ∙ get_or_default q job _ (record { 0 = 0 }) below, subst (λ (t : TxnId). IsFindingOf d h t.0 f) (sym e.query) e.finding) in record {
       seat = search rules;
       drew = drew_more _ _ _ _ c.loop-job.found.items c.push.new.self.items job f c.loop-job.invariant.drew c.in-Some.ensures.job.1 c.in-Some.ensures.job.0 more;
-      found = all_pushed (λ (p : ℕ × Finding). (p.0 < c.args.board.now.jobs) × IsFindingOf d h q p.0 p.1) _ _ (job, f) more c.loop-job.invariant.found (c.in-Some.ensures.job.0, is);
+      found = all_pushed (λ (p : ℕ × Finding). (p.0 < c.args.board.now.jobs) × IsFindingFor d h q p.0 p.1) _ _ (job, f) more c.loop-job.invariant.found (c.in-Some.ensures.job.0, is);
     }

@@ -2,7 +2,7 @@ use Rattle.std.proofs.Common.{◌≡◌, ◌<◌, ◌-◌, suc, ◌∙◌, lengt
 use Rattle.std.proofs.lemmas.List.{length-set}
 use Rattle.esr_order.specs.Chains.{seen_links}
 use Rattle.esr_order.proofs.Gathering.{no_access, turn_later, turn_tied}
-use Rattle.esr_order.proofs.steps.put_turn.Goals as goal
+use Rattle.esr_order.proofs.operations.put_turn.Goals as goal
 
 pub loop-i-preserved : goal.loop-i-preserved
 loop-i-preserved c =
@@ -16,13 +16,13 @@ loop-i-preserved c =
     let x = (get_or accesses i no_access).item.0 in
     let linked : x < length chains = omega (arith, c.requires.linked i no_access inside, c.loop-i.invariant.0) in
     let read : x < length readers = omega (arith, c.requires.read i no_access inside, c.loop-i.invariant.1) in (
-      length-set chains x c.put_step.new.links ∙ c.loop-i.invariant.0,
-      length-set readers x c.put_step.new.readers ∙ c.loop-i.invariant.1,
+      length-set chains x c.put_operation.new.links ∙ c.loop-i.invariant.0,
+      length-set readers x c.put_operation.new.readers ∙ c.loop-i.invariant.1,
       λ steps are.
           let now = c.loop-i.invariant.2 steps are in (
             turn_later seen_links (λ r. r.items) chains readers place i c.loop-i.i next accesses inside linked read steps now.0 c.index-chains-x.result c.index-readers-x.result
-                c.put_step.new.links c.in_ok-put_step.ensures.chain c.put_step.new.readers c.in_ok-put_step.ensures.readers,
+                c.put_operation.new.links c.in_ok-put_operation.ensures.chain c.put_operation.new.readers c.in_ok-put_operation.ensures.readers,
             turn_tied seen_links (λ r. r.items) chains readers place i c.loop-i.i next accesses inside linked read steps now.0 c.index-chains-x.result c.index-readers-x.result
-                c.args.ties.now.items c.loop-i.ties.items now.1 c.put_step.new.ties.items c.in_ok-put_step.ensures.ties,
+                c.args.ties.now.items c.loop-i.ties.items now.1 c.put_operation.new.ties.items c.in_ok-put_operation.ensures.ties,
           ),
     )

@@ -11,52 +11,52 @@ use std::marker::Model;
 /// Nothing, or a machine on the heap.
 #[repr(C)]
 #[derive(Drop)]
-pub struct Held {
+pub struct MachineHandle {
     at: *mut u8,
     pub(crate) ghost machine: { Option Schedule },
 }
 
-impl Model for Held {
+impl Model for MachineHandle {
     ghost use Rattle.esr_c.specs.Owned.{owned};
 
     ghost also_owns = { λ h. owned h.at h.machine };
 }
 
 /// Nothing.
-pub(crate) fn nothing() -> Held
+pub(crate) fn nothing() -> MachineHandle
     ensures { result.machine ≡ None }
 {
-    Held {
+    MachineHandle {
         at: std::ptr::null_mut(),
     }
 }
 
-fn wrap(l: Loose<Machine<Plain>>) -> Held
+fn wrap(l: Loose<Machine<Plain>>) -> MachineHandle
     ensures { result.machine ≡ Some l.value }
 {
     let Loose { at } = l;
-    Held { at: at as *mut u8 }
+    MachineHandle { at: at as *mut u8 }
 }
 
-fn unwrap(h: Held) -> Loose<Machine<Plain>>
+fn unwrap(h: MachineHandle) -> Loose<Machine<Plain>>
     requires { IsSome h.machine }
     ensures { h.machine ≡ Some result.value }
 {
-    let Held { at } = h;
+    let MachineHandle { at } = h;
     Loose {
         at: at as *mut Machine<Plain>,
     }
 }
 
 /// The machine in a box.
-pub(crate) fn give(b: Box<Machine<Plain>, Global>) -> Held
+pub(crate) fn give(b: Box<Machine<Plain>, Global>) -> MachineHandle
     ensures { result.machine ≡ Some b.value }
 {
     wrap(loosen(b))
 }
 
 /// The box again.
-pub(crate) fn take(alloc: Global, h: Held) -> Box<Machine<Plain>, Global>
+pub(crate) fn take(alloc: Global, h: MachineHandle) -> Box<Machine<Plain>, Global>
     requires { IsSome h.machine }
     ensures { h.machine ≡ Some result.value }
 {
@@ -64,4 +64,4 @@ pub(crate) fn take(alloc: Global, h: Held) -> Box<Machine<Plain>, Global>
 }
 
 // It may go to another thread, as the box of a machine may.
-unsafe impl Send for Held {}
+unsafe impl Send for MachineHandle {}

@@ -14,11 +14,11 @@ use denote.Triple.Walked.{Stays, walk_of}
 use Rattle.std.specs.Prelude.{None}
 use Rattle.std.proofs.raw_atomic.Walks.{proved_at, leaves}
 use Rattle.esr_c.specs.Owned.{owned}
-use Rattle.esr_c.proofs.Words.{alone, Held, held_in}
-use Rattle.esr_c.specs.contracts.held.nothing.{ended, clauses}
-use Rattle.esr_c.specs.contracts.held.nothing.Key.{name as #self}
-use Rattle.esr_c.proofs.held.nothing.Statement.{statement}
-use Rattle.esr_c.proofs.held.nothing.Code as code
+use Rattle.esr_c.proofs.Words.{alone, MachineHandle, held_in}
+use Rattle.esr_c.specs.contracts.handle.nothing.{ended, clauses}
+use Rattle.esr_c.specs.contracts.handle.nothing.Key.{name as #self}
+use Rattle.esr_c.proofs.handle.nothing.Statement.{statement}
+use Rattle.esr_c.proofs.handle.nothing.Code as code
 
 pub nothing_spec : {M : Type 1} → statement M
 unfolding owned
@@ -26,7 +26,7 @@ nothing_spec 𝓤 𝓛 𝓜 𝓡 wired =
     let H = 𝓛.H in let 𝓣 = tables 𝓤 H 𝓜 𝓡 𝓡.env in let c = clauses 𝓛 𝓜.mem 𝓡.returns in
     let hs : Stays ended.signature.params ended.kept = tt in
     proved_at 𝓛 ended hs c 𝓜 𝓡 tt #self code.function (code.unfolded 𝓤 H 𝓜 𝓡 wired) (λ z are.
-    let W = walk_of 𝓛 ended hs c in let d : Held.Denot = record { at = null_ptr; machine = None } in
+    let W = walk_of 𝓛 ended hs c in let d : MachineHandle.Denot = record { at = null_ptr; machine = None } in
     qed 𝓛 (raw (W.pre z) ∷ []) ∵
     enter ! 𝓣.C 𝓣.Λ code.function [] (W.post z) $ alloc_all ! (λ l. pass_all ! refl tt $
     sets ! (agg ! (and_then ! (lit ! tt) (no_more !))) refl (tt, (record { fits = lit< tt }, tt)) $

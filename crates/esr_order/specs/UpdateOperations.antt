@@ -2,7 +2,7 @@
 -- read, or the one that was written.
 use Rattle.std.specs.Prelude.{ℕ, ℤ, Bool}
 
-pub record Step : Type 0 where
+pub record UpdateOperation : Type 0 where
   pub place : ℕ
   pub item : ℕ
   pub writes : Bool

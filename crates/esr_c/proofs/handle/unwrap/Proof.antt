@@ -27,11 +27,11 @@ use Rattle.std.proofs.raw_atomic.Walks.{proved_at, leaves}
 use Rattle.std_alloc.specs.Box.Ownership.{box_owns}
 use Rattle.std.specs.contracts.impls.GlobalAllocator.TheImpl as Heap
 use Rattle.esr_c.specs.Owned.{machine_row, owned}
-use Rattle.esr_c.proofs.Words.{alone, loose_in, Held, held_out}
-use Rattle.esr_c.specs.contracts.held.unwrap.{ended, clauses}
-use Rattle.esr_c.specs.contracts.held.unwrap.Key.{name as #self}
-use Rattle.esr_c.proofs.held.unwrap.Statement.{statement}
-use Rattle.esr_c.proofs.held.unwrap.Code as code
+use Rattle.esr_c.proofs.Words.{alone, loose_in, MachineHandle, held_out}
+use Rattle.esr_c.specs.contracts.handle.unwrap.{ended, clauses}
+use Rattle.esr_c.specs.contracts.handle.unwrap.Key.{name as #self}
+use Rattle.esr_c.proofs.handle.unwrap.Statement.{statement}
+use Rattle.esr_c.proofs.handle.unwrap.Code as code
 
 some_of : (x : Option Schedule) → IsSome x → (m : Schedule) × (x ≡ Some m)
 some_of None e = absurd (true≢false (sym e))
@@ -41,8 +41,8 @@ pub unwrap_spec : {M : Type 1} → statement M
 unfolding owned
 unwrap_spec 𝓤 𝓛 𝓜 𝓡 wired =
     let H = 𝓛.H in let 𝓣 = tables 𝓤 H 𝓜 𝓡 𝓡.env in let c = clauses 𝓛 𝓜.mem 𝓡.returns in
-    let hs : Stays ended.signature.params ended.kept = (stay_dropped (plain (λ _. Held)) yes, tt) in
-    proved_at 𝓛 ended hs c 𝓜 𝓡 (Goes-blank 𝓛 0 (plain (λ _. Held)) yes (λ κs x f. tt), tt) #self code.function (code.unfolded 𝓤 H 𝓜 𝓡 wired) (λ z are.
+    let hs : Stays ended.signature.params ended.kept = (stay_dropped (plain (λ _. MachineHandle)) yes, tt) in
+    proved_at 𝓛 ended hs c 𝓜 𝓡 (Goes-blank 𝓛 0 (plain (λ _. MachineHandle)) yes (λ κs x f. tt), tt) #self code.function (code.unfolded 𝓤 H 𝓜 𝓡 wired) (λ z are.
     let d = z.0.3.0 in let Post : Val → SProp 𝓤 = (walk_of 𝓛 ended hs c).post z in let Run : List Val → SProp 𝓤 = λ ws. WpFn 𝓤 H 𝓣.C 𝓣.Λ code.function ws Post in
     qed 𝓛 ((‵ ftrue ⊛ ‵ (owns (types_at ended.signature.params z.0.0) z.0.3 z.0.4)) ∷ raw (fact 𝓤 (IsSome d.machine)) ∷ []) ∵
     move ! (1 ∷ []) $ heard ! (IsSome d.machine) (λ some. let m = (some_of d.machine some).0 in let same = (some_of d.machine some).1 in

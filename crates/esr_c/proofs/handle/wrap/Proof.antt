@@ -26,11 +26,11 @@ use Rattle.std.proofs.raw_atomic.Walks.{proved_at, leaves}
 use Rattle.std.specs.contracts.impls.GlobalAllocator.TheImpl as Heap
 use Rattle.std_alloc.specs.Box.Ownership.{box_owns}
 use Rattle.esr_c.specs.Owned.{machine_row, owned}
-use Rattle.esr_c.proofs.Words.{alone, Loosened, loose_out, Held, held_in}
-use Rattle.esr_c.specs.contracts.held.wrap.{ended, clauses}
-use Rattle.esr_c.specs.contracts.held.wrap.Key.{name as #self}
-use Rattle.esr_c.proofs.held.wrap.Statement.{statement}
-use Rattle.esr_c.proofs.held.wrap.Code as code
+use Rattle.esr_c.proofs.Words.{alone, Loosened, loose_out, MachineHandle, held_in}
+use Rattle.esr_c.specs.contracts.handle.wrap.{ended, clauses}
+use Rattle.esr_c.specs.contracts.handle.wrap.Key.{name as #self}
+use Rattle.esr_c.proofs.handle.wrap.Statement.{statement}
+use Rattle.esr_c.proofs.handle.wrap.Code as code
 
 abbrev Lo : RattleType
 Lo = Loosened machine_row
@@ -46,7 +46,7 @@ wrap_spec 𝓤 𝓛 𝓜 𝓡 wired =
     split ! $ move ! (1 ∷ []) $ fsplit ! $ loose_out machine_row ! v z.0.4.0 (λ ws.
     in_a_block ! v.at (λ p. box_owns (Heap.ghosts.dealloc_token _) machine_row p v.value) (fst∗ 𝓤 (never 𝓤) (sem 𝓛 (Heap.ghosts.dealloc_token _ (bare (lone machine_row.mir)) null_ptr))) (λ b o e.
     let w : Val = alone (vptr b o) in let ws' : z.0.4.0 ≡ w ∷ [] = subst (λ (p : Ptr). z.0.4.0 ≡ alone (ptr_val p) ∷ []) e ws in
-    let d : Held.Denot = record { at = block_ptr b o; machine = Some v.value } in
+    let d : MachineHandle.Denot = record { at = block_ptr b o; machine = Some v.value } in
     suffices ! (Run (w ∷ [])) (subst (λ (us : List Val). ent 𝓤 (Run (w ∷ [])) (Run us)) (sym (λ i. ws' i ++ [])) (id⊢ 𝓤 (Run (w ∷ [])))) $
     enter ! 𝓣.C 𝓣.Λ code.function (w ∷ []) Post $ alloc_all ! (λ l. pass_all ! refl ((tt, (tt, tt)), tt) $
     sets ! (of_opd ! (get_in ! (fld ! refl (stop !)) (sub ! {τs = tcons ty_ptr tnil} 0 refl (whole !)))) refl (tt, tt) $

@@ -1,12 +1,13 @@
 //! What updates did, gone through from the last update to the first.
 ghost use Rattle.std.specs.Prelude.{◌≡◌, ◌<◌, ◌≤◌, ◌++◌, [], ℕ, List, IfOk, OnOk, All, AllPairs, if◌then◌else◌, filter, length, map};
 ghost use Rattle.std.specs.List.{range_with_len};
-ghost use Rattle.esr_order.specs.Steps.{Step};
-ghost use Rattle.esr_order.specs.Turns.{step_at, steps_of};
+ghost use Rattle.esr_history.specs.declared.limits.TheConstants.{MOST_TRANSACTIONS};
+ghost use Rattle.esr_order.specs.UpdateOperations.{UpdateOperation};
+ghost use Rattle.esr_order.specs.Turns.{operation_at, update_operations};
 ghost use Rattle.esr_order.specs.Listing.{IsBelow};
 ghost use Rattle.esr_order.specs.Ties.{on_item, IsTied, AreNextPaired};
-ghost use Rattle.esr_order.specs.Chains.{chain_from, last_step, seen_links};
-ghost use Rattle.esr_order.specs.Later.{with_step, with_reader, ties_of, turn_ties, AreLater};
+ghost use Rattle.esr_order.specs.Chains.{chain_from, last_by_update, seen_links};
+ghost use Rattle.esr_order.specs.Later.{with_operation, with_reader, ties_of, turn_ties, AreLater};
 
 use crate::accesses::{Access, list_accesses};
 use crate::chains::{Links, last_writer, put_write, turn_all};
@@ -15,19 +16,20 @@ use esr_history::{History, TxnId};
 use esr_items::Metric;
 use std::alloc::{AllocError, Global};
 
-/// Puts a step of the update at a position before the later ones of its item, of which the chain and the readers until
-/// the next write are kept, and adds the positions of those to which it is tied.
-fn put_step(
+/// Puts an operation of the update at a position before the later ones of its item, of which the chain and the readers
+/// until the next write are kept, and adds the positions of those to which it is tied.
+fn put_operation(
     links: &mut Links,
     readers: &mut Vec<u32>,
     access: Access,
     place: u32,
     ties: &mut Vec<u32>,
 ) -> Result<(), AllocError>
-    ensures chain { OnOk result (seen_links links.new ≡ with_step (seen_links links.old) (step_at place access)) }
-    ensures readers { OnOk result (readers.new.items ≡ with_reader readers.old.items (step_at place access)) }
+    ensures chain { OnOk result (seen_links links.new
+        ≡ with_operation (seen_links links.old) (operation_at place access)) }
+    ensures readers { OnOk result (readers.new.items ≡ with_reader readers.old.items (operation_at place access)) }
     ensures ties { OnOk result (ties.new.items
-        ≡ ties.old.items ++ ties_of (seen_links links.old) readers.old.items (step_at place access)) }
+        ≡ ties.old.items ++ ties_of (seen_links links.old) readers.old.items (operation_at place access)) }
 {
     if let Some(writer) = last_writer(links) {
         ties.push(writer)?;
@@ -42,7 +44,7 @@ fn put_step(
 }
 
 /// Puts what the update at a position did before what later ones did, of which the chain and the readers of each item
-/// are kept, and adds the positions of the steps to which it is tied.
+/// are kept, and adds the positions of the operations to which it is tied.
 fn put_turn(
     chains: &mut [Links],
     readers: &mut [Vec<u32>],
@@ -54,17 +56,17 @@ fn put_turn(
     requires read { All (λ a. a.item.0 < length readers.old) accesses.now }
     ensures chains_len { OnOk result (length chains.new ≡ length chains.old) }
     ensures readers_len { OnOk result (length readers.new ≡ length readers.old) }
-    ensures later { OnOk result ((steps : List Step)
-        → AreLater (map seen_links chains.old) (map (λ r. r.items) readers.old) steps
+    ensures later { OnOk result ((operations : List UpdateOperation)
+        → AreLater (map seen_links chains.old) (map (λ r. r.items) readers.old) operations
         → AreLater (map seen_links chains.new) (map (λ r. r.items) readers.new)
-        (map (step_at place) accesses.now ++ steps)) }
-    ensures ties { OnOk result ((steps : List Step)
-        → AreLater (map seen_links chains.old) (map (λ r. r.items) readers.old) steps
-        → ties.new.items ≡ ties.old.items ++ turn_ties (map (step_at place) accesses.now) steps) }
+        (map (operation_at place) accesses.now ++ operations)) }
+    ensures ties { OnOk result ((operations : List UpdateOperation)
+        → AreLater (map seen_links chains.old) (map (λ r. r.items) readers.old) operations
+        → ties.new.items ≡ ties.old.items ++ turn_ties (map (operation_at place) accesses.now) operations) }
 {
     for i in (0..accesses.len()).rev() {
         let x = accesses[i].item.0 as usize;
-        put_step(&mut chains[x], &mut readers[x], accesses[i], place, ties)?;
+        put_operation(&mut chains[x], &mut readers[x], accesses[i], place, ties)?;
     }
     Ok(())
 }
@@ -101,7 +103,7 @@ fn total_of(counts: &[u32]) -> usize {
 
 /// Few pairs of updates that tie them, and the chains of their writes.
 #[derive(Drop)]
-pub struct Gathered {
+pub struct PairsAndChains {
     pub pairs: Vec<(u32, u32)>,
     pub chains: Vec<Links>,
 }
@@ -113,14 +115,15 @@ pub fn gather<M: Metric>(
     history: &History<M>,
     updates: &[TxnId],
     writers: &[u32],
-) -> Result<Gathered, AllocError>
-    requires few { length updates.now ≤ 65535 }
+) -> Result<PairsAndChains, AllocError>
+    requires few { length updates.now ≤ MOST_TRANSACTIONS }
     ensures ascending { IfOk result (λ g. AllPairs IsBelow g.pairs.items) }
-    ensures tied { IfOk result (λ g. IsTied (steps_of history.now.schedule updates.now) g.pairs.items) }
+    ensures tied { IfOk result (λ g. IsTied (update_operations history.now.schedule updates.now) g.pairs.items) }
     ensures next { IfOk result (λ g. (x : ℕ) → AreNextPaired g.pairs.items
-        (filter (λ s. s.writes) (on_item x (steps_of history.now.schedule updates.now)))) }
+        (filter (λ s. s.writes) (on_item x (update_operations history.now.schedule updates.now)))) }
     ensures chains { IfOk result (λ g. map seen_links g.chains.items
-        ≡ map (λ x. chain_from (last_step (steps_of history.now.schedule updates.now) x) (length updates.now))
+        ≡ map (λ x. chain_from (last_by_update (update_operations history.now.schedule updates.now) x)
+        (length updates.now))
         (range_with_len 0 (length history.now.schedule.opening))) }
 {
     let _legal = history.log(); // brings the invariant into the proof
@@ -139,5 +142,5 @@ pub fn gather<M: Metric>(
     pairs.reverse();
     pairs.shrink_to_fit();
     turn_all(&mut chains);
-    Ok(Gathered { pairs, chains })
+    Ok(PairsAndChains { pairs, chains })
 }

@@ -1,7 +1,7 @@
 use Rattle.std.proofs.Common.{◌≡◌, [], length, map}
 use Rattle.esr_order.specs.Chains.{seen_links}
 use Rattle.esr_order.specs.Later.{AreLater}
-use Rattle.esr_order.proofs.steps.nothing_later.Given as goal
+use Rattle.esr_order.proofs.operations.nothing_later.Given as goal
 
 -- the items so far
 abbrev pub invariant-loop-x : goal.invariant-loop-x

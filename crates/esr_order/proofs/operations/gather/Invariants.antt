@@ -1,7 +1,7 @@
 use Rattle.std.proofs.Common.{◌≡◌, length, map}
 use Rattle.esr_order.specs.Chains.{seen_links}
 use Rattle.esr_order.proofs.Gathering.{IsGathered}
-use Rattle.esr_order.proofs.steps.gather.Given as goal
+use Rattle.esr_order.proofs.operations.gather.Given as goal
 
 -- what is kept of the updates from the position on
 abbrev pub invariant-loop-i : goal.invariant-loop-i

@@ -5,13 +5,13 @@ use Rattle.esr_history.specs.Operations.{operations}
 use Rattle.esr_order.specs.declared.accesses.Access.{Access}
 use Rattle.esr_order.specs.Listing.{IsBelow}
 use Rattle.esr_order.specs.Ties.{pairs_from, on_item, IsTied, AreNextPaired}
-use Rattle.esr_order.specs.Turns.{step_at, turns}
-use Rattle.esr_order.specs.Chains.{chain_from, last_step, turned, seen_links}
+use Rattle.esr_order.specs.Turns.{operation_at, turns}
+use Rattle.esr_order.specs.Chains.{chain_from, last_by_update, turned, seen_links}
 use Rattle.esr_order.specs.Later.{turn_ties, AreLater}
 use Rattle.esr_order.proofs.Accessed.{accesses_inside}
 use Rattle.esr_order.proofs.Gathering.{no_txn, rest, IsGathered, gathered_more, gathered_ascending, gathered_tied, gathered_next, gathered_chains}
 use Rattle.esr_order.proofs.Lists.{written_back}
-use Rattle.esr_order.proofs.steps.gather.Goals as goal
+use Rattle.esr_order.proofs.operations.gather.Goals as goal
 
 pub put_turn-requires-clause-linked : goal.put_turn-requires-clause-linked
 put_turn-requires-clause-linked g c =
@@ -45,7 +45,7 @@ loop-i-preserved g c =
     let made = c.deref.ensures.value ∙ c.in_ok-list_accesses.ensures in
     let grown = gathered_more h updates i c.loop-i.i next inside no_txn (map seen_links chains) (map (λ r. r.items) readers) c.loop-i.pairs.items c.loop-i.invariant.2 c.deref.result.now made
     (map seen_links c.put_turn.new.chains) (map (λ r. r.items) c.put_turn.new.readers) (c.in_ok-put_turn.ensures.later steps before)
-    c.put_turn.new.ties.items c.put_in_order.new.positions.items (c.in_ok-put_turn.ensures.ties steps before ∙ ap (λ l. l ++ turn_ties (map (step_at i) c.deref.result.now) steps) c.clear.ensures.items)
+    c.put_turn.new.ties.items c.put_in_order.new.positions.items (c.in_ok-put_turn.ensures.ties steps before ∙ ap (λ l. l ++ turn_ties (map (operation_at i) c.deref.result.now) steps) c.clear.ensures.items)
     c.put_in_order.ensures.ascending c.put_in_order.ensures.keeps c.put_in_order.ensures.adds_none c.put_in_order.ensures.few
     c.tie_back.new.pairs.items (c.in_ok-tie_back.ensures ∙ ap (λ l. c.loop-i.pairs.items ++ reverse (pairs_from i l)) c.deref-in-loop-i.ensures.value) in (
       ap length chains_back ∙ (chains_len ∙ c.loop-i.invariant.0),
@@ -78,4 +78,4 @@ returns-clause-chains g c =
     ap (map seen_links) back
     ∙ (turned_is
     ∙ (gathered_chains h updates c.loop-i.i (omega (arith, c.loop-i-test.false)) (map seen_links chains) (map (λ r. r.items) c.loop-i.readers.items) c.loop-i.pairs.items c.loop-i.invariant.2
-    ∙ ap (λ n. map (λ x. chain_from (last_step steps x) (length updates)) (range_with_len 0 n)) (length-map chains seen_links ∙ c.loop-i.invariant.0)))
+    ∙ ap (λ n. map (λ x. chain_from (last_by_update steps x) (length updates)) (range_with_len 0 n)) (length-map chains seen_links ∙ c.loop-i.invariant.0)))
