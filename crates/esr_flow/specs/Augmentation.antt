@@ -10,7 +10,8 @@ pub record Augments (net : Network) (flow after : List ℕ) : Type 0 where
   pub path : List ResidualArc
   pub amount : ℕ
   pub is_path : IsPath net.arcs flow net.source path net.sink
-  pub is_shortest : (other : List ResidualArc) → IsPath net.arcs flow net.source other net.sink → length path ≤ length other
+  pub is_shortest : (other : List ResidualArc) → IsPath net.arcs flow net.source other net.sink
+      → length path ≤ length other
   pub is_least : bottleneck net.arcs flow path ≡ Some amount
   pub is_raised : after ≡ raise flow amount path
 

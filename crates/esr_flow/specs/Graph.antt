@@ -21,12 +21,15 @@ net_of g = record { nodes = g.nodes; arcs = arcs_of g; source = g.source; sink =
 pub record IsGraph (g : Graph) : Type 0 where
   pub is_network : IsNetwork (net_of g)
   pub count : length g.rows.now.spans.items ≡ g.nodes
-  pub ordered : (v : ℕ) → v < g.nodes → (span_at g.rows.now.spans.items v).begin ≤ (span_at g.rows.now.spans.items v).end
+  pub ordered : (v : ℕ) → v < g.nodes
+      → (span_at g.rows.now.spans.items v).begin ≤ (span_at g.rows.now.spans.items v).end
   pub inside : (v : ℕ) → v < g.nodes → (span_at g.rows.now.spans.items v).end ≤ length g.rows.now.steps.items
-  pub row : (v : ℕ) → v < g.nodes → row_in g.rows.now.steps.items (span_at g.rows.now.spans.items v) ≡ row_of (arcs_of g) v
+  pub row : (v : ℕ) → v < g.nodes
+      → row_in g.rows.now.steps.items (span_at g.rows.now.spans.items v) ≡ row_of (arcs_of g) v
   pub lists : (v : ℕ) → v < g.nodes
       → HasSteps (arcs_of g) v (row_in g.rows.now.steps.items (span_at g.rows.now.spans.items v))
-  pub ascend : (v : ℕ) → v < g.nodes → IsNonDecreasingBy order_of (row_in g.rows.now.steps.items (span_at g.rows.now.spans.items v))
+  pub ascend : (v : ℕ) → v < g.nodes
+      → IsNonDecreasingBy order_of (row_in g.rows.now.steps.items (span_at g.rows.now.spans.items v))
   pub steps : AreSteps (arcs_of g) g.rows.now.steps.items
   pub sink_is_node : g.sink < g.nodes
   pub few : g.nodes < 2 ^ 30

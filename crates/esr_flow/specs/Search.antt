@@ -56,7 +56,8 @@ pub record Searched (net : Network) (flow : List ℕ) (visits : List Visit) (mar
 -- a path with fewest arcs from the source to the sink
 pub record IsShortestPath (net : Network) (flow : List ℕ) (path : List ResidualArc) : Type 0 where
   pub is_path : IsPath net.arcs flow net.source path net.sink
-  pub is_shortest : (other : List ResidualArc) → IsPath net.arcs flow net.source other net.sink → length path ≤ length other
+  pub is_shortest : (other : List ResidualArc) → IsPath net.arcs flow net.source other net.sink
+      → length path ≤ length other
 
 -- the last visit is of the sink, none of another level is, and no path there has fewer steps than its level
 pub record FoundSink (net : Network) (flow : List ℕ) (visits : List Visit) : Type 0 where

@@ -32,5 +32,6 @@ AreNextPaired pairs (a ∷ b ∷ operations) =
 -- clashes.
 pub record IsTied (operations : List UpdateOperation) (pairs : List (ℕ × ℕ)) : Type 0 where
   pub sound : All (λ p. is_pair operations p.0 p.1 ≡ true) pairs
-  pub closed : (S : ℕ → Bool) → IsDownward S pairs → (i j : ℕ) → is_pair operations i j ≡ true → IsTrue (S j) → IsTrue (S i)
+  pub closed : (S : ℕ → Bool) → IsDownward S pairs → (i j : ℕ) → is_pair operations i j ≡ true → IsTrue (S j)
+      → IsTrue (S i)
   pub few : length pairs ≤ 2 * length operations
