@@ -18,7 +18,7 @@ use Rattle.esr_history.specs.Events.{Beginning, beginning_of, beginnings, beginn
 use Rattle.esr_history.specs.Machine.{writer}
 use Rattle.esr_history.specs.ItemLocks.{ItemLocks, query_reads, item_locks, locks_of}
 use Rattle.esr_history.specs.Orderly.{IsOrderly}
-use Rattle.esr_history.specs.Ascending.{placed}
+use Rattle.esr_history.specs.Ascending.{placed, IsSmallest}
 use Rattle.esr_history.proofs.Lists.{any_push, any_push_no, find_least, filter_map_push_none, find_some, or_false}
 use Rattle.esr_history.proofs.Charges.{range-push}
 use Rattle.esr_history.proofs.Orderly.{active_parts, update_begun}
@@ -26,8 +26,8 @@ use Rattle.esr_history.proofs.Lawful.{begun_number}
 use Rattle.esr_history.proofs.Ranges.{map_same, set_range, filter_map_placed, filter_map_dropped, filter-filter_map, kept_if, kept_if_own, find_same, any_in_filter, filter_in_any}
 use Rattle.esr_history.proofs.Reaches.{count_none}
 use Rattle.esr_history.proofs.Words.{query_not_update}
-use Rattle.esr_locks.specs.Tables.{locks_at, no_locks, is_writer, is_reader, with_reader, with_writer, with_query_read, released, keeps_from_reading, keeps_from_writing, IsLeast}
-use Rattle.esr_locks.proofs.Least.{IsLeast-same}
+use Rattle.esr_locks.specs.Tables.{locks_at, no_locks, is_writer, is_reader, with_reader, with_writer, with_query_read, released, keeps_from_reading, keeps_from_writing}
+use Rattle.esr_locks.proofs.Least.{IsSmallest-same}
 use Rattle.esr_core.proofs.Held.{active-kept, held-begin, IsBegin, numbers-kept, query-kept, update-kept, beginnings-begin, beginning-begin, not_named, reads_name, writes_name, update_or_query}
 use Rattle.std.proofs.lemmas.Grind.{common_steps}
 
@@ -90,19 +90,19 @@ module _ (done : List Event) (o : IsOrderly done) where
       ]
 
   -- the update that keeps another from reading, and the smallest that keeps it from writing
-  pub least_writer : (t x : ℕ) (r : Option ℕ) → IsLeast (keeps_from_reading (item_locks done x) t) r → find (λ u. not (u == t) && wrote done x u) (numbers done) ≡ r
+  pub least_writer : (t x : ℕ) (r : Option ℕ) → IsSmallest (keeps_from_reading (item_locks done x) t) r → find (λ u. not (u == t) && wrote done x u) (numbers done) ≡ r
   least_writer t x r least =
       find_least (λ u. not (u == t) && wrote done x u) (length (beginnings done)) r
-      (IsLeast-same (keeps_from_reading (item_locks done x) t) (λ u. not (u == t) && wrote done x u) r (λ u. ap (λ b. not (u == t) && b) (writer_is x u)) least)
+      (IsSmallest-same (keeps_from_reading (item_locks done x) t) (λ u. not (u == t) && wrote done x u) r (λ u. ap (λ b. not (u == t) && b) (writer_is x u)) least)
       (λ u is. wrote_number x u (and_parts (not (u == t)) (wrote done x u) is).1)
 
   either_update : (u x : ℕ) → (read_it done x u || wrote done x u) ≡ (is_update done u && (holds_read done u x || holds_write done u x))
   either_update u x = grind (arith, common_steps)
 
-  pub least_holder : (t x : ℕ) (r : Option ℕ) → IsLeast (keeps_from_writing (item_locks done x) t) r → find (λ u. not (u == t) && (is_update done u && (holds_read done u x || holds_write done u x))) (numbers done) ≡ r
+  pub least_holder : (t x : ℕ) (r : Option ℕ) → IsSmallest (keeps_from_writing (item_locks done x) t) r → find (λ u. not (u == t) && (is_update done u && (holds_read done u x || holds_write done u x))) (numbers done) ≡ r
   least_holder t x r least =
       find_least (λ u. not (u == t) && (is_update done u && (holds_read done u x || holds_write done u x))) (length (beginnings done)) r
-      (IsLeast-same (keeps_from_writing (item_locks done x) t) (λ u. not (u == t) && (is_update done u && (holds_read done u x || holds_write done u x))) r
+      (IsSmallest-same (keeps_from_writing (item_locks done x) t) (λ u. not (u == t) && (is_update done u && (holds_read done u x || holds_write done u x))) r
       (λ u. ap (λ b. not (u == t) && b) (ap (λ b. b || is_writer (item_locks done x) u) (reader_is x u) ∙ (ap (λ b. read_it done x u || b) (writer_is x u) ∙ either_update u x))) least)
       number
     where

@@ -19,7 +19,8 @@ use Rattle.esr_history.specs.ItemLocks.{ItemLocks, item_locks}
 use Rattle.esr_history.proofs.Lists.{find_some}
 use Rattle.esr_ledgers.specs.declared.account.Account.{Account}
 use Rattle.esr_ledgers.specs.Books.{quote_of, AreCharges, is_open_query}
-use Rattle.esr_locks.specs.Tables.{locks_at, keeps_from_reading, keeps_from_writing, IsLeast}
+use Rattle.esr_history.specs.Ascending.{IsSmallest}
+use Rattle.esr_locks.specs.Tables.{locks_at, keeps_from_reading, keeps_from_writing}
 use Rattle.esr_core.specs.declared.state.Transaction.{Transaction}
 use Rattle.esr_core.specs.Tied.{IsTied, books_of, transaction_after}
 use Rattle.esr_core.specs.States.{reason_of, read_charge}
@@ -114,21 +115,21 @@ module _ (d : Distance) (h : Schedule) (items : List Versions) (table : List Tra
       → first_reason (many_reads h t.0 ∷ import_full d h (due_in d h (Read t x)) ∷ export_full d h (due_in d h (Read t x)) ∷ []) ≡ refusal d h (Read t x)
   read_query t x query active item = grind (arith, skip, without)
 
-  pub read_update : (t : TxnId) (x : ItemId) (r : Option ℕ) → x.0 < length items → IsLeast (keeps_from_reading (locks_at locks x.0) t.0) r → is_query (done h) t.0 ≡ false → None ≡ first_reason (not_begun h t.0 ∷ ended h t.0 ∷ []) → None ≡ no_item h x.0
+  pub read_update : (t : TxnId) (x : ItemId) (r : Option ℕ) → x.0 < length items → IsSmallest (keeps_from_reading (locks_at locks x.0) t.0) r → is_query (done h) t.0 ≡ false → None ≡ first_reason (not_begun h t.0 ∷ ended h t.0 ∷ []) → None ≡ no_item h x.0
       → blocked_by r ≡ refusal d h (Read t x)
   read_update t x r l least no_query active item =
       let here : locks_at locks x.0 ≡ item_locks (done h) x.0 = ap (λ (ls : List ItemLocks). locks_at ls x.0) tie.locked ∙ locks_here (done h) (length h.opening) x.0 (inside x.0 l) in
-      let found : other_writer (done h) t.0 x.0 ≡ r = least_writer (done h) tie.orderly t.0 x.0 r (subst (λ (g : ItemLocks). IsLeast (keeps_from_reading g t.0) r) here least) in
+      let found : other_writer (done h) t.0 x.0 ≡ r = least_writer (done h) tie.orderly t.0 x.0 r (subst (λ (g : ItemLocks). IsSmallest (keeps_from_reading g t.0) r) here least) in
       sym (skip (not_begun h t.0) (ended h t.0) (no_item h x.0) (many_reads h t.0 ∷ read_blocked h t.0 x.0 ∷ import_full d h (due_in d h (Read t x)) ∷ export_full d h (due_in d h (Read t x)) ∷ []) active item
       ∙ (ap (λ (b : Bool). first_reason (when (b && nat_le 1000 (all_reads_of (done h) t.0)) TooManyReads ∷ (if b then None else blocked_by (other_writer (done h) t.0 x.0)) ∷ import_full d h (if b then charge_of_read (d h.weights) h.opening (done h) t.0 x.0 (writer (done h) x.0) else []) ∷ export_full d h (if b then charge_of_read (d h.weights) h.opening (done h) t.0 x.0 (writer (done h) x.0) else []) ∷ [])) no_query
       ∙ (alone (blocked_by (other_writer (done h) t.0 x.0)) ∙ ap blocked_by found)))
 
   -- why a write is refused before its charges
-  pub write_barred : (t : TxnId) (x : ItemId) (v : ℤ) (r : Option ℕ) → x.0 < length items → IsLeast (keeps_from_writing (locks_at locks x.0) t.0) r → is_query (done h) t.0 ≡ false → None ≡ first_reason (not_begun h t.0 ∷ ended h t.0 ∷ []) → None ≡ no_item h x.0 → None ≡ out_of_range v
+  pub write_barred : (t : TxnId) (x : ItemId) (v : ℤ) (r : Option ℕ) → x.0 < length items → IsSmallest (keeps_from_writing (locks_at locks x.0) t.0) r → is_query (done h) t.0 ≡ false → None ≡ first_reason (not_begun h t.0 ∷ ended h t.0 ∷ []) → None ≡ no_item h x.0 → None ≡ out_of_range v
       → blocked_by r ≡ first_reason (not_begun h t.0 ∷ ended h t.0 ∷ no_item h x.0 ∷ query_writes h t.0 ∷ out_of_range v ∷ write_blocked h t.0 x.0 ∷ [])
   write_barred t x v r l least no_query active item range =
       let here : locks_at locks x.0 ≡ item_locks (done h) x.0 = ap (λ (ls : List ItemLocks). locks_at ls x.0) tie.locked ∙ locks_here (done h) (length h.opening) x.0 (inside x.0 l) in
-      let found : other_holder (done h) t.0 x.0 ≡ r = least_holder (done h) tie.orderly t.0 x.0 r (subst (λ (g : ItemLocks). IsLeast (keeps_from_writing g t.0) r) here least) in
+      let found : other_holder (done h) t.0 x.0 ≡ r = least_holder (done h) tie.orderly t.0 x.0 r (subst (λ (g : ItemLocks). IsSmallest (keeps_from_writing g t.0) r) here least) in
       sym (skip (not_begun h t.0) (ended h t.0) (no_item h x.0) (query_writes h t.0 ∷ out_of_range v ∷ write_blocked h t.0 x.0 ∷ []) active item
       ∙ (ap (λ (b : Bool). first_reason (when b QueryMayNotWrite ∷ out_of_range v ∷ write_blocked h t.0 x.0 ∷ [])) no_query
       ∙ (ap (λ (o : Option Refusal). first_reason (o ∷ write_blocked h t.0 x.0 ∷ [])) (sym range)

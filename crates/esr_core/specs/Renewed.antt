@@ -7,7 +7,7 @@ use Rattle.esr_history.specs.declared.event.Event.TheVariants.{Read}
 use Rattle.esr_history.specs.declared.event.Reply.TheVariants.{Value}
 use Rattle.esr_history.specs.declared.event.Entry.{Entry}
 use Rattle.esr_history.specs.Events.{accepted, numbers, is_active, is_update, is_committed, written, last_value, committed_value}
-use Rattle.esr_history.specs.Machine.{Schedule, done}
+use Rattle.esr_history.specs.Machine.{Schedule, schedule_of, done}
 use Rattle.esr_history.specs.Serial.{IsSerialOrder, IsSerializable, committed_updates, values_by, state}
 
 -- the committed values of the items, in their order
@@ -20,7 +20,7 @@ has_active h = list_any (is_active (done h)) (numbers (done h))
 
 -- a history with no entry over the committed values of another
 abbrev pub renewed : Schedule → List ℕ → Schedule
-renewed h weights = record { opening = committed_values h; weights = weights; entries = [] }
+renewed h weights = schedule_of (committed_values h) weights []
 
 -- the value of item x after the updates us of a history and then the updates vs of one that follows it, run one after
 -- another

@@ -1,6 +1,10 @@
--- Lists whose elements have a number each, in ascending order.
-use Rattle.std.specs.Prelude.{◌≡◌, ℕ, ◌<◌, ◌≤◌, List, [], ◌∷◌, length, ◌==◌, nat_lt, if◌then◌else◌, slice_index_or, ⊤}
+-- Numbers in order: the smallest of some, and lists whose elements have a number each, ascending.
+use Rattle.std.specs.Prelude.{◌≡◌, ℕ, ◌<◌, ◌≤◌, Bool, true, false, Option, MatchOption, List, [], ◌∷◌, length, ◌==◌, nat_lt, if◌then◌else◌, slice_index_or, ⊤}
 use Rattle.std.specs.List.{AllByRecursion}
+
+-- the smallest number that passes the test, if one does
+abbrev pub IsSmallest : (ℕ → Bool) → Option ℕ → Type 0
+IsSmallest p r = MatchOption r ((u : ℕ) → p u ≡ false) (λ u. (p u ≡ true) × ((v : ℕ) → v < u → p v ≡ false))
 
 -- each number is below those after it, so none comes twice
 abbrev pub IsAscendingBy : {X : Type 0} → (X → ℕ) → List X → Type 0

@@ -1,4 +1,4 @@
--- Worked examples: the machine's replies, charges, locks and accounts on some lists of events.
+-- Worked examples: the machine's replies, charges and locks on some lists of events.
 use Rattle.std.specs.Prelude.{◌≡◌, ℕ, ℤ, pos, List, [], ◌∷◌, true, false, refl, map}
 use Rattle.esr_items.specs.Values.{gap}
 use Rattle.esr_history.specs.declared.event.TxnId.{TxnId}
@@ -9,7 +9,7 @@ use Rattle.esr_history.specs.declared.event.Reply.{Reply}
 use Rattle.esr_history.specs.declared.event.Reply.TheVariants.{Begun, Value, Wrote, Committed, Aborted, Refused}
 use Rattle.esr_history.specs.declared.event.Refusal.TheVariants.{NoSuchTransaction, AlreadyEnded, NoSuchItem, QueryMayNotWrite, ValueOutOfRange, LimitOutOfRange, BlockedByLock, BlockedByImport, BlockedByExport}
 use Rattle.esr_history.specs.Machine.{Schedule, Distance, schedule_of, extended, reply_to, charges_in, total, import_in, export_in, done}
-use Rattle.esr_history.specs.ItemLocks.{item_locks, accounts}
+use Rattle.esr_history.specs.ItemLocks.{item_locks}
 use Rattle.std.specs.Prelude.{Some}
 
 abbrev pub plain : Distance
@@ -138,10 +138,13 @@ export_limit_over_queries_locks : item_locks (done export_limit_over_queries) 0
     ≡ record { writer = Some 4; readers = []; queries = (1, 2) ∷ (2, 1) ∷ [] }
 export_limit_over_queries_locks = refl
 
-export_limit_over_queries_accounts : accounts plain export_limit_over_queries
-    ≡ record { query = true; limit = 10; amount = 10 } ∷ record { query = true; limit = 5; amount = 5 }
-    ∷ record { query = false; limit = 14; amount = 0 } ∷ record { query = false; limit = 15; amount = 15 } ∷ []
-export_limit_over_queries_accounts = refl
+export_limit_over_queries_imports :
+    map (import_in (charges_in plain export_limit_over_queries)) (1 ∷ 2 ∷ []) ≡ 10 ∷ 5 ∷ []
+export_limit_over_queries_imports = refl
+
+export_limit_over_queries_exports :
+    map (export_in (charges_in plain export_limit_over_queries)) (3 ∷ 4 ∷ []) ≡ 0 ∷ 15 ∷ []
+export_limit_over_queries_exports = refl
 
 -- whether a query is strict changes no reply to its begin
 strict_ignored : (h : Schedule) (limit : ℕ)

@@ -1,5 +1,5 @@
 -- The locks on items: who holds them, and what one more lock and a release change.
-use Rattle.std.specs.Prelude.{◌≡◌, ℕ, ◌+◌, ◌<◌, List, [], Bool, true, false, not, ◌&&◌, ◌||◌, ◌==◌, Option, None, Some, MatchOption, unwrap_or, filter, slice_index_or, slice_index, min, if◌then◌else◌}
+use Rattle.std.specs.Prelude.{ℕ, ◌+◌, List, [], Bool, false, not, ◌&&◌, ◌||◌, ◌==◌, None, Some, unwrap_or, filter, slice_index_or, slice_index, min, if◌then◌else◌}
 use Rattle.std.specs.List.{list_any}
 use Rattle.std.specs.Option.{option_map}
 use Rattle.esr_items.specs.declared.metric.ItemId.{ItemId}
@@ -47,10 +47,6 @@ keeps_from_reading l t u = not (u == t) && is_writer l u
 
 abbrev pub keeps_from_writing : ItemLocks → ℕ → ℕ → Bool
 keeps_from_writing l t u = not (u == t) && (is_reader l u || is_writer l u)
-
--- the smallest number that passes the test, if one does
-abbrev pub IsLeast : (ℕ → Bool) → Option ℕ → Type 0
-IsLeast p r = MatchOption r ((u : ℕ) → p u ≡ false) (λ u. (p u ≡ true) × ((v : ℕ) → v < u → p v ≡ false))
 
 -- the locks with one more: a read by an update, a write, a read by a query
 abbrev pub with_reader : ℕ → ItemLocks → ItemLocks

@@ -1,9 +1,9 @@
 ghost use Rattle.std.specs.Prelude.{◌≡◌, ℕ, ◌<◌, ◌≤◌, ◌==◌, Bool, false, ◌||◌, map, not, All, OnOk, OnErr, unwrap_or, None, if◌then◌else◌};
 ghost use Rattle.std.specs.Option.{option_map};
 ghost use Rattle.esr_history.specs.declared.limits.TheConstants.{MOST_READS};
-ghost use Rattle.esr_history.specs.Ascending.{IsAscendingBy};
+ghost use Rattle.esr_history.specs.Ascending.{IsAscendingBy, IsSmallest};
 ghost use Rattle.esr_locks.specs.Rows.{RowOf, query_and_count, with_lock, has_such};
-ghost use Rattle.esr_locks.specs.Tables.{no_locks, has_update_lock, has_query_lock, keeps_from_reading, keeps_from_writing, IsLeast, with_reader, with_writer, with_query_read, released};
+ghost use Rattle.esr_locks.specs.Tables.{no_locks, has_update_lock, has_query_lock, keeps_from_reading, keeps_from_writing, with_reader, with_writer, with_query_read, released};
 
 use crate::lists::{
     Queries, QueryReads, Readers, add_reader, count_read, drop_row, is_reader, other_reader,
@@ -72,8 +72,8 @@ fn writer_unless(writer: Option<TxnId>, t: TxnId) -> Option<TxnId>
 
 /// The smaller of two ids, either of which may be absent.
 fn smaller_of(a: Option<TxnId>, b: Option<TxnId>) -> Option<TxnId>
-    ensures { (p q : ℕ → Bool) → IsLeast p (option_map (λ u. u.0) a) → IsLeast q (option_map (λ u. u.0) b)
-        → IsLeast (λ u. p u || q u) (option_map (λ u. u.0) result) }
+    ensures { (p q : ℕ → Bool) → IsSmallest p (option_map (λ u. u.0) a) → IsSmallest q (option_map (λ u. u.0) b)
+        → IsSmallest (λ u. p u || q u) (option_map (λ u. u.0) result) }
 {
     match (a, b) {
         (None, other) => other,
@@ -112,14 +112,14 @@ impl Row {
 
     /// The writer, where it is another than `t`.
     pub fn other_writer(&self, t: TxnId) -> Option<TxnId>
-        ensures { IsLeast (keeps_from_reading self.now.locks t.0) (option_map (λ u. u.0) result) }
+        ensures { IsSmallest (keeps_from_reading self.now.locks t.0) (option_map (λ u. u.0) result) }
     {
         writer_unless(self.writer, t)
     }
 
     /// The smallest update other than `t` that has read or written the item.
     pub fn other_update(&self, t: TxnId) -> Option<TxnId>
-        ensures { IsLeast (keeps_from_writing self.now.locks t.0) (option_map (λ u. u.0) result) }
+        ensures { IsSmallest (keeps_from_writing self.now.locks t.0) (option_map (λ u. u.0) result) }
     {
         smaller_of(other_reader(&self.readers, t), self.other_writer(t))
     }

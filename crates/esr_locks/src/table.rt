@@ -2,9 +2,9 @@ ghost use Rattle.std.specs.Prelude.{◌≡◌, ℕ, ◌-◌, ◌<◌, ◌≤◌,
 ghost use Rattle.std.specs.List.{range_with_len};
 ghost use Rattle.std.specs.Option.{option_map};
 ghost use Rattle.esr_history.specs.declared.limits.TheConstants.{MOST_READS};
-ghost use Rattle.esr_history.specs.Ascending.{IsAscendingBy};
+ghost use Rattle.esr_history.specs.Ascending.{IsAscendingBy, IsSmallest};
 ghost use Rattle.esr_locks.specs.Rows.{query_and_count, row_at, held_at, with_lock};
-ghost use Rattle.esr_locks.specs.Tables.{no_locks, locks_at, room_for, has_lock, lists_item, keeps_from_reading, keeps_from_writing, IsLeast, with_reader, with_writer, with_query_read, released};
+ghost use Rattle.esr_locks.specs.Tables.{no_locks, locks_at, room_for, has_lock, lists_item, keeps_from_reading, keeps_from_writing, with_reader, with_writer, with_query_read, released};
 
 use crate::lists::QueryReads;
 use crate::locked_items::LockedItems;
@@ -122,7 +122,7 @@ impl LockTable {
     /// has written it.
     pub fn may_read_update(&self, t: TxnId, x: ItemId) -> Option<TxnId>
         requires { x.0 < length self.now.locks }
-        ensures { IsLeast (keeps_from_reading (locks_at self.now.locks x.0) t.0) (option_map (λ u. u.0) result) }
+        ensures { IsSmallest (keeps_from_reading (locks_at self.now.locks x.0) t.0) (option_map (λ u. u.0) result) }
     {
         self.rows[x.0 as usize].other_writer(t)
     }
@@ -131,7 +131,7 @@ impl LockTable {
     /// or written it.
     pub fn may_write(&self, t: TxnId, x: ItemId) -> Option<TxnId>
         requires { x.0 < length self.now.locks }
-        ensures { IsLeast (keeps_from_writing (locks_at self.now.locks x.0) t.0) (option_map (λ u. u.0) result) }
+        ensures { IsSmallest (keeps_from_writing (locks_at self.now.locks x.0) t.0) (option_map (λ u. u.0) result) }
     {
         self.rows[x.0 as usize].other_update(t)
     }
