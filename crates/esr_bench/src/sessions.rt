@@ -131,13 +131,16 @@ fn transactions(caller: &mut impl Steps, count: u32, seed: u64) {
 }
 
 fn measure_machine(rt: &impl Clock, alloc: Global, count: u32) -> Result<Duration> {
-    let machine = Machine::new(alloc, items(alloc)?, Plain);
-    let mut machine = machine.map_err(|_| anyhow!("out of memory"))?;
+    match Machine::new(alloc, items(alloc)?, Plain) {
+        Ok(mut machine) => measure_alone(rt, &mut machine, count),
+        Err(_) => Err(anyhow!("out of memory")),
+    }
+}
+
+/// How long a machine takes for so many transactions.
+fn measure_alone(rt: &impl Clock, machine: &mut Machine<Plain>, count: u32) -> Result<Duration> {
     let start = Instant::now(rt)?;
-    let mut alone = Alone {
-        machine: &mut machine,
-    };
-    transactions(&mut alone, count, 1);
+    transactions(&mut Alone { machine }, count, 1);
     Ok(start.elapsed(rt)?)
 }
 
@@ -173,48 +176,58 @@ fn measure_engine<N: Naming + Send + Sync, R: Threads + Wait + Clock + Sync>(
     let Ok(opened) = engine.open_sessions(sessions as usize) else {
         return Err(anyhow!("out of memory"));
     };
-    let jobs = jobs_of(alloc, opened, count / sessions)?;
-    let start = Instant::now(rt)?;
-    let back = thread::map_vec(rt, jobs, &|job: Job<N>| run(rt, job))?;
-    let time = start.elapsed(rt)?;
+    let (back, time) = run_all(rt, alloc, opened, count / sessions)?;
     match engine.close(rt, back) {
         Ok(closed) => Ok((closed.history.log().len(), time)),
         Err(_) => Err(anyhow!("the engine was not closed")),
     }
 }
 
+/// Lets each session make so many transactions, on a thread of its own; the sessions, and how long it took.
+fn run_all<N: Naming + Send + Sync, R: Threads + Wait + Clock + Sync>(
+    rt: &R,
+    alloc: Global,
+    sessions: Vec<Session<Plain, N>>,
+    count: u32,
+) -> Result<(Vec<Session<Plain, N>>, Duration)> {
+    let loads = loads_of(alloc, sessions, count)?;
+    let start = Instant::now(rt)?;
+    let back = thread::map_vec(rt, loads, &|load: Load<N>| run(rt, load))?;
+    Ok((back, start.elapsed(rt)?))
+}
+
 /// A session, and the transactions that it is to make.
 #[derive(Drop)]
-struct Job<N: Naming> {
+struct Load<N: Naming> {
     session: Session<Plain, N>,
     count: u32,
     seed: u64,
 }
 
 /// Each session with so many transactions, over items of its own seed.
-fn jobs_of<N: Naming>(
+fn loads_of<N: Naming>(
     alloc: Global,
     sessions: Vec<Session<Plain, N>>,
     count: u32,
-) -> Result<Vec<Job<N>>> {
-    let mut jobs = Vec::new(alloc);
+) -> Result<Vec<Load<N>>> {
+    let mut loads = Vec::new(alloc);
     for session in sessions {
-        let seed = jobs.len() as u64;
-        jobs.push(Job {
+        let seed = loads.len() as u64;
+        loads.push(Load {
             session,
             count,
             seed,
         })?;
     }
-    Ok(jobs)
+    Ok(loads)
 }
 
-fn run<N: Naming, R: Wait>(rt: &R, job: Job<N>) -> Session<Plain, N> {
-    let Job {
+fn run<N: Naming, R: Wait>(rt: &R, load: Load<N>) -> Session<Plain, N> {
+    let Load {
         mut session,
         count,
         seed,
-    } = job;
+    } = load;
     let mut shared = Shared {
         rt,
         session: &mut session,
