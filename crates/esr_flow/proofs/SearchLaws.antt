@@ -7,7 +7,7 @@ use Rattle.esr_cert.specs.declared.residual.ResidualArc.{ResidualArc}
 use Rattle.esr_cert.specs.declared.residual.ResidualArc.TheVariants.{Forward, Backward}
 use Rattle.esr_flow.specs.declared.search.Visit.{Visit}
 use Rattle.esr_cert.specs.Steps.{arc_of, start}
-use Rattle.esr_flow.specs.Residual.{finish, residual_capacity, IsResidual, IsPath}
+use Rattle.esr_flow.specs.Residual.{finish, IsResidual, IsPath}
 use Rattle.esr_cert.specs.Network.{Network, IsNetwork}
 use Rattle.esr_flow.specs.Augmentation.{IsReach}
 use Rattle.esr_flow.specs.Search.{visit_at, is_marked, unmarked, Leads, Comes, Searched}
