@@ -2,7 +2,7 @@ pub mod Cuts
 pub mod Calling
 pub mod Placing
 pub mod Adding
-pub mod Jobs
+pub mod Tasks
 pub mod Texts
 pub mod Noting
 pub mod Told

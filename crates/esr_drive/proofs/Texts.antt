@@ -13,7 +13,7 @@ use Rattle.esr_drive.specs.declared.sheet.Sheet.{Sheet}
 use Rattle.esr_drive.specs.declared.call.Call.{Call}
 use Rattle.esr_drive.specs.Calls.{command_of, AreResolved}
 use Rattle.esr_drive.specs.Plan.{Plan, plan_of, plan_from, cut_fault, with_line, nothing, weights_of}
-use Rattle.esr_script.specs.Text.{max_lines, max_line_bytes}
+use Rattle.esr_script.specs.declared.pending.TheConstants.{MAX_LINES, MAX_LINE_BYTES}
 use Rattle.esr_drive.specs.Sheets.{plan_in, IsSound}
 use Rattle.esr_drive.specs.Driven.{IsDriven, all_answers}
 use Rattle.esr_drive.specs.Drive.{IsDriveText, text_of}
@@ -77,7 +77,7 @@ chosen false e o p q = q
 cut_fine : (count : ℕ) (ls : List (List ℕ)) → IsCutFault (cut_fault count ls)
 cut_fine count [] = tt
 cut_fine count (l ∷ ls) =
-    chosen (nat_eq count max_lines) fault.TooManyLines _ tt (chosen (nat_lt max_line_bytes (length l)) fault.LineTooLong _ tt (cut_fine (count + 1) ls))
+    chosen (nat_eq count MAX_LINES) fault.TooManyLines _ tt (chosen (nat_lt MAX_LINE_BYTES (length l)) fault.LineTooLong _ tt (cut_fine (count + 1) ls))
 
 from_fine : (number : ℕ) (p : Plan) (ls : List (List ℕ)) → IsFine (plan_from number p ls)
 from_fine number p [] = tt

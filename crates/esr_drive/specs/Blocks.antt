@@ -3,6 +3,7 @@ use Rattle.std.specs.Prelude.{◌≡◌, ℕ, ◌≤◌, List, [], ◌∷◌, �
 use Rattle.std.specs.List.{position}
 use Rattle.std.specs.Option.{option_and_then}
 use Rattle.std.specs.Str.{bytes_eq}
+use Rattle.esr_items.specs.declared.TheConstants.{MOST_ITEMS}
 use Rattle.esr_items.specs.declared.metric.ItemId.{ItemId}
 use Rattle.esr_history.specs.declared.event.TxnId.{TxnId}
 use Rattle.esr_history.specs.declared.event.Event.{Event}
@@ -11,7 +12,6 @@ use Rattle.esr_history.specs.declared.event.Reply.{Reply}
 use Rattle.esr_history.specs.declared.event.Reply.TheVariants.{Begun}
 use Rattle.esr_report.specs.Names.{position_of}
 use Rattle.esr_script.specs.Command.{Command, begin_update, begin_query, begin_strict_query, read, write, commit, abort}
-use Rattle.esr_script.specs.Text.{max_items}
 use Rattle.esr_session.specs.declared.receipt.Receipt.{Receipt}
 use Rattle.esr_session.specs.Receipts.{is_blocked}
 use Rattle.esr_drive.specs.Plan.{new_name}
@@ -41,7 +41,7 @@ transaction_called earlier name = record { 0 = unwrap_or (number_got earlier nam
 
 -- items are numbered from 0; a name that is not declared stands for a number that no item has
 abbrev pub item_called : List (List ℕ) → List ℕ → ItemId
-item_called names name = record { 0 = unwrap_or (position_of names name) max_items }
+item_called names name = record { 0 = unwrap_or (position_of names name) MOST_ITEMS }
 
 -- the event of a command of a block, by the names of the items and the lines of the block before it
 abbrev pub event_of : List (List ℕ) → List Answered → Command → Option Event

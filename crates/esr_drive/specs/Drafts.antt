@@ -7,6 +7,7 @@ use Rattle.esr_items.specs.Weights.{IsWeight}
 use Rattle.esr_report.specs.Names.{position_of}
 use Rattle.esr_script.specs.Command.{Command}
 use Rattle.esr_drive.specs.declared.call.Call.{Call}
+use Rattle.esr_drive.specs.declared.draft.TheConstants.{MAX_BLOCKS}
 use Rattle.esr_drive.specs.declared.draft.Draft.{Draft}
 use Rattle.esr_drive.specs.declared.draft.Wrong.{Wrong}
 use Rattle.esr_drive.specs.declared.draft.Wrong.TheVariants as wrong
@@ -57,7 +58,7 @@ pub record IsSound (d : Draft) : Type 0 where
   pub weighed : All IsWeight (weights_of d.weights.items)
   pub opened : IsOpened d
   pub items : length d.names ≤ MOST_ITEMS
-  pub blocks : length (blocks_of d) ≤ 64
+  pub blocks : length (blocks_of d) ≤ MAX_BLOCKS
   pub every : length d.places.items ≡ length d.begun
   pub earlier : d.earlier ≤ length d.begun
   pub places : ArePlaces (current_calls d) d.earlier d.places.items d.begun

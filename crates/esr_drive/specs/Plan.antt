@@ -2,13 +2,15 @@
 use Rattle.std.specs.Prelude.{ℕ, ◌+◌, ◌==◌, ℤ, List, [], ◌∷◌, ◌++◌, not, nat_lt, nat_eq, Option, Some, None, Result, Ok, Err, length, map, codes, unwrap_or, if◌then◌else◌}
 use Rattle.std.specs.List.{filter_map, flat_map}
 use Rattle.std.specs.Str.{bytes_eq}
+use Rattle.esr_items.specs.declared.TheConstants.{MOST_ITEMS}
 use Rattle.esr_items.specs.Values.{is_value}
 use Rattle.esr_items.specs.Weights.{is_weight}
 use Rattle.esr_report.specs.Names.{is_bound}
 use Rattle.esr_script.specs.Lines.{lines}
 use Rattle.esr_script.specs.Command.{Command, item, weighted_item, begin_update, begin_query, begin_strict_query, audit, totals, is_skipped}
 use Rattle.esr_script.specs.Reading.{reading}
-use Rattle.esr_script.specs.Text.{max_lines, max_line_bytes, max_items}
+use Rattle.esr_script.specs.declared.pending.TheConstants.{MAX_LINES, MAX_LINE_BYTES}
+use Rattle.esr_drive.specs.declared.draft.TheConstants.{MAX_BLOCKS}
 use Rattle.esr_drive.specs.declared.fault.DriveFault.{DriveFault}
 use Rattle.esr_drive.specs.declared.fault.DriveFault.TheVariants.{LineTooLong, TooManyLines, BadScript}
 
@@ -29,9 +31,6 @@ weight_in given = unwrap_or given 1
 
 abbrev pub weights_of : List (Option ℕ) → List ℕ
 weights_of given = map weight_in given
-
-abbrev pub max_blocks : ℕ
-max_blocks = 64
 
 -- the name of the transaction that a command begins
 abbrev pub new_name : Command → Option (List ℕ)
@@ -54,7 +53,7 @@ onto_last c (b ∷ (next ∷ more)) = b ∷ onto_last c (next ∷ more)
 
 abbrev pub with_session : Plan → Result Plan ℕ
 with_session p =
-    if length p.blocks == max_blocks then Err 7
+    if length p.blocks == MAX_BLOCKS then Err 7
     else Ok (record p { blocks = p.blocks ++ [] ∷ [] })
 
 abbrev pub with_item : Plan → List ℕ → ℤ → Option ℕ → Result Plan ℕ
@@ -62,7 +61,7 @@ with_item p name value weight =
     if not (length p.blocks == 0) then Err 2
     else if is_bound p.names name then Err 3
     else if not (is_value value) then Err 4
-    else if length p.names == max_items then Err 5
+    else if length p.names == MOST_ITEMS then Err 5
     else if not (is_weight (weight_in weight)) then Err 8
     else Ok (record p {
       names = p.names ++ name ∷ [];
@@ -113,8 +112,8 @@ plan_from number p (line ∷ more) =
 abbrev pub cut_fault : ℕ → List (List ℕ) → Option DriveFault
 cut_fault count [] = None
 cut_fault count (line ∷ more) =
-    if nat_eq count max_lines then Some TooManyLines
-    else if nat_lt max_line_bytes (length line) then Some LineTooLong
+    if nat_eq count MAX_LINES then Some TooManyLines
+    else if nat_lt MAX_LINE_BYTES (length line) then Some LineTooLong
     else cut_fault (count + 1) more
 
 -- the plan of a file

@@ -1,5 +1,6 @@
 -- A file that is being read, line by line.
 use Rattle.std.specs.Prelude.{◌≡◌, ℕ, ◌<◌, ◌≤◌, List, ◌++◌, Option, Err, IfSome, length, drop}
+use Rattle.esr_script.specs.declared.pending.TheConstants.{MAX_LINES, MAX_LINE_BYTES}
 use Rattle.esr_script.specs.Lines.{lines}
 use Rattle.esr_drive.specs.Plan.{cut_fault, plan_of}
 use Rattle.esr_drive.specs.declared.reading.Mark.{Mark}
@@ -14,13 +15,13 @@ rest_from bytes m = drop m.start bytes
 abbrev pub IsMark : List ℕ → Mark → Type 0
 IsMark bytes m =
     (m.start ≤ length bytes)
-    × (m.lines ≤ 2000000)
+    × (m.lines ≤ MAX_LINES)
     × ((rest : List ℕ) → cut_fault 0 (lines (bytes ++ rest)) ≡ cut_fault m.lines (lines (rest_from bytes m ++ rest)))
 
 -- the fault of a line of so many bytes, after so many lines
 abbrev pub IsLineFault : ℕ → ℕ → DriveFault → Type 0
-IsLineFault count len fault.TooManyLines = count ≡ 2000000
-IsLineFault count len fault.LineTooLong = (count ≡ 2000000 → ⊥) × (200 < len)
+IsLineFault count len fault.TooManyLines = count ≡ MAX_LINES
+IsLineFault count len fault.LineTooLong = (count ≡ MAX_LINES → ⊥) × (MAX_LINE_BYTES < len)
 IsLineFault count len _ = ⊥
 
 -- how reading may end before the end, by all bytes that there are

@@ -1,9 +1,10 @@
 //! Makes the plan of a drive file, line after line.
 
+ghost use Rattle.esr_script.specs.declared.pending.TheConstants.{MAX_LINES};
 ghost use Rattle.std.specs.Prelude.{◌≡◌, ◌+◌, ◌<◌, ◌≤◌, ◌⊎◌, ◌^◌, true, false, Ok, Err, Some, None, OnOk, IfOk, IfErr, length};
 ghost use Rattle.esr_items.specs.Weights.{is_weight};
 ghost use Rattle.esr_script.specs.Lines.{lines};
-ghost use Rattle.esr_script.specs.View.{view};
+ghost use Rattle.esr_script.specs.Reading.{view};
 ghost use Rattle.esr_drive.specs.Plan.{with_session, with_item, with_operation, with_begin, with_command, with_line, plan_from, nothing, new_name, weight_in};
 ghost use Rattle.esr_drive.specs.Calls.{command_of, place_of, IsCaller, IsOperand, IsResolved};
 ghost use Rattle.esr_drive.specs.Drafts.{plan_in, current_calls, IsSound, IsWrong};
@@ -16,7 +17,8 @@ use esr_report::Names;
 use esr_script::{Line, Parsed, parse_line};
 use std::alloc::Global;
 
-const MAX_BLOCKS: usize = 64;
+/// The most blocks of a file.
+pub const MAX_BLOCKS: usize = 64;
 
 /// A plan that is being made: the items, the blocks that are done, and the one that is open, with
 /// the names of the transactions that begin in them.
@@ -280,7 +282,7 @@ impl<'a> Draft<'a> {
 
 /// The plan of the lines.
 pub fn draft_of<'a>(alloc: Global, bytes: &'a [u8]) -> Result<Draft<'a>, DriveFault>
-    requires { length (lines bytes.now) ≤ 2000000 }
+    requires { length (lines bytes.now) ≤ MAX_LINES }
     ensures ok { IfOk result (λ d. IsSound d × (plan_from 1 nothing (lines bytes.entry.now) ≡ Ok (plan_in d))) }
     ensures err { IfErr result (λ e. (e ≡ DriveFault.NoMemory)
         ⊎ (plan_from 1 nothing (lines bytes.entry.now) ≡ Err e)) }

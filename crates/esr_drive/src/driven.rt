@@ -1,12 +1,14 @@
 //! One engine for all blocks.
 
-ghost use Rattle.std.specs.Prelude.{◌≡◌, ◌≤◌, [], true, IfOk, IfErr, All, length, map, vec_len};
+ghost use Rattle.esr_drive.specs.declared.draft.TheConstants.{MAX_BLOCKS};
+ghost use Rattle.std.specs.Prelude.{◌≡◌, ◌+◌, ◌≤◌, [], true, IfOk, IfErr, All, length, map, vec_len};
 ghost use Rattle.esr_drive.specs.Driven.{IsDriven};
 ghost use Rattle.esr_drive.specs.Faults.{is_engine_fault};
 
 use crate::call::Call;
+use crate::draft::MAX_BLOCKS;
 use crate::fault::DriveFault;
-use crate::threads::{Gathered, Job, gather, run_blocks};
+use crate::threads::{BlockResults, BlockTask, gather, run_blocks};
 use esr_board::Gate;
 use esr_history::{History, NoMemory, Reply};
 use esr_items::{Store, Weighted};
@@ -30,7 +32,7 @@ fn sessions_for<N: Naming>(
     engine: &mut Engine<Weighted, N>,
     blocks: usize,
 ) -> Result<Vec<Session<Weighted, N>>, NoMemory>
-    requires number { blocks ≤ 64 }
+    requires number { blocks ≤ MAX_BLOCKS }
     requires first { engine.old.opened ≡ 0 }
     ensures { IfOk result (λ sessions. (vec_len sessions ≡ blocks) × All (λ session. session ≡ []) sessions.items) }
 {
@@ -41,21 +43,21 @@ fn sessions_for<N: Naming>(
 }
 
 /// Each session with its block.
-fn jobs_of<'a, 't, N: Naming>(
+fn tasks_of<'a, 't, N: Naming>(
     alloc: Global,
     blocks: &'a [Vec<Call<'t>>],
     sessions: Vec<Session<Weighted, N>>,
-) -> Result<Vec<Job<'a, 't, N>>, AllocError>
+) -> Result<Vec<BlockTask<'a, 't, N>>, AllocError>
     requires { (length blocks.now ≡ vec_len sessions) × All (λ session. session ≡ []) sessions.items }
     ensures len { IfOk result (λ v. vec_len v ≡ length blocks.now) }
-    ensures calls { IfOk result (λ v. map (λ job. job.calls.now) v.items ≡ map (λ b. b.items) blocks.entry.now) }
-    ensures fresh { IfOk result (λ v. All (λ job. job.session ≡ []) v.items) }
+    ensures calls { IfOk result (λ v. map (λ task. task.calls.now) v.items ≡ map (λ b. b.items) blocks.entry.now) }
+    ensures fresh { IfOk result (λ v. All (λ task. task.session ≡ []) v.items) }
 {
     let mut sessions = sessions;
-    let mut jobs = Vec::with_capacity(alloc, blocks.len())?;
+    let mut tasks = Vec::with_capacity(alloc, blocks.len())?;
     for i in 0..blocks.len() {
         match sessions.pop() {
-            Some(session) => jobs.push_reserved(Job {
+            Some(session) => tasks.push_reserved(BlockTask {
                 session,
                 number: i as u64,
                 calls: blocks[i].as_slice(),
@@ -63,7 +65,7 @@ fn jobs_of<'a, 't, N: Naming>(
             None => unreachable!(),
         }
     }
-    Ok(jobs)
+    Ok(tasks)
 }
 
 /// Runs the blocks on one engine, which N names.
@@ -77,10 +79,10 @@ fn drive_blocks<N: Naming + Send + Sync, R: Threads + Wait + Sync, G: Gate + Syn
     gate: &G,
 ) -> Result<Driven, DriveFault>
     requires name { blank.name ≡ N.name }
-    requires parts { (blank.parts ≡ N.parts) × (blank.parts ≡ 65) }
+    requires parts { (blank.parts ≡ N.parts) × (blank.parts ≡ MAX_BLOCKS + 1) }
     requires opening { map (λ w. w.committed) items ≡ N.opening }
     requires weights { metric ≡ N.weights }
-    requires blocks { length blocks.now ≤ 64 }
+    requires blocks { length blocks.now ≤ MAX_BLOCKS }
     ensures faults { IfErr result (λ e. is_engine_fault e ≡ true) }
     ensures driven { IfOk result (λ d. IsDriven (map (λ w. w.committed) items) metric
         (map (λ b. b.items) blocks.now) d.history.schedule (map (λ r. r.items) d.replies.items)) }
@@ -91,13 +93,13 @@ fn drive_blocks<N: Naming + Send + Sync, R: Threads + Wait + Sync, G: Gate + Syn
     let Ok(sessions) = sessions_for(alloc, &mut engine, blocks.len()) else {
         return Err(DriveFault::NoMemory);
     };
-    let Ok(jobs) = jobs_of(alloc, blocks, sessions) else {
+    let Ok(tasks) = tasks_of(alloc, blocks, sessions) else {
         return Err(DriveFault::NoMemory);
     };
-    let Ok(all) = run_blocks(rt, alloc, jobs, gate) else {
+    let Ok(all) = run_blocks(rt, alloc, tasks, gate) else {
         return Err(DriveFault::NoMemory);
     };
-    let Gathered { sessions, replies } = match gather(alloc, all) {
+    let BlockResults { sessions, replies } = match gather(alloc, all) {
         Ok(gathered) => gathered,
         Err(fault) => return Err(fault),
     };
@@ -122,10 +124,18 @@ pub fn run_plan<R: Threads + Wait + Sync, G: Gate + Sync>(
     blocks: &[Vec<Call<'_>>],
     gate: &G,
 ) -> Result<Driven, DriveFault>
-    requires { length blocks.now ≤ 64 }
+    requires { length blocks.now ≤ MAX_BLOCKS }
     ensures faults { IfErr result (λ e. is_engine_fault e ≡ true) }
     ensures driven { IfOk result (λ d. IsDriven (map (λ w. w.committed) items) metric
         (map (λ b. b.items) blocks.now) d.history.schedule (map (λ r. r.items) d.replies.items)) }
 {
-    drive_blocks::<Brand, R, G>(rt, alloc, Blank::new(65), items, metric, blocks, gate)
+    drive_blocks::<Brand, R, G>(
+        rt,
+        alloc,
+        Blank::new(MAX_BLOCKS as u64 + 1),
+        items,
+        metric,
+        blocks,
+        gate,
+    )
 }

@@ -1,5 +1,6 @@
 //! A drive, from its reader to its writer.
 
+ghost use Rattle.esr_board.specs.declared.board.TheConstants.{MOST_SEATS};
 ghost use Rattle.std.specs.Prelude.{◌≡◌, ℕ, List, ◌≤◌, ◌↔◌, false, None, map, IfOk, IfErr, IfSome, IsErrOf, IsTrue};
 ghost use Rattle.esr_script.specs.Lines.{lines};
 ghost use Rattle.std.specs.Io.KnownBytes.{Appends};
@@ -36,7 +37,7 @@ pub fn drive<R: Threads + Wait + Sync, I: Read, O: Write, G: Gate + Sync>(
 ) -> Result<(), DriveFault>
     requires reader { failed reader.old ≡ false }
     requires writer { failed writer.old ≡ false }
-    requires workers { (1 ≤ workers) × (workers ≤ 64) }
+    requires workers { (1 ≤ workers) × (workers ≤ MOST_SEATS) }
     ensures text { IfSome (I.remaining (inner reader.old)) (λ input. (written : List ℕ)
         × Appends (O.contents (inner writer.old)) (O.contents (inner writer.new)) written
         × IsDriveBy input (I.remaining (inner reader.new)) result written) }
@@ -65,7 +66,7 @@ fn text_in<R: Threads + Wait + Sync, G: Gate + Sync>(
     gate: &G,
 ) -> Result<Vec<u8>, DriveFault>
     requires read { cut_fault 0 (lines bytes.now) ≡ None }
-    requires workers { (1 ≤ workers) × (workers ≤ 64) }
+    requires workers { (1 ≤ workers) × (workers ≤ MOST_SEATS) }
     ensures text { IfOk result (λ out. IsDriveText bytes.now out.items) }
     ensures faults { IfErr result (IsTextFault bytes.now) }
 {
@@ -97,7 +98,7 @@ fn text_from<R: Threads + Sync>(
     sheet: &Sheet<'_>,
     driven: &Driven,
 ) -> Result<Vec<u8>, AllocError>
-    requires workers { (1 ≤ workers) × (workers ≤ 64) }
+    requires workers { (1 ≤ workers) × (workers ≤ MOST_SEATS) }
     requires sound { IsSound sheet.now }
     requires driven { IsDriven sheet.now.values.items (weights_of sheet.now.weights.items)
         (map (λ b. b.items) sheet.now.blocks.items) driven.now.history.schedule

@@ -9,15 +9,15 @@ pub enum DriveFault {
     /// A write or a flush failed, or a write took none of some bytes.
     #[error("write failed")]
     Write,
-    /// A line has more than 200 bytes.
+    /// A line has more bytes than a line of a script may have.
     #[error("line too long")]
     LineTooLong,
     #[error("out of memory")]
     NoMemory,
-    /// The history has 1,000,000 entries, and a line makes one more event.
+    /// The history has as many entries as there may be, and a line makes one more event.
     #[error("history full")]
     HistoryFull,
-    /// There are more than 2,000,000 lines.
+    /// There are more lines than a script may have.
     #[error("too many lines")]
     TooManyLines,
     /// The first line at fault, counted from 1, and the number of what is wrong with it.

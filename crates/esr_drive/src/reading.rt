@@ -1,5 +1,6 @@
 //! Reads a drive file, and cuts it into lines. Reading stops at the first line that is too long, or is one too many.
 
+ghost use Rattle.esr_script.specs.declared.pending.TheConstants.{MAX_LINES, MAX_LINE_BYTES};
 ghost use Rattle.std.specs.Prelude.{◌≡◌, ℕ, List, false, ◌<◌, ◌≤◌, ◌↔◌, [], ◌∷◌, ◌++◌, None, Some, IfOk, IfErr, IsErrOf, IsTrue, MatchOption, MatchResult, length, nat_eq};
 ghost use Rattle.std.specs.List.{position};
 ghost use Rattle.std.specs.Io.KnownBytes.{Consumes, IsAtEnd};
@@ -10,12 +11,9 @@ ghost use Rattle.esr_drive.specs.Readings.{IsMark, IsLineFault, IsReadFault, res
 
 use crate::fault::DriveFault;
 use esr_history::Watched;
-use esr_script::{MAX_LINE_BYTES, MAX_LINES};
+use esr_script::{INPUT_ROOM, MAX_LINE_BYTES, MAX_LINES};
 use std::alloc::{AllocError, Global};
 use std::io::Read;
-
-/// How many bytes are asked for at once.
-const ROOM: usize = 65536;
 
 fn find_line_feed(bytes: &[u8]) -> Option<usize>
     ensures { result ≡ position (λ b. nat_eq b 10) bytes.now }
@@ -48,7 +46,7 @@ pub struct Mark {
 
 /// Whether a line of at least so many bytes may be read after so many lines.
 fn check_line(lines: u64, bytes: usize) -> Result<(), DriveFault>
-    ensures { MatchResult result (λ _. (lines ≡ 2000000 → ⊥) × (bytes ≤ 200)) (IsLineFault lines bytes) }
+    ensures { MatchResult result (λ _. (lines ≡ MAX_LINES → ⊥) × (bytes ≤ MAX_LINE_BYTES)) (IsLineFault lines bytes) }
 {
     if lines == MAX_LINES {
         return Err(DriveFault::TooManyLines);
@@ -89,7 +87,7 @@ fn looked(bytes: &[u8], mark: Mark) -> Result<Mark, DriveFault>
 fn room(alloc: Global) -> Result<Vec<u8>, AllocError>
     ensures { IfOk result (λ v. 0 < length v.items) }
 {
-    let chunk = vec![in alloc; 0u8; ROOM]?;
+    let chunk = vec![in alloc; 0u8; INPUT_ROOM]?;
     Ok(chunk)
 }
 

@@ -1,5 +1,6 @@
 //! The text of a drive, part by part.
 
+ghost use Rattle.esr_board.specs.declared.board.TheConstants.{MOST_SEATS};
 ghost use Rattle.esr_history.specs.declared.limits.TheConstants.{MOST_ENTRIES};
 ghost use Rattle.esr_items.specs.declared.TheConstants.{MOST_ITEMS};
 ghost use Rattle.std.specs.Prelude.{◌≡◌, ◌<◌, ◌≤◌, slice_index_or, ◌++◌, [], OnOk, All, length, map};
@@ -170,7 +171,7 @@ pub fn push_findings<R: Threads + Sync>(
     names: &BegunNames<'_>,
     workers: u64,
 ) -> Result<(), AllocError>
-    requires { (1 ≤ workers) × (workers ≤ 64) }
+    requires { (1 ≤ workers) × (workers ≤ MOST_SEATS) }
     ensures { OnOk result (out.new.items ≡ out.old.items
         ++ findings_text history.now.schedule (names_in names.now)) }
 {

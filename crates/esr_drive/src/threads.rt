@@ -19,7 +19,7 @@ use std::thread::Threads;
 
 /// A session that has made no call, and the block that it is to run.
 #[derive(Drop)]
-pub struct Job<'a, 't, N: Naming> {
+pub struct BlockTask<'a, 't, N: Naming> {
     pub session: Session<Weighted, N>,
     pub number: u64,
     pub calls: &'a [Call<'t>],
@@ -29,37 +29,37 @@ pub struct Job<'a, 't, N: Naming> {
 pub fn run_blocks<'a, 't, N: Naming + Send + Sync, R: Threads + Wait + Sync, G: Gate + Sync>(
     rt: &R,
     alloc: Global,
-    jobs: Vec<Job<'a, 't, N>>,
+    tasks: Vec<BlockTask<'a, 't, N>>,
     gate: &G,
 ) -> Result<Vec<Ran<N>>, AllocError>
-    requires { All (λ job. job.session ≡ []) jobs.items }
-    ensures len { IfOk result (λ v. vec_len v ≡ vec_len jobs.entry) }
-    ensures runs { IfOk result (λ v. AllPairs (λ job ran.
-        IfOk ran.outcome (λ replies. IsBlockRun job.calls.now replies.items ran.session)) jobs.entry.items v.items) }
+    requires { All (λ task. task.session ≡ []) tasks.items }
+    ensures len { IfOk result (λ v. vec_len v ≡ vec_len tasks.entry) }
+    ensures runs { IfOk result (λ v. AllPairs (λ task ran.
+        IfOk ran.outcome (λ replies. IsBlockRun task.calls.now replies.items ran.session)) tasks.entry.items v.items) }
 {
     thread::map_vec(
         rt,
-        jobs,
-        &|job: Job<'_, '_, N>| -> Ran<N>
-            requires { job.session ≡ [] }
-            ensures { IfOk result.outcome (λ replies. IsBlockRun job.entry.calls.now replies.items result.session) }
+        tasks,
+        &|task: BlockTask<'_, '_, N>| -> Ran<N>
+            requires { task.session ≡ [] }
+            ensures { IfOk result.outcome (λ replies. IsBlockRun task.entry.calls.now replies.items result.session) }
         {
-            gate.enter(job.number);
-            run_block(rt, alloc, job.calls, job.session)
+            gate.enter(task.number);
+            run_block(rt, alloc, task.calls, task.session)
         },
     )
 }
 
 /// The sessions after their blocks, with the last replies of each.
 #[derive(Drop)]
-pub struct Gathered<N: Naming> {
+pub struct BlockResults<N: Naming> {
     pub sessions: Vec<Session<Weighted, N>>,
     pub replies: Vec<Vec<Reply>>,
 }
 
 /// Takes apart what came of the blocks. Where blocks were not run to their ends, the answer is the
 /// first of out of memory, a full history and a closed engine that one of them ended by.
-pub fn gather<N: Naming>(alloc: Global, all: Vec<Ran<N>>) -> Result<Gathered<N>, DriveFault>
+pub fn gather<N: Naming>(alloc: Global, all: Vec<Ran<N>>) -> Result<BlockResults<N>, DriveFault>
     ensures sessions { IfOk result (λ g. g.sessions.items ≡ map (λ ran. ran.session) all.items) }
     ensures replies { IfOk result (λ g. map (λ ran. ran.outcome) all.items ≡ map (λ r. Ok r) g.replies.items) }
     ensures engine { IfErr result (λ e. is_engine_fault e ≡ true) }
@@ -85,7 +85,7 @@ pub fn gather<N: Naming>(alloc: Global, all: Vec<Ran<N>>) -> Result<Gathered<N>,
     }
     match worst {
         Some(fault) => Err(fault),
-        None => Ok(Gathered { sessions, replies }),
+        None => Ok(BlockResults { sessions, replies }),
     }
 }
 

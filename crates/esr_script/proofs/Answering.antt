@@ -10,16 +10,16 @@ use Rattle.esr_audit.specs.Findings.{IsShown, summary, summary_of}
 use Rattle.esr_script.specs.declared.asked.Asked.{Asked}
 use Rattle.esr_script.specs.Ask.{IsAnswered}
 use Rattle.esr_script.specs.Certify.{IsFound}
-use Rattle.esr_script.specs.Text.{State, transaction_called}
+use Rattle.esr_script.specs.Text.{ScriptState, transaction_called}
 use Rattle.std.proofs.lemmas.Grind.{common_steps}
 
 four : {a b c d e f : ℕ} {us vs : List ℕ} → a ≡ b → c ≡ d → e ≡ f → us ≡ vs → ◌≡◌ {A = ℕ × ℕ × ℕ × List ℕ} (a, c, e, us) (b, d, f, vs)
 four {a} {b} {c} {d} {e} {f} {us} {vs} x y z w = grind (arith, common_steps)
 
-module _ (s : State) (items names : List (List ℕ)) (was : Bool) (first h : Schedule) (name : List ℕ) (q : TxnId)
+module _ (s : ScriptState) (items names : List (List ℕ)) (was : Bool) (first h : Schedule) (name : List ℕ) (q : TxnId)
     (seen : record { items = items; transactions = names; closed = was; history = first } ≡ s) (same : h ≡ first) (called : q ≡ transaction_called s name) where
   history_is : h ≡ s.history
-  history_is = same ∙ ap (λ (z : State). z.history) seen
+  history_is = same ∙ ap (λ (z : ScriptState). z.history) seen
 
   -- what holds of the machine's history and of the number holds of the state's and of the name's
   both : (P : Schedule → ℕ → Type 0) → P h q.0 → P s.history (transaction_called s name).0
@@ -34,8 +34,8 @@ module _ (s : State) (items names : List (List ℕ)) (was : Bool) (first h : Sch
       → IsShown weighted h q.0 a.finding.distance (map (λ (t : TxnId). t.0) a.finding.before.items) a.finding.problem (certificate_of a.finding.certificate)
       → IsAnswered s name a
   answered a i t is query committed distance import before shown = record {
-    items = i ∙ ap (λ (z : State). z.items) seen;
-    transactions = t ∙ ap (λ (z : State). z.transactions) seen;
+    items = i ∙ ap (λ (z : ScriptState). z.items) seen;
+    transactions = t ∙ ap (λ (z : ScriptState). z.transactions) seen;
     history = is ∙ history_is;
     committed = both (λ k n. is_committed_query k n ≡ true) committed;
     told = both (λ k n. summary a.finding ≡ summary_of weighted k n) (four (ap (λ (t : TxnId). t.0) query) distance import before);

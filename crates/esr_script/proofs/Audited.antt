@@ -11,7 +11,7 @@ use Rattle.esr_audit.specs.Findings.{summary_of, committed_queries}
 use Rattle.esr_report.specs.Lines.{order_line, totals_line}
 use Rattle.esr_script.specs.declared.fault.RunFault.{RunFault}
 use Rattle.esr_items.specs.Weights.{weighted}
-use Rattle.esr_script.specs.Text.{State}
+use Rattle.esr_script.specs.Text.{ScriptState}
 use Rattle.esr_script.specs.Audit.{told_line, audit_output}
 use Rattle.std.proofs.lemmas.Grind.{common_steps}
 
@@ -28,7 +28,7 @@ lines_of_map f g [] = refl
 lines_of_map f g (x ∷ xs) = ap (λ l. f (g x) ++ l) (lines_of_map f g xs)
 
 -- the lines of a book over a history are the output of a state with this history
-pub book_lines : {E : Type 0} (r : Result (Unit {0}) RunFault) (p : Result (Unit {0}) E) (items names : List (List ℕ)) (was : Bool) (h0 h : Schedule) (s : State)
+pub book_lines : {E : Type 0} (r : Result (Unit {0}) RunFault) (p : Result (Unit {0}) E) (items names : List (List ℕ)) (was : Bool) (h0 h : Schedule) (s : ScriptState)
     (order : List ℕ) (tolds : List (ℕ × ℕ × ℕ × List ℕ)) (imports exports entries : ℕ) (out grown : List ℕ)
     → record { items = items; transactions = names; closed = was; history = h0 } ≡ s → h ≡ h0
     → order ≡ committed_updates h → tolds ≡ map (summary_of weighted h) (committed_queries h) → imports ≡ all_imports weighted h → exports ≡ all_exports weighted h → entries ≡ length h.entries

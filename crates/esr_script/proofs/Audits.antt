@@ -16,7 +16,7 @@ use Rattle.esr_report.specs.Lines.{audit_line, error_line}
 use Rattle.esr_report.specs.declared.lines.LineError.TheVariants as errors
 use Rattle.esr_script.specs.declared.fault.RunFault.{RunFault}
 use Rattle.esr_items.specs.Weights.{weighted}
-use Rattle.esr_script.specs.Text.{State, transaction_called, audit_text}
+use Rattle.esr_script.specs.Text.{ScriptState, transaction_called, audit_text}
 use Rattle.std.proofs.lemmas.Grind.{common_steps}
 
 module _ (d : Distance) (h : Schedule) (q : ℕ) where
@@ -40,11 +40,11 @@ module _ (d : Distance) (h : Schedule) (q : ℕ) where
   committed (Ok f) refused = grind (arith, common_steps)
   committed (Err e) refused = tt
 
-abbrev pub answered : State → List ℕ → Result (State × List ℕ) RunFault
+abbrev pub answered : ScriptState → List ℕ → Result (ScriptState × List ℕ) RunFault
 answered s text = Ok (s, text)
 
 -- the line of what was found is the audit's text
-pub said_so : {E : Type 0} (r : Result (Unit {0}) RunFault) (p : Result (Unit {0}) E) (items names : List (List ℕ)) (was running : Bool) (h0 h : Schedule) (s : State)
+pub said_so : {E : Type 0} (r : Result (Unit {0}) RunFault) (p : Result (Unit {0}) E) (items names : List (List ℕ)) (was running : Bool) (h0 h : Schedule) (s : ScriptState)
     (name : List ℕ) (q : TxnId) (distance import : ℕ) (before out grown : List ℕ)
     → record { items = items; transactions = names; closed = was; history = h0 } ≡ s → (running ≡ true) × (h ≡ h0)
     → q ≡ transaction_called (record { items = items; transactions = names; closed = running; history = h }) name
@@ -56,7 +56,7 @@ said_so {E} r p items names was running h0 h s name q distance import before out
     (subst (λ k. OnOk r ((text : List ℕ) × (answered (record { items = items; transactions = names; closed = true; history = k }) (audit_text (record { items = items; transactions = names; closed = was; history = k }) name) ≡ answered (record { items = items; transactions = names; closed = running; history = h }) text) × (grown ≡ out ++ text))) closed.1
     (ended r p said line))
   where
-    state : Bool → State
+    state : Bool → ScriptState
     state c = record { items = items; transactions = names; closed = c; history = h }
 
     whole : ℕ → List ℕ

@@ -7,7 +7,7 @@ use Rattle.esr_history.specs.Watch.{BeginsWith}
 use Rattle.esr_script.specs.declared.asked.Asked.{Asked}
 use Rattle.esr_script.specs.declared.fault.RunFault.{RunFault}
 use Rattle.esr_script.specs.declared.fault.RunFault.TheVariants as fault
-use Rattle.esr_script.specs.Text.{State, transaction_called, final}
+use Rattle.esr_script.specs.Text.{ScriptState, transaction_called, final}
 use Rattle.esr_script.specs.Ask.{IsAnswered, IsAsked}
 use Rattle.esr_script.specs.Ends.{IsWhole, IsReachedBy, IsWrittenBy, IsToldBy}
 use Rattle.std.proofs.lemmas.Grind.{common_steps}
@@ -60,11 +60,11 @@ pub told_of : (input name : List ℕ) (left : Option (List ℕ)) (P Q : List ℕ
 told_of input name left P Q more r written h = written_of input left _ _ _ (λ text k. (k.0, more text k.1)) r written h
 
 -- what is asked after a replay
-pub asked_after : (input name : List ℕ) (left : Option (List ℕ)) (s : State) (r : Result Asked RunFault) → Consumes (Some input) left input → IsWhole input → final input ≡ s
+pub asked_after : (input name : List ℕ) (left : Option (List ℕ)) (s : ScriptState) (r : Result Asked RunFault) → Consumes (Some input) left input → IsWhole input → final input ≡ s
     → IfOk r (IsAnswered s name) → (IsErrOf r fault.NotACommittedQuery → is_committed_query s.history (transaction_called s name).0 ≡ false)
     → IfErr r (λ f. (f ≡ fault.NoMemory) ⊎ (f ≡ fault.NotACommittedQuery)) → IsAsked input name left r
-asked_after input name left s (Ok a) read whole is answered none which = (read, whole, subst (λ (z : State). IsAnswered z name a) (sym is) answered)
+asked_after input name left s (Ok a) read whole is answered none which = (read, whole, subst (λ (z : ScriptState). IsAnswered z name a) (sym is) answered)
 asked_after input name left s (Err f) read whole is answered none which = elim which [
   | inl m ↦ rw m tt
-  | inr q ↦ rw q (whole, subst (λ (z : State). is_committed_query z.history (transaction_called z name).0 ≡ false) (sym is) (none (ap (λ e. Err e) q)))
+  | inr q ↦ rw q (whole, subst (λ (z : ScriptState). is_committed_query z.history (transaction_called z name).0 ≡ false) (sym is) (none (ap (λ e. Err e) q)))
 ]

@@ -6,7 +6,8 @@ use Rattle.esr_script.specs.declared.fault.RunFault.{RunFault}
 use Rattle.esr_script.specs.declared.fault.RunFault.TheVariants as fault
 use Rattle.esr_script.specs.declared.pending.Next.{Next}
 use Rattle.esr_script.specs.declared.pending.Next.TheVariants as next
-use Rattle.esr_script.specs.Text.{State, answer, outcome, max_lines, max_line_bytes}
+use Rattle.esr_script.specs.declared.pending.TheConstants.{MAX_LINES, MAX_LINE_BYTES}
+use Rattle.esr_script.specs.Text.{ScriptState, answer, outcome}
 use Rattle.esr_script.specs.Run.{IsRunBy}
 use Rattle.esr_script.specs.Parts.{line_len, IsNext, Standing, IsHeldRun, is_read_fault, is_write_fault}
 use Rattle.esr_script.proofs.Prefix.{line_len-le}
@@ -19,17 +20,17 @@ has_bytes (next.Line n) bytes h other = omega (arith, h.1)
 has_bytes next.TooLong bytes h other = omega (arith, h, line_len-le bytes)
 has_bytes next.More bytes h other = absurd (other refl)
 
-pub is_long : (found : Next) (bytes : List ℕ) → IsNext found bytes → (found ≡ next.More → ⊥) → ((n : ℕ) → found ≡ next.Line n → ⊥) → max_line_bytes < line_len bytes
+pub is_long : (found : Next) (bytes : List ℕ) → IsNext found bytes → (found ≡ next.More → ⊥) → ((n : ℕ) → found ≡ next.Line n → ⊥) → MAX_LINE_BYTES < line_len bytes
 is_long (next.Line n) bytes h more line = absurd (line n refl)
 is_long next.TooLong bytes h more line = h
 is_long next.More bytes h more line = absurd (more refl)
 
 -- where all output was sent
-pub all_sent : {input : List ℕ} {left : Option (List ℕ)} {bytes : List ℕ} {n : ℕ} {s : State} (w : List ℕ) → Standing input left bytes n s w → Standing input left bytes n s (w ++ [])
+pub all_sent : {input : List ℕ} {left : Option (List ℕ)} {bytes : List ℕ} {n : ℕ} {s : ScriptState} (w : List ℕ) → Standing input left bytes n s w → Standing input left bytes n s (w ++ [])
 all_sent w here = rw append-nil here
 
 -- where the output has grown
-pub all_grown : {input : List ℕ} {left : Option (List ℕ)} {bytes : List ℕ} {n : ℕ} {s : State} (sent out t grown : List ℕ) → grown ≡ out ++ t
+pub all_grown : {input : List ℕ} {left : Option (List ℕ)} {bytes : List ℕ} {n : ℕ} {s : ScriptState} (sent out t grown : List ℕ) → grown ≡ out ++ t
     → Standing input left bytes n s ((sent ++ out) ++ t) → Standing input left bytes n s (sent ++ grown)
 all_grown sent out t grown grew here = grind (arith, append_assoc sent out t)
 
@@ -39,7 +40,7 @@ nothing_read (Some x) None h = absurd h
 nothing_read (Some x) (Some y) h = sym h
 
 -- where a read gave nothing
-pub unread : (input : List ℕ) (before after : Option (List ℕ)) (bytes same : List ℕ) (n : ℕ) (s : State) (w : List ℕ) → Standing input before bytes n s w → same ≡ bytes → Keeps before after
+pub unread : (input : List ℕ) (before after : Option (List ℕ)) (bytes same : List ℕ) (n : ℕ) (s : ScriptState) (w : List ℕ) → Standing input before bytes n s w → same ≡ bytes → Keeps before after
     → Standing input after same n s w
 unread input before after bytes same n s w here is kept = advance input n s w before after bytes same [] here (is ∙ sym (append-nil bytes)) (nothing_read before after kept)
 
@@ -47,7 +48,7 @@ pub is_some : (bytes seen : List ℕ) (empty : Bool) → empty ≡ (length seen 
 is_some [] seen empty is not_empty same = grind (arith, eq-eqb)
 is_some (b ∷ bs) seen empty is not_empty same = omega arith
 
-module _ (input : List ℕ) (left : Option (List ℕ)) (bytes : List ℕ) (n : ℕ) (s : State) (sent out : List ℕ) (here : Standing input left bytes n s (sent ++ out)) where
+module _ (input : List ℕ) (left : Option (List ℕ)) (bytes : List ℕ) (n : ℕ) (s : ScriptState) (sent out : List ℕ) (here : Standing input left bytes n s (sent ++ out)) where
   text : BeginsWith (outcome input).text (sent ++ out)
   text = text_begins input left bytes n s (sent ++ out) here
 
@@ -57,13 +58,13 @@ module _ (input : List ℕ) (left : Option (List ℕ)) (bytes : List ℕ) (n : �
   pub held_memory : (other : Option (List ℕ)) → IsHeldRun input other out (Err fault.NoMemory) sent
   held_memory other = (text, at_memory input left bytes n s (sent ++ out) here)
 
-  pub held_long : n ≢ max_lines → max_line_bytes < line_len bytes → IsHeldRun input left out (Err fault.LineTooLong) sent
+  pub held_long : n ≢ MAX_LINES → MAX_LINE_BYTES < line_len bytes → IsHeldRun input left out (Err fault.LineTooLong) sent
   held_long few is = (text, at_long input left bytes n s (sent ++ out) here few is)
 
-  pub held_many : n ≡ max_lines → 0 < length bytes → IsHeldRun input left out (Err fault.TooManyLines) sent
+  pub held_many : n ≡ MAX_LINES → 0 < length bytes → IsHeldRun input left out (Err fault.TooManyLines) sent
   held_many many some = (text, at_many input left bytes n s (sent ++ out) here many some)
 
-  pub held_full : (k : ℕ) → n ≢ max_lines → IsNext (next.Line k) bytes → answer s (take k bytes) ≡ Err fault.HistoryFull → IsHeldRun input left out (Err fault.HistoryFull) sent
+  pub held_full : (k : ℕ) → n ≢ MAX_LINES → IsNext (next.Line k) bytes → answer s (take k bytes) ≡ Err fault.HistoryFull → IsHeldRun input left out (Err fault.HistoryFull) sent
   held_full k few is full = (
     text,
     at_fault_line input left bytes n s (sent ++ out) here fault.HistoryFull few (omega (arith, is.0, is.1)) (omega (arith, is.0, is.2))
@@ -76,19 +77,19 @@ module _ (input : List ℕ) (left : Option (List ℕ)) (bytes : List ℕ) (n : �
       (begins.0 ++ text.0, text.1 ∙ ap (λ o. (sent ++ o) ++ text.0) begins.1 ∙ simp append_assoc)
 
   -- at the end of the input
-  module _ (end : IsAtEnd left) (plain : line_len bytes ≡ length bytes) (short : length bytes ≤ max_line_bytes) where
-    held_line_last : 0 < length bytes → n ≢ max_lines → (s' : State) (t grown : List ℕ) → answer s bytes ≡ Ok (s', t) → grown ≡ out ++ t → IsHeldRun input left grown (Ok tt) sent
+  module _ (end : IsAtEnd left) (plain : line_len bytes ≡ length bytes) (short : length bytes ≤ MAX_LINE_BYTES) where
+    held_line_last : 0 < length bytes → n ≢ MAX_LINES → (s' : ScriptState) (t grown : List ℕ) → answer s bytes ≡ Ok (s', t) → grown ≡ out ++ t → IsHeldRun input left grown (Ok tt) sent
     held_line_last some few s' t grown is grew =
         let all = at_last input left bytes n s (sent ++ out) here end plain some short few s' t is in
         let same : (sent ++ out) ++ t ≡ sent ++ grown = append_assoc sent out t ∙ ap (λ l. sent ++ l) (sym grew) in
         let finished = rw same at all in
         (([], ap (λ o. o.text) finished ∙ sym (append-nil (sent ++ grown))), (all_read input left bytes n s (sent ++ out) here end, finished))
 
-    held_full_last : 0 < length bytes → n ≢ max_lines → answer s bytes ≡ Err fault.HistoryFull → IsHeldRun input left out (Err fault.HistoryFull) sent
+    held_full_last : 0 < length bytes → n ≢ MAX_LINES → answer s bytes ≡ Err fault.HistoryFull → IsHeldRun input left out (Err fault.HistoryFull) sent
     held_full_last some few full = (text, at_fault_last input left bytes n s (sent ++ out) here end plain some short few fault.HistoryFull full)
 
     -- the last line, by how it was answered
-    pub held_last : 0 < length bytes → n ≢ max_lines → (r : Result (Unit {0}) RunFault) (s' : State) (grown : List ℕ)
+    pub held_last : 0 < length bytes → n ≢ MAX_LINES → (r : Result (Unit {0}) RunFault) (s' : ScriptState) (grown : List ℕ)
         → OnOk r ((t : List ℕ) × (answer s bytes ≡ Ok (s', t)) × (grown ≡ out ++ t)) → OnErr r (grown ≡ out)
         → IfErr r (λ e. (e ≡ fault.NoMemory) ⊎ ((e ≡ fault.HistoryFull) × (answer s bytes ≡ Err fault.HistoryFull)))
         → IsHeldRun input left grown r sent

@@ -13,7 +13,7 @@ use Rattle.std.proofs.lemmas.List.{take_more, take_all}
 use Rattle.std.proofs.lemmas.Option.{cond_some}
 use Rattle.std.proofs.Math.Nat.{pow-succ', pow-le-pow_right}
 use Rattle.esr_script.specs.Command.{IsPlainWord, IsInt, IsLimit}
-use Rattle.esr_script.specs.Reading.{words_of, is_blank, number_below, value_from, int_of, limit_of, minus}
+use Rattle.esr_script.specs.Reading.{words_of, is_blank, number_below, value_from, int_of, limit_in, minus}
 use Rattle.std.proofs.lemmas.Bool.{cases_Bool}
 
 -- ---- options
@@ -131,10 +131,10 @@ none_unless : {A : Type 0} (o : Option A) → ((a : A) → o ≡ Some a → ⊥)
 none_unless None h = refl
 none_unless (Some a) h = absurd (h a refl)
 
-pub limit_none : (text : List ℕ) → ((n : ℕ) → IsLimit n → text ≡ decimal n → ⊥) → None ≡ limit_of text
-limit_none text h = none_unless (limit_of text) (λ n e. let found = number_found (10 ^ 19) text n e in h n found.0 found.1)
+pub limit_none : (text : List ℕ) → ((n : ℕ) → IsLimit n → text ≡ decimal n → ⊥) → None ≡ limit_in text
+limit_none text h = none_unless (limit_in text) (λ n e. let found = number_found (10 ^ 19) text n e in h n found.0 found.1)
 
-pub limit_some : (text : List ℕ) (n : ℕ) → IsLimit n → text ≡ decimal n → Some n ≡ limit_of text
+pub limit_some : (text : List ℕ) (n : ℕ) → IsLimit n → text ≡ decimal n → Some n ≡ limit_in text
 limit_some text n small is = rw is (sym (number_again (10 ^ 19) n (omega arith) small))
 
 -- ---- digits of a limit
@@ -149,17 +149,17 @@ fits i value small few =
 pub all_read : (cs : List ℕ) (i value : ℕ) → IsValueOf cs i value → length cs ≤ i → i ≤ length cs → length cs ≤ 19 → (value ≡ value_from 0 cs) × (value < 10 ^ 19) × (all_ascii_digits cs ≡ true)
 all_read cs i value so_far end within few = grind (arith, take_all i cs end, pow-le-pow_right)
 
-pub too_long : (word : List ℕ) → 19 < length word → None ≡ limit_of word
+pub too_long : (word : List ℕ) → 19 < length word → None ≡ limit_in word
 too_long word long = limit_none word (λ n small is. omega (arith, long, ap length is, length-decimal-le 19 n (omega arith) small (omega arith)))
 
-pub empty_word : (word : List ℕ) → length word ≡ 0 → None ≡ limit_of word
+pub empty_word : (word : List ℕ) → length word ≡ 0 → None ≡ limit_in word
 empty_word word none = limit_none word (λ n small is. omega (arith, none, ap length is, decimal_nonempty n (omega arith)))
 
-pub zero_alone : (word : List ℕ) → length word ≡ 1 → get_or word 0 0 ≡ 48 → Some 0 ≡ limit_of word
+pub zero_alone : (word : List ℕ) → length word ≡ 1 → get_or word 0 0 ≡ 48 → Some 0 ≡ limit_in word
 zero_alone (c ∷ []) one first = limit_some (c ∷ []) 0 (omega arith) (ap (λ b. b ∷ []) first ∙ sym (decimal-digits_value own (48 ∷ []) refl (omega arith) (λ e. refl) (omega arith)))
 zero_alone _ one first = absurd (omega (arith, one))
 
-pub zero_in_front : (word : List ℕ) → 1 < length word → get_or word 0 0 ≡ 48 → None ≡ limit_of word
+pub zero_in_front : (word : List ℕ) → 1 < length word → get_or word 0 0 ≡ 48 → None ≡ limit_in word
 zero_in_front word long first = limit_none word (λ n small is. refuted n small is)
   where
     refuted : (n : ℕ) → n < 10 ^ 19 → word ≡ decimal n → ⊥
@@ -167,7 +167,7 @@ zero_in_front word long first = limit_none word (λ n small is. refuted n small 
     refuted (suc m) small is = omega (arith, first, ap (λ w. get_or w 0 0) is, first_decimal (suc m) (omega arith) (omega arith))
 
 pub by_digits : (word : List ℕ) (r : Option ℕ) → IfSome r (λ n. (n ≡ value_from 0 word) × (n < 10 ^ 19) × (all_ascii_digits word ≡ true)) → IfNone r (all_ascii_digits word ≡ false)
-    → 0 < length word → (get_or word 0 0 ≡ 48 → ⊥) → r ≡ limit_of word
+    → 0 < length word → (get_or word 0 0 ≡ 48 → ⊥) → r ≡ limit_in word
 by_digits word None found other some first = limit_none word (λ n small is. let digits : all_ascii_digits word ≡ true = rw is (all_digits n small) in cc)
 by_digits word (Some n) found other some first =
     limit_some word n found.1 (sym (ap decimal found.0 ∙ decimal-digits_value own word found.2 some (λ e. absurd (first e)) (omega (arith, found.0, found.1))))

@@ -9,36 +9,37 @@ use Rattle.esr_bundle.specs.Bundle.{bundle}
 use Rattle.esr_script.specs.declared.fault.RunFault.{RunFault}
 use Rattle.esr_script.specs.declared.fault.RunFault.TheVariants as fault
 use Rattle.esr_script.specs.declared.pending.Next.TheVariants as next
-use Rattle.esr_script.specs.Text.{State, transaction_called, Outcome, answer, max_lines, max_line_bytes}
+use Rattle.esr_script.specs.declared.pending.TheConstants.{MAX_LINES, MAX_LINE_BYTES}
+use Rattle.esr_script.specs.Text.{ScriptState, transaction_called, Outcome, answer}
 use Rattle.esr_cert.specs.Views.{certificate_of}
 use Rattle.esr_script.specs.declared.asked.Asked.{Asked}
 use Rattle.esr_script.specs.Ask.{IsAnswered}
 use Rattle.esr_script.specs.Certify.{IsFound, IsBundleOf, IsBundleLine}
 use Rattle.esr_script.specs.Ends.{EndsBy}
-use Rattle.esr_script.specs.Replays.{IsReplay, told}
+use Rattle.esr_script.specs.Replays.{IsReplay, with_count}
 use Rattle.esr_script.specs.Parts.{line_len, IsNext, Standing}
 use Rattle.esr_script.proofs.Steps.{all_read, step_line, at_long, at_many, at_last, at_fault_line, at_fault_last, state_at_last}
 
 abbrev fault_of : Outcome → Option RunFault
 fault_of o = o.fault
 
-module _ (input : List ℕ) (left : Option (List ℕ)) (bytes : List ℕ) (n : ℕ) (s : State) (w : List ℕ) (here : Standing input left bytes n s w) where
-  pub replay_many : n ≡ max_lines → 0 < length bytes → EndsBy input fault.TooManyLines
+module _ (input : List ℕ) (left : Option (List ℕ)) (bytes : List ℕ) (n : ℕ) (s : ScriptState) (w : List ℕ) (here : Standing input left bytes n s w) where
+  pub replay_many : n ≡ MAX_LINES → 0 < length bytes → EndsBy input fault.TooManyLines
   replay_many many some = ap fault_of (at_many input left bytes n s w here many some)
 
-  pub replay_long : n ≢ max_lines → max_line_bytes < line_len bytes → EndsBy input fault.LineTooLong
+  pub replay_long : n ≢ MAX_LINES → MAX_LINE_BYTES < line_len bytes → EndsBy input fault.LineTooLong
   replay_long few long = ap fault_of (at_long input left bytes n s w here few long)
 
-  pub replay_full : (k : ℕ) → n ≢ max_lines → IsNext (next.Line k) bytes → answer s (take k bytes) ≡ Err fault.HistoryFull → EndsBy input fault.HistoryFull
+  pub replay_full : (k : ℕ) → n ≢ MAX_LINES → IsNext (next.Line k) bytes → answer s (take k bytes) ≡ Err fault.HistoryFull → EndsBy input fault.HistoryFull
   replay_full k few is full =
       ap fault_of (at_fault_line input left bytes n s w here fault.HistoryFull few (omega (arith, is.0, is.1)) (omega (arith, is.0, is.2)) (ap (λ j. answer s (take j bytes)) (sym is.0) ∙ full))
 
-  pub replay_more : (k : ℕ) (s' : State) (t : List ℕ) → n ≢ max_lines → IsNext (next.Line k) bytes → answer s (take k bytes) ≡ Ok (s', t)
+  pub replay_more : (k : ℕ) (s' : ScriptState) (t : List ℕ) → n ≢ MAX_LINES → IsNext (next.Line k) bytes → answer s (take k bytes) ≡ Ok (s', t)
       → Standing input left (drop (k + 1) bytes) (n + 1) s' (w ++ t)
   replay_more k s' t few is ok = grind (arith, step_line)
 
-  pub replay_ended : IsAtEnd left → line_len bytes ≡ length bytes → length bytes ≤ max_line_bytes → 0 < length bytes → n ≢ max_lines
-      → (r : Result (Unit {0}) RunFault) (s' : State) (out grown : List ℕ) → OnOk r ((t : List ℕ) × (answer s bytes ≡ Ok (s', t)) × (grown ≡ out ++ t))
+  pub replay_ended : IsAtEnd left → line_len bytes ≡ length bytes → length bytes ≤ MAX_LINE_BYTES → 0 < length bytes → n ≢ MAX_LINES
+      → (r : Result (Unit {0}) RunFault) (s' : ScriptState) (out grown : List ℕ) → OnOk r ((t : List ℕ) × (answer s bytes ≡ Ok (s', t)) × (grown ≡ out ++ t))
       → IfErr r (λ e. (e ≡ fault.NoMemory) ⊎ ((e ≡ fault.HistoryFull) × (answer s bytes ≡ Err fault.HistoryFull))) → IsReplay input left r s'
   replay_ended end plain short some few (Ok done) s' out grown ok faults =
       (all_read input left bytes n s w here end, ap fault_of (at_last input left bytes n s w here end plain some short few s' ok.0 ok.1), state_at_last input left bytes n s w here end plain some s' ok.0 ok.1)
@@ -54,13 +55,13 @@ without_count p c h = grind (arith, faultless p c h, certifies_from)
 
 -- ---- what is certified
 
-bundled : (steps : Bool) (h : Schedule) (q : ℕ) (p : Problem) (c : Certificate) → IsFound h q p c → IsBundleOf steps h q (bundle p (told steps c))
+bundled : (steps : Bool) (h : Schedule) (q : ℕ) (p : Problem) (c : Certificate) → IsFound h q p c → IsBundleOf steps h q (bundle p (with_count steps c))
 bundled true h q p c f = record { problem = p; certificate = c; stands = f.stands; certified = f.certified; set_is = f.set_is; told = f.counted; text_is = refl }
 bundled false h q p c f = record { problem = p; certificate = record c { augmentations = None }; stands = f.stands; certified = without_count p c f.certified; set_is = f.set_is; told = refl; text_is = refl }
 
 -- the bundle of what was asked for, with a line feed
-pub bundle_told : (steps : Bool) (s : State) (name : List ℕ) (a : Asked) → IsAnswered s name a → (line : List ℕ)
-    → line ≡ bundle a.finding.problem (told steps (certificate_of a.finding.certificate)) ++ 10 ∷ [] → IsBundleLine steps s.history (transaction_called s name).0 line
+pub bundle_told : (steps : Bool) (s : ScriptState) (name : List ℕ) (a : Asked) → IsAnswered s name a → (line : List ℕ)
+    → line ≡ bundle a.finding.problem (with_count steps (certificate_of a.finding.certificate)) ++ 10 ∷ [] → IsBundleLine steps s.history (transaction_called s name).0 line
 bundle_told steps s name a h line is =
     let p = a.finding.problem in let c = certificate_of a.finding.certificate in
-    (bundle p (told steps c), bundled steps s.history (transaction_called s name).0 p c h.found, is)
+    (bundle p (with_count steps c), bundled steps s.history (transaction_called s name).0 p c h.found, is)

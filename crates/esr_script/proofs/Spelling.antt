@@ -9,7 +9,7 @@ use Rattle.std.proofs.lemmas.List.Elements.{All-nil, All-cons}
 use Rattle.std.proofs.lemmas.List.Splits.{join_with_byte-slice_split}
 use Rattle.std.proofs.lemmas.Slice.Eq.{bytes_eq-Decides}
 use Rattle.esr_script.specs.Command.{Command, item, weighted_item, begin_update, begin_query, begin_strict_query, read, write, commit, abort, audit, totals, words, is_letter, is_name_byte, is_name, IsName, IsLimit, IsCommand, Spells, IsPlainWord}
-use Rattle.esr_script.specs.Reading.{words_of, name_of, limit_of, int_of, one_of, two_of, three_of, four_of, both, plain_item_of, weighted_item_of, item_of, plain_begin_of, strict_query_of, begin_of, read_of, write_of, one_name_of, totals_of, command_of, command_by, reading}
+use Rattle.esr_script.specs.Reading.{words_of, name_of, limit_in, int_of, one_of, two_of, three_of, four_of, both, plain_item_of, weighted_item_of, item_of, plain_begin_of, strict_query_of, begin_of, read_of, write_of, one_name_of, totals_of, command_of, command_by, reading}
 use Rattle.std.proofs.lemmas.Bool.{cases_Bool, and_parts}
 use Rattle.esr_script.proofs.Laws.{and_then_some, map_some, split_join, number_again, number_found, all_digits, int_again, int_found}
 use Rattle.std.proofs.lemmas.Grind.{common_steps}
@@ -140,12 +140,12 @@ plain_item_found ws c e =
 weighted_item_found : (ws : List (List ℕ)) (c : Command) → weighted_item_of ws ≡ Some c → Behind (codes "item") ws c
 weighted_item_found ws c e =
     let p = and_then_some (λ (q : List ℕ × List ℕ × List ℕ × List ℕ). cond (bytes_eq q.2 (codes "weight"))
-    (option_and_then (λ n. both (weighted_item n) (int_of q.1) (limit_of q.3)) (name_of q.0)) None) (four_of ws) c e in
+    (option_and_then (λ n. both (weighted_item n) (int_of q.1) (limit_in q.3)) (name_of q.0)) None) (four_of ws) c e in
     elim (cases_Bool (bytes_eq p.0.2 (codes "weight"))) [
       | inl t ↦
-          let rest : option_and_then (λ n. both (weighted_item n) (int_of p.0.1) (limit_of p.0.3)) (name_of p.0.0) ≡ Some c = rw t at p.2 in
-          let a = and_then_some (λ n. both (weighted_item n) (int_of p.0.1) (limit_of p.0.3)) (name_of p.0.0) c rest in
-          let b = both_found (weighted_item a.0) (int_of p.0.1) (limit_of p.0.3) c a.2 in
+          let rest : option_and_then (λ n. both (weighted_item n) (int_of p.0.1) (limit_in p.0.3)) (name_of p.0.0) ≡ Some c = rw t at p.2 in
+          let a = and_then_some (λ n. both (weighted_item n) (int_of p.0.1) (limit_in p.0.3)) (name_of p.0.0) c rest in
+          let b = both_found (weighted_item a.0) (int_of p.0.1) (limit_in p.0.3) c a.2 in
           let n = name_found p.0.0 a.0 a.1 in
           let v = int_found p.0.1 b.0 b.2 in
           let w = number_found (10 ^ 19) p.0.3 b.1 b.3 in
@@ -176,20 +176,20 @@ write_found ws c e =
     subst (Behind (codes "write") ws) b.4 ((t.0, x.0, v.0), ap (λ l. codes "write" ∷ l) (three_found ws p.0 p.1 ∙ same_three t.1 x.1 v.1))
 
 begin_by : (kind : List ℕ) (f : List ℕ → ℕ → Command) (ws : List (List ℕ)) (p : List ℕ × List ℕ × List ℕ) (c : Command) → ws ≡ p.0 ∷ p.1 ∷ p.2 ∷ [] → bytes_eq p.1 kind ≡ true
-    → both f (name_of p.0) (limit_of p.2) ≡ Some c → ((n : List ℕ) (l : ℕ) → IsName n → IsLimit l → codes "begin" ∷ ws ≡ codes "begin" ∷ n ∷ kind ∷ decimal l ∷ [] → Behind (codes "begin") ws (f n l))
+    → both f (name_of p.0) (limit_in p.2) ≡ Some c → ((n : List ℕ) (l : ℕ) → IsName n → IsLimit l → codes "begin" ∷ ws ≡ codes "begin" ∷ n ∷ kind ∷ decimal l ∷ [] → Behind (codes "begin") ws (f n l))
     → Behind (codes "begin") ws c
 begin_by kind f ws p c three is_kind e spells =
-    grind (arith, both_found f (name_of p.0) (limit_of p.2) c e, name_found, number_found, codes "begin", same_three, bytes_eq-Decides p.1 kind)
+    grind (arith, both_found f (name_of p.0) (limit_in p.2) c e, name_found, number_found, codes "begin", same_three, bytes_eq-Decides p.1 kind)
 
 plain_begin_found : (ws : List (List ℕ)) (c : Command) → plain_begin_of ws ≡ Some c → Behind (codes "begin") ws c
 plain_begin_found ws c e =
-    let p = and_then_some (λ (q : List ℕ × List ℕ × List ℕ). cond (bytes_eq q.1 (codes "update")) (both begin_update (name_of q.0) (limit_of q.2))
-    (cond (bytes_eq q.1 (codes "query")) (both begin_query (name_of q.0) (limit_of q.2)) None)) (three_of ws) c e in
+    let p = and_then_some (λ (q : List ℕ × List ℕ × List ℕ). cond (bytes_eq q.1 (codes "update")) (both begin_update (name_of q.0) (limit_in q.2))
+    (cond (bytes_eq q.1 (codes "query")) (both begin_query (name_of q.0) (limit_in q.2)) None)) (three_of ws) c e in
     let three = three_found ws p.0 p.1 in
     elim (cases_Bool (bytes_eq p.0.1 (codes "update"))) [
       | inl t ↦ begin_by (codes "update") begin_update ws p.0 c three t (rw t at p.2) (λ n l name limit is. ((name, limit), is))
       | inr f ↦
-          let other : cond (bytes_eq p.0.1 (codes "query")) (both begin_query (name_of p.0.0) (limit_of p.0.2)) None ≡ Some c = rw f at p.2 in
+          let other : cond (bytes_eq p.0.1 (codes "query")) (both begin_query (name_of p.0.0) (limit_in p.0.2)) None ≡ Some c = rw f at p.2 in
           elim (cases_Bool (bytes_eq p.0.1 (codes "query"))) [
             | inl t ↦ begin_by (codes "query") begin_query ws p.0 c three t (rw t at other) (λ n l name limit is. ((name, limit), is))
             | inr g ↦ let none : None ≡ Some c = rw g at other in cc
@@ -199,12 +199,12 @@ plain_begin_found ws c e =
 strict_query_found : (ws : List (List ℕ)) (c : Command) → strict_query_of ws ≡ Some c → Behind (codes "begin") ws c
 strict_query_found ws c e =
     let p = and_then_some (λ (q : List ℕ × List ℕ × List ℕ × List ℕ). cond (bytes_eq q.1 (codes "query") && bytes_eq q.3 (codes "strict"))
-    (both begin_strict_query (name_of q.0) (limit_of q.2)) None) (four_of ws) c e in
+    (both begin_strict_query (name_of q.0) (limit_in q.2)) None) (four_of ws) c e in
     elim (cases_Bool (bytes_eq p.0.1 (codes "query") && bytes_eq p.0.3 (codes "strict"))) [
       | inl t ↦
           let tests = and_parts (bytes_eq p.0.1 (codes "query")) (bytes_eq p.0.3 (codes "strict")) t in
-          let rest : both begin_strict_query (name_of p.0.0) (limit_of p.0.2) ≡ Some c = rw t at p.2 in
-          let b = both_found begin_strict_query (name_of p.0.0) (limit_of p.0.2) c rest in
+          let rest : both begin_strict_query (name_of p.0.0) (limit_in p.0.2) ≡ Some c = rw t at p.2 in
+          let b = both_found begin_strict_query (name_of p.0.0) (limit_in p.0.2) c rest in
           let n = name_found p.0.0 b.0 b.2 in
           let l = number_found (10 ^ 19) p.0.2 b.1 b.3 in
           subst (Behind (codes "begin") ws) b.4 (

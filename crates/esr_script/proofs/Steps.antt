@@ -5,7 +5,8 @@ use Rattle.std.specs.Io.KnownBytes.{IsAtEnd, Consumes}
 use Rattle.esr_script.specs.declared.fault.RunFault.{RunFault}
 use Rattle.esr_script.specs.declared.fault.RunFault.TheVariants.{LineTooLong, TooManyLines}
 use Rattle.esr_script.specs.Lines.{lines, whole_lines}
-use Rattle.esr_script.specs.Text.{State, start, answer, next_state, state_after, final, Outcome, outcome, outcome_from, outcome_of_lines, behind, stopped, max_lines, max_line_bytes}
+use Rattle.esr_script.specs.declared.pending.TheConstants.{MAX_LINES, MAX_LINE_BYTES}
+use Rattle.esr_script.specs.Text.{ScriptState, start, answer, next_state, state_after, final, Outcome, outcome, outcome_from, outcome_of_lines, behind, stopped}
 use Rattle.esr_history.specs.Watch.{BeginsWith}
 use Rattle.esr_script.specs.Run.{IsWholeText}
 use Rattle.esr_script.specs.Parts.{line_len, Progress, Standing}
@@ -14,20 +15,20 @@ use Rattle.esr_script.proofs.Prefix.{line_len-le}
 
 -- ---- one line of an outcome
 
-pub outcome-line : (n : ℕ) (s s' : State) (line t : List ℕ) (more : List (List ℕ)) → n ≢ max_lines → length line ≤ max_line_bytes → answer s line ≡ Ok (s', t)
+pub outcome-line : (n : ℕ) (s s' : ScriptState) (line t : List ℕ) (more : List (List ℕ)) → n ≢ MAX_LINES → length line ≤ MAX_LINE_BYTES → answer s line ≡ Ok (s', t)
     → outcome_from n s (line ∷ more) ≡ behind t (outcome_from (n + 1) s' more)
-outcome-line n s s' line t more few short is = rw (ne_eqb n max_lines few, le-ltb max_line_bytes (length line) short, is) refl
+outcome-line n s s' line t more few short is = rw (ne_eqb n MAX_LINES few, le-ltb MAX_LINE_BYTES (length line) short, is) refl
 
-pub outcome-fault : (n : ℕ) (s : State) (line : List ℕ) (f : RunFault) (more : List (List ℕ)) → n ≢ max_lines → length line ≤ max_line_bytes → answer s line ≡ Err f
+pub outcome-fault : (n : ℕ) (s : ScriptState) (line : List ℕ) (f : RunFault) (more : List (List ℕ)) → n ≢ MAX_LINES → length line ≤ MAX_LINE_BYTES → answer s line ≡ Err f
     → outcome_from n s (line ∷ more) ≡ stopped f
-outcome-fault n s line f more few short is = rw (ne_eqb n max_lines few, le-ltb max_line_bytes (length line) short, is) refl
+outcome-fault n s line f more few short is = rw (ne_eqb n MAX_LINES few, le-ltb MAX_LINE_BYTES (length line) short, is) refl
 
-pub outcome-long : (n : ℕ) (s : State) (line : List ℕ) (more : List (List ℕ)) → n ≢ max_lines → max_line_bytes < length line
+pub outcome-long : (n : ℕ) (s : ScriptState) (line : List ℕ) (more : List (List ℕ)) → n ≢ MAX_LINES → MAX_LINE_BYTES < length line
     → outcome_from n s (line ∷ more) ≡ stopped LineTooLong
-outcome-long n s line more few long = rw (ne_eqb n max_lines few, lt-ltb max_line_bytes (length line) long) refl
+outcome-long n s line more few long = rw (ne_eqb n MAX_LINES few, lt-ltb MAX_LINE_BYTES (length line) long) refl
 
-pub outcome-many : (n : ℕ) (s : State) (line : List ℕ) (more : List (List ℕ)) → n ≡ max_lines → outcome_from n s (line ∷ more) ≡ stopped TooManyLines
-outcome-many n s line more many = rw (eq-eqb n max_lines many) refl
+pub outcome-many : (n : ℕ) (s : ScriptState) (line : List ℕ) (more : List (List ℕ)) → n ≡ MAX_LINES → outcome_from n s (line ∷ more) ≡ stopped TooManyLines
+outcome-many n s line more many = rw (eq-eqb n MAX_LINES many) refl
 
 behind-behind : (a b : List ℕ) (o : Outcome) → behind a (behind b o) ≡ behind (a ++ b) o
 behind-behind a b o = ap (λ (t : List ℕ). let r : Outcome = record { text = t; fault = o.fault } in r) (sym (append_assoc a b o.text))
@@ -35,16 +36,16 @@ behind-behind a b o = ap (λ (t : List ℕ). let r : Outcome = record { text = t
 behind-stopped : (a : List ℕ) (f : RunFault) → behind a (stopped f) ≡ record { text = a; fault = Some f }
 behind-stopped a f = ap (λ (t : List ℕ). let r : Outcome = record { text = t; fault = Some f } in r) (append-nil a)
 
-behind-done : (a : List ℕ) (n : ℕ) (s : State) → behind a (outcome_from n s []) ≡ record { text = a; fault = None }
+behind-done : (a : List ℕ) (n : ℕ) (s : ScriptState) → behind a (outcome_from n s []) ≡ record { text = a; fault = None }
 behind-done a n s = ap (λ (t : List ℕ). let r : Outcome = record { text = t; fault = None } in r) (append-nil a)
 
 -- ---- the state
 
-next-is : (s s' : State) (line t : List ℕ) → answer s line ≡ Ok (s', t) → next_state s line ≡ s'
+next-is : (s s' : ScriptState) (line t : List ℕ) → answer s line ≡ Ok (s', t) → next_state s line ≡ s'
 next-is s s' line t is = rw (is, next_state) refl
 
 -- a line more is answered
-pub state-more : (a s s' : State) (ls : List (List ℕ)) (line t : List ℕ) → state_after a ls ≡ s → answer s line ≡ Ok (s', t) → state_after a (ls ++ line ∷ []) ≡ s'
+pub state-more : (a s s' : ScriptState) (ls : List (List ℕ)) (line t : List ℕ) → state_after a ls ≡ s → answer s line ≡ Ok (s', t) → state_after a (ls ++ line ∷ []) ≡ s'
 state-more a s s' [] line t at is = ap (λ z. next_state z line) at ∙ next-is s s' line t is
 state-more a s s' (l ∷ ls) line t at is = state-more (next_state a l) s s' ls line t at is
 
@@ -53,15 +54,15 @@ state-more a s s' (l ∷ ls) line t at is = state-more (next_state a l) s s' ls 
 pub begun : (input : List ℕ) → Progress input input 0 start []
 begun input = record { used = []; answered = []; split = refl; counted = refl; cut = λ bytes. refl; cut_whole = λ bytes. refl; reached = refl; ran = λ more. refl }
 
-module _ (input : List ℕ) (n : ℕ) (s : State) (w : List ℕ) where
+module _ (input : List ℕ) (n : ℕ) (s : ScriptState) (w : List ℕ) where
   -- a line more
-  pub step : (bytes rest : List ℕ) (s' : State) (t : List ℕ) → Progress input (bytes ++ rest) n s w → n ≢ max_lines
-      → line_len bytes < length bytes → line_len bytes ≤ max_line_bytes → answer s (front bytes) ≡ Ok (s', t)
+  pub step : (bytes rest : List ℕ) (s' : ScriptState) (t : List ℕ) → Progress input (bytes ++ rest) n s w → n ≢ MAX_LINES
+      → line_len bytes < length bytes → line_len bytes ≤ MAX_LINE_BYTES → answer s (front bytes) ≡ Ok (s', t)
       → Progress input (behind_front bytes ++ rest) (n + 1) s' (w ++ t)
   step bytes rest s' t p few ended short is =
       let l = front bytes in
       let plain : line_len l ≡ length l = plain-front bytes in
-      let size : length l ≤ max_line_bytes = omega (arith, length-take (line_len bytes) bytes, line_len-le bytes) in
+      let size : length l ≤ MAX_LINE_BYTES = omega (arith, length-take (line_len bytes) bytes, line_len-le bytes) in
       let split : input ≡ (p.used ++ (l ++ 10 ∷ [])) ++ (behind_front bytes ++ rest) =
       p.split ∙ ap (λ b. p.used ++ (b ++ rest)) (split-front bytes ended) ∙ simp append_assoc in
       let counted : length (p.answered ++ l ∷ []) ≡ n + 1 = length-append p.answered (l ∷ []) ∙ ap (λ k. k + 1) p.counted in
@@ -93,13 +94,13 @@ module _ (input : List ℕ) (n : ℕ) (s : State) (w : List ℕ) where
       (length p.answered, (omega (arith, lengths)), ap outcome_of_lines front ∙ text)
 
   -- where one line is left
-  pub last_state : (unread line : List ℕ) → Progress input unread n s w → lines unread ≡ line ∷ [] → (s' : State) (t : List ℕ) → answer s line ≡ Ok (s', t) → final input ≡ s'
+  pub last_state : (unread line : List ℕ) → Progress input unread n s w → lines unread ≡ line ∷ [] → (s' : ScriptState) (t : List ℕ) → answer s line ≡ Ok (s', t) → final input ≡ s'
   last_state unread line p e s' t is = ap final p.split ∙ ap (state_after start) (p.cut unread ∙ ap (λ m. p.answered ++ m) e) ∙ state-more start s s' p.answered line t p.reached is
 
 -- ---- with the reader
 
 -- more bytes came ahead
-pub advance : (input : List ℕ) (n : ℕ) (s : State) (w : List ℕ) (before after : Option (List ℕ)) (bytes grown more : List ℕ)
+pub advance : (input : List ℕ) (n : ℕ) (s : ScriptState) (w : List ℕ) (before after : Option (List ℕ)) (bytes grown more : List ℕ)
     → Standing input before bytes n s w → grown ≡ bytes ++ more → Consumes before after more → Standing input after grown n s w
 advance input n s w None after bytes grown more here g taken = cc (here.known)
 advance input n s w (Some x) None bytes grown more here g taken = absurd taken
@@ -113,9 +114,9 @@ consumed : {input : List ℕ} (left : Option (List ℕ)) (rest taken : List ℕ)
 consumed None rest taken e split = cc
 consumed (Some x) rest taken e split = let same : x ≡ rest = cc in split ∙ ap (λ r. taken ++ r) (sym same)
 
-module _ (input : List ℕ) (left : Option (List ℕ)) (bytes : List ℕ) (n : ℕ) (s : State) (w : List ℕ) where
-  pub step_line : Standing input left bytes n s w → (s' : State) (t : List ℕ) → n ≢ max_lines
-      → line_len bytes < length bytes → line_len bytes ≤ max_line_bytes → answer s (front bytes) ≡ Ok (s', t)
+module _ (input : List ℕ) (left : Option (List ℕ)) (bytes : List ℕ) (n : ℕ) (s : ScriptState) (w : List ℕ) where
+  pub step_line : Standing input left bytes n s w → (s' : ScriptState) (t : List ℕ) → n ≢ MAX_LINES
+      → line_len bytes < length bytes → line_len bytes ≤ MAX_LINE_BYTES → answer s (front bytes) ≡ Ok (s', t)
       → Standing input left (behind_front bytes) (n + 1) s' (w ++ t)
   step_line here s' t few ended short is = grind (arith, step input n s w bytes here.rest s' t here.progress few ended short is)
 
@@ -125,19 +126,19 @@ module _ (input : List ℕ) (left : Option (List ℕ)) (bytes : List ℕ) (n : �
   pub at_memory : Standing input left bytes n s w → (count : ℕ) × (count ≤ length (lines input)) × IsWholeText (outcome_of_lines (take count (lines input))) w
   at_memory here = memory input n s w (bytes ++ here.rest) here.progress
 
-  pub at_long : Standing input left bytes n s w → n ≢ max_lines → max_line_bytes < line_len bytes → outcome input ≡ record { text = w; fault = Some LineTooLong }
+  pub at_long : Standing input left bytes n s w → n ≢ MAX_LINES → MAX_LINE_BYTES < line_len bytes → outcome input ≡ record { text = w; fault = Some LineTooLong }
   at_long here few long =
       let b : Begins bytes here.rest = begins bytes here.rest (omega (arith, long, line_len-le bytes)) in
       whole input n s w (bytes ++ here.rest) (b.line ∷ b.more) here.progress b.is
       ∙ ap (behind w) (outcome-long n s b.line b.more few (omega (arith, long, b.long))) ∙ behind-stopped w LineTooLong
 
-  pub at_many : Standing input left bytes n s w → n ≡ max_lines → 0 < length bytes → outcome input ≡ record { text = w; fault = Some TooManyLines }
+  pub at_many : Standing input left bytes n s w → n ≡ MAX_LINES → 0 < length bytes → outcome input ≡ record { text = w; fault = Some TooManyLines }
   at_many here many some = grind (arith, begins bytes here.rest some, whole, outcome-many, behind-stopped w TooManyLines)
 
-  pub at_fault_line : Standing input left bytes n s w → (f : RunFault) → n ≢ max_lines → line_len bytes < length bytes → line_len bytes ≤ max_line_bytes
+  pub at_fault_line : Standing input left bytes n s w → (f : RunFault) → n ≢ MAX_LINES → line_len bytes < length bytes → line_len bytes ≤ MAX_LINE_BYTES
       → answer s (front bytes) ≡ Err f → outcome input ≡ record { text = w; fault = Some f }
   at_fault_line here f few ended short is =
-      let size : length (front bytes) ≤ max_line_bytes = omega (arith, length-take (line_len bytes) bytes, line_len-le bytes) in
+      let size : length (front bytes) ≤ MAX_LINE_BYTES = omega (arith, length-take (line_len bytes) bytes, line_len-le bytes) in
       let moved : bytes ++ here.rest ≡ front bytes ++ 10 ∷ (behind_front bytes ++ here.rest) = ap (λ b. b ++ here.rest) (split-front bytes ended) ∙ simp append_assoc in
       whole input n s w (bytes ++ here.rest) (front bytes ∷ lines (behind_front bytes ++ here.rest)) here.progress
       (ap lines moved ∙ lines-line (front bytes) (behind_front bytes ++ here.rest) (plain-front bytes))
@@ -147,7 +148,7 @@ module _ (input : List ℕ) (left : Option (List ℕ)) (bytes : List ℕ) (n : �
   pub all_read : Standing input left bytes n s w → IsAtEnd left → Consumes (Some input) left input
   all_read here end = consumed left here.rest input here.known (sym (append-nil input) ∙ ap (λ r. input ++ r) (sym (at_end left here.rest here.known end)))
 
-  pub state_at_last : Standing input left bytes n s w → IsAtEnd left → line_len bytes ≡ length bytes → 0 < length bytes → (s' : State) (t : List ℕ) → answer s bytes ≡ Ok (s', t) → final input ≡ s'
+  pub state_at_last : Standing input left bytes n s w → IsAtEnd left → line_len bytes ≡ length bytes → 0 < length bytes → (s' : ScriptState) (t : List ℕ) → answer s bytes ≡ Ok (s', t) → final input ≡ s'
   state_at_last here end plain some s' t is =
       let all : bytes ++ here.rest ≡ bytes = ap (λ r. bytes ++ r) (at_end left here.rest here.known end) ∙ append-nil bytes in
       last_state input n s w (bytes ++ here.rest) bytes here.progress (ap lines all ∙ lines-last bytes plain some) s' t is
@@ -156,13 +157,13 @@ module _ (input : List ℕ) (left : Option (List ℕ)) (bytes : List ℕ) (n : �
   last_line here end plain some =
       grind (arith, at_end left here.rest here.known end, append-nil bytes, whole, lines-last bytes plain some)
 
-  pub at_last : Standing input left bytes n s w → IsAtEnd left → line_len bytes ≡ length bytes → 0 < length bytes → length bytes ≤ max_line_bytes → n ≢ max_lines
-      → (s' : State) (t : List ℕ) → answer s bytes ≡ Ok (s', t) → outcome input ≡ record { text = w ++ t; fault = None }
+  pub at_last : Standing input left bytes n s w → IsAtEnd left → line_len bytes ≡ length bytes → 0 < length bytes → length bytes ≤ MAX_LINE_BYTES → n ≢ MAX_LINES
+      → (s' : ScriptState) (t : List ℕ) → answer s bytes ≡ Ok (s', t) → outcome input ≡ record { text = w ++ t; fault = None }
   at_last here end plain some short few s' t is =
       last_line here end plain some ∙ ap (behind w) (outcome-line n s s' bytes t [] few short is)
       ∙ behind-behind w t (outcome_from (n + 1) s' []) ∙ behind-done (w ++ t) (n + 1) s'
 
-  pub at_fault_last : Standing input left bytes n s w → IsAtEnd left → line_len bytes ≡ length bytes → 0 < length bytes → length bytes ≤ max_line_bytes → n ≢ max_lines
+  pub at_fault_last : Standing input left bytes n s w → IsAtEnd left → line_len bytes ≡ length bytes → 0 < length bytes → length bytes ≤ MAX_LINE_BYTES → n ≢ MAX_LINES
       → (f : RunFault) → answer s bytes ≡ Err f → outcome input ≡ record { text = w; fault = Some f }
   at_fault_last here end plain some short few f is =
       last_line here end plain some ∙ ap (behind w) (outcome-fault n s bytes f [] few short is) ∙ behind-stopped w f

@@ -7,14 +7,14 @@ use Rattle.esr_cert.specs.Views.{certificate_of}
 use Rattle.esr_audit.specs.Findings.{summary, summary_of}
 use Rattle.esr_script.specs.declared.asked.Asked.{Asked}
 use Rattle.esr_script.specs.declared.fault.RunFault.{RunFault}
-use Rattle.esr_script.specs.Text.{State, transaction_called, final}
+use Rattle.esr_script.specs.Text.{ScriptState, transaction_called, final}
 use Rattle.esr_script.specs.Ends.{IsReachedBy, IsNoQuery}
 use Rattle.esr_script.specs.Certify.{IsFound}
 
 -- The names that are bound, the history, and what is found of the query of that name, which has committed: what the
 -- audit
 -- tells of it, and the problem with its certificate.
-pub record IsAnswered (s : State) (name : List ℕ) (a : Asked) : Type 0 where
+pub record IsAnswered (s : ScriptState) (name : List ℕ) (a : Asked) : Type 0 where
   pub items : a.items ≡ s.items
   pub transactions : a.transactions ≡ s.transactions
   pub history : a.history.schedule ≡ s.history
@@ -27,6 +27,6 @@ abbrev pub IsAsked : List ℕ → List ℕ → Option (List ℕ) → Result Aske
 IsAsked input name left r = IsReachedBy (IsAnswered (final input) name) (IsNoQuery input name) input left r
 
 -- such a text is made of the answer to that name
-abbrev pub IsMadeBy : {E : Type 0} → (Asked → Result (Vec ℕ Global) E → Type 0) → State → List ℕ → List ℕ → Type 0
+abbrev pub IsMadeBy : {E : Type 0} → (Asked → Result (Vec ℕ Global) E → Type 0) → ScriptState → List ℕ → List ℕ → Type 0
 IsMadeBy Makes s name text =
     (a : Asked) × IsAnswered s name a × (bytes : Vec ℕ Global) × Makes a (Ok bytes) × (text ≡ bytes.items)

@@ -8,7 +8,7 @@ use Rattle.esr_report.specs.Names.{name_of_transaction}
 use Rattle.esr_report.specs.Lines.{audit_line, order_line, totals_line}
 use Rattle.esr_script.specs.declared.fault.RunFault.{RunFault}
 use Rattle.esr_items.specs.Weights.{weighted}
-use Rattle.esr_script.specs.Text.{State, final}
+use Rattle.esr_script.specs.Text.{ScriptState, final}
 use Rattle.esr_script.specs.Ends.{IsWrittenBy}
 
 -- the line of what is told of a query, by the names of the transactions: the query, its distance, its import, and the
@@ -19,7 +19,7 @@ told_line names t = audit_line names (name_of_transaction names t.0) t.1 t.2 t.3
 -- The committed updates in the order of their commits, which is a serial order of them; a line for each committed
 -- query, in the
 -- order of their commits, with its least distance, its import and the smallest least set; and the totals.
-abbrev pub audit_output : State → List ℕ
+abbrev pub audit_output : ScriptState → List ℕ
 audit_output s =
     let h = s.history in
     order_line s.transactions (committed_updates h)

@@ -2,6 +2,7 @@
 use Rattle.std.specs.Prelude.{◌≡◌, ℕ, ◌^◌, ◌<◌, ℤ, List, [], ◌∷◌, Bool, true, false, ◌&&◌, ◌||◌, IsTrue, nat_eq, nat_le, nat_abs, length, codes, decimal}
 use Rattle.std.specs.List.{join_with_byte, list_all, All}
 use Rattle.std.specs.Fmt.{signed_decimal}
+use Rattle.esr_script.specs.declared.words.TheConstants.{INT_END}
 
 -- what a line that is not skipped may ask for
 pub data Command : Type 0 where
@@ -54,7 +55,7 @@ IsName text = IsTrue (is_name text)
 
 -- what has up to 18 digits
 abbrev pub IsInt : ℤ → Type 0
-IsInt v = nat_abs v < 10 ^ 18
+IsInt v = nat_abs v < INT_END
 
 -- what has up to 19 digits
 abbrev pub IsLimit : ℕ → Type 0

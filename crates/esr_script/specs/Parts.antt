@@ -8,7 +8,8 @@ use Rattle.esr_script.specs.declared.pending.Next.{Next}
 use Rattle.esr_script.specs.declared.pending.Next.TheVariants as next
 use Rattle.esr_script.specs.Lines.{lines, whole_lines}
 use Rattle.esr_script.specs.Run.{IsRunBy}
-use Rattle.esr_script.specs.Text.{State, start, state_after, outcome, outcome_of_lines, outcome_from, behind, max_line_bytes}
+use Rattle.esr_script.specs.declared.pending.TheConstants.{MAX_LINE_BYTES}
+use Rattle.esr_script.specs.Text.{ScriptState, start, state_after, outcome, outcome_of_lines, outcome_from, behind}
 
 -- how many bytes are before the first line feed
 abbrev pub line_len : List ℕ → ℕ
@@ -16,9 +17,9 @@ line_len bytes = position_or_len (λ b. nat_eq b 10) bytes
 
 -- what comes next in the bytes ahead
 abbrev pub IsNext : Next → List ℕ → Type 0
-IsNext (next.Line n) bytes = (n ≡ line_len bytes) × (n < length bytes) × (n ≤ max_line_bytes)
-IsNext next.TooLong bytes = max_line_bytes < line_len bytes
-IsNext next.More bytes = (line_len bytes ≡ length bytes) × (length bytes ≤ max_line_bytes)
+IsNext (next.Line n) bytes = (n ≡ line_len bytes) × (n < length bytes) × (n ≤ MAX_LINE_BYTES)
+IsNext next.TooLong bytes = MAX_LINE_BYTES < line_len bytes
+IsNext next.More bytes = (line_len bytes ≡ length bytes) × (length bytes ≤ MAX_LINE_BYTES)
 
 -- whether a read failed, and whether a write did
 abbrev pub is_read_fault : {T : Type 0} → Result T RunFault → Bool
@@ -30,7 +31,7 @@ is_write_fault (Err fault.Write) = true
 is_write_fault _ = false
 
 -- A run over the input that has answered or skipped count lines, wrote this, and has these bytes before it.
-pub record Progress (input : List ℕ) (unread : List ℕ) (count : ℕ) (state : State) (written : List ℕ) : Type 0 where
+pub record Progress (input : List ℕ) (unread : List ℕ) (count : ℕ) (state : ScriptState) (written : List ℕ) : Type 0 where
   pub used : List ℕ
   pub answered : List (List ℕ)
   pub split : input ≡ used ++ unread
@@ -42,7 +43,7 @@ pub record Progress (input : List ℕ) (unread : List ℕ) (count : ℕ) (state 
       ≡ behind written (outcome_from count state more)
 
 -- the same, where the bytes before it are these ahead and those that the reader has left
-pub record Standing (input : List ℕ) (left : Option (List ℕ)) (bytes : List ℕ) (count : ℕ) (state : State)
+pub record Standing (input : List ℕ) (left : Option (List ℕ)) (bytes : List ℕ) (count : ℕ) (state : ScriptState)
     (written : List ℕ) : Type 0 where
   pub rest : List ℕ
   pub known : left ≡ Some rest

@@ -1,10 +1,15 @@
--- The command that a line spells, found by its words.
-use Rattle.std.specs.Prelude.{ℕ, ◌+◌, ◌-◌, ◌*◌, ◌^◌, ℤ, pos, neg_ℤ, List, [], ◌∷◌, Bool, ◌&&◌, nat_eq, nat_lt, cond, Option, Some, None, codes, decimal, option_and_then, option_map, if◌then◌else◌}
+-- The command that a line spells, found by its words; and the command that a line read stands for.
+use Rattle.std.specs.Prelude.{◌≡◌, ℕ, ◌+◌, ◌-◌, ◌*◌, ◌^◌, ℤ, pos, neg_ℤ, List, [], ◌∷◌, Bool, true, false, ◌&&◌, nat_eq, nat_lt, cond, Option, Some, None, codes, decimal, option_and_then, option_map, if◌then◌else◌}
 use Rattle.std.specs.List.{slice_split}
 use Rattle.std.specs.Option.{option_or}
 use Rattle.std.specs.Borrow.{Bor}
 use Rattle.std.specs.Str.{bytes_eq}
-use Rattle.esr_script.specs.Command.{Command, item, weighted_item, begin_update, begin_query, begin_strict_query, read, write, commit, abort, audit, totals, is_name}
+use Rattle.esr_script.specs.declared.words.TheConstants.{INT_END}
+use Rattle.esr_script.specs.declared.parse.Line.{Line}
+use Rattle.esr_script.specs.declared.parse.Line.TheVariants as line
+use Rattle.esr_script.specs.declared.parse.Parsed.{Parsed}
+use Rattle.esr_script.specs.declared.parse.Parsed.TheVariants as parsed
+use Rattle.esr_script.specs.Command.{Command, item, weighted_item, begin_update, begin_query, begin_strict_query, read, write, commit, abort, audit, totals, is_name, is_skipped}
 
 abbrev pub is_blank : ℕ → Bool
 is_blank b = nat_eq b 32
@@ -30,8 +35,8 @@ value_from n (c ∷ cs) = value_from (10 * n + (c - 48)) cs
 abbrev pub number_below : ℕ → List ℕ → Option ℕ
 number_below bound text = let n = value_from 0 text in cond (nat_lt n bound && bytes_eq text (decimal n)) (Some n) None
 
-abbrev pub limit_of : List ℕ → Option ℕ
-limit_of text = number_below (10 ^ 19) text
+abbrev pub limit_in : List ℕ → Option ℕ
+limit_in text = number_below (10 ^ 19) text
 
 abbrev pub minus : ℕ → Option ℤ
 minus n = cond (nat_eq n 0) None (Some (neg_ℤ (pos n)))
@@ -39,7 +44,7 @@ minus n = cond (nat_eq n 0) None (Some (neg_ℤ (pos n)))
 -- the whole number of which the text is the decimal form
 abbrev pub int_of : List ℕ → Option ℤ
 int_of [] = None
-int_of (c ∷ cs) = cond (nat_eq c 45) (option_and_then minus (number_below (10 ^ 18) cs)) (option_map pos (number_below (10 ^ 18) (c ∷ cs)))
+int_of (c ∷ cs) = cond (nat_eq c 45) (option_and_then minus (number_below INT_END cs)) (option_map pos (number_below INT_END (c ∷ cs)))
 
 -- the words, where there are so many
 abbrev pub one_of : List (List ℕ) → Option (List ℕ)
@@ -70,7 +75,7 @@ abbrev pub weighted_item_of : List (List ℕ) → Option Command
 weighted_item_of ws =
     option_and_then (λ p.
     if bytes_eq p.2 (codes "weight")
-    then option_and_then (λ n. both (weighted_item n) (int_of p.1) (limit_of p.3)) (name_of p.0)
+    then option_and_then (λ n. both (weighted_item n) (int_of p.1) (limit_in p.3)) (name_of p.0)
     else None) (four_of ws)
 
 abbrev pub item_of : List (List ℕ) → Option Command
@@ -80,14 +85,14 @@ abbrev pub strict_query_of : List (List ℕ) → Option Command
 strict_query_of ws =
     option_and_then (λ p.
     if bytes_eq p.1 (codes "query") && bytes_eq p.3 (codes "strict")
-    then both begin_strict_query (name_of p.0) (limit_of p.2)
+    then both begin_strict_query (name_of p.0) (limit_in p.2)
     else None) (four_of ws)
 
 abbrev pub plain_begin_of : List (List ℕ) → Option Command
 plain_begin_of ws =
     option_and_then (λ p.
-    if bytes_eq p.1 (codes "update") then both begin_update (name_of p.0) (limit_of p.2)
-    else if bytes_eq p.1 (codes "query") then both begin_query (name_of p.0) (limit_of p.2)
+    if bytes_eq p.1 (codes "update") then both begin_update (name_of p.0) (limit_in p.2)
+    else if bytes_eq p.1 (codes "query") then both begin_query (name_of p.0) (limit_in p.2)
     else None) (three_of ws)
 
 abbrev pub begin_of : List (List ℕ) → Option Command
@@ -125,3 +130,29 @@ command_by (word ∷ ws) = command_of word ws
 
 abbrev pub reading : List ℕ → Option Command
 reading line = command_by (words_of line)
+
+-- the command that a line read stands for
+abbrev pub view : Line → Command
+view (line.Item name value) = item name.now value
+view (line.WeightedItem name value weight) = weighted_item name.now value weight
+view (line.BeginUpdate name limit) = begin_update name.now limit
+view (line.BeginQuery name limit) = begin_query name.now limit
+view (line.BeginStrictQuery name limit) = begin_strict_query name.now limit
+view (line.Read txn x) = read txn.now x.now
+view (line.Write txn x value) = write txn.now x.now value
+view (line.Commit txn) = commit txn.now
+view (line.Abort txn) = abort txn.now
+view (line.Audit txn) = audit txn.now
+view line.Totals = totals
+
+-- the command that was found, if one was
+abbrev pub command_in : Parsed → Option Command
+command_in parsed.Skipped = None
+command_in parsed.NotACommand = None
+command_in (parsed.Command l) = Some (view l)
+
+-- what was found in the line is what its reading says
+abbrev pub IsReadingOf : List ℕ → Parsed → Type 0
+IsReadingOf bytes parsed.Skipped = is_skipped bytes ≡ true
+IsReadingOf bytes parsed.NotACommand = (is_skipped bytes ≡ false) × (reading bytes ≡ None)
+IsReadingOf bytes (parsed.Command l) = (is_skipped bytes ≡ false) × (reading bytes ≡ Some (view l))

@@ -2,14 +2,14 @@
 use Rattle.std.specs.Prelude.{◌≡◌, List, ℕ, Bool, true, false, Option, None, Result}
 use Rattle.esr_cert.specs.Certificate.{Certificate}
 use Rattle.esr_script.specs.declared.fault.RunFault.{RunFault}
-use Rattle.esr_script.specs.Text.{State, final}
+use Rattle.esr_script.specs.Text.{ScriptState, final}
 use Rattle.esr_script.specs.Ends.{IsReachedBy}
 
 -- the lines of the input were gone over, and led to this state
-abbrev pub IsReplay : List ℕ → Option (List ℕ) → Result (Unit {0}) RunFault → State → Type 0
+abbrev pub IsReplay : List ℕ → Option (List ℕ) → Result (Unit {0}) RunFault → ScriptState → Type 0
 IsReplay input left r s = IsReachedBy (λ done. final input ≡ s) ⊥ input left r
 
 -- with or without the count of augmentations
-abbrev pub told : Bool → Certificate → Certificate
-told true c = c
-told false c = record c { augmentations = None }
+abbrev pub with_count : Bool → Certificate → Certificate
+with_count true c = c
+with_count false c = record c { augmentations = None }

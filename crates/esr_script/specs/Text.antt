@@ -26,20 +26,8 @@ use Rattle.esr_script.specs.Lines.{lines}
 use Rattle.esr_script.specs.Command.{Command, item, weighted_item, begin_update, begin_query, begin_strict_query, read, write, commit, abort, audit, totals, is_skipped}
 use Rattle.esr_script.specs.Reading.{reading}
 
-abbrev pub max_lines : ℕ
-max_lines = MAX_LINES
-
-abbrev pub max_line_bytes : ℕ
-max_line_bytes = MAX_LINE_BYTES
-
-abbrev pub max_entries : ℕ
-max_entries = MOST_ENTRIES
-
-abbrev pub max_items : ℕ
-max_items = MOST_ITEMS
-
 -- what a run keeps of the lines so far
-pub record State : Type 0 where
+pub record ScriptState : Type 0 where
   -- the names of the items, and of the transactions, in the order of their numbers
   pub items : List (List ℕ)
   pub transactions : List (List ℕ)
@@ -47,7 +35,7 @@ pub record State : Type 0 where
   pub closed : Bool
   pub history : Schedule
 
-abbrev pub start : State
+abbrev pub start : ScriptState
 start = record {
   items = [];
   transactions = [];
@@ -56,12 +44,12 @@ start = record {
 }
 
 -- transactions are numbered from 1; a name that is not bound stands for 0
-abbrev pub transaction_called : State → List ℕ → TxnId
+abbrev pub transaction_called : ScriptState → List ℕ → TxnId
 transaction_called s name = record { 0 = option_map_or (λ n. n + 1) (position_of s.transactions name) 0 }
 
 -- items are numbered from 0; a name that is not bound stands for a number that no item has
-abbrev pub item_called : State → List ℕ → ItemId
-item_called s name = record { 0 = unwrap_or (position_of s.items name) max_items }
+abbrev pub item_called : ScriptState → List ℕ → ItemId
+item_called s name = record { 0 = unwrap_or (position_of s.items name) MOST_ITEMS }
 
 -- the names of the transactions after a reply: an accepted begin binds its name
 abbrev pub bound : List (List ℕ) → List ℕ → Reply → List (List ℕ)
@@ -69,20 +57,20 @@ bound names name (reply.Begun number) = names ++ name ∷ []
 bound names name _ = names
 
 -- an event is given to the machine, whose reply is an entry of the history
-abbrev pub ask : State → Named → Event → Result (State × List ℕ) RunFault
+abbrev pub ask : ScriptState → Named → Event → Result (ScriptState × List ℕ) RunFault
 ask s named e =
-    if length s.history.entries == max_entries then Err fault.HistoryFull
+    if length s.history.entries == MOST_ENTRIES then Err fault.HistoryFull
     else (let r = reply_to weighted s.history e in let names = bound s.transactions named.txn r in
     Ok (record s { closed = true; transactions = names; history = extended s.history e r }, reply_line names named r))
 
 -- a begin, whose name may not be bound already
-abbrev pub begin : State → List ℕ → Event → Result (State × List ℕ) RunFault
+abbrev pub begin : ScriptState → List ℕ → Event → Result (ScriptState × List ℕ) RunFault
 begin s name e =
     if is_bound s.transactions name then Ok (record s { closed = true }, error_line NameInUse)
     else ask s (record { txn = name; item = []; value = pos 0 }) e
 
 -- the state with one more item
-abbrev pub with_item : State → List ℕ → ℤ → ℕ → State
+abbrev pub with_item : ScriptState → List ℕ → ℤ → ℕ → ScriptState
 with_item s name value weight =
     let h = s.history in
     record s {
@@ -91,32 +79,32 @@ with_item s name value weight =
     }
 
 -- what is wrong with the declaration of an item, if something is
-abbrev pub item_error : State → List ℕ → ℤ → ℕ → Option LineError
+abbrev pub item_error : ScriptState → List ℕ → ℤ → ℕ → Option LineError
 item_error s name value weight =
     if s.closed then Some ItemsAreClosed
     else if is_bound s.items name then Some NameInUse
     else if not (is_value value) then Some ValueOutOfRange
-    else if length s.items == max_items then Some TooManyItems
+    else if length s.items == MOST_ITEMS then Some TooManyItems
     else if not (is_weight weight) then Some WeightOutOfRange
     else None
 
 -- an item is declared, which is answered by the line, or the error is
-abbrev pub declare_or : Option LineError → State → List ℕ → ℤ → ℕ → List ℕ → State × List ℕ
+abbrev pub declare_or : Option LineError → ScriptState → List ℕ → ℤ → ℕ → List ℕ → ScriptState × List ℕ
 declare_or None s name value weight line = (with_item s name value weight, line)
 declare_or (Some error) s name value weight line = (s, error_line error)
 
-abbrev pub declare : State → List ℕ → ℤ → ℕ → List ℕ → State × List ℕ
+abbrev pub declare : ScriptState → List ℕ → ℤ → ℕ → List ℕ → ScriptState × List ℕ
 declare s name value weight line = declare_or (item_error s name value weight) s name value weight line
 
 -- the line of what the audit of a transaction finds: its least distance, its import, and the smallest least set
-abbrev pub audit_text : State → List ℕ → List ℕ
+abbrev pub audit_text : ScriptState → List ℕ → List ℕ
 audit_text s name =
     let h = s.history in let q = (transaction_called s name).0 in
     if is_committed_query h q then audit_line s.transactions name (least_cost weighted h q) (import_in (charges_in weighted h) q) (least_set weighted h q)
     else error_line NotACommittedQuery
 
 -- the state after a command, and its line
-abbrev pub obey : State → Command → Result (State × List ℕ) RunFault
+abbrev pub obey : ScriptState → Command → Result (ScriptState × List ℕ) RunFault
 obey s (item name value) = Ok (declare s name value 1 (item_line name value))
 obey s (weighted_item name value weight) = Ok (declare s name value weight (weighted_item_line name value weight))
 obey s (begin_update name limit) = begin s name (event.BeginUpdate limit)
@@ -135,7 +123,7 @@ obey s (audit txn) = Ok (record s { closed = true }, audit_text s txn)
 obey s totals = Ok (record s { closed = true }, totals_line (all_imports weighted s.history) (all_exports weighted s.history) (length s.history.entries))
 
 -- the state after a line, and its answer
-abbrev pub answer : State → List ℕ → Result (State × List ℕ) RunFault
+abbrev pub answer : ScriptState → List ℕ → Result (ScriptState × List ℕ) RunFault
 answer s line =
     if is_skipped line then Ok (s, [])
     else (elim (reading line) [
@@ -157,11 +145,11 @@ abbrev pub behind : List ℕ → Outcome → Outcome
 behind front o = record { text = front ++ o.text; fault = o.fault }
 
 -- the run over the lines from a state on, of which count are answered or skipped already
-abbrev pub outcome_from : ℕ → State → List (List ℕ) → Outcome
+abbrev pub outcome_from : ℕ → ScriptState → List (List ℕ) → Outcome
 outcome_from count state [] = record { text = []; fault = None }
 outcome_from count state (line ∷ more) =
-    cond (nat_eq count max_lines) (stopped fault.TooManyLines)
-    (cond (nat_lt max_line_bytes (length line)) (stopped fault.LineTooLong)
+    cond (nat_eq count MAX_LINES) (stopped fault.TooManyLines)
+    (cond (nat_lt MAX_LINE_BYTES (length line)) (stopped fault.LineTooLong)
     (elim (answer state line) [
       | Ok next ↦ behind next.1 (outcome_from (count + 1) next.0 more)
       | Err f ↦ stopped f
@@ -177,13 +165,13 @@ outcome bytes = outcome_of_lines (lines bytes)
 -- ---- the state that a run leads to
 
 -- after a line; one that ends the run changes nothing
-abbrev pub next_state : State → List ℕ → State
+abbrev pub next_state : ScriptState → List ℕ → ScriptState
 next_state s line = elim (answer s line) [ Ok next ↦ next.0 | Err f ↦ s ]
 
-abbrev pub state_after : State → List (List ℕ) → State
+abbrev pub state_after : ScriptState → List (List ℕ) → ScriptState
 state_after s [] = s
 state_after s (line ∷ more) = state_after (next_state s line) more
 
 -- after all lines of the bytes
-abbrev pub final : List ℕ → State
+abbrev pub final : List ℕ → ScriptState
 final bytes = state_after start (lines bytes)

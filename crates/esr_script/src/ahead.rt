@@ -1,5 +1,6 @@
 //! Answers the lines in the bytes ahead, whether their text is to be written or dropped.
 
+ghost use Rattle.esr_script.specs.declared.pending.TheConstants.{MAX_LINES, MAX_LINE_BYTES};
 ghost use Rattle.std.specs.Prelude.{◌≡◌, ◌≢◌, ℕ, List, ◌+◌, ◌++◌, ◌≤◌, Option, Err, OnOk, IfErr, false, length};
 ghost use Rattle.std.specs.Io.KnownBytes.{IsAtEnd};
 ghost use Rattle.esr_script.specs.Replays.{IsReplay};
@@ -19,7 +20,7 @@ pub fn answer_next(
 ) -> Result<(), RunFault>
     requires next { IsNext next pending.old }
     requires there { next ≢ Next.More }
-    ensures few { OnOk result (count ≢ 2000000) }
+    ensures few { OnOk result (count ≢ MAX_LINES) }
     ensures text { OnOk result ((text : List ℕ) × (out.new.items ≡ out.old.items ++ text)
         × ((input written : List ℕ) (left : Option (List ℕ)) → Standing input left pending.old count script.old written
         → Standing input left pending.new (count + 1) script.new (written ++ text))) }
@@ -51,7 +52,7 @@ pub fn answer_last(
     script: &mut Script,
     out: &mut Vec<u8>,
 ) -> Result<(), RunFault>
-    requires short { length pending.now ≤ 200 }
+    requires short { length pending.now ≤ MAX_LINE_BYTES }
     ensures held { (input sent : List ℕ) (left : Option (List ℕ))
         → Standing input left pending.now count script.old (sent ++ out.old.items)
         → IsAtEnd left → line_len pending.now ≡ length pending.now → IsHeldRun input left out.new.items result sent }

@@ -1,6 +1,7 @@
 //! Audits a whole script: it is run without its output, and the serial order, what is found of each committed query,
 //! and the totals are written.
 
+ghost use Rattle.esr_board.specs.declared.board.TheConstants.{MOST_SEATS};
 ghost use Rattle.std.specs.Prelude.{◌≡◌, ◌≤◌, ℕ, List, Some, false};
 ghost use Rattle.esr_history.specs.Watch.{inner, failed};
 ghost use Rattle.esr_script.specs.Audit.{IsAuditedBy, audit_output};
@@ -25,7 +26,7 @@ fn prepare<T: Threads + Sync, R: Read>(
     workers: u64,
 ) -> Result<Vec<u8>, RunFault>
     requires reader { failed reader.old ≡ false }
-    requires workers { (1 ≤ workers) × (workers ≤ 64) }
+    requires workers { (1 ≤ workers) × (workers ≤ MOST_SEATS) }
     ensures ready { (input : List ℕ) → R.remaining (inner reader.old) ≡ Some input
         → IsReachedBy (λ out. out.items ≡ audit_output (final input)) ⊥ input (R.remaining (inner reader.new)) result }
     ensures reader { failed reader.new ≡ is_read_fault result }
@@ -57,7 +58,7 @@ pub fn audit<T: Threads + Sync, R: Read, W: Write>(
 ) -> Result<(), RunFault>
     requires reader { failed reader.old ≡ false }
     requires writer { failed writer.old ≡ false }
-    requires workers { (1 ≤ workers) × (workers ≤ 64) }
+    requires workers { (1 ≤ workers) × (workers ≤ MOST_SEATS) }
     ensures { ReadsAndWrites R.remaining W.contents reader.old reader.new writer.old writer.new
         IsAuditedBy result }
 {

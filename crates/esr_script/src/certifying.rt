@@ -5,7 +5,7 @@ ghost use Rattle.esr_history.specs.Watch.{failed};
 ghost use Rattle.esr_cert.specs.Views.{certificate_of};
 ghost use Rattle.esr_bundle.specs.Bundle.{bundle};
 ghost use Rattle.esr_script.specs.Certify.{IsCertifiedBy};
-ghost use Rattle.esr_script.specs.Replays.{told};
+ghost use Rattle.esr_script.specs.Replays.{with_count};
 ghost use Rattle.esr_script.specs.ReaderToWriter.{ReadsAndWrites};
 
 use crate::fault::RunFault;
@@ -18,8 +18,8 @@ use std::alloc::{AllocError, Global};
 use std::io::{Read, Write};
 
 /// The certificate, with the count of its augmentations or without.
-fn told(certificate: Certificate, steps: bool) -> Certificate
-    ensures { certificate_of result ≡ told steps (certificate_of certificate) }
+fn with_count(certificate: Certificate, steps: bool) -> Certificate
+    ensures { certificate_of result ≡ with_count steps (certificate_of certificate) }
 {
     if steps {
         return certificate;
@@ -32,10 +32,10 @@ fn told(certificate: Certificate, steps: bool) -> Certificate
 
 /// The bundle of a finding, and a line feed.
 fn bundle_line(alloc: Global, finding: Finding, steps: bool) -> Result<Vec<u8>, AllocError>
-    ensures { IfOk result (λ v. v.items ≡ bundle finding.problem (told steps (certificate_of finding.certificate)) ++ 10
+    ensures { IfOk result (λ v. v.items ≡ bundle finding.problem (with_count steps (certificate_of finding.certificate)) ++ 10
         ∷ []) }
 {
-    let certificate = told(finding.certificate, steps);
+    let certificate = with_count(finding.certificate, steps);
     let Ok(mut text) = to_json(alloc, &finding.problem, &certificate) else {
         return Err(AllocError);
     };

@@ -22,7 +22,7 @@ pub use auditing::audit;
 pub use certifying::{certify, certify_steps};
 pub use fault::RunFault;
 pub use parse::{Line, Parsed, parse_line};
-pub use pending::{MAX_LINE_BYTES, MAX_LINES};
+pub use pending::{INPUT_ROOM, MAX_LINE_BYTES, MAX_LINES};
 pub use runs::run;
 pub use sending::send_all;
 pub use telling::tell;

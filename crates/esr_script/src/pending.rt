@@ -1,5 +1,6 @@
 //! Bytes that were read and are not yet used.
 
+ghost use Rattle.esr_script.specs.declared.pending.TheConstants.{MAX_LINE_BYTES};
 ghost use Rattle.std.specs.Prelude.{◌≡◌, ℕ, ◌<◌, ◌≤◌, List, [], ◌++◌, IfOk, IfErr, drop, take, ◌-◌, length, nat_eq, ◌||◌};
 ghost use Rattle.std.specs.List.{position};
 ghost use Rattle.std.specs.Io.KnownBytes.{Consumes, Keeps, IsAtEnd};
@@ -12,8 +13,8 @@ use std::alloc::{AllocError, Global};
 use std::io::Read;
 use std::marker::Model;
 
-/// The most bytes ahead: many lines, so that reads are few.
-const ROOM: usize = 65536;
+/// The most bytes that are asked for at once: many lines, so that reads are few.
+pub const INPUT_ROOM: usize = 65536;
 
 /// The most lines of an input.
 pub const MAX_LINES: u64 = 2_000_000;
@@ -31,18 +32,21 @@ pub struct Pending {
 }
 
 impl Model for Pending {
+    ghost use Rattle.esr_script.specs.declared.pending.TheConstants.{INPUT_ROOM};
+    ghost use Rattle.std.specs.Prelude.{◌≡◌, ◌≤◌, ◌-◌, ℕ, List, drop, take, length};
+
     ghost Value = { List ℕ };
 
     ghost view = { λ p. take (p.end - p.start) (drop p.start p.buffer.items) };
 
-    ghost invariant = { λ p. (p.start ≤ p.end) × (p.end ≤ length p.buffer.items) × (length p.buffer.items ≡ 65536) };
+    ghost invariant = { λ p. (p.start ≤ p.end) × (p.end ≤ length p.buffer.items) × (length p.buffer.items ≡ INPUT_ROOM) };
 }
 
 impl Pending {
     pub fn new(alloc: Global) -> Result<Pending, AllocError>
         ensures { IfOk result (λ p. p ≡ []) }
     {
-        let buffer = vec![in alloc; 0u8; ROOM]?;
+        let buffer = vec![in alloc; 0u8; INPUT_ROOM]?;
         Ok(Pending {
             buffer,
             start: 0,
@@ -66,7 +70,7 @@ impl Pending {
 
     /// Reads once, and gives the count of bytes that came: none at the end of the input.
     pub fn fill<R: Read>(&mut self, reader: &mut Watched<R>) -> Result<usize, RunFault>
-        requires { length self.old ≤ 200 }
+        requires { length self.old ≤ MAX_LINE_BYTES }
         ensures ok { IfOk result (λ n. (more : List ℕ) × (length more ≡ n) × (self.new ≡ self.old ++ more)
             × Consumes (R.remaining (inner reader.old)) (R.remaining (inner reader.new)) more
             × (n ≡ 0 → IsAtEnd (R.remaining (inner reader.new)))) }

@@ -1,5 +1,6 @@
 //! A run over a script, from its reader to its writer.
 
+ghost use Rattle.esr_script.specs.declared.pending.TheConstants.{MAX_LINE_BYTES};
 ghost use Rattle.std.specs.Prelude.{◌≡◌, ℕ, List, [], ◌++◌, Some, Ok, Err, IfSome, IsErrOf, IfErr, IfOk, IsTrue, ◌↔◌, false, ◌≤◌, ◌⊎◌, length, ◌||◌};
 ghost use Rattle.std.specs.Io.KnownBytes.{Appends, Consumes, IsAtEnd, Keeps};
 ghost use Rattle.esr_history.specs.Watch.{inner, failed, BeginsWith};
@@ -12,14 +13,12 @@ use crate::ahead::{answer_last, answer_next};
 use crate::fault::RunFault;
 use crate::pending::{Next, Pending, next_line};
 use crate::script::Script;
-use crate::sending::send_all;
+use crate::sending::{OUTPUT_ROOM, send_all};
 use esr_history::Watched;
 use std::alloc::Global;
 use std::io::{Read, Write};
 
 const OUTPUT_FULL: usize = 32768;
-
-const OUTPUT_CAPACITY: usize = 65536;
 
 /// Reads a script to its end and writes its text.
 ///
@@ -39,7 +38,7 @@ pub fn run<R: Read, W: Write>(
     let Ok(mut pending) = Pending::new(alloc) else {
         return Err(RunFault::NoMemory);
     };
-    let Ok(mut out) = Vec::with_capacity(alloc, OUTPUT_CAPACITY) else {
+    let Ok(mut out) = Vec::with_capacity(alloc, OUTPUT_ROOM) else {
         return Err(RunFault::NoMemory);
     };
     let mut script = Script::new(alloc);
@@ -110,7 +109,7 @@ fn read_on<R: Read, W: Write>(
     pending: &mut Pending,
     out: &mut Vec<u8>,
 ) -> Result<usize, RunFault>
-    requires short { length pending.old ≤ 200 }
+    requires short { length pending.old ≤ MAX_LINE_BYTES }
     requires reader { failed reader.old ≡ false }
     requires writer { failed writer.old ≡ false }
     ensures ok { IfOk result (λ n. (more : List ℕ) × (length more ≡ n) × (pending.new ≡ pending.old ++ more)

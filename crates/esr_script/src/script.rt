@@ -1,5 +1,6 @@
 //! What a run keeps of the lines so far, and its answer to a line.
 
+ghost use Rattle.esr_board.specs.declared.board.TheConstants.{MOST_SEATS};
 ghost use Rattle.std.specs.Prelude.{◌≡◌, ℕ, List, ◌+◌, ◌<◌, ◌≤◌, ◌⊎◌, [], ◌++◌, Ok, Err, None, OnErr, OnOk, IfOk, IfErr, IsErrOf, IsOk, false, ◌↔◌, length, pos};
 ghost use Rattle.esr_report.specs.Names.{position_of};
 ghost use Rattle.esr_report.specs.Subjects.{named_by};
@@ -9,7 +10,7 @@ ghost use Rattle.esr_script.specs.Stages.{IsBegin};
 ghost use Rattle.esr_script.specs.Ask.{IsAnswered};
 ghost use Rattle.esr_script.specs.Audit.{audit_output};
 ghost use Rattle.esr_history.specs.Queries.{is_committed_query};
-ghost use Rattle.esr_script.specs.View.{view};
+ghost use Rattle.esr_script.specs.Reading.{view};
 
 use crate::asked::Asked;
 use crate::book::push_audit;
@@ -40,11 +41,11 @@ impl Model for Script {
     ghost use Rattle.esr_history.specs.declared.limits.TheConstants.{MOST_ENTRIES};
     ghost use Rattle.esr_items.specs.declared.TheConstants.{MOST_ITEMS};
     ghost use Rattle.std.specs.Prelude.{◌≤◌, length};
-    ghost use Rattle.esr_script.specs.Text.{State};
+    ghost use Rattle.esr_script.specs.Text.{ScriptState};
     ghost use Rattle.esr_script.specs.Command as command;
     ghost use Rattle.esr_script.specs.Stages.{is_running, history_of};
 
-    ghost Value = { State };
+    ghost Value = { ScriptState };
 
     ghost view = { λ s. record {
       items = s.items;
@@ -351,7 +352,7 @@ impl Script {
         workers: u64,
         out: &mut Vec<u8>,
     ) -> Result<(), RunFault>
-        requires { (1 ≤ workers) × (workers ≤ 64) }
+        requires { (1 ≤ workers) × (workers ≤ MOST_SEATS) }
         ensures ok { OnOk result (out.new.items ≡ out.old.items ++ audit_output self.old) }
         ensures faults { IfErr result (λ e. e ≡ RunFault.NoMemory) }
     {

@@ -9,8 +9,8 @@ use crate::fault::RunFault;
 use esr_history::Watched;
 use std::io::Write;
 
-/// The most room that an empty buffer keeps. A line of names may have made it larger.
-const MOST_KEPT: usize = 65536;
+/// The room that an empty output buffer has. A line of names may make it larger.
+pub const OUTPUT_ROOM: usize = 65536;
 
 /// Writes out what the buffer holds, flushes it and empties the buffer.
 pub fn send_all<W: Write>(out: &mut Vec<u8>, writer: &mut Watched<W>) -> Result<(), RunFault>
@@ -24,6 +24,6 @@ pub fn send_all<W: Write>(out: &mut Vec<u8>, writer: &mut Watched<W>) -> Result<
         return Err(RunFault::Write);
     }
     out.clear();
-    out.shrink_to(MOST_KEPT);
+    out.shrink_to(OUTPUT_ROOM);
     Ok(())
 }

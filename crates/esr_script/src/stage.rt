@@ -1,5 +1,6 @@
 //! Either items still being declared, or the running machine.
 
+ghost use Rattle.esr_board.specs.declared.board.TheConstants.{MOST_SEATS};
 ghost use Rattle.esr_history.specs.declared.limits.TheConstants.{MOST_ENTRIES};
 ghost use Rattle.std.specs.Prelude.{◌≡◌, ◌≢◌, ◌≤◌, ◌⊎◌, true, false, length, map, IfOk, OnOk, OnErr, IfErr, IsErrOf};
 ghost use Rattle.esr_history.specs.Machine.{reply_to, extended, charges_in, import_in};
@@ -133,7 +134,7 @@ impl Stage {
         workers: u64,
     ) -> Result<Book, RunFault>
         requires running { is_running self.now ≡ true }
-        requires workers { (1 ≤ workers) × (workers ≤ 64) }
+        requires workers { (1 ≤ workers) × (workers ≤ MOST_SEATS) }
         ensures book { IfOk result (IsBook weighted (history_of self.now)) }
         ensures faults { IfErr result (λ e. e ≡ RunFault.NoMemory) }
     {

@@ -1,10 +1,11 @@
 //! The words of a line, and what each may be.
 
+ghost use Rattle.esr_script.specs.declared.words.TheConstants.{INT_END};
 ghost use Rattle.std.specs.Prelude.{◌≡◌, ◌∷◌, ◌<◌, ◌≤◌, ◌^◌, Option, option_map, length, IfSome, IfNone, true, false};
 ghost use Rattle.std.specs.Str.{all_ascii_digits};
 ghost use Rattle.std.specs.List.{position, list_all};
 ghost use Rattle.esr_script.specs.Command.{is_letter, is_name_byte, is_name};
-ghost use Rattle.esr_script.specs.Reading.{value_from, number_below, is_blank, words_of, words_after, name_of, limit_of, int_of, one_of, two_of, three_of, four_of};
+ghost use Rattle.esr_script.specs.Reading.{value_from, number_below, is_blank, words_of, words_after, name_of, limit_in, int_of, one_of, two_of, three_of, four_of};
 
 use std::str::from_utf8;
 
@@ -126,7 +127,7 @@ fn digits_value(digits: &[u8]) -> Option<u64>
 /// The limit of which the word is the decimal form: digits with no zero in front of others.
 #[tactic(auto, using(crate::proofs::Laws::too_long, crate::proofs::Laws::empty_word, crate::proofs::Laws::zero_alone, crate::proofs::Laws::zero_in_front))]
 pub fn limit(word: &[u8]) -> Option<u64>
-    ensures { result ≡ limit_of word.now }
+    ensures { result ≡ limit_in word.now }
 {
     if word.len() > 19 {
         return None;
@@ -140,7 +141,7 @@ pub fn limit(word: &[u8]) -> Option<u64>
 
 /// The number of up to 18 digits of which the word is the decimal form.
 fn magnitude(word: &[u8]) -> Option<u64>
-    ensures { result ≡ number_below (10 ^ 18) word.now }
+    ensures { result ≡ number_below INT_END word.now }
 {
     let number = limit(word)?;
     if number < INT_END { Some(number) } else { None }

@@ -30,12 +30,12 @@ last_of P all xs x is h = right P xs x (subst (λ (l : List _). All P l) is h)
 pub all_more : {X : Type 0} (P : X → Type 0) (xs all : List X) (x : X) → all ≡ xs ++ x ∷ [] → All P xs → P x → All P all
 all_more P xs all x is h p = subst (λ (l : List _). All P l) (sym is) (All-push P xs x h p)
 
--- one more job
-pub jobs_more : {J : Type 0} (f : J → List Call) (jobs all : List J) (j : J) (blocks : List (Vec Call Global)) (i : ℕ) (b : Vec Call Global)
-    → all ≡ jobs ++ j ∷ [] → map f jobs ≡ map (λ (b : Vec Call Global). b.items) (take i blocks) → i < length blocks → b ≡ get_or blocks i b → f j ≡ b.items
+-- one more task
+pub tasks_more : {J : Type 0} (f : J → List Call) (tasks all : List J) (j : J) (blocks : List (Vec Call Global)) (i : ℕ) (b : Vec Call Global)
+    → all ≡ tasks ++ j ∷ [] → map f tasks ≡ map (λ (b : Vec Call Global). b.items) (take i blocks) → i < length blocks → b ≡ get_or blocks i b → f j ≡ b.items
     → map f all ≡ map (λ (b : Vec Call Global). b.items) (take (i + 1) blocks)
-jobs_more f jobs all j blocks i b is so_far lt at calls =
-    ap (map f) is ∙ (map-append f jobs (j ∷ []) ∙ (ap (λ l. l ++ f j ∷ []) so_far ∙ (ap (λ c. map (λ (b : Vec Call Global). b.items) (take i blocks) ++ c ∷ []) (calls ∙ ap (λ (b : Vec Call Global). b.items) at)
+tasks_more f tasks all j blocks i b is so_far lt at calls =
+    ap (map f) is ∙ (map-append f tasks (j ∷ []) ∙ (ap (λ l. l ++ f j ∷ []) so_far ∙ (ap (λ c. map (λ (b : Vec Call Global). b.items) (take i blocks) ++ c ∷ []) (calls ∙ ap (λ (b : Vec Call Global). b.items) at)
     ∙ (sym (map-append (λ (b : Vec Call Global). b.items) (take i blocks) (get_or blocks i b ∷ [])) ∙ ap (map (λ (b : Vec Call Global). b.items)) (sym (take_more blocks i b lt))))))
 
 head_same : {X : Type 0} (x y : X) (xs ys : List X) → x ∷ xs ≡ y ∷ ys → x ≡ y
@@ -51,31 +51,31 @@ commands-answers (c ∷ calls) (r ∷ replies) e = ap (λ l. command_of c ∷ l)
 
 module _ {J R V : Type 0} (calls : J → List Call) (session : R → List Receipt) (outcome : R → Result V StepError) (items : V → List Reply) where
   abbrev pub Ran : List J → List R → Type 0
-  Ran jobs rans = (i : ℕ) (j : J) (r : R) → i < length jobs → IfOk (outcome (get_or rans i r)) (λ v. IsBlockRun (calls (get_or jobs i j)) (items v) (session (get_or rans i r)))
+  Ran tasks rans = (i : ℕ) (j : J) (r : R) → i < length tasks → IfOk (outcome (get_or rans i r)) (λ v. IsBlockRun (calls (get_or tasks i j)) (items v) (session (get_or rans i r)))
 
   abbrev pub answers : List J → List V → List (List Answered)
-  answers jobs replies = all_answers (map calls jobs) (map items replies)
+  answers tasks replies = all_answers (map calls tasks) (map items replies)
 
-  ran_at : (j : J) (r : R) (v : V) (jobs : List J) (rans : List R) → Ran (j ∷ jobs) (r ∷ rans) → outcome r ≡ Ok v → IsBlockRun (calls j) (items v) (session r)
-  ran_at j r v jobs rans h is = subst (λ (o : Result V StepError). IfOk o (λ v. IsBlockRun (calls j) (items v) (session r))) is (h 0 j r (omega arith))
+  ran_at : (j : J) (r : R) (v : V) (tasks : List J) (rans : List R) → Ran (j ∷ tasks) (r ∷ rans) → outcome r ≡ Ok v → IsBlockRun (calls j) (items v) (session r)
+  ran_at j r v tasks rans h is = subst (λ (o : Result V StepError). IfOk o (λ v. IsBlockRun (calls j) (items v) (session r))) is (h 0 j r (omega arith))
 
   -- each block has its runs
-  pub blocks_ran : (jobs : List J) (rans : List R) (replies : List V) → length rans ≡ length jobs → Ran jobs rans → map outcome rans ≡ map (λ v. Ok v) replies
-      → AreAnswered (map calls jobs) (map items replies)
-      × ((names : List (List ℕ)) → All (AreResolved names) (map calls jobs) → AreBlocks names (answers jobs replies) (map session rans))
-      × (map (λ b. map (λ a. a.command) b) (answers jobs replies) ≡ map (λ b. map command_of b) (map calls jobs))
+  pub blocks_ran : (tasks : List J) (rans : List R) (replies : List V) → length rans ≡ length tasks → Ran tasks rans → map outcome rans ≡ map (λ v. Ok v) replies
+      → AreAnswered (map calls tasks) (map items replies)
+      × ((names : List (List ℕ)) → All (AreResolved names) (map calls tasks) → AreBlocks names (answers tasks replies) (map session rans))
+      × (map (λ b. map (λ a. a.command) b) (answers tasks replies) ≡ map (λ b. map command_of b) (map calls tasks))
   blocks_ran [] [] replies len h is = (none replies is, λ names resolved. tt, refl)
     where
       none : (replies : List V) → map outcome [] ≡ map (λ v. Ok v) replies → AreAnswered [] (map items replies)
       none [] is = tt
       none (v ∷ replies) is = cc
   blocks_ran [] (r ∷ rans) replies len h is = absurd (omega (arith, len))
-  blocks_ran (j ∷ jobs) [] replies len h is = absurd (omega (arith, len))
-  blocks_ran (j ∷ jobs) (r ∷ rans) [] len h is = cc
-  blocks_ran (j ∷ jobs) (r ∷ rans) (v ∷ replies) len h is =
-      let here : IsBlockRun (calls j) (items v) (session r) = ran_at j r v jobs rans h (head_same (outcome r) (Ok v) (map outcome rans) (map (λ v. Ok v) replies) is) in
-      let rest = blocks_ran jobs rans replies (omega (arith, len)) (λ i x y lt. h (suc i) x y (omega (arith, lt))) (tail_same (outcome r) (Ok v) (map outcome rans) (map (λ v. Ok v) replies) is) in (
+  blocks_ran (j ∷ tasks) [] replies len h is = absurd (omega (arith, len))
+  blocks_ran (j ∷ tasks) (r ∷ rans) [] len h is = cc
+  blocks_ran (j ∷ tasks) (r ∷ rans) (v ∷ replies) len h is =
+      let here : IsBlockRun (calls j) (items v) (session r) = ran_at j r v tasks rans h (head_same (outcome r) (Ok v) (map outcome rans) (map (λ v. Ok v) replies) is) in
+      let rest = blocks_ran tasks rans replies (omega (arith, len)) (λ i x y lt. h (suc i) x y (omega (arith, lt))) (tail_same (outcome r) (Ok v) (map outcome rans) (map (λ v. Ok v) replies) is) in (
         (here.every, rest.0),
         (λ names resolved. (here.runs names (resolved 0 (calls j) (omega arith)), rest.1 names (λ i x lt. resolved (suc i) x (omega (arith, lt))))),
-        ap (λ c. c ∷ map (λ b. map (λ a. a.command) b) (answers jobs replies)) (commands-answers (calls j) (items v) here.every) ∙ ap (λ l. map command_of (calls j) ∷ l) rest.2,
+        ap (λ c. c ∷ map (λ b. map (λ a. a.command) b) (answers tasks replies)) (commands-answers (calls j) (items v) here.every) ∙ ap (λ l. map command_of (calls j) ∷ l) rest.2,
       )
