@@ -2,12 +2,13 @@
 //! for itself.
 
 ghost use Rattle.std.specs.Prelude.{◌≡◌, ◌<◌, [], map};
+ghost use Rattle.esr_session.specs.declared.naming.TheConstants.{LEDGER_PARTS};
 
 use anyhow::{Result, anyhow};
 use esr_core::Machine;
 use esr_history::{Event, Reply, TxnId};
 use esr_items::{ItemId, Plain, Store};
-use esr_session::{Engine, Naming, Session};
+use esr_session::{Engine, LEDGER_PARTS, MOST_SESSIONS, Naming, Session};
 use std::alloc::Global;
 use std::marker::Brand;
 use std::rt::Clock;
@@ -150,7 +151,14 @@ fn measure_sessions<R: Threads + Wait + Clock + Sync>(
     sessions: u32,
     count: u32,
 ) -> Result<(usize, Duration)> {
-    measure_engine::<Brand, R>(rt, alloc, Blank::new(65), items(alloc)?, sessions, count)
+    measure_engine::<Brand, R>(
+        rt,
+        alloc,
+        Blank::new(LEDGER_PARTS),
+        items(alloc)?,
+        sessions,
+        count,
+    )
 }
 
 /// As many sessions on threads of their own, which share the transactions.
@@ -163,11 +171,11 @@ fn measure_engine<N: Naming + Send + Sync, R: Threads + Wait + Clock + Sync>(
     count: u32,
 ) -> Result<(usize, Duration)>
     requires name { blank.name ≡ N.name }
-    requires parts { (blank.parts ≡ N.parts) × (blank.parts ≡ 65) }
+    requires parts { (blank.parts ≡ N.parts) × (blank.parts ≡ LEDGER_PARTS) }
     requires opening { map (λ w. w.committed) items ≡ N.opening }
     requires weights { [] ≡ N.weights }
 {
-    if sessions == 0 || sessions > 64 {
+    if sessions == 0 || sessions > MOST_SESSIONS as u32 {
         return Err(anyhow!("1 to 64 sessions"));
     }
     let Ok(mut engine) = Engine::<Plain, N>::new(alloc, blank, items, Plain) else {

@@ -1,11 +1,13 @@
 //! Sessions on threads of their own.
 ghost use Rattle.std.specs.Prelude.{◌≡◌, [], map};
+ghost use Rattle.esr_session.specs.declared.naming.TheConstants.{LEDGER_PARTS};
 
 use esr_core::StepError;
 use esr_history::{Event, Log, Refusal, Reply, TxnId};
 use esr_items::{ItemId, Plain, Store};
 use esr_session::{
-    CloseError, CloseRefused, Closed, Engine, Naming, Receipt, Session, match_receipts,
+    CloseError, CloseRefused, Closed, Engine, LEDGER_PARTS, Naming, Receipt, Session,
+    match_receipts,
 };
 use std::alloc::{AllocError, Global};
 use std::marker::Brand;
@@ -24,8 +26,20 @@ fn zeros(alloc: Global, count: usize) -> Result<Store, Fail> {
 #[test]
 fn four_sessions(rt: HostRuntime) -> Result<(), Fail> {
     let alloc = rt.alloc();
-    let closed = begin_and_commit::<Brand, _>(rt, alloc, Blank::new(65), zeros(alloc, 0)?, 0)?;
-    let other = begin_and_commit::<Brand, _>(rt, alloc, Blank::new(65), zeros(alloc, 0)?, 1)?;
+    let closed = begin_and_commit::<Brand, _>(
+        rt,
+        alloc,
+        Blank::new(LEDGER_PARTS),
+        zeros(alloc, 0)?,
+        0,
+    )?;
+    let other = begin_and_commit::<Brand, _>(
+        rt,
+        alloc,
+        Blank::new(LEDGER_PARTS),
+        zeros(alloc, 0)?,
+        1,
+    )?;
     assert_eq!(rt; closed.history.log().len(), 800);
     for list in &closed.receipts {
         assert_eq!(rt; list.len(), 200);
@@ -63,7 +77,7 @@ where
     N: Naming + Send + Sync + 'static,
     R: Threads + Wait + Abort + Copy + Send + 'static,
     requires name { blank.name ≡ N.name }
-    requires parts { (blank.parts ≡ N.parts) × (blank.parts ≡ 65) }
+    requires parts { (blank.parts ≡ N.parts) × (blank.parts ≡ LEDGER_PARTS) }
     requires opening { map (λ w. w.committed) items ≡ N.opening }
     requires weights { [] ≡ N.weights }
 {
@@ -161,7 +175,7 @@ fn begin_often<N: Naming, R: Wait>(
 #[test]
 fn a_read_finds_what_another_session_wrote(rt: HostRuntime) -> Result<(), Fail> {
     let alloc = rt.alloc();
-    read_back::<Brand, _>(rt, alloc, Blank::new(65), zeros(alloc, 1)?)
+    read_back::<Brand, _>(rt, alloc, Blank::new(LEDGER_PARTS), zeros(alloc, 1)?)
 }
 
 /// One session writes on a thread of its own, then the other reads.
@@ -170,7 +184,7 @@ where
     N: Naming + Send + Sync + 'static,
     R: Threads + Wait + Abort + Copy + Send + 'static,
     requires name { blank.name ≡ N.name }
-    requires parts { (blank.parts ≡ N.parts) × (blank.parts ≡ 65) }
+    requires parts { (blank.parts ≡ N.parts) × (blank.parts ≡ LEDGER_PARTS) }
     requires opening { map (λ w. w.committed) items ≡ N.opening }
     requires weights { [] ≡ N.weights }
 {
@@ -266,7 +280,7 @@ fn writing(txn: u32) -> Event {
 #[test]
 fn a_patient_call_takes_its_turns(rt: HostRuntime) -> Result<(), Fail> {
     let alloc = rt.alloc();
-    wait_for_a_lock::<Brand, _>(rt, alloc, Blank::new(65), zeros(alloc, 1)?)
+    wait_for_a_lock::<Brand, _>(rt, alloc, Blank::new(LEDGER_PARTS), zeros(alloc, 1)?)
 }
 
 /// The second update reads, in three turns, what the first has written and not committed. A third
@@ -276,7 +290,7 @@ where
     N: Naming,
     R: Wait + Abort + Copy,
     requires name { blank.name ≡ N.name }
-    requires parts { (blank.parts ≡ N.parts) × (blank.parts ≡ 65) }
+    requires parts { (blank.parts ≡ N.parts) × (blank.parts ≡ LEDGER_PARTS) }
     requires opening { map (λ w. w.committed) items ≡ N.opening }
     requires weights { [] ≡ N.weights }
 {
