@@ -222,8 +222,8 @@ pub fn to_json(
     ensures text { IfOk result (λ v. v.items ≡ bundle problem.now (views.certificate_of certificate.now)) }
     ensures stands { IfOk result (λ v. StandsFor v.items (Ok (problem.now, views.certificate_of certificate.now))) }
 {
-    let _sound = problem.updates();
-    let _fits = fitting(&certificate.set);
+    let _sound = problem.updates(); // brings the invariant into the proof
+    let _fits = fitting(&certificate.set); // and that the set has numbers of 32 bits
     let tree = tree(alloc, problem, certificate)?;
     Ok(tree.to_vec(alloc)?)
 }

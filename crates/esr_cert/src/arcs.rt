@@ -31,8 +31,8 @@ fn link_at(chain: &Chain, source: u32, j: usize) -> Arc
     }
 }
 
-/// The arcs of the network of a problem of these parts, each made when it is asked for: where those of each chain start,
-/// and the chain of each of them, are given.
+/// The arcs of the network of a problem of these parts, each made when it is asked for: where those of each chain
+/// start, and the chain of each of them, are given.
 #[derive(Drop)]
 pub struct Arcs<'a> {
     pub updates: &'a [TxnId],

@@ -42,7 +42,7 @@ impl<'a> Network<'a> {
         ensures { IfOk result (λ n. n.problem.now ≡ problem.now) }
     {
         let graph = graph_of(problem);
-        let _sound = problem.updates();
+        let _sound = problem.updates(); // brings the invariant into the proof
         Ok(Network { problem, graph })
     }
 }

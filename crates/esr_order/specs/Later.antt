@@ -29,8 +29,8 @@ abbrev pub writer_in : Option ℕ → List ℕ
 writer_in None = []
 writer_in (Some w) = w ∷ []
 
--- the positions of later operations to which an operation is tied: of the next write of its item, and for a write of the
--- reads until then
+-- the positions of later operations to which an operation is tied: of the next write of its item, and for a write of
+-- the reads until then
 abbrev pub ties_of : Chain → List ℕ → UpdateOperation → List ℕ
 ties_of c readers s = writer_in (last_writer c) ++ (if s.writes then readers else [])
 

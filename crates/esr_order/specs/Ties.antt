@@ -1,5 +1,5 @@
--- Few pairs of positions by which operations are tied like by all their clashes: on each item an operation with the next
--- write, and a write with the reads until then.
+-- Few pairs of positions by which operations are tied like by all their clashes: on each item an operation with the
+-- next write, and a write with the reads until then.
 use Rattle.std.specs.Prelude.{◌≡◌, ◌≢◌, ◌≤◌, ◌*◌, ◌==◌, ℕ, Bool, true, IsTrue, List, [], ◌∷◌, ◌++◌, All, Contains, filter, length, if◌then◌else◌, ⊤}
 use Rattle.esr_order.specs.UpdateOperations.{UpdateOperation}
 use Rattle.esr_order.specs.Listing.{is_pair}

@@ -44,7 +44,7 @@ impl<N: Naming> Cut<N> {
         ensures count { result ≡ LEDGER_PARTS }
         ensures parts { N.parts ≡ LEDGER_PARTS }
     {
-        let _of = &self.of;
+        let _of = &self.of; // brings the ledger's parts into the proof
         LEDGER_PARTS
     }
 }
