@@ -51,7 +51,8 @@ fn keys_may_come_in_any_order_with_white_space(rt: HostRuntime) {
     gives(
         &rt,
         rt.alloc(),
-        " { \"problem\" : {\"updates\":[],\n\"chains\":[ ],\"before\":[]},\t\"certificate\":{\"worth\":0,\"set\":[],\"chain_flow\":[],\"back_flow\":[]} }\r\n",
+        " { \"problem\" : {\"updates\":[],\n\
+            \"chains\":[ ],\"before\":[]},\t\"certificate\":{\"worth\":0,\"set\":[],\"chain_flow\":[],\"back_flow\":[]} }\r\n",
         "valid 0\n",
     );
 }

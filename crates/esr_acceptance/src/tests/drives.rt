@@ -18,21 +18,44 @@ struct Row {
 const ROWS: [Row; 30] = [
     Row {
         name: "one block",
-        file: "item a 0\nsession\nbegin u update 0\nwrite u a 5\ncommit u\nbegin q query 0\nread q a\ncommit q\n",
+        file: "item a 0\n\
+            session\n\
+            begin u update 0\n\
+            write u a 5\n\
+            commit u\n\
+            begin q query 0\n\
+            read q a\n\
+            commit q\n",
         ended: Ok(()),
         text: "item a 0\nsession 0\nbegun u 1\nwrote u a 5\ncommitted u\nbegun q 2\nq a 5\ncommitted q\n\
             audit q distance 0 import 0 before u\ntotals import 0 export 0 entries 6\n",
     },
     Row {
         name: "a block that reads a name that begins in no block, and an item that is not declared",
-        file: "item a -7\n\n# a note\nsession\nread t a\nbegin t update 0\nread t b\nread t a\nabort t\nsession\n",
+        file: "item a -7\n\n\
+            # a note\n\
+            session\n\
+            read t a\n\
+            begin t update 0\n\
+            read t b\n\
+            read t a\n\
+            abort t\n\
+            session\n",
         ended: Ok(()),
         text: "item a -7\nsession 0\nrefused 1 no such transaction\nbegun t 1\nrefused 3 no such item\nt a -7\naborted t\n\
             session 1\ntotals import 0 export 0 entries 5\n",
     },
     Row {
         name: "a query that waits for an update of its own block",
-        file: "item a 0\nsession\nbegin u update 9\nbegin q query 4\nwrite u a 5\nread q a\ncommit u\nread q a\ncommit q",
+        file: "item a 0\n\
+            session\n\
+            begin u update 9\n\
+            begin q query 4\n\
+            write u a 5\n\
+            read q a\n\
+            commit u\n\
+            read q a\n\
+            commit q",
         ended: Ok(()),
         text: "item a 0\nsession 0\nbegun u 1\nbegun q 2\nwrote u a 5\nblocked 10 import q\ncommitted u\nq a 5\ncommitted q\n\
             audit q distance 0 import 0 before u\ntotals import 0 export 0 entries 106\n",
@@ -59,14 +82,27 @@ const ROWS: [Row; 30] = [
     },
     Row {
         name: "a read that the weight makes too dear",
-        file: "item a 100 weight 3\nsession\nbegin u update 99\nbegin q query 20\nwrite u a 93\nread q a\nabort u\n",
+        file: "item a 100 weight 3\n\
+            session\n\
+            begin u update 99\n\
+            begin q query 20\n\
+            write u a 93\n\
+            read q a\n\
+            abort u\n",
         ended: Ok(()),
         text: "item a 100 weight 3\nsession 0\nbegun u 1\nbegun q 2\nwrote u a 93\nblocked 10 import q\naborted u\n\
             totals import 0 export 0 entries 104\n",
     },
     Row {
         name: "an update that is aborted, of an item with a weight",
-        file: "item a 100 weight 3\nsession\nbegin u update 99\nbegin q query 21\nwrite u a 93\nread q a\nabort u\ncommit q\n",
+        file: "item a 100 weight 3\n\
+            session\n\
+            begin u update 99\n\
+            begin q query 21\n\
+            write u a 93\n\
+            read q a\n\
+            abort u\n\
+            commit q\n",
         ended: Ok(()),
         text: "item a 100 weight 3\nsession 0\nbegun u 1\nbegun q 2\nwrote u a 93\nq a 93\naborted u\ncommitted q\n\
             audit q distance 21 import 21 before -\ntotals import 21 export 21 entries 6\n",

@@ -10,8 +10,16 @@ use std::str::from_utf8;
 use std::test::Fail;
 
 /// A report that reads one account before a transfer and the other after it.
-const BANK: &str =
-    "item checking 500\nitem savings 1500\nbegin report query 200\nread report checking\nbegin transfer update 200\nwrite transfer checking 400\nwrite transfer savings 1600\ncommit transfer\nread report savings\ncommit report\n";
+const BANK: &str = "item checking 500\n\
+        item savings 1500\n\
+        begin report query 200\n\
+        read report checking\n\
+        begin transfer update 200\n\
+        write transfer checking 400\n\
+        write transfer savings 1600\n\
+        commit transfer\n\
+        read report savings\n\
+        commit report\n";
 
 /// What is drawn of it, without the first line, the style and the legend.
 const BANK_DRAWN: [&str; 14] = [
@@ -36,8 +44,14 @@ const NOTHING_READ: &str =
     "item a 7\nbegin q query 0\nbegin u update 0\nwrite u a 8\ncommit u\ncommit q\n";
 
 /// An item that is read twice, before and behind an update; a weight of 3.
-const TWICE: &str =
-    "item a 7 weight 3\nbegin q query 99\nread q a\nbegin u update 99\nwrite u a 9\ncommit u\nread q a\ncommit q\n";
+const TWICE: &str = "item a 7 weight 3\n\
+        begin q query 99\n\
+        read q a\n\
+        begin u update 99\n\
+        write u a 9\n\
+        commit u\n\
+        read q a\n\
+        commit q\n";
 
 /// Draws the query of that name, and looks for texts in what is written.
 fn has(

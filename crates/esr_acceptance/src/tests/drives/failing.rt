@@ -10,8 +10,12 @@ use std::test::Fail;
 
 const FILE: &str = "item a 0\nsession\nbegin u update 0\nwrite u a 5\ncommit u\n";
 
-const TEXT: &str =
-    "item a 0\nsession 0\nbegun u 1\nwrote u a 5\ncommitted u\ntotals import 0 export 0 entries 3\n";
+const TEXT: &str = "item a 0\n\
+        session 0\n\
+        begun u 1\n\
+        wrote u a 5\n\
+        committed u\n\
+        totals import 0 export 0 entries 3\n";
 
 /// Gives one byte again and again.
 #[derive(Clone, Copy)]

@@ -19,16 +19,58 @@ const AUDITS: [(&str, &str); 7] = [
         "order u\ntotals import 0 export 0 entries 4\n",
     ),
     (
-        "item a 100\nbegin u update 50\nbegin q query 10\nwrite u a 107\nread q a\ncommit u\ncommit q\naudit q\ntotals\n",
+        "item a 100\n\
+            begin u update 50\n\
+            begin q query 10\n\
+            write u a 107\n\
+            read q a\n\
+            commit u\n\
+            commit q\n\
+            audit q\n\
+            totals\n",
         "order u\naudit q distance 0 import 7 before u\ntotals import 7 export 7 entries 6\n",
     ),
     (
-        "item a 0\nitem b 0\nbegin q query 100\nbegin u1 update 100\nbegin u2 update 100\nread q a\nwrite u1 a 10\naudit q\ncommit u1\nwrite u2 a 1\nwrite u2 b 8\ncommit u2\nread q b\ncommit q\naudit q\n",
-        "order u1,u2\naudit q distance 1 import 19 before u1,u2\ntotals import 19 export 19 entries 11\n",
+        "item a 0\n\
+            item b 0\n\
+            begin q query 100\n\
+            begin u1 update 100\n\
+            begin u2 update 100\n\
+            read q a\n\
+            write u1 a 10\n\
+            audit q\n\
+            commit u1\n\
+            write u2 a 1\n\
+            write u2 b 8\n\
+            commit u2\n\
+            read q b\n\
+            commit q\n\
+            audit q\n",
+        "order u1,u2\n\
+            audit q distance 1 import 19 before u1,u2\n\
+            totals import 19 export 19 entries 11\n",
     ),
     (
-        "item a 0\nitem b 0\nbegin q query 100\nbegin u1 update 100\nbegin u2 update 100\nread q a\nwrite u1 a 10\ncommit u1\nwrite u2 a 1\nwrite u2 b 8\ncommit u2\nread q b\nbegin r query 0\nread r a\ncommit r\ncommit q",
-        "order u1,u2\naudit r distance 0 import 0 before u1,u2\naudit q distance 1 import 19 before u1,u2\ntotals import 19 export 19 entries 14\n",
+        "item a 0\n\
+            item b 0\n\
+            begin q query 100\n\
+            begin u1 update 100\n\
+            begin u2 update 100\n\
+            read q a\n\
+            write u1 a 10\n\
+            commit u1\n\
+            write u2 a 1\n\
+            write u2 b 8\n\
+            commit u2\n\
+            read q b\n\
+            begin r query 0\n\
+            read r a\n\
+            commit r\n\
+            commit q",
+        "order u1,u2\n\
+            audit r distance 0 import 0 before u1,u2\n\
+            audit q distance 1 import 19 before u1,u2\n\
+            totals import 19 export 19 entries 14\n",
     ),
     (
         "item a 1\nbegin u update 0\nwrite u a 5\nabort u\nbegin q query 0\nread q a\nhello\n",

@@ -7,19 +7,43 @@ use std::alloc::{AllocError, Global};
 use std::process::Abort;
 use std::test::Fail;
 
-const THIRD_ITEM: &str =
-    "item a 0\nitem b 0\nitem c 0\nbegin q query 9\nbegin u1 update 9\nbegin u2 update 9\nread q a\nwrite u1 a 6\nwrite u1 c 1\ncommit u1\nread u2 c\nwrite u2 b 2\ncommit u2\nread q b\ncommit q\naudit q\n";
+const THIRD_ITEM: &str = "item a 0\n\
+        item b 0\n\
+        item c 0\n\
+        begin q query 9\n\
+        begin u1 update 9\n\
+        begin u2 update 9\n\
+        read q a\n\
+        write u1 a 6\n\
+        write u1 c 1\n\
+        commit u1\n\
+        read u2 c\n\
+        write u2 b 2\n\
+        commit u2\n\
+        read q b\n\
+        commit q\n\
+        audit q\n";
 
 const BUNDLE: &str =
     "{\"certificate\":{\"back_flow\":[2],\"chain_flow\":[[0,2],[2,0]],\"set\":[],\"worth\":2},\"problem\":{\"before\":[[0,1]],\"chains\":[{\"costs\":[0,6],\"item\":0,\"writers\":[0]},{\"costs\":[2,0],\"item\":1,\"writers\":[1]}],\"updates\":[2,3]}}\n";
 
-const LITTLE: &str =
-    "item a 7\nbegin q query 0\ncommit q\naudit q\nbegin r query 0\nread r a\ncommit r\naudit r\naudit a\n";
+const LITTLE: &str = "item a 7\n\
+        begin q query 0\n\
+        commit q\n\
+        audit q\n\
+        begin r query 0\n\
+        read r a\n\
+        commit r\n\
+        audit r\n\
+        audit a\n";
 
 /// Two scripts whose queries are not certified, with the fault that ends the run.
 const CUT_SHORT: [(&str, RunFault); 2] = [
     (
-        "item a 0\nbegin q query 9\ncommit q\naaaaaaaaaaaaaaaaaaaaaaaaaaaaaaaaaaaaaaaaaaaaaaaaaaaaaaaaaaaaaaaaaaaaaaaaaaaaaaaaaaaaaaaaaaaaaaaaaaaaaaaaaaaaaaaaaaaaaaaaaaaaaaaaaaaaaaaaaaaaaaaaaaaaaaaaaaaaaaaaaaaaaaaaaaaaaaaaaaaaaaaaaaaaaaaaaaaaaaaaaaaa\n",
+        "item a 0\n\
+            begin q query 9\n\
+            commit q\n\
+            aaaaaaaaaaaaaaaaaaaaaaaaaaaaaaaaaaaaaaaaaaaaaaaaaaaaaaaaaaaaaaaaaaaaaaaaaaaaaaaaaaaaaaaaaaaaaaaaaaaaaaaaaaaaaaaaaaaaaaaaaaaaaaaaaaaaaaaaaaaaaaaaaaaaaaaaaaaaaaaaaaaaaaaaaaaaaaaaaaaaaaaaaaaaaaaaaaaaaaaaaaaa\n",
         RunFault::LineTooLong,
     ),
     (

@@ -6,34 +6,98 @@ use esr_script::RunFault;
 use std::alloc::Global;
 use std::process::Abort;
 
-const BANK: &str =
-    "item checking 500\nitem savings 1500\nbegin transfer update 200\nbegin report query 200\nwrite transfer checking 400\nread report checking\nread report savings\nwrite transfer savings 1600\ncommit transfer\ncommit report\n";
+const BANK: &str = "item checking 500\n\
+        item savings 1500\n\
+        begin transfer update 200\n\
+        begin report query 200\n\
+        write transfer checking 400\n\
+        read report checking\n\
+        read report savings\n\
+        write transfer savings 1600\n\
+        commit transfer\n\
+        commit report\n";
 
-const BANK_EXPLAINED: &str =
-    "read checking 400 nearest 500 off 100\nread savings 1500 nearest 1500 off 0\ncharge read transfer checking amount 100 step 4 import left 100 of 200 export left 100 of 200\ncharge write transfer savings amount 100 step 6 import left 0 of 200 export left 0 of 200\nbefore -\nafter transfer\ndistance 100 import 200\n";
+const BANK_EXPLAINED: &str = "read checking 400 nearest 500 off 100\n\
+        read savings 1500 nearest 1500 off 0\n\
+        charge read transfer checking amount 100 step 4 import left 100 of 200 export left 100 of 200\n\
+        charge write transfer savings amount 100 step 6 import left 0 of 200 export left 0 of 200\n\
+        before -\n\
+        after transfer\n\
+        distance 100 import 200\n";
 
-const STRICT: &str =
-    "item a 100\nbegin u update 0\nwrite u a 105\ncommit u\nbegin q query 0 strict\nread q a\ncommit q\n";
+const STRICT: &str = "item a 100\n\
+        begin u update 0\n\
+        write u a 105\n\
+        commit u\n\
+        begin q query 0 strict\n\
+        read q a\n\
+        commit q\n";
 
-const WEIGHTED: &str =
-    "item a 10 weight 900\nbegin u update 5000\nbegin q query 2000\nread q b\nwrite u a 12\nread q a\ncommit u\ncommit q\n";
+const WEIGHTED: &str = "item a 10 weight 900\n\
+        begin u update 5000\n\
+        begin q query 2000\n\
+        read q b\n\
+        write u a 12\n\
+        read q a\n\
+        commit u\n\
+        commit q\n";
 
-const WEIGHTED_EXPLAINED: &str =
-    "read a 12 nearest 12 off 0\ncharge read u a amount 1800 step 5 import left 200 of 2000 export left 3200 of 5000\nbefore u\nafter -\ndistance 0 import 1800\n";
+const WEIGHTED_EXPLAINED: &str = "read a 12 nearest 12 off 0\n\
+        charge read u a amount 1800 step 5 import left 200 of 2000 export left 3200 of 5000\n\
+        before u\n\
+        after -\n\
+        distance 0 import 1800\n";
 
 // in no placement are both reads as they were
-const TORN: &str =
-    "item a 10 weight 900\nitem b 0 weight 900\nbegin u update 5000\nbegin q query 5000\nread q a\nwrite u a 9\nwrite u b 1\nread q b\ncommit u\ncommit q\n";
+const TORN: &str = "item a 10 weight 900\n\
+        item b 0 weight 900\n\
+        begin u update 5000\n\
+        begin q query 5000\n\
+        read q a\n\
+        write u a 9\n\
+        write u b 1\n\
+        read q b\n\
+        commit u\n\
+        commit q\n";
 
-const TORN_EXPLAINED: &str =
-    "read a 10 nearest 10 off 0\nread b 1 nearest 0 off 900\ncharge write u a amount 900 step 4 import left 4100 of 5000 export left 4100 of 5000\ncharge read u b amount 900 step 6 import left 3200 of 5000 export left 3200 of 5000\nbefore -\nafter u\ndistance 900 import 1800\n";
+const TORN_EXPLAINED: &str = "read a 10 nearest 10 off 0\n\
+        read b 1 nearest 0 off 900\n\
+        charge write u a amount 900 step 4 import left 4100 of 5000 export left 4100 of 5000\n\
+        charge read u b amount 900 step 6 import left 3200 of 5000 export left 3200 of 5000\n\
+        before -\n\
+        after u\n\
+        distance 900 import 1800\n";
 
 // the values of the nearest placement are those after v and before w; what is read twice is told twice
-const BETWEEN: &str =
-    "item a 1\nitem b 7\nbegin v update 9\nwrite v a 2\nwrite v a 3\ncommit v\nbegin w update 9\nbegin q query 9\nread q a\nread q a\nwrite w a 4\nwrite w b 8\ncommit w\nread q b\nbegin late query 0\nread late b\ncommit late\nbegin x update 0\nwrite x b 0\nabort x\ncommit q\n";
+const BETWEEN: &str = "item a 1\n\
+        item b 7\n\
+        begin v update 9\n\
+        write v a 2\n\
+        write v a 3\n\
+        commit v\n\
+        begin w update 9\n\
+        begin q query 9\n\
+        read q a\n\
+        read q a\n\
+        write w a 4\n\
+        write w b 8\n\
+        commit w\n\
+        read q b\n\
+        begin late query 0\n\
+        read late b\n\
+        commit late\n\
+        begin x update 0\n\
+        write x b 0\n\
+        abort x\n\
+        commit q\n";
 
-const BETWEEN_EXPLAINED: &str =
-    "read a 3 nearest 3 off 0\nread a 3 nearest 3 off 0\nread b 8 nearest 7 off 1\ncharge write w a amount 2 step 9 import left 7 of 9 export left 7 of 9\nbefore v\nafter w\ndistance 1 import 2\n";
+const BETWEEN_EXPLAINED: &str = "read a 3 nearest 3 off 0\n\
+        read a 3 nearest 3 off 0\n\
+        read b 8 nearest 7 off 1\n\
+        charge write w a amount 2 step 9 import left 7 of 9 export left 7 of 9\n\
+        before v\n\
+        after w\n\
+        distance 1 import 2\n";
 
 fn explained(
     rt: &impl Abort,

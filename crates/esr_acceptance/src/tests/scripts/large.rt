@@ -85,8 +85,11 @@ fn a_full_history_ends_at_the_next_event(rt: HostRuntime) -> Result<(), Fail> {
     )?;
     let (ended, text) = ran(alloc, script.as_slice())?;
     assert!(rt; ended == Err(RunFault::HistoryFull));
-    let last =
-        b"refused 1 no such transaction\nbegun u 1\nerror 1 not a command\nerror 2 items are closed\nerror 3 name in use\n";
+    let last = b"refused 1 no such transaction\n\
+            begun u 1\n\
+            error 1 not a command\n\
+            error 2 items are closed\n\
+            error 3 name in use\n";
     assert!(rt; text.ends_with(last.as_slice()));
     Ok(())
 }
