@@ -168,8 +168,8 @@ pub extern "C" fn esr_totals_of(
 
 /// The committed values of the items, for which there is room in `values`.
 ///
-/// 0, or 7 where there are more items than room, 13 where an allocation failed, 14 where the engine is closed. With 0 and 7
-/// `count` tells how many items there are.
+/// 0, or 7 where there are more items than room, 13 where an allocation failed, 14 where the engine is closed. With 0
+/// and 7 `count` tells how many items there are.
 #[unsafe(no_mangle)]
 pub extern "C" fn esr_values(
     alloc: Global,
@@ -253,8 +253,8 @@ pub extern "C" fn esr_bundle(
 
 /// Goes on from the committed values with an empty history, in which transactions are numbered from 1 again.
 ///
-/// 0, or 13 where an allocation failed, 14 where the engine is closed, 16 where a transaction is active; then nothing has
-/// changed.
+/// 0, or 13 where an allocation failed, 14 where the engine is closed, 16 where a transaction is active; then nothing
+/// has changed.
 #[unsafe(no_mangle)]
 pub extern "C" fn esr_renew(alloc: Global, engine: &mut EsrEngine) -> u32
     ensures status { IsRenewStatus result }
@@ -273,9 +273,9 @@ pub extern "C" fn esr_renew(alloc: Global, engine: &mut EsrEngine) -> u32
     status.number()
 }
 
-/// Closes an engine, and frees what it holds. It may be opened again. A closed engine stays closed. What the engine has
-/// answered was sound: its committed updates are serializable, no limit was passed, and no query was off by more than it
-/// imported.
+/// Closes an engine, and frees what it holds. It may be opened again. A closed engine stays closed. What the engine
+/// has answered was sound: its committed updates are serializable, no limit was passed, and no query was off by more
+/// than it imported.
 #[unsafe(no_mangle)]
 pub extern "C" fn esr_close(alloc: Global, engine: &mut EsrEngine)
     ensures closed { engine.new.held.machine ≡ None }

@@ -31,7 +31,7 @@ is_write_fault (Err fault.Write) = true
 is_write_fault _ = false
 
 -- A run over the input that has answered or skipped count lines, wrote this, and has these bytes before it.
-pub record Progress (input : List ℕ) (unread : List ℕ) (count : ℕ) (state : ScriptState) (written : List ℕ) : Type 0 where
+pub record Progress (input unread : List ℕ) (count : ℕ) (state : ScriptState) (written : List ℕ) : Type 0 where
   pub used : List ℕ
   pub answered : List (List ℕ)
   pub split : input ≡ used ++ unread

@@ -100,7 +100,8 @@ declare s name value weight line = declare_or (item_error s name value weight) s
 abbrev pub audit_text : ScriptState → List ℕ → List ℕ
 audit_text s name =
     let h = s.history in let q = (transaction_called s name).0 in
-    if is_committed_query h q then audit_line s.transactions name (least_cost weighted h q) (import_in (charges_in weighted h) q) (least_set weighted h q)
+    if is_committed_query h q
+    then audit_line s.transactions name (least_cost weighted h q) (import_in (charges_in weighted h) q) (least_set weighted h q)
     else error_line NotACommittedQuery
 
 -- the state after a command, and its line
@@ -120,7 +121,10 @@ obey s (write txn x value) = ask s (record {
 obey s (commit txn) = ask s (record { txn = txn; item = []; value = pos 0 }) (event.Commit (transaction_called s txn))
 obey s (abort txn) = ask s (record { txn = txn; item = []; value = pos 0 }) (event.Abort (transaction_called s txn))
 obey s (audit txn) = Ok (record s { closed = true }, audit_text s txn)
-obey s totals = Ok (record s { closed = true }, totals_line (all_imports weighted s.history) (all_exports weighted s.history) (length s.history.entries))
+obey s totals = Ok (
+  record s { closed = true },
+  totals_line (all_imports weighted s.history) (all_exports weighted s.history) (length s.history.entries),
+)
 
 -- the state after a line, and its answer
 abbrev pub answer : ScriptState → List ℕ → Result (ScriptState × List ℕ) RunFault

@@ -32,8 +32,8 @@ fn with_count(certificate: Certificate, steps: bool) -> Certificate
 
 /// The bundle of a finding, and a line feed.
 fn bundle_line(alloc: Global, finding: Finding, steps: bool) -> Result<Vec<u8>, AllocError>
-    ensures { IfOk result (λ v. v.items ≡ bundle finding.problem (with_count steps (certificate_of finding.certificate)) ++ 10
-        ∷ []) }
+    ensures { IfOk result (λ v. v.items
+        ≡ bundle finding.problem (with_count steps (certificate_of finding.certificate)) ++ 10 ∷ []) }
 {
     let certificate = with_count(finding.certificate, steps);
     let Ok(mut text) = to_json(alloc, &finding.problem, &certificate) else {

@@ -39,7 +39,8 @@ impl Model for Pending {
 
     ghost view = { λ p. take (p.end - p.start) (drop p.start p.buffer.items) };
 
-    ghost invariant = { λ p. (p.start ≤ p.end) × (p.end ≤ length p.buffer.items) × (length p.buffer.items ≡ INPUT_ROOM) };
+    ghost invariant = { λ p. (p.start ≤ p.end) × (p.end ≤ length p.buffer.items)
+        × (length p.buffer.items ≡ INPUT_ROOM) };
 }
 
 impl Pending {
