@@ -4,7 +4,7 @@ ghost use Rattle.std.specs.Prelude.{◌≤◌};
 
 use crate::elements::{open_text, push_centred, push_horizontal, push_text, push_vertical};
 use crate::frame::Frame;
-use crate::scene::{Lane, Read, Scene, Stretch};
+use crate::scene::{Lane, LaneReads, Scene, Stretch};
 use std::alloc::AllocError;
 
 /// What else was read of an item, without the start of the text: how often the value was read, or the second value, or
@@ -23,7 +23,7 @@ fn push_rest(
 }
 
 /// What else was read of an item, where it was read more than once.
-fn push_more(out: &mut String, read: &Read, y: u32) -> Result<(), AllocError> {
+fn push_more(out: &mut String, read: &LaneReads, y: u32) -> Result<(), AllocError> {
     let more = read.values.len().saturating_sub(1);
     if more == 0 && read.count < 2 {
         return Ok(());

@@ -5,9 +5,9 @@
 
 mod boxes;
 mod choice;
+mod drawn_history;
 mod elements;
 mod frame;
-mod gathered;
 mod head;
 mod lanes;
 mod order;

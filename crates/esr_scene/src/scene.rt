@@ -1,7 +1,7 @@
 //! What is drawn, as plain data.
 
 use crate::choice::{Choice, MOST_LANES, MOST_UPDATES, choose};
-use crate::gathered::{Gathered, Reading, gather};
+use crate::drawn_history::{DrawnHistory, LaneRead, drawn_history_of};
 use crate::order::{Arrow, Slots, arrows};
 use esr_cert::Chain;
 use esr_items::ItemId;
@@ -23,7 +23,7 @@ pub struct Stretch {
 
 /// What was read of an item: the values without repetitions, and how many reads there were.
 #[derive(Drop)]
-pub struct Read {
+pub struct LaneReads {
     pub values: Vec<i64>,
     pub count: usize,
 }
@@ -32,7 +32,7 @@ pub struct Read {
 #[derive(Drop)]
 pub struct Lane<'a> {
     pub name: &'a str,
-    pub read: Read,
+    pub read: LaneReads,
     /// What the reads are off from the version at the line.
     pub off: u64,
     pub stretches: Vec<Stretch>,
@@ -68,19 +68,19 @@ pub struct Scene<'a> {
 }
 
 /// What was read in a lane.
-fn read_in(alloc: Global, readings: &[Reading], lane: usize) -> Result<Read, AllocError> {
+fn read_in(alloc: Global, reads: &[LaneRead], lane: usize) -> Result<LaneReads, AllocError> {
     let mut values = Vec::new(alloc);
-    for reading in readings.iter().filter(|r| r.lane == lane) {
-        if !values.contains(&reading.value) {
-            values.push(reading.value)?;
+    for read in reads.iter().filter(|r| r.lane == lane) {
+        if !values.contains(&read.value) {
+            values.push(read.value)?;
         }
     }
-    let count = readings.iter().filter(|r| r.lane == lane).count();
-    Ok(Read { values, count })
+    let count = reads.iter().filter(|r| r.lane == lane).count();
+    Ok(LaneReads { values, count })
 }
 
 /// A stretch of one version.
-fn version(from: u8, value: i64, read: &Read) -> Stretch {
+fn version(from: u8, value: i64, read: &LaneReads) -> Stretch {
     Stretch {
         from,
         value,
@@ -103,7 +103,7 @@ fn others_off(choice: &Choice) -> usize {
 
 /// What a scene is made from.
 #[derive(Drop)]
-struct Plan<'a> {
+struct SceneParts<'a> {
     asked: &'a Asked,
     choice: Choice,
     /// The updates that are drawn, by their positions, in the order of their slots.
@@ -111,11 +111,11 @@ struct Plan<'a> {
     /// The slot of the line.
     line: u8,
     slots: Slots,
-    gathered: Gathered,
+    history: DrawnHistory,
 }
 
-impl<'a> Plan<'a> {
-    fn new(alloc: Global, asked: &'a Asked) -> Result<Plan<'a>, AllocError> {
+impl<'a> SceneParts<'a> {
+    fn new(alloc: Global, asked: &'a Asked) -> Result<SceneParts<'a>, AllocError> {
         let finding = &asked.finding;
         let problem = &finding.problem;
         let choice = choose(alloc, problem, &finding.certificate.set)?;
@@ -123,14 +123,14 @@ impl<'a> Plan<'a> {
         drawn.extend_from_slice(&choice.after)?;
         let line = choice.before.len().min(MOST_UPDATES) as u8 + 1;
         let slots = Slots::new(alloc, problem.updates().len(), &choice, line)?;
-        let gathered = gather(alloc, &asked.history, finding, &choice, &slots)?;
-        Ok(Plan {
+        let history = drawn_history_of(alloc, &asked.history, finding, &choice, &slots)?;
+        Ok(SceneParts {
             asked,
             choice,
             drawn,
             line,
             slots,
-            gathered,
+            history,
         })
     }
 
@@ -149,13 +149,13 @@ impl<'a> Plan<'a> {
         alloc: Global,
         chain: &Chain,
         lane: usize,
-        read: &Read,
+        read: &LaneReads,
     ) -> Result<Vec<Stretch>, AllocError> {
         let mut stretches = Vec::new(alloc);
         let mut last = version(0, self.opening(chain.item), read);
         for writer in &chain.writers {
             let slot = self.slots.of(*writer);
-            match self.gathered.value(lane, slot) {
+            match self.history.value(lane, slot) {
                 Some(value) if slot != 0 => {
                     stretches.push(last)?;
                     last = version(slot, value, read);
@@ -178,7 +178,7 @@ impl<'a> Plan<'a> {
         chain: &Chain,
         off: u64,
     ) -> Result<Lane<'a>, AllocError> {
-        let read = read_in(alloc, self.gathered.readings(), lane)?;
+        let read = read_in(alloc, self.history.reads(), lane)?;
         Ok(Lane {
             name: self.asked.items.name_of(chain.item.0).unwrap_or(""),
             stretches: self.stretches(alloc, chain, lane, &read)?,
@@ -204,7 +204,7 @@ impl<'a> Plan<'a> {
     fn reach(&self, slot: u8) -> u8 {
         let mut reach = 0;
         for lane in 0..MOST_LANES as u8 {
-            if self.gathered.value(lane as usize, slot).is_some() {
+            if self.history.value(lane as usize, slot).is_some() {
                 reach = lane + 1;
             }
         }
@@ -231,21 +231,21 @@ impl<'a> Plan<'a> {
 
 /// What is drawn of what a script tells of a query.
 pub fn scene_of(alloc: Global, asked: &Asked) -> Result<Scene<'_>, AllocError> {
-    let plan = Plan::new(alloc, asked)?;
+    let parts = SceneParts::new(alloc, asked)?;
     let finding = &asked.finding;
-    let lanes = plan.lanes(alloc)?;
-    let updates = plan.updates(alloc)?;
-    let committed = plan.gathered.committed();
+    let lanes = parts.lanes(alloc)?;
+    let updates = parts.updates(alloc)?;
+    let committed = parts.history.committed();
     Ok(Scene {
         query: name_of_transaction(&asked.transactions, finding.query),
         distance: finding.distance,
         import: finding.import,
         strict: !finding.problem.must().is_empty(),
-        arrows: arrows(alloc, &finding.problem, &plan.drawn, &plan.slots)?,
+        arrows: arrows(alloc, &finding.problem, &parts.drawn, &parts.slots)?,
         other_updates: committed.saturating_sub(updates.len() as u64),
-        other_items: plan.choice.crossings.len().saturating_sub(lanes.len()),
-        others_off: others_off(&plan.choice),
-        line: plan.line,
+        other_items: parts.choice.crossings.len().saturating_sub(lanes.len()),
+        others_off: others_off(&parts.choice),
+        line: parts.line,
         updates,
         lanes,
     })

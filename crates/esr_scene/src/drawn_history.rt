@@ -4,32 +4,32 @@ use crate::choice::Choice;
 use crate::order::Slots;
 use esr_audit::Finding;
 use esr_cert::Problem;
-use esr_history::{Entry, Event, History, Reply, TxnId};
+use esr_history::{Entry, Event, History, MOST_TRANSACTIONS, Reply, TxnId};
 use esr_items::{ItemId, Metric};
 use std::alloc::{AllocError, Global};
 
 /// The numbers of transactions are below this.
-const MOST_NUMBERS: usize = 65536;
+const MOST_NUMBERS: usize = MOST_TRANSACTIONS + 1;
 
 /// The most slots: one for each update that is drawn, one for the line, and the one before them.
 const SLOTS: usize = 32;
 
 /// A value that the query read in a lane.
 #[derive(Clone, Copy)]
-pub struct Reading {
+pub struct LaneRead {
     pub lane: usize,
     pub value: i64,
 }
 
 /// What the history tells of what is drawn.
 #[derive(Drop)]
-pub struct Gathered {
+pub struct DrawnHistory {
     query: TxnId,
     lane_of_item: Vec<Option<usize>>,
     slot_of_txn: Vec<u8>,
     /// The last value that the update of each slot wrote in each lane, where it wrote there.
     written: Vec<Option<i64>>,
-    readings: Vec<Reading>,
+    reads: Vec<LaneRead>,
     committed: u64,
     ended: bool,
 }
@@ -39,15 +39,20 @@ fn cell(lane: usize, slot: u8) -> usize {
     lane.saturating_mul(SLOTS).saturating_add(slot as usize)
 }
 
-impl Gathered {
+impl DrawnHistory {
     /// Nothing yet.
-    fn new(alloc: Global, query: TxnId, items: u32, lanes: usize) -> Result<Gathered, AllocError> {
-        Ok(Gathered {
+    fn new(
+        alloc: Global,
+        query: TxnId,
+        items: u32,
+        lanes: usize,
+    ) -> Result<DrawnHistory, AllocError> {
+        Ok(DrawnHistory {
             query,
             lane_of_item: vec![in alloc; None; items as usize]?,
             slot_of_txn: vec![in alloc; 0u8; MOST_NUMBERS]?,
             written: vec![in alloc; None; cell(lanes, 0)]?,
-            readings: Vec::new(alloc),
+            reads: Vec::new(alloc),
             committed: 0,
             ended: false,
         })
@@ -95,7 +100,7 @@ impl Gathered {
     fn note_read(&mut self, txn: TxnId, item: ItemId, reply: Reply) -> Result<(), AllocError> {
         if let (Some(lane), Reply::Value(value)) = (self.lane_of(item), reply) {
             if txn == self.query {
-                self.readings.push(Reading { lane, value })?;
+                self.reads.push(LaneRead { lane, value })?;
             }
         }
         Ok(())
@@ -133,8 +138,8 @@ impl Gathered {
     }
 
     /// What the query read in the lanes, in order.
-    pub fn readings(&self) -> &[Reading] {
-        &self.readings
+    pub fn reads(&self) -> &[LaneRead] {
+        &self.reads
     }
 
     /// How many updates committed before the query.
@@ -144,20 +149,20 @@ impl Gathered {
 }
 
 /// What the history tells of what is drawn of a query.
-pub fn gather<M: Metric>(
+pub fn drawn_history_of<M: Metric>(
     alloc: Global,
     history: &History<M>,
     finding: &Finding,
     choice: &Choice,
     slots: &Slots,
-) -> Result<Gathered, AllocError> {
+) -> Result<DrawnHistory, AllocError> {
     let lanes = choice.lanes.len();
-    let mut gathered = Gathered::new(alloc, finding.query, history.items(), lanes)?;
-    gathered.aim(&finding.problem, choice, slots);
+    let mut drawn = DrawnHistory::new(alloc, finding.query, history.items(), lanes)?;
+    drawn.aim(&finding.problem, choice, slots);
     for i in 0..history.log().len() {
         if let Some(entry) = history.log().get(i) {
-            gathered.note(history, entry)?;
+            drawn.note(history, entry)?;
         }
     }
-    Ok(gathered)
+    Ok(drawn)
 }
