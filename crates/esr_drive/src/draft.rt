@@ -15,10 +15,11 @@ use crate::reading::first_line;
 use esr_items::{ItemId, LARGEST_VALUE, LARGEST_WEIGHT, MOST_ITEMS};
 use esr_report::Names;
 use esr_script::{Line, Parsed, parse_line};
+use esr_session::MOST_SESSIONS;
 use std::alloc::Global;
 
-/// The most blocks of a file.
-pub const MAX_BLOCKS: usize = 64;
+/// The most blocks of a file: each has a session of its own.
+pub const MAX_BLOCKS: usize = MOST_SESSIONS;
 
 /// A plan that is being made: the items, the blocks that are done, and the one that is open, with
 /// the names of the transactions that begin in them.

@@ -1,18 +1,18 @@
 //! One engine for all blocks.
 
 ghost use Rattle.esr_drive.specs.declared.draft.TheConstants.{MAX_BLOCKS};
-ghost use Rattle.std.specs.Prelude.{◌≡◌, ◌+◌, ◌≤◌, [], true, IfOk, IfErr, All, length, map, vec_len};
+ghost use Rattle.esr_session.specs.declared.naming.TheConstants.{LEDGER_PARTS};
+ghost use Rattle.std.specs.Prelude.{◌≡◌, ◌≤◌, [], true, IfOk, IfErr, All, length, map, vec_len};
 ghost use Rattle.esr_drive.specs.Driven.{IsDriven};
 ghost use Rattle.esr_drive.specs.Faults.{is_engine_fault};
 
 use crate::call::Call;
-use crate::draft::MAX_BLOCKS;
 use crate::fault::DriveFault;
 use crate::threads::{BlockResults, BlockTask, gather, run_blocks};
 use esr_board::Gate;
 use esr_history::{History, NoMemory, Reply};
 use esr_items::{Store, Weighted};
-use esr_session::{CloseError, Engine, Naming, Session};
+use esr_session::{CloseError, Engine, LEDGER_PARTS, Naming, Session};
 use std::alloc::{AllocError, Global};
 use std::marker::Brand;
 use std::sync::Wait;
@@ -79,7 +79,7 @@ fn drive_blocks<N: Naming + Send + Sync, R: Threads + Wait + Sync, G: Gate + Syn
     gate: &G,
 ) -> Result<Driven, DriveFault>
     requires name { blank.name ≡ N.name }
-    requires parts { (blank.parts ≡ N.parts) × (blank.parts ≡ MAX_BLOCKS + 1) }
+    requires parts { (blank.parts ≡ N.parts) × (blank.parts ≡ LEDGER_PARTS) }
     requires opening { map (λ w. w.committed) items ≡ N.opening }
     requires weights { metric ≡ N.weights }
     requires blocks { length blocks.now ≤ MAX_BLOCKS }
@@ -132,7 +132,7 @@ pub fn run_plan<R: Threads + Wait + Sync, G: Gate + Sync>(
     drive_blocks::<Brand, R, G>(
         rt,
         alloc,
-        Blank::new(MAX_BLOCKS as u64 + 1),
+        Blank::new(LEDGER_PARTS),
         items,
         metric,
         blocks,

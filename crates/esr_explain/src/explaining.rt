@@ -11,9 +11,9 @@ use esr_script::{RunFault, tell};
 use std::alloc::Global;
 use std::io::{Read, Write};
 
-/// Runs a script without writing its output, and explains its query of that name: what it read, beside the values of the
-/// nearest placement; what it was charged, by which update's operation and when, and what was left of both limits; the
-/// updates before the nearest placement, and the others; and the sums.
+/// Runs a script without writing its output, and explains its query of that name: what it read, beside the values of
+/// the nearest placement; what it was charged, by which update's operation and when, and what was left of both limits;
+/// the updates before the nearest placement, and the others; and the sums.
 ///
 /// `NotACommittedQuery` exactly where the run has no fault and the name is that of no committed query. After a fault
 /// other than `Write` nothing was written, after `Write` a prefix of the explanation.
