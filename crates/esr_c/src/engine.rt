@@ -100,7 +100,7 @@ fn check_opening(opening: &[i64]) -> Result<(), Status>
 }
 
 /// A machine of these opening values on the heap.
-#[tactic(auto, using(esr_core::proofs::Replayed::opened_values))]
+#[tactic(auto, using(esr_core::proofs::Replayed::committed_of_both))]
 fn machine_of(alloc: Global, opening: &[i64]) -> Result<Box<Machine<Plain>, Global>, Status>
     requires few { length opening.now ≤ MOST_ITEMS }
     requires range { All IsValue opening.now }
