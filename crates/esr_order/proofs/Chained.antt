@@ -6,7 +6,7 @@ use Rattle.std.proofs.lemmas.Bool.{eq-eqb, ne_eqb, eqb-true, eqb-false, cases_or
 use Rattle.std.proofs.lemmas.List.{reverse-append}
 use Rattle.esr_history.proofs.Membership.{In, In-of_filter, Pairs, Pairs-filter, each_at, filter_none_in}
 use Rattle.esr_order.specs.UpdateOperations.{UpdateOperation}
-use Rattle.esr_order.specs.Chains.{Chain, chain_from, last_in, last_of, last_by_update, last_writer, is_writer, with_write, turned}
+use Rattle.esr_order.specs.Chains.{Chain, chain_from, last_in, last_of, last_by_update, latest_writer, is_latest, with_write, turned}
 use Rattle.esr_order.specs.Later.{nobody, chain_back}
 use Rattle.esr_order.proofs.Kept.{last_put}
 use Rattle.esr_order.proofs.Placing.{chain_agree}
@@ -121,7 +121,7 @@ turned_more : (c : Chain) (i : ℕ) (v : ℤ) → turned (record { writers = c.w
 turned_more c i v = λ k. record { writers = reverse-append c.writers (i ∷ []) k; values = reverse-append c.values (v ∷ []) k }
 
 module _ (n : ℕ) where
-  turned_first : (w : UpdateOperation) (ws : List UpdateOperation) → w.place < n → is_writer (last_writer (back ws)) w.place ≡ false → ((s : UpdateOperation) → In s ws → w.place < s.place) → turned (back ws) ≡ chain_from (last_in ws) n
+  turned_first : (w : UpdateOperation) (ws : List UpdateOperation) → w.place < n → is_latest (latest_writer (back ws)) w.place ≡ false → ((s : UpdateOperation) → In s ws → w.place < s.place) → turned (back ws) ≡ chain_from (last_in ws) n
       → turned (back (w ∷ ws)) ≡ chain_from (last_in (w ∷ ws)) n
   turned_first w ws below other above so_far =
       ap (λ b. turned (cond b (back ws) (record { writers = (back ws).writers ++ w.place ∷ []; values = (back ws).values ++ w.value ∷ [] }))) other
@@ -134,8 +134,8 @@ module _ (n : ℕ) where
   turned_back (w ∷ []) rise below = turned_first w [] (below w (inl refl)) refl (λ s i. absurd i) (turned_back [] tt (λ s i. absurd i))
   turned_back (w ∷ v ∷ ws) rise below = at (eqb v.place w.place) refl (turned_back (v ∷ ws) rise.1 (λ s i. below s (inr i)))
     where
-      known : is_writer (last_writer (back (v ∷ ws))) w.place ≡ eqb v.place w.place
-      known = ap (λ o. is_writer o w.place) (last_put (back ws) v.place v.value)
+      known : is_latest (latest_writer (back (v ∷ ws))) w.place ≡ eqb v.place w.place
+      known = ap (λ o. is_latest o w.place) (last_put (back ws) v.place v.value)
 
       at : (b : Bool) → eqb v.place w.place ≡ b → turned (back (v ∷ ws)) ≡ chain_from (last_in (v ∷ ws)) n → turned (back (w ∷ v ∷ ws)) ≡ chain_from (last_in (w ∷ v ∷ ws)) n
       at true is rest =

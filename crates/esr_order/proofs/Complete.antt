@@ -16,7 +16,7 @@ use Rattle.esr_history.proofs.WithinRanges.{legal_items}
 use Rattle.esr_order.specs.UpdateOperations.{UpdateOperation}
 use Rattle.esr_order.specs.Turns.{turns}
 use Rattle.esr_order.specs.Listing.{is_pair, IsBelow}
-use Rattle.esr_order.specs.Ties.{IsTied, AreNextPaired}
+use Rattle.esr_order.specs.Ties.{AreTies, AreNextPaired}
 use Rattle.esr_order.specs.Chains.{Chain, chain_from, if_written, some_chain, last_of, last_in, last_by_update, last_among, nth, chain_among}
 use Rattle.esr_order.specs.Orders.{Ordered, chain_at, written_chain, IsClosedAt, IsClosedOn, IsOrderAmong, IsOrderOf}
 use Rattle.esr_order.proofs.Kept.{on, writes_in}
@@ -68,7 +68,7 @@ module _ (d : Distance) (h : Schedule) (q : ℕ) (legal : IsLegal d h) (us : Lis
   rising : (x : ℕ) → Pairs (λ (a b : UpdateOperation). a.place ≤ b.place) (writes_in (on x steps))
   rising x = Pairs-filter (λ (a b : UpdateOperation). a.place ≤ b.place) (λ (s : UpdateOperation). s.writes) (on x steps) (Pairs-filter (λ (a b : UpdateOperation). a.place ≤ b.place) (λ (s : UpdateOperation). eqb s.item x) steps (rises (operations h) 0 us))
 
-  module _ (before : List (ℕ × ℕ)) (ascends : AllPairs IsBelow before) (tied : IsTied steps before) (next : (x : ℕ) → AreNextPaired before (writes_in (on x steps))) (n : ℕ) (part : n ≤ length us) (musts : map (nth us) (range_with_len 0 n) ≡ must h q) (few : length us ≤ 65535) (commits : List TxnId) where
+  module _ (before : List (ℕ × ℕ)) (ascends : AllPairs IsBelow before) (tied : AreTies steps before) (next : (x : ℕ) → AreNextPaired before (writes_in (on x steps))) (n : ℕ) (part : n ≤ length us) (musts : map (nth us) (range_with_len 0 n) ≡ must h q) (few : length us ≤ 65535) (commits : List TxnId) where
     abbrev found : Ordered
     found = record { commits = commits; before = before; must = range_with_len 0 n; chains = map (λ x. chain_from (last_by_update steps x) (length us)) (range_with_len 0 (length h.opening)) }
 

@@ -13,9 +13,9 @@ use Rattle.esr_order.specs.UpdateOperations.{UpdateOperation}
 use Rattle.esr_order.specs.Scans.{access_of, accesses_in}
 use Rattle.esr_order.specs.Listing.{IsBelow}
 use Rattle.esr_order.specs.Turns.{placed_operation, operation_at, turn, turns}
-use Rattle.esr_order.specs.Ties.{pair_of, pairs_from, IsTied, AreNextPaired, on_item}
+use Rattle.esr_order.specs.Ties.{pair_of, pairs_from, AreTies, AreNextPaired, on_item}
 use Rattle.esr_order.specs.Chains.{Chain, chain_from, last_by_update, turned}
-use Rattle.esr_order.specs.Later.{nobody, chain_back, readers_of, with_operation, with_reader, ties_of, turn_ties, AreLater}
+use Rattle.esr_order.specs.Later.{nobody, chain_back, readers_of, with_operation, readers_with, ties_of, turn_ties, AreLater}
 use Rattle.esr_order.proofs.Kept.{Pair, Kept, kept_same, kept_turn, open_reads, turn_count, pairs_few, in_pairs_from, of_pairs_from, next_paired, writes_in, on, tied_all}
 use Rattle.esr_order.proofs.Chained.{chain_turned}
 use Rattle.esr_order.proofs.Turns as turns_of
@@ -52,7 +52,7 @@ abbrev pub no_txn : TxnId
 no_txn = record { 0 = 0 }
 
 pub later_operation : (links : List Chain) (rows : List (List ℕ)) (steps : List UpdateOperation) (s : UpdateOperation) → AreLater links rows steps → s.item < length links → s.item < length rows
-    → (link : Chain) → link ≡ with_operation (get_or links s.item nobody) s → (row : List ℕ) → row ≡ with_reader (get_or rows s.item []) s
+    → (link : Chain) → link ≡ with_operation (get_or links s.item nobody) s → (row : List ℕ) → row ≡ readers_with (get_or rows s.item []) s
     → AreLater (slice_set links s.item link) (slice_set rows s.item row) (s ∷ steps)
 later_operation links rows steps s are linked read link put row added = record {
   chains = λ x l. ⊎_elim
@@ -72,12 +72,12 @@ later_operation links rows steps s are linked read link put row added = record {
       ap (λ y. get_or (slice_set rows s.item row) y []) (sym e)
       ∙ (get_or-set_same rows s.item row [] read
       ∙ (added
-      ∙ (ap (λ r. with_reader r s) (are.readers s.item read ∙ ap (λ y. readers_of y steps) e)
-      ∙ ap (λ b. cond b (with_reader (readers_of x steps) s) (readers_of x steps)) (sym (eq-eqb s.item x e))))))
+      ∙ (ap (λ r. readers_with r s) (are.readers s.item read ∙ ap (λ y. readers_of y steps) e)
+      ∙ ap (λ b. cond b (readers_with (readers_of x steps) s) (readers_of x steps)) (sym (eq-eqb s.item x e))))))
       (λ ne.
       get_or-set_other rows s.item x row [] (λ e. ne (sym e))
       ∙ (are.readers x (omega (arith, l, length-set rows s.item row))
-      ∙ ap (λ b. cond b (with_reader (readers_of x steps) s) (readers_of x steps)) (sym (ne_eqb s.item x ne))))
+      ∙ ap (λ b. cond b (readers_with (readers_of x steps) s) (readers_of x steps)) (sym (ne_eqb s.item x ne))))
       (cases_eq s.item x);
 }
 
@@ -111,14 +111,14 @@ module _ {V W : Type 0} (see : V → Chain) (read : W → List ℕ) (chains : Li
     present : access.item.0 < length (map read readers)
     present = omega (arith, in_rows, length-map readers read)
 
-    pub turn_later : (v : V) → see v ≡ with_operation link (operation_at place access) → (w : W) → read w ≡ with_reader row (operation_at place access)
+    pub turn_later : (v : V) → see v ≡ with_operation link (operation_at place access) → (w : W) → read w ≡ readers_with row (operation_at place access)
         → AreLater (map see (slice_set chains access.item.0 v)) (map read (slice_set readers access.item.0 w)) (map (operation_at place) (drop i accesses) ++ steps)
     turn_later v put w added =
         subst (λ l. AreLater (map see (slice_set chains access.item.0 v)) (map read (slice_set readers access.item.0 w)) (l ++ steps)) taken
         (subst (λ cs. AreLater cs (map read (slice_set readers access.item.0 w)) (operation_at place access ∷ (done ++ steps))) (sym (map-set see chains access.item.0 v))
         (subst (λ rs. AreLater (slice_set (map see chains) access.item.0 (see v)) rs (operation_at place access ∷ (done ++ steps))) (sym (map-set read readers access.item.0 w))
         (later_operation (map see chains) (map read readers) (done ++ steps) (operation_at place access) are there present
-        (see v) (put ∙ ap (λ c. with_operation c (operation_at place access)) (sym link_is)) (read w) (added ∙ ap (λ r. with_reader r (operation_at place access)) (sym row_is)))))
+        (see v) (put ∙ ap (λ c. with_operation c (operation_at place access)) (sym link_is)) (read w) (added ∙ ap (λ r. readers_with r (operation_at place access)) (sym row_is)))))
 
     pub turn_tied : (first ties : List ℕ) → ties ≡ first ++ turn_ties done steps → (more : List ℕ) → more ≡ ties ++ ties_of link row (operation_at place access) → more ≡ first ++ turn_ties (map (operation_at place) (drop i accesses)) steps
     turn_tied first ties so_far more added =
@@ -238,7 +238,7 @@ module _ (h : Schedule) (updates : List TxnId) (i : ℕ) (is : i ≡ 0) (links :
   pub gathered_ascending : AllPairs IsBelow (reverse pairs)
   gathered_ascending = All-from_pairs IsBelow (reverse pairs) (Pairs-reverse (λ p r. IsBelow r p) pairs g.falling)
 
-  pub gathered_tied : IsTied steps (reverse pairs)
+  pub gathered_tied : AreTies steps (reverse pairs)
   gathered_tied = tied_all steps (reverse pairs) kept (let few = g.few in omega (arith, few, ap length all, length-reverse pairs))
 
   pub gathered_next : (x : ℕ) → AreNextPaired (reverse pairs) (filter (λ s. s.writes) (on_item x steps))

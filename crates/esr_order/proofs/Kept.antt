@@ -10,8 +10,8 @@ use Rattle.esr_history.specs.Serial.{any_pair}
 use Rattle.esr_history.proofs.Membership.{In, In-Contains, In-append_cases, In-append_left, In-append_right, any-from_In, In-any, each_in}
 use Rattle.esr_order.specs.UpdateOperations.{UpdateOperation}
 use Rattle.esr_order.specs.Listing.{clash, is_pair}
-use Rattle.esr_order.specs.Ties.{pair_of, pairs_from, IsTied, AreNextPaired}
-use Rattle.esr_order.specs.Chains.{Chain, last_writer, is_writer, with_write}
+use Rattle.esr_order.specs.Ties.{pair_of, pairs_from, AreTies, AreNextPaired}
+use Rattle.esr_order.specs.Chains.{Chain, latest_writer, is_latest, with_write}
 use Rattle.esr_order.specs.Later.{chain_back, readers_of, writer_in, later_ties, turn_ties}
 
 abbrev pub Pair : Type 0
@@ -104,19 +104,19 @@ get_pushed (y ∷ xs) x = get_pushed xs x
 pub last_pushed : (xs : List ℕ) (x : ℕ) → slice_get (xs ++ x ∷ []) (length (xs ++ x ∷ []) - 1) ≡ Some x
 last_pushed xs x = let e : length (xs ++ x ∷ []) - 1 ≡ length xs = omega (arith, length-append xs (x ∷ [])) in ap (slice_get (xs ++ x ∷ [])) e ∙ get_pushed xs x
 
-pub last_put : (c : Chain) (i : ℕ) (v : ℤ) → last_writer (with_write c i v) ≡ Some i
-last_put c i v = at (last_writer c) refl
+pub last_put : (c : Chain) (i : ℕ) (v : ℤ) → latest_writer (with_write c i v) ≡ Some i
+last_put c i v = at (latest_writer c) refl
   where
-    at : (o : Option ℕ) → last_writer c ≡ o → last_writer (cond (is_writer o i) c (record { writers = c.writers ++ i ∷ []; values = c.values ++ v ∷ [] })) ≡ Some i
+    at : (o : Option ℕ) → latest_writer c ≡ o → latest_writer (cond (is_latest o i) c (record { writers = c.writers ++ i ∷ []; values = c.values ++ v ∷ [] })) ≡ Some i
     at None is = last_pushed c.writers i
     at (Some w) is = both (eqb w i) refl
       where
-        both : (b : Bool) → eqb w i ≡ b → last_writer (cond b c (record { writers = c.writers ++ i ∷ []; values = c.values ++ v ∷ [] })) ≡ Some i
+        both : (b : Bool) → eqb w i ≡ b → latest_writer (cond b c (record { writers = c.writers ++ i ∷ []; values = c.values ++ v ∷ [] })) ≡ Some i
         both true same = is ∙ ap Some (eqb-true w i same)
         both false other = last_pushed c.writers i
 
 -- the next writer wrote the item
-writer_from : (x : ℕ) (ss : List UpdateOperation) (w : ℕ) → last_writer (chain_back x ss) ≡ Some w → (b : UpdateOperation) × In b ss × (b.item ≡ x) × (b.writes ≡ true) × (b.place ≡ w)
+writer_from : (x : ℕ) (ss : List UpdateOperation) (w : ℕ) → latest_writer (chain_back x ss) ≡ Some w → (b : UpdateOperation) × In b ss × (b.item ≡ x) × (b.writes ≡ true) × (b.place ≡ w)
 writer_from x [] w is = absurd (cc)
 writer_from x (z ∷ zs) w is = at (eqb z.item x) refl z.writes refl (writer_from x zs w) is
   where
@@ -126,7 +126,7 @@ writer_from x (z ∷ zs) w is = at (eqb z.item x) refl z.writes refl (writer_fro
     later : Found zs → Found (z ∷ zs)
     later f = (f.0, inr f.1, f.2, f.3, f.4)
 
-    at : (here : Bool) → eqb z.item x ≡ here → (writes : Bool) → z.writes ≡ writes → (last_writer (chain_back x zs) ≡ Some w → Found zs) → last_writer (cond here (cond writes (with_write (chain_back x zs) z.place z.value) (chain_back x zs)) (chain_back x zs)) ≡ Some w → Found (z ∷ zs)
+    at : (here : Bool) → eqb z.item x ≡ here → (writes : Bool) → z.writes ≡ writes → (latest_writer (chain_back x zs) ≡ Some w → Found zs) → latest_writer (cond here (cond writes (with_write (chain_back x zs) z.place z.value) (chain_back x zs)) (chain_back x zs)) ≡ Some w → Found (z ∷ zs)
     at true e true wr rest h = let same : Some z.place ≡ Some w = sym (last_put (chain_back x zs) z.place z.value) ∙ h in (z, inl refl, eqb-true z.item x e, wr, some_same same)
       where
         some_same : {a b : ℕ} → Some a ≡ Some b → a ≡ b
@@ -163,7 +163,7 @@ abbrev Reached : List UpdateOperation → ℕ → Option ℕ → Type 0
 Reached ss place o = (w : ℕ) × (o ≡ Some w) × ((w ≡ place) ⊎ (is_pair ss w place ≡ true))
 
 -- a step is a read until the next write, or that write is before it
-reach : (x : ℕ) (ss : List UpdateOperation) (b : UpdateOperation) → In b ss → b.item ≡ x → (In b.place (readers_of x ss) × (b.writes ≡ false)) ⊎ Reached ss b.place (last_writer (chain_back x ss))
+reach : (x : ℕ) (ss : List UpdateOperation) (b : UpdateOperation) → In b ss → b.item ≡ x → (In b.place (readers_of x ss) × (b.writes ≡ false)) ⊎ Reached ss b.place (latest_writer (chain_back x ss))
 reach x [] b i own = absurd i
 reach x (z ∷ zs) b i own = at (eqb z.item x) refl z.writes refl (λ k. reach x zs b k own) i
   where
@@ -171,7 +171,7 @@ reach x (z ∷ zs) b i own = at (eqb z.item x) refl z.writes refl (λ k. reach x
     Chained here writes = cond here (cond writes (with_write (chain_back x zs) z.place z.value) (chain_back x zs)) (chain_back x zs)
 
     Outcome : List UpdateOperation → List ℕ → Chain → Type 0
-    Outcome ss readers c = (In b.place readers × (b.writes ≡ false)) ⊎ Reached ss b.place (last_writer c)
+    Outcome ss readers c = (In b.place readers × (b.writes ≡ false)) ⊎ Reached ss b.place (latest_writer c)
 
     Readers : Bool → Bool → List ℕ
     Readers here writes = cond here (cond writes [] (readers_of x zs ++ z.place ∷ [])) (readers_of x zs)
@@ -189,25 +189,25 @@ reach x (z ∷ zs) b i own = at (eqb z.item x) refl z.writes refl (λ k. reach x
         )
     at true e false wr rest j =
         ⊎_elim (λ same. inl (In-append_right (readers_of x zs) (z.place ∷ []) b.place (inl (ap (λ s. s.place) same)), sym (ap (λ s. s.writes) same) ∙ wr))
-        (λ k. ⊎_elim (λ r. inl (In-append_left (readers_of x zs) (z.place ∷ []) b.place r.0, r.1)) (λ r. inr (further (last_writer (chain_back x zs)) r)) (rest k)) j
+        (λ k. ⊎_elim (λ r. inl (In-append_left (readers_of x zs) (z.place ∷ []) b.place r.0, r.1)) (λ r. inr (further (latest_writer (chain_back x zs)) r)) (rest k)) j
     at false e writes wr rest j =
         ⊎_elim (λ same. absurd (eqb-false z.item x e (ap (λ s. s.item) same ∙ own)))
-        (λ k. ⊎_elim (λ r. inl r) (λ r. inr (further (last_writer (chain_back x zs)) r)) (rest k)) j
+        (λ k. ⊎_elim (λ r. inl r) (λ r. inr (further (latest_writer (chain_back x zs)) r)) (rest k)) j
 
 abbrev first_place : List UpdateOperation → Option ℕ
 first_place [] = None
 first_place (s ∷ ss) = Some s.place
 
 -- the next writer is that of the first write
-first_write : (x : ℕ) (ss : List UpdateOperation) → last_writer (chain_back x ss) ≡ first_place (writes_in (on x ss))
+first_write : (x : ℕ) (ss : List UpdateOperation) → latest_writer (chain_back x ss) ≡ first_place (writes_in (on x ss))
 first_write x [] = refl
 first_write x (z ∷ zs) = at (eqb z.item x) z.writes (first_write x zs)
   where
-    at : (here writes : Bool) → last_writer (chain_back x zs) ≡ first_place (writes_in (on x zs))
-        → last_writer (cond here (cond z.writes (with_write (chain_back x zs) z.place z.value) (chain_back x zs)) (chain_back x zs)) ≡ first_place (writes_in (cond here (z ∷ on x zs) (on x zs)))
+    at : (here writes : Bool) → latest_writer (chain_back x zs) ≡ first_place (writes_in (on x zs))
+        → latest_writer (cond here (cond z.writes (with_write (chain_back x zs) z.place z.value) (chain_back x zs)) (chain_back x zs)) ≡ first_place (writes_in (cond here (z ∷ on x zs) (on x zs)))
     at true writes rest = both z.writes
       where
-        both : (w : Bool) → last_writer (cond w (with_write (chain_back x zs) z.place z.value) (chain_back x zs)) ≡ first_place (cond w (z ∷ writes_in (on x zs)) (writes_in (on x zs)))
+        both : (w : Bool) → latest_writer (cond w (with_write (chain_back x zs) z.place z.value) (chain_back x zs)) ≡ first_place (cond w (z ∷ writes_in (on x zs)) (writes_in (on x zs)))
         both true = last_put (chain_back x zs) z.place z.value
         both false = rest
     at false writes rest = rest
@@ -236,7 +236,7 @@ module _ (s : UpdateOperation) (ss : List UpdateOperation) (pairs : List Pair) (
   own = pairs_from s.place (later_ties s ss)
 
   abbrev writer : Option ℕ
-  writer = last_writer (chain_back s.item ss)
+  writer = latest_writer (chain_back s.item ss)
 
   to_writer : (w : ℕ) → writer ≡ Some w → In w ties
   to_writer w is = In-append_left (writer_in writer) (cond s.writes (readers_of s.item ss) []) w (subst (λ o. In w (writer_in o)) (sym is) (inl refl))
@@ -304,7 +304,7 @@ module _ (s : UpdateOperation) (ss : List UpdateOperation) (pairs : List Pair) (
       follows x true e writes wr = subst (λ b. Next (cond b (s ∷ writes_in (on x ss)) (writes_in (on x ss))) (own ++ pairs)) (sym wr) (both writes)
         where
           both : (w : Bool) → Next (cond w (s ∷ writes_in (on x ss)) (writes_in (on x ss))) (own ++ pairs)
-          both true = first (writes_in (on x ss)) (ap (λ y. last_writer (chain_back y ss)) (eqb-true s.item x e) ∙ first_write x ss) (kept_next x)
+          both true = first (writes_in (on x ss)) (ap (λ y. latest_writer (chain_back y ss)) (eqb-true s.item x e) ∙ first_write x ss) (kept_next x)
           both false = kept_next x
       follows x false e writes wr = kept_next x
 
@@ -394,7 +394,7 @@ operation_count : (s : UpdateOperation) (ss : List UpdateOperation) → length (
 operation_count s ss = at s.writes
   where
     writer : Option ℕ
-    writer = last_writer (chain_back s.item ss)
+    writer = latest_writer (chain_back s.item ss)
 
     at : (w : Bool) → length (writer_in writer ++ cond w (readers_of s.item ss) []) + length (cond w (filter (λ (r : UpdateOperation). not (eqb r.item s.item)) (open_reads ss)) (open_reads ss ++ s ∷ [])) ≤ 2 + length (open_reads ss)
     at true = omega (arith, one_writer writer, length-append (writer_in writer) (readers_of s.item ss), ap length (readers_open s.item ss), length-map (on s.item (open_reads ss)) (λ (s : UpdateOperation). s.place), split_count s.item (open_reads ss))
@@ -406,7 +406,7 @@ turn_count (s ∷ turn) ss = omega (arith, turn_count turn ss, operation_count s
 
 -- ---- all of them
 
-pub tied_all : (ss : List UpdateOperation) (pairs : List Pair) → Kept ss pairs → length pairs ≤ 2 * length ss → IsTied ss pairs
+pub tied_all : (ss : List UpdateOperation) (pairs : List Pair) → Kept ss pairs → length pairs ≤ 2 * length ss → AreTies ss pairs
 tied_all ss pairs k few = record {
   sound = All-from_recursion (λ (p : Pair). is_pair ss p.0 p.1 ≡ true) pairs (each_in (λ (p : Pair). is_pair ss p.0 p.1 ≡ true) pairs (λ p i. k.sound p i));
   closed = λ S d. k.covers S (λ p i. All-contains (λ (p : Pair). S p.1 ≡ true → S p.0 ≡ true) pairs p d (In-Contains pairs p i));

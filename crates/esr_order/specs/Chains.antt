@@ -70,17 +70,17 @@ last_by_update operations x i = last_in (filter (λ s. s.writes && (s.item == x)
 -- A chain that goes back, from the last writer to the first.
 
 -- the writer that it came by last
-abbrev pub last_writer : Chain → Option ℕ
-last_writer c = slice_get c.writers (length c.writers - 1)
+abbrev pub latest_writer : Chain → Option ℕ
+latest_writer c = slice_get c.writers (length c.writers - 1)
 
-abbrev pub is_writer : Option ℕ → ℕ → Bool
-is_writer None i = false
-is_writer (Some w) i = w == i
+abbrev pub is_latest : Option ℕ → ℕ → Bool
+is_latest None i = false
+is_latest (Some w) i = w == i
 
 -- with a write of the update at a position, unless a later one of that update is there
 abbrev pub with_write : Chain → ℕ → ℤ → Chain
 with_write c i v =
-    if is_writer (last_writer c) i then c else record { writers = c.writers ++ i ∷ []; values = c.values ++ v ∷ [] }
+    if is_latest (latest_writer c) i then c else record { writers = c.writers ++ i ∷ []; values = c.values ++ v ∷ [] }
 
 -- the other way round
 abbrev pub turned : Chain → Chain

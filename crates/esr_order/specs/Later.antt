@@ -2,7 +2,7 @@
 -- each item, and the readers of each item until its next write.
 use Rattle.std.specs.Prelude.{◌≡◌, ◌<◌, ◌==◌, ℕ, List, [], ◌∷◌, ◌++◌, Option, None, Some, length, slice_index_or, if◌then◌else◌}
 use Rattle.esr_order.specs.UpdateOperations.{UpdateOperation}
-use Rattle.esr_order.specs.Chains.{Chain, last_writer, with_write}
+use Rattle.esr_order.specs.Chains.{Chain, latest_writer, with_write}
 
 abbrev pub nobody : Chain
 nobody = record { writers = []; values = [] }
@@ -11,8 +11,8 @@ nobody = record { writers = []; values = [] }
 abbrev pub with_operation : Chain → UpdateOperation → Chain
 with_operation c s = if s.writes then with_write c s.place s.value else c
 
-abbrev pub with_reader : List ℕ → UpdateOperation → List ℕ
-with_reader readers s = if s.writes then [] else readers ++ s.place ∷ []
+abbrev pub readers_with : List ℕ → UpdateOperation → List ℕ
+readers_with readers s = if s.writes then [] else readers ++ s.place ∷ []
 
 -- the chain of item x, back from the last writer to the first
 abbrev pub chain_back : ℕ → List UpdateOperation → Chain
@@ -23,7 +23,7 @@ chain_back x (s ∷ operations) =
 -- the positions of the reads of item x that no write of it comes before, back from the last to the first
 abbrev pub readers_of : ℕ → List UpdateOperation → List ℕ
 readers_of x [] = []
-readers_of x (s ∷ operations) = if s.item == x then with_reader (readers_of x operations) s else readers_of x operations
+readers_of x (s ∷ operations) = if s.item == x then readers_with (readers_of x operations) s else readers_of x operations
 
 abbrev pub writer_in : Option ℕ → List ℕ
 writer_in None = []
@@ -32,7 +32,7 @@ writer_in (Some w) = w ∷ []
 -- the positions of later operations to which an operation is tied: of the next write of its item, and for a write of
 -- the reads until then
 abbrev pub ties_of : Chain → List ℕ → UpdateOperation → List ℕ
-ties_of c readers s = writer_in (last_writer c) ++ (if s.writes then readers else [])
+ties_of c readers s = writer_in (latest_writer c) ++ (if s.writes then readers else [])
 
 abbrev pub later_ties : UpdateOperation → List UpdateOperation → List ℕ
 later_ties s later = ties_of (chain_back s.item later) (readers_of s.item later) s

@@ -30,7 +30,7 @@ AreNextPaired pairs (a ∷ b ∷ operations) =
 
 -- The pairs are clashes of the operations, at most two for each, and a set that is closed by them is closed by all
 -- clashes.
-pub record IsTied (operations : List UpdateOperation) (pairs : List (ℕ × ℕ)) : Type 0 where
+pub record AreTies (operations : List UpdateOperation) (pairs : List (ℕ × ℕ)) : Type 0 where
   pub sound : All (λ p. is_pair operations p.0 p.1 ≡ true) pairs
   pub closed : (S : ℕ → Bool) → IsDownward S pairs → (i j : ℕ) → is_pair operations i j ≡ true → IsTrue (S j)
       → IsTrue (S i)

@@ -1,6 +1,6 @@
 //! The versions of items.
 ghost use Rattle.std.specs.Prelude.{◌≡◌, [], IfOk, OnOk, map};
-ghost use Rattle.esr_order.specs.Chains.{last_writer, with_write, turned, seen_links};
+ghost use Rattle.esr_order.specs.Chains.{latest_writer, with_write, turned, seen_links};
 
 use std::alloc::{AllocError, Global};
 
@@ -36,8 +36,8 @@ impl Links {
 }
 
 /// The writer that a chain came by last.
-pub fn last_writer(links: &Links) -> Option<u32>
-    ensures { result ≡ last_writer (seen_links links.now) }
+pub fn latest_writer(links: &Links) -> Option<u32>
+    ensures { result ≡ latest_writer (seen_links links.now) }
 {
     links.writers.last().copied()
 }
@@ -46,7 +46,7 @@ pub fn last_writer(links: &Links) -> Option<u32>
 pub fn put_write(links: &mut Links, place: u32, value: i64) -> Result<(), AllocError>
     ensures { OnOk result (seen_links links.new ≡ with_write (seen_links links.old) place value) }
 {
-    if last_writer(links) != Some(place) {
+    if latest_writer(links) != Some(place) {
         links.writers.push(place)?;
         links.values.push(value)?;
     }

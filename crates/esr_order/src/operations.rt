@@ -5,12 +5,12 @@ ghost use Rattle.esr_history.specs.declared.limits.TheConstants.{MOST_TRANSACTIO
 ghost use Rattle.esr_order.specs.UpdateOperations.{UpdateOperation};
 ghost use Rattle.esr_order.specs.Turns.{operation_at, update_operations};
 ghost use Rattle.esr_order.specs.Listing.{IsBelow};
-ghost use Rattle.esr_order.specs.Ties.{on_item, IsTied, AreNextPaired};
+ghost use Rattle.esr_order.specs.Ties.{on_item, AreTies, AreNextPaired};
 ghost use Rattle.esr_order.specs.Chains.{chain_from, last_by_update, seen_links};
-ghost use Rattle.esr_order.specs.Later.{with_operation, with_reader, ties_of, turn_ties, AreLater};
+ghost use Rattle.esr_order.specs.Later.{with_operation, readers_with, ties_of, turn_ties, AreLater};
 
 use crate::accesses::{Access, list_accesses};
-use crate::chains::{Links, last_writer, put_write, turn_all};
+use crate::chains::{Links, latest_writer, put_write, turn_all};
 use crate::ties::{put_in_order, tie_back};
 use esr_history::{History, TxnId};
 use esr_items::Metric;
@@ -27,11 +27,11 @@ fn put_operation(
 ) -> Result<(), AllocError>
     ensures chain { OnOk result (seen_links links.new
         ≡ with_operation (seen_links links.old) (operation_at place access)) }
-    ensures readers { OnOk result (readers.new.items ≡ with_reader readers.old.items (operation_at place access)) }
+    ensures readers { OnOk result (readers.new.items ≡ readers_with readers.old.items (operation_at place access)) }
     ensures ties { OnOk result (ties.new.items
         ≡ ties.old.items ++ ties_of (seen_links links.old) readers.old.items (operation_at place access)) }
 {
-    if let Some(writer) = last_writer(links) {
+    if let Some(writer) = latest_writer(links) {
         ties.push(writer)?;
     }
     if access.writes {
@@ -118,7 +118,7 @@ pub fn gather<M: Metric>(
 ) -> Result<PairsAndChains, AllocError>
     requires few { length updates.now ≤ MOST_TRANSACTIONS }
     ensures ascending { IfOk result (λ g. AllPairs IsBelow g.pairs.items) }
-    ensures tied { IfOk result (λ g. IsTied (update_operations history.now.schedule updates.now) g.pairs.items) }
+    ensures tied { IfOk result (λ g. AreTies (update_operations history.now.schedule updates.now) g.pairs.items) }
     ensures next { IfOk result (λ g. (x : ℕ) → AreNextPaired g.pairs.items
         (filter (λ s. s.writes) (on_item x (update_operations history.now.schedule updates.now)))) }
     ensures chains { IfOk result (λ g. map seen_links g.chains.items

@@ -124,7 +124,7 @@ pub fn updates_before<M: Metric>(
 
 /// Where a transaction began, and whether as a strict query.
 #[derive(Clone, Copy)]
-struct Begin {
+struct BeginPlace {
     place: u64,
     strict: bool,
 }
@@ -155,7 +155,11 @@ fn first_of(places: &[u64]) -> u64
 }
 
 /// The begin of a transaction that has begun.
-fn begin_of<M: Metric>(alloc: Global, history: &History<M>, t: TxnId) -> Result<Begin, AllocError>
+fn begin_place<M: Metric>(
+    alloc: Global,
+    history: &History<M>,
+    t: TxnId,
+) -> Result<BeginPlace, AllocError>
     requires { is_begun (done history.now.schedule) t.0 ≡ true }
     ensures place { IfOk result (λ b. take b.place history.now.schedule.entries
         ≡ before_begin history.now.schedule t.0) }
@@ -165,7 +169,7 @@ fn begin_of<M: Metric>(alloc: Global, history: &History<M>, t: TxnId) -> Result<
     let log = history.log();
     let place = first_of(&places);
     let strict = is_strict_begin(log.get(place as usize));
-    Ok(Begin { place, strict })
+    Ok(BeginPlace { place, strict })
 }
 
 /// Whether the transaction ended before a place.
@@ -199,7 +203,7 @@ pub fn count_must<M: Metric>(
     ensures { IfOk result (λ n. n ≡ length (must history.now.schedule q.0)) }
 {
     let _legal = history.log(); // brings the invariant into the proof
-    let begin = begin_of(alloc, history, q)?;
+    let begin = begin_place(alloc, history, q)?;
     if begin.strict {
         Ok(count_before(history, updates, begin.place))
     } else {

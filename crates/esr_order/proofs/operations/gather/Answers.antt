@@ -4,7 +4,7 @@ use Rattle.std.proofs.lemmas.List.{length-map}
 use Rattle.esr_history.specs.Operations.{operations}
 use Rattle.esr_order.specs.declared.accesses.Access.{Access}
 use Rattle.esr_order.specs.Listing.{IsBelow}
-use Rattle.esr_order.specs.Ties.{pairs_from, on_item, IsTied, AreNextPaired}
+use Rattle.esr_order.specs.Ties.{pairs_from, on_item, AreTies, AreNextPaired}
 use Rattle.esr_order.specs.Turns.{operation_at, turns}
 use Rattle.esr_order.specs.Chains.{chain_from, last_by_update, turned, seen_links}
 use Rattle.esr_order.specs.Later.{turn_ties, AreLater}
@@ -59,7 +59,7 @@ returns-clause-ascending g c = subst (AllPairs IsBelow) (sym (c.shrink_to_fit.en
     (gathered_ascending c.args.history.now.schedule c.args.updates.now c.loop-i.i (omega (arith, c.loop-i-test.false)) (map seen_links c.loop-i.chains.items) (map (λ r. r.items) c.loop-i.readers.items) c.loop-i.pairs.items c.loop-i.invariant.2)
 
 pub returns-clause-tied : goal.returns-clause-tied
-returns-clause-tied g c = subst (IsTied (turns (operations c.args.history.now.schedule) 0 (map (λ t. t.0) c.args.updates.now))) (sym (c.shrink_to_fit.ensures.items ∙ c.reverse.ensures.items))
+returns-clause-tied g c = subst (AreTies (turns (operations c.args.history.now.schedule) 0 (map (λ t. t.0) c.args.updates.now))) (sym (c.shrink_to_fit.ensures.items ∙ c.reverse.ensures.items))
     (gathered_tied c.args.history.now.schedule c.args.updates.now c.loop-i.i (omega (arith, c.loop-i-test.false)) (map seen_links c.loop-i.chains.items) (map (λ r. r.items) c.loop-i.readers.items) c.loop-i.pairs.items c.loop-i.invariant.2)
 
 pub returns-clause-next : goal.returns-clause-next

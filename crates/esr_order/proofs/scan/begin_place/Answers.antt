@@ -3,8 +3,8 @@ use Rattle.std.specs.List.{slice_get}
 use Rattle.esr_order.specs.Scans.{is_strict_begin}
 use Rattle.esr_order.proofs.Spans.{before_begin_is}
 use Rattle.esr_order.proofs.Commits.{begin_place, strict_is}
-use Rattle.esr_order.proofs.scan.begin_of.Given.{Over}
-use Rattle.esr_order.proofs.scan.begin_of.Goals as goal
+use Rattle.esr_order.proofs.scan.begin_place.Given.{Over}
+use Rattle.esr_order.proofs.scan.begin_place.Goals as goal
 
 place : (g : Over) (c : goal.After-drop-places g) → c.first_of-place.result ≡ (begin_place g.M.Metric.distance_by c.args.history.now.schedule c.log-log.ensures.legal c.args.t.0 c.requires).2.0
 place g c =
