@@ -15,7 +15,7 @@ use Rattle.esr_history.proofs.Sides.{charges_kinds, no_import, no_export}
 use Rattle.esr_history.proofs.Sums.{query_begun}
 use Rattle.esr_history.proofs.Orderly.{update_begun}
 use Rattle.esr_ledgers.specs.declared.account.Account.{Account}
-use Rattle.esr_ledgers.specs.Books.{number, account_of, is_open, is_open_query, is_open_update, limit_at, amount_at, new_account, opened}
+use Rattle.esr_ledgers.specs.Books.{number, account_of, is_open, is_open_query, is_open_update, limit_at, account_amount, new_account, with_account}
 use Rattle.esr_core.specs.Tied.{account_after, books_of}
 use Rattle.esr_core.proofs.Held.{IsBegin, numbers-kept, query-kept, limit-kept, beginnings-begin, beginning-begin, beginning-new, update_or_query}
 use Rattle.esr_core.proofs.Rows.{begun_at}
@@ -43,10 +43,10 @@ module _ (d : ℕ → ℤ → ℤ → ℕ) (opening : List ℤ) (events : List E
   pub limit_is : (t : ℕ) → is_begun events t ≡ true → limit_at (books_of d opening events) t ≡ limit_of events t
   limit_is t is = ap (λ (o : Option Account). unwrap_or (option_map (λ (a : Account). a.limit) o) 0) (account_begun t is)
 
-  pub import_is : (t : ℕ) → is_query events t ≡ true → amount_at (books_of d opening events) t ≡ import_in (charges d opening events) t
+  pub import_is : (t : ℕ) → is_query events t ≡ true → account_amount (books_of d opening events) t ≡ import_in (charges d opening events) t
   import_is t is = ap (λ (o : Option Account). unwrap_or (option_map (λ (a : Account). a.amount) o) 0) (account_begun t (query_begun events t is)) ∙ rw is refl
 
-  pub export_is : (t : ℕ) → is_update events t ≡ true → amount_at (books_of d opening events) t ≡ export_in (charges d opening events) t
+  pub export_is : (t : ℕ) → is_update events t ≡ true → account_amount (books_of d opening events) t ≡ export_in (charges d opening events) t
   export_is t is = ap (λ (o : Option Account). unwrap_or (option_map (λ (a : Account). a.amount) o) 0) (account_begun t (update_begun events t is)) ∙ rw (update_or_query events t is) refl
 
   -- the next number is not open
@@ -67,7 +67,7 @@ module _ (d : ℕ → ℤ → ℤ → ℕ) (opening : List ℤ) (events : List E
           (sym (export-push d opening events e t ∙ (ap (λ (cs : List Charge). export_in (charges d opening events) t + export_in cs t) nothing ∙ add-zero (export_in (charges d opening events) t))))
 
   -- a begin opens the next account
-  pub books-begin : (e : Event) (b : Beginning) → IsBegin e b → due d opening events e ≡ [] → opened (books_of d opening events) (new_account b.query (record { 0 = suc (length (beginnings events)) }) b.limit) ≡ books_of d opening (events ++ e ∷ [])
+  pub books-begin : (e : Event) (b : Beginning) → IsBegin e b → due d opening events e ≡ [] → with_account (books_of d opening events) (new_account b.query (record { 0 = suc (length (beginnings events)) }) b.limit) ≡ books_of d opening (events ++ e ∷ [])
   books-begin e b is nothing =
       let n = length (beginnings events) in
       placed_end number (account_after d opening events) (λ u. refl) (new_account b.query (record { 0 = suc n }) b.limit) (λ a. a) 1 n (omega arith)

@@ -24,7 +24,7 @@ use Rattle.esr_history.proofs.Words.{query_not_update}
 use Rattle.esr_history.proofs.Sums.{query_begun}
 use Rattle.esr_history.proofs.Orderly.{update_begun}
 use Rattle.esr_ledgers.specs.declared.account.Account.{Account}
-use Rattle.esr_ledgers.specs.Books.{number, is_open_query, limit_at, amount_at, total_of, would_pass, quoted, quote_of, raised, charged_to_queries, charged, AreCharges}
+use Rattle.esr_ledgers.specs.Books.{number, is_open_query, limit_at, account_amount, total_of, would_pass, quoted, quote_of, raised, charged_to_queries, charged, AreCharges}
 use Rattle.esr_core.specs.Tied.{account_after, books_of}
 use Rattle.esr_core.specs.States.{reason_of, charges_to}
 use Rattle.esr_core.proofs.Held.{numbers-kept, query-kept, limit-kept}
@@ -186,8 +186,8 @@ module _ (d : Distance) (h : Schedule) where
   first_import u [] all = refl
   first_import u (c ∷ cs) all =
       let limit : limit_at (books_of (d h.weights) h.opening (done h)) c.0.0 ≡ limit_of (done h) c.0.0 = limit_is (d h.weights) h.opening (done h) c.0.0 (query_begun (done h) c.0.0 all.0) in
-      let amount : amount_at (books_of (d h.weights) h.opening (done h)) c.0.0 ≡ import_in (charges_in d h) c.0.0 = import_is (d h.weights) h.opening (done h) c.0.0 all.0 in
-      let same : would_pass (books_of (d h.weights) h.opening (done h)) c.0.0 c.1 ≡ nat_lt (limit_of (done h) c.0.0) (import_in (charges_in d h) c.0.0 + c.1) = ap (λ n. nat_lt n (amount_at (books_of (d h.weights) h.opening (done h)) c.0.0 + c.1)) limit ∙ ap (λ n. nat_lt (limit_of (done h) c.0.0) (n + c.1)) amount in
+      let amount : account_amount (books_of (d h.weights) h.opening (done h)) c.0.0 ≡ import_in (charges_in d h) c.0.0 = import_is (d h.weights) h.opening (done h) c.0.0 all.0 in
+      let same : would_pass (books_of (d h.weights) h.opening (done h)) c.0.0 c.1 ≡ nat_lt (limit_of (done h) c.0.0) (import_in (charges_in d h) c.0.0 + c.1) = ap (λ n. nat_lt n (account_amount (books_of (d h.weights) h.opening (done h)) c.0.0 + c.1)) limit ∙ ap (λ n. nat_lt (limit_of (done h) c.0.0) (n + c.1)) amount in
       elim (cases_Bool (nat_lt (limit_of (done h) c.0.0) (import_in (charges_in d h) c.0.0 + c.1))) [
         | inl over ↦ rw (over, same ∙ over) refl
         | inr fits ↦ rw (fits, same ∙ fits) (first_import u cs all.1)
@@ -205,7 +205,7 @@ module _ (d : Distance) (h : Schedule) where
   quote_reason u c cs update all =
       let books = books_of (d h.weights) h.opening (done h) in
       let same : would_pass books u.0 (total_of (c ∷ cs)) ≡ nat_lt (limit_of (done h) u.0) (export_in (charges_in d h) u.0 + total_of (c ∷ cs)) =
-      ap (λ n. nat_lt n (amount_at books u.0 + total_of (c ∷ cs))) (limit_is (d h.weights) h.opening (done h) u.0 (update_begun (done h) u.0 update)) ∙ ap (λ n. nat_lt (limit_of (done h) u.0) (n + total_of (c ∷ cs))) (export_is (d h.weights) h.opening (done h) u.0 update) in
+      ap (λ n. nat_lt n (account_amount books u.0 + total_of (c ∷ cs))) (limit_is (d h.weights) h.opening (done h) u.0 (update_begun (done h) u.0 update)) ∙ ap (λ n. nat_lt (limit_of (done h) u.0) (n + total_of (c ∷ cs))) (export_is (d h.weights) h.opening (done h) u.0 update) in
       let exports : export_full d h (charges_by u.0 (c ∷ cs)) ≡ (if would_pass books u.0 (total_of (c ∷ cs)) then Some (BlockedByExport u) else None) =
       ap (λ n. option_map (λ (g : Charge). BlockedByExport (record { 0 = g.update })) (find (λ (g : Charge). nat_lt (limit_of (done h) g.update) (export_in (charges_in d h) g.update + n)) (charges_by u.0 (c ∷ cs)))) (total_by u.0 (c ∷ cs))
       ∙ export_over u.0 (c ∷ cs) (total_of (c ∷ cs)) (would_pass books u.0 (total_of (c ∷ cs))) (sym same) in

@@ -10,7 +10,7 @@ use Rattle.esr_history.specs.declared.event.TxnId.{TxnId}
 use Rattle.esr_history.specs.Ascending.{IsAscendingBy, IsPlaceOf}
 use Rattle.esr_history.proofs.Ascending.{place_tail, placed_ascends, all_placed}
 use Rattle.esr_ledgers.specs.declared.account.Account.{Account}
-use Rattle.esr_ledgers.specs.Books.{number, account_of, is_open, is_open_query, is_open_update, limit_at, amount_at, total_of, would_pass, raised, charged_to_queries, charged, imports, exports, IsWithinLimit, AreBooks, AreCharges, opened, quoted, quote_of}
+use Rattle.esr_ledgers.specs.Books.{number, account_of, is_open, is_open_query, is_open_update, limit_at, account_amount, total_of, would_pass, raised, charged_to_queries, charged, imports, exports, IsWithinLimit, AreBooks, AreCharges, with_account, quoted, quote_of}
 use Rattle.esr_ledgers.specs.declared.ledgers.Quote.TheVariants.{Fits}
 use Rattle.esr_history.proofs.Lists.{find_none_all}
 
@@ -87,7 +87,7 @@ module _ (t n : ℕ) where
         ])
       ]
 
-  pub within_raised : (xs : List Account) → IsAscendingBy number xs → AllByRecursion IsWithinLimit xs → amount_at xs t + n ≤ limit_at xs t → AllByRecursion IsWithinLimit (raised t n xs)
+  pub within_raised : (xs : List Account) → IsAscendingBy number xs → AllByRecursion IsWithinLimit xs → account_amount xs t + n ≤ limit_at xs t → AllByRecursion IsWithinLimit (raised t n xs)
   within_raised [] asc all fits = tt
   within_raised (x ∷ xs) asc all fits =
       elim (cases_eq (number x) t) [
@@ -160,7 +160,7 @@ account_at_turn xs cs asc i d l = account_imported_other (get_or cs i d).0.0 (ta
 pub record AreImports (xs : List Account) (cs : List (TxnId × ℕ)) : Type 0 where
   pub ascending : IsAscendingBy (λ (c : TxnId × ℕ). c.0.0) cs
   pub queries : AllByRecursion (λ (c : TxnId × ℕ). is_open_query xs c.0.0 ≡ true) cs
-  pub fit : AllByRecursion (λ (c : TxnId × ℕ). amount_at xs c.0.0 + c.1 ≤ limit_at xs c.0.0) cs
+  pub fit : AllByRecursion (λ (c : TxnId × ℕ). account_amount xs c.0.0 + c.1 ≤ limit_at xs c.0.0) cs
 
 imports_tail : (xs : List Account) (c : TxnId × ℕ) (cs : List (TxnId × ℕ)) → AreImports xs (c ∷ cs) → AreImports (raised c.0.0 c.1 xs) cs
 imports_tail xs c cs are = record {
@@ -176,7 +176,7 @@ imports_tail xs c cs are = record {
     carry P [] low all = tt
     carry P (b ∷ bs) low all = (subst P (sym (other b low.0)) all.0, carry P bs low.1 all.1)
 
-    fits : (bs : List (TxnId × ℕ)) → AllByRecursion (λ (b : TxnId × ℕ). c.0.0 < b.0.0) bs → AllByRecursion (λ (b : TxnId × ℕ). amount_at xs b.0.0 + b.1 ≤ limit_at xs b.0.0) bs → AllByRecursion (λ (b : TxnId × ℕ). amount_at (raised c.0.0 c.1 xs) b.0.0 + b.1 ≤ limit_at (raised c.0.0 c.1 xs) b.0.0) bs
+    fits : (bs : List (TxnId × ℕ)) → AllByRecursion (λ (b : TxnId × ℕ). c.0.0 < b.0.0) bs → AllByRecursion (λ (b : TxnId × ℕ). account_amount xs b.0.0 + b.1 ≤ limit_at xs b.0.0) bs → AllByRecursion (λ (b : TxnId × ℕ). account_amount (raised c.0.0 c.1 xs) b.0.0 + b.1 ≤ limit_at (raised c.0.0 c.1 xs) b.0.0) bs
     fits [] low all = tt
     fits (b ∷ bs) low all =
         (subst (λ (a : Option Account). unwrap_or (option_map (λ (e : Account). e.amount) a) 0 + b.1 ≤ unwrap_or (option_map (λ (e : Account). e.limit) a) 0) (sym (other b low.0)) all.0, fits bs low.1 all.1)
@@ -216,8 +216,8 @@ AreBooks-charged xs total u cs books update queries asc none room =
     let sums = imports_imported cs xs are books.ascending in
     let same : account_of (charged_to_queries xs cs) u.0 ≡ account_of xs u.0 = account_imported_other u.0 cs xs (not_charged xs u.0 cs update queries) in
     let is_u : is_open_update (charged_to_queries xs cs) u.0 ≡ true = ap (λ (a : Option Account). unwrap_or (option_map (λ (b : Account). not b.query) a) false) same ∙ update in
-    let fits : amount_at (charged_to_queries xs cs) u.0 + total_of cs ≤ limit_at (charged_to_queries xs cs) u.0 =
-    subst (λ (a : Option Account). unwrap_or (option_map (λ (e : Account). e.amount) a) 0 + total_of cs ≤ unwrap_or (option_map (λ (e : Account). e.limit) a) 0) (sym same) (ltb-false (limit_at xs u.0) (amount_at xs u.0 + total_of cs) room) in
+    let fits : account_amount (charged_to_queries xs cs) u.0 + total_of cs ≤ limit_at (charged_to_queries xs cs) u.0 =
+    subst (λ (a : Option Account). unwrap_or (option_map (λ (e : Account). e.amount) a) 0 + total_of cs ≤ unwrap_or (option_map (λ (e : Account). e.limit) a) 0) (sym same) (ltb-false (limit_at xs u.0) (account_amount xs u.0 + total_of cs) room) in
     let last = exports_raised_update u.0 (total_of cs) (charged_to_queries xs cs) asc_then is_u in
     record {
       ascending = raised_ascends u.0 (total_of cs) (charged_to_queries xs cs) asc_then;
@@ -226,9 +226,9 @@ AreBooks-charged xs total u cs books update queries asc none room =
       export_sum = last.1 ∙ ap (λ m. m + total_of cs) (sums.1 ∙ books.export_sum);
     }
   where
-    fitting : (bs : List (TxnId × ℕ)) → AllByRecursion (λ (c : TxnId × ℕ). would_pass xs c.0.0 c.1 ≡ false) bs → AllByRecursion (λ (c : TxnId × ℕ). amount_at xs c.0.0 + c.1 ≤ limit_at xs c.0.0) bs
+    fitting : (bs : List (TxnId × ℕ)) → AllByRecursion (λ (c : TxnId × ℕ). would_pass xs c.0.0 c.1 ≡ false) bs → AllByRecursion (λ (c : TxnId × ℕ). account_amount xs c.0.0 + c.1 ≤ limit_at xs c.0.0) bs
     fitting [] all = tt
-    fitting (b ∷ bs) all = (ltb-false (limit_at xs b.0.0) (amount_at xs b.0.0 + b.1) all.0, fitting bs all.1)
+    fitting (b ∷ bs) all = (ltb-false (limit_at xs b.0.0) (account_amount xs b.0.0 + b.1) all.0, fitting bs all.1)
 
 pub limit_small : (t : ℕ) (xs : List Account) → AllByRecursion IsWithinLimit xs → limit_at xs t < 2 ^ 64
 limit_small t [] all = omega arith
@@ -252,22 +252,22 @@ module _ (xs : List Account) (total : ℕ) (books : AreBooks xs total) (u : TxnI
     parts : (find (λ (c : TxnId × ℕ). would_pass xs c.0.0 c.1) cs ≡ None) × (would_pass xs u.0 (total_of cs) ≡ false)
     parts = quote_fits (find (λ (c : TxnId × ℕ). would_pass xs c.0.0 c.1) cs) (would_pass xs u.0 (total_of cs)) u fits
 
-    pub imports_fit : All (λ (c : TxnId × ℕ). amount_at xs c.0.0 + c.1 < 2 ^ 64) cs
+    pub imports_fit : All (λ (c : TxnId × ℕ). account_amount xs c.0.0 + c.1 < 2 ^ 64) cs
     imports_fit =
-        All-weaker (λ (c : TxnId × ℕ). would_pass xs c.0.0 c.1 ≡ false) (λ (c : TxnId × ℕ). amount_at xs c.0.0 + c.1 < 2 ^ 64)
-        (λ c is. let le : amount_at xs c.0.0 + c.1 ≤ limit_at xs c.0.0 = ltb-false (limit_at xs c.0.0) (amount_at xs c.0.0 + c.1) is in let lim : limit_at xs c.0.0 < 2 ^ 64 = limit_small c.0.0 xs books.within in omega arith)
+        All-weaker (λ (c : TxnId × ℕ). would_pass xs c.0.0 c.1 ≡ false) (λ (c : TxnId × ℕ). account_amount xs c.0.0 + c.1 < 2 ^ 64)
+        (λ c is. let le : account_amount xs c.0.0 + c.1 ≤ limit_at xs c.0.0 = ltb-false (limit_at xs c.0.0) (account_amount xs c.0.0 + c.1) is in let lim : limit_at xs c.0.0 < 2 ^ 64 = limit_small c.0.0 xs books.within in omega arith)
         cs (All-from_recursion (λ (c : TxnId × ℕ). would_pass xs c.0.0 c.1 ≡ false) cs (find_none_all (λ (c : TxnId × ℕ). would_pass xs c.0.0 c.1) cs parts.0))
 
-    pub export_fits : amount_at xs u.0 + total_of cs < 2 ^ 64
+    pub export_fits : account_amount xs u.0 + total_of cs < 2 ^ 64
     export_fits =
-        let le : amount_at xs u.0 + total_of cs ≤ limit_at xs u.0 = ltb-false (limit_at xs u.0) (amount_at xs u.0 + total_of cs) parts.1 in
+        let le : account_amount xs u.0 + total_of cs ≤ limit_at xs u.0 = ltb-false (limit_at xs u.0) (account_amount xs u.0 + total_of cs) parts.1 in
         let lim : limit_at xs u.0 < 2 ^ 64 = limit_small u.0 xs books.within in
         omega arith
 
     pub account_stays : account_of (charged_to_queries xs cs) u.0 ≡ account_of xs u.0
     account_stays = account_imported_other u.0 cs xs (not_charged xs u.0 cs are.update (recursion_from_All (λ (c : TxnId × ℕ). is_open_query xs c.0.0 ≡ true) cs are.queries))
 
-    pub export_fits_then : amount_at (charged_to_queries xs cs) u.0 + total_of cs < 2 ^ 64
+    pub export_fits_then : account_amount (charged_to_queries xs cs) u.0 + total_of cs < 2 ^ 64
     export_fits_then = subst (λ (a : Option Account). unwrap_or (option_map (λ (e : Account). e.amount) a) 0 + total_of cs < 2 ^ 64) (sym account_stays) export_fits
 
     pub still_open : is_open (charged_to_queries xs cs) u.0 ≡ true
@@ -290,8 +290,8 @@ total_bounded xs total books =
         at false = omega arith
 
 -- a new account
-pub AreBooks-opened : (xs : List Account) (total : ℕ) (a : Account) → AreBooks xs total → a.amount ≡ 0 → a.limit < 2 ^ 64 → (i : ℕ) → insert xs i a ≡ opened xs a → AreBooks (opened xs a) total
-AreBooks-opened xs total a books zero_is small i is = record {
+pub AreBooks-with_account : (xs : List Account) (total : ℕ) (a : Account) → AreBooks xs total → a.amount ≡ 0 → a.limit < 2 ^ 64 → (i : ℕ) → insert xs i a ≡ with_account xs a → AreBooks (with_account xs a) total
+AreBooks-with_account xs total a books zero_is small i is = record {
   ascending = placed_ascends number (number a) a (λ b. b) refl (λ b. refl) xs books.ascending;
   within = all_placed number IsWithinLimit (number a) a (λ b. b) (omega arith, small) (λ b w. w) xs books.within;
   import_sum = ap imports (sym is) ∙ (sum_by-insert import_of xs i a ∙ (none import_of refl_import ∙ books.import_sum));

@@ -27,15 +27,15 @@ is_open_update accounts t = unwrap_or (option_map (λ a. not a.query) (account_o
 abbrev pub limit_at : List Account → ℕ → ℕ
 limit_at accounts t = unwrap_or (option_map (λ a. a.limit) (account_of accounts t)) 0
 
-abbrev pub amount_at : List Account → ℕ → ℕ
-amount_at accounts t = unwrap_or (option_map (λ a. a.amount) (account_of accounts t)) 0
+abbrev pub account_amount : List Account → ℕ → ℕ
+account_amount accounts t = unwrap_or (option_map (λ a. a.amount) (account_of accounts t)) 0
 
 -- the accounts with a new one, in the order of their numbers
 abbrev pub new_account : Bool → TxnId → ℕ → Account
 new_account query t limit = record { number = t; query = query; limit = limit; amount = 0 }
 
-abbrev pub opened : List Account → Account → List Account
-opened accounts a = placed number (number a) a (λ b. b) accounts
+abbrev pub with_account : List Account → Account → List Account
+with_account accounts a = placed number (number a) a (λ b. b) accounts
 
 -- Charges of an update: to each query an amount, by ascending queries.
 
@@ -44,7 +44,7 @@ total_of charges = sum_by (λ c. c.1) charges
 
 -- whether one more amount would pass the limit of a transaction
 abbrev pub would_pass : List Account → ℕ → ℕ → Bool
-would_pass accounts t amount = nat_lt (limit_at accounts t) (amount_at accounts t + amount)
+would_pass accounts t amount = nat_lt (limit_at accounts t) (account_amount accounts t + amount)
 
 abbrev pub quoted : Option (TxnId × ℕ) → Bool → TxnId → Quote
 quoted (Some c) over u = Import c.0

@@ -1,6 +1,6 @@
 ghost use Rattle.std.specs.Prelude.{◌≡◌, ◌+◌, ◌<◌, ◌^◌, true, Some, IfOk, IfErr, IsTrue, length};
 ghost use Rattle.esr_history.specs.Ascending.{IsAscendingBy, IsPlaceOf, IsGapFor};
-ghost use Rattle.esr_ledgers.specs.Books.{number, account_of, is_open, amount_at, raised};
+ghost use Rattle.esr_ledgers.specs.Books.{number, account_of, is_open, account_amount, raised};
 
 use esr_history::TxnId;
 
@@ -66,7 +66,7 @@ pub fn find_account(accounts: &[Account], t: TxnId) -> Account
 pub fn raise(accounts: &mut Vec<Account>, t: TxnId, amount: u64)
     requires ascending { IsAscendingBy number accounts.old.items }
     requires open { is_open accounts.old.items t.0 ≡ true }
-    requires fits { amount_at accounts.old.items t.0 + amount < 2 ^ 64 }
+    requires fits { account_amount accounts.old.items t.0 + amount < 2 ^ 64 }
     ensures { accounts.new.items ≡ raised t.0 amount accounts.old.items }
 {
     let at = index_of(accounts, t);

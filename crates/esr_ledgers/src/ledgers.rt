@@ -1,6 +1,6 @@
 ghost use Rattle.std.specs.Prelude.{◌≡◌, ◌+◌, ◌*◌, ◌<◌, ◌≤◌, ◌^◌, [], true, false, All, OnOk, OnErr, find};
 ghost use Rattle.esr_history.specs.Ascending.{IsAscendingBy};
-ghost use Rattle.esr_ledgers.specs.Books.{number, is_open, is_open_query, is_open_update, amount_at, new_account, opened, total_of, would_pass, quote_of, charged_to_queries, charged, AreCharges, imports, exports};
+ghost use Rattle.esr_ledgers.specs.Books.{number, is_open, is_open_query, is_open_update, account_amount, new_account, with_account, total_of, would_pass, quote_of, charged_to_queries, charged, AreCharges, imports, exports};
 
 use crate::account::{Account, find_account, place_of, raise};
 use esr_history::{NoMemory, TxnId};
@@ -80,7 +80,7 @@ fn import_each(accounts: &mut Vec<Account>, charges: &[(TxnId, u64)])
     requires ascending { IsAscendingBy number accounts.old.items }
     requires queries { All (λ c. is_open accounts.old.items c.0.0 ≡ true) charges.now }
     requires listed { IsAscendingBy (λ c. c.0.0) charges.now }
-    requires fits { All (λ c. amount_at accounts.old.items c.0.0 + c.1 < 2 ^ 64) charges.now }
+    requires fits { All (λ c. account_amount accounts.old.items c.0.0 + c.1 < 2 ^ 64) charges.now }
     ensures items { accounts.new.items ≡ charged_to_queries accounts.old.items charges.now }
     ensures ascending { IsAscendingBy number accounts.new.items }
 {
@@ -110,7 +110,7 @@ impl Ledgers {
     /// Opens the account of a query, which may import up to this limit.
     pub fn open_query(&mut self, q: TxnId, limit: u64) -> Result<(), NoMemory>
         requires { is_open self.old q.0 ≡ false }
-        ensures ok { OnOk result (self.new ≡ opened self.old (new_account true q limit)) }
+        ensures ok { OnOk result (self.new ≡ with_account self.old (new_account true q limit)) }
         ensures err { OnErr result (self.new ≡ self.old) }
     {
         self.open(q, true, limit)
@@ -119,7 +119,7 @@ impl Ledgers {
     /// Opens the account of an update, which may export up to this limit.
     pub fn open_update(&mut self, u: TxnId, limit: u64) -> Result<(), NoMemory>
         requires { is_open self.old u.0 ≡ false }
-        ensures ok { OnOk result (self.new ≡ opened self.old (new_account false u limit)) }
+        ensures ok { OnOk result (self.new ≡ with_account self.old (new_account false u limit)) }
         ensures err { OnErr result (self.new ≡ self.old) }
     {
         self.open(u, false, limit)
@@ -127,7 +127,7 @@ impl Ledgers {
 
     fn open(&mut self, number: TxnId, query: bool, limit: u64) -> Result<(), NoMemory>
         requires { is_open self.old number.0 ≡ false }
-        ensures ok { OnOk result (self.new ≡ opened self.old (new_account query number limit)) }
+        ensures ok { OnOk result (self.new ≡ with_account self.old (new_account query number limit)) }
         ensures err { OnErr result (self.new ≡ self.old) }
     {
         let at = match place_of(&self.accounts, number) {
@@ -184,7 +184,7 @@ impl Ledgers {
     /// What a query has imported.
     pub fn import(&self, q: TxnId) -> u64
         requires { is_open_query self.now q.0 ≡ true }
-        ensures { result ≡ amount_at self.now q.0 }
+        ensures { result ≡ account_amount self.now q.0 }
     {
         find_account(&self.accounts, q).amount
     }
@@ -192,7 +192,7 @@ impl Ledgers {
     /// What an update has exported.
     pub fn export(&self, u: TxnId) -> u64
         requires { is_open_update self.now u.0 ≡ true }
-        ensures { result ≡ amount_at self.now u.0 }
+        ensures { result ≡ account_amount self.now u.0 }
     {
         find_account(&self.accounts, u).amount
     }

@@ -4,7 +4,7 @@ use Rattle.std.specs.Option.{option_map}
 use Rattle.esr_history.specs.Ascending.{IsPlaceOf}
 use Rattle.esr_history.proofs.Ascending.{found_at}
 use Rattle.esr_ledgers.specs.declared.account.Account.{Account}
-use Rattle.esr_ledgers.specs.Books.{number, account_of, amount_at}
+use Rattle.esr_ledgers.specs.Books.{number, account_of, account_amount}
 use Rattle.esr_ledgers.proofs.Books.{raised_at}
 use Rattle.esr_ledgers.proofs.account.raise.Goals as goal
 use Rattle.esr_ledgers.proofs.account.raise.Goals.{After-index_mut-account}
@@ -17,8 +17,8 @@ overflow_add-account c =
     let w : After-index_mut-account = (goal.at.overflow_add-account c).After-index_mut-account in
     let found : account_of c.args.accounts.now.items c.args.t.0 ≡ Some c.index_mut-account.result.now =
     found_at number c.args.t.0 c.index_of-at.result c.args.accounts.now.items c.index_mut-account.result.now c.requires.ascending (place w) ∙ ap Some (sym c.index_mut-account.ensures.value) in
-    let is : amount_at c.args.accounts.now.items c.args.t.0 ≡ c.index_mut-account.result.now.amount = ap (λ (a : Option Account). unwrap_or (option_map (λ (b : Account). b.amount) a) 0) found in
-    let fits : amount_at c.args.accounts.now.items c.args.t.0 + c.args.amount < 2 ^ 64 = c.requires.fits in
+    let is : account_amount c.args.accounts.now.items c.args.t.0 ≡ c.index_mut-account.result.now.amount = ap (λ (a : Option Account). unwrap_or (option_map (λ (b : Account). b.amount) a) 0) found in
+    let fits : account_amount c.args.accounts.now.items c.args.t.0 + c.args.amount < 2 ^ 64 = c.requires.fits in
     omega (arith, is, fits)
 
 pub returns : goal.returns

@@ -5,8 +5,8 @@ use Rattle.std.proofs.lemmas.Grind.{common_steps}
 use Rattle.esr_history.specs.Ascending.{IsPlaceOf, IsGapFor}
 use Rattle.esr_history.proofs.Ascending.{any_place, placed_gap}
 use Rattle.esr_ledgers.specs.declared.account.Account.{Account}
-use Rattle.esr_ledgers.specs.Books.{number, is_open, opened, new_account}
-use Rattle.esr_ledgers.proofs.Books.{AreBooks-opened}
+use Rattle.esr_ledgers.specs.Books.{number, is_open, with_account, new_account}
+use Rattle.esr_ledgers.proofs.Books.{AreBooks-with_account}
 use Rattle.esr_ledgers.proofs.ledgers.Ledgers.open.Goals as goal
 use Rattle.esr_ledgers.proofs.ledgers.Ledgers.open.Goals.{Else-is_err}
 
@@ -19,14 +19,14 @@ unreachable-requires c =
 put : (c : Else-is_err) → c.insert.new.self.items ≡ insert c.self.inside.accounts.items c.in-Err.at (new_account c.args.query c.args.number c.args.limit)
 put c = grind (arith, common_steps)
 
-placed_is : (c : Else-is_err) → insert c.self.inside.accounts.items c.in-Err.at (new_account c.args.query c.args.number c.args.limit) ≡ opened c.self.inside.accounts.items (new_account c.args.query c.args.number c.args.limit)
+placed_is : (c : Else-is_err) → insert c.self.inside.accounts.items c.in-Err.at (new_account c.args.query c.args.number c.args.limit) ≡ with_account c.self.inside.accounts.items (new_account c.args.query c.args.number c.args.limit)
 placed_is c =
     let gap : IsGapFor number c.self.inside.accounts.items c.args.number.0 c.in-Err.at = rw (← c.deref.ensures.value) c.in-Err.ensures.absent in
     placed_gap number c.args.number.0 (new_account c.args.query c.args.number c.args.limit) (λ a. a) c.self.inside.accounts.items c.in-Err.at gap
 
 pub invariant_of-self-2 : goal.invariant_of-self-2
 invariant_of-self-2 c =
-    rw (put c ∙ placed_is c) (AreBooks-opened c.self.inside.accounts.items c.self.inside.total (new_account c.args.query c.args.number c.args.limit) c.self.invariant refl (omega arith) c.in-Err.at (placed_is c))
+    rw (put c ∙ placed_is c) (AreBooks-with_account c.self.inside.accounts.items c.self.inside.total (new_account c.args.query c.args.number c.args.limit) c.self.invariant refl (omega arith) c.in-Err.at (placed_is c))
 
 pub returns-clause-ok : goal.returns-clause-ok
-returns-clause-ok c = put c ∙ (placed_is c ∙ ap (λ (v : List Account). opened v (new_account c.args.query c.args.number c.args.limit)) c.self.view_is)
+returns-clause-ok c = put c ∙ (placed_is c ∙ ap (λ (v : List Account). with_account v (new_account c.args.query c.args.number c.args.limit)) c.self.view_is)
