@@ -1,4 +1,2 @@
 mod Faultless
 mod Readings
-mod Rows
-mod Stops

@@ -1,0 +1,149 @@
+//! The commands of the program `esr`, as `clap` reads them, and their help.
+#![tactic(auto)]
+
+ghost use Rattle.std.specs.Prelude.{◌≡◌, IfOk, false};
+ghost use Rattle.clap.specs.Words.{app_of, with_subcommand};
+ghost use Rattle.clap.specs.declared.builder.command.Command.TheViews.{out-Command};
+ghost use Rattle.esr_commands.specs.Program.{certify, esr, named, parallel, program, queries, scripts};
+
+use clap::{Arg, ArgAction, Command, value_parser};
+use std::alloc::{AllocError, Global};
+
+const SCRIPTS: &str = "A script is a list of lines, each answered by one line:
+
+  item NAME VALUE             declares an item (before all other lines)
+  item NAME VALUE weight W    the same; distances count W times, 1 to 1000
+  begin NAME update LIMIT     begins an update, which may export at most LIMIT
+  begin NAME query LIMIT      begins a query, which may import at most LIMIT
+  begin NAME query LIMIT strict   the same, audited behind all that had committed
+  read TRANSACTION ITEM
+  write TRANSACTION ITEM VALUE
+  commit TRANSACTION
+  abort TRANSACTION
+  audit QUERY                 how far a committed query is from a serial order
+  totals                      what was imported and exported, and the entries
+  # a comment                 skipped, as an empty line is
+
+For example:
+
+  item a 100
+  begin u update 50
+  begin q query 10
+  write u a 107
+  read q a
+  commit u
+  commit q
+  audit q
+
+docs/FORMATS.md has every rule.";
+
+/// `name NAME`
+fn named<'a>(alloc: Global, name: &'a str, about: &'a str) -> Result<Command<'a>, AllocError>
+    ensures app { IfOk result (λ c. app_of c ≡ named name.entry.now) }
+    ensures local { IfOk result (λ c. (out-Command c).has_globals ≡ false) }
+{
+    let query = Arg::new(alloc, "NAME").required(true).help("The query");
+    Command::new(alloc, name).about(about).arg(query)
+}
+
+/// `certify [--steps] NAME`
+fn certify<'a>(alloc: Global) -> Result<Command<'a>, AllocError>
+    ensures app { IfOk result (λ c. app_of c ≡ certify) }
+    ensures local { IfOk result (λ c. (out-Command c).has_globals ≡ false) }
+{
+    let about = "Runs a script from standard input and writes the bundle of a query";
+    let steps = Arg::new(alloc, "steps")
+        .long("steps")
+        .action(ArgAction::SetTrue)
+        .help("Tells how many augmentations led to the flow");
+    named(alloc, "certify", about)?.arg(steps)
+}
+
+/// Adds `name NAME` to a program.
+fn with_named<'a>(
+    alloc: Global,
+    commands: Command<'a>,
+    name: &'a str,
+    about: &'a str,
+) -> Result<Command<'a>, AllocError>
+    ensures { IfOk result (λ c. app_of c ≡ with_subcommand (app_of commands.entry) (named name.entry.now).top) }
+{
+    let command = named(alloc, name, about)?;
+    commands.subcommand(command)
+}
+
+/// `name [--workers W]`
+fn parallel<'a>(alloc: Global, name: &'a str, about: &'a str) -> Result<Command<'a>, AllocError>
+    ensures app { IfOk result (λ c. app_of c ≡ parallel name.entry.now) }
+    ensures local { IfOk result (λ c. (out-Command c).has_globals ≡ false) }
+{
+    let workers = Arg::new(alloc, "workers")
+        .long("workers")
+        .value_name("W")
+        .value_parser(value_parser!(u64).range(1..=64))
+        .default_value("4")
+        .help("How many threads audit, 1 to 64");
+    Command::new(alloc, name).about(about).arg(workers)
+}
+
+/// Adds `name [--workers W]` to a program.
+fn with_parallel<'a>(
+    alloc: Global,
+    commands: Command<'a>,
+    name: &'a str,
+    about: &'a str,
+) -> Result<Command<'a>, AllocError>
+    ensures { IfOk result (λ c. app_of c ≡ with_subcommand (app_of commands.entry) (parallel name.entry.now).top) }
+{
+    let command = parallel(alloc, name, about)?;
+    commands.subcommand(command)
+}
+
+/// The program without its commands.
+fn shell<'a>(alloc: Global) -> Command<'a>
+    ensures { app_of result ≡ esr }
+{
+    Command::new(alloc, "esr")
+        .about("Epsilon-serializable transactions over whole-number items")
+        .after_help(SCRIPTS)
+        .version("0.1.0")
+        .subcommand_required(true)
+}
+
+/// The program with the jobs that need one thread.
+fn scripts<'a>(alloc: Global) -> Result<Command<'a>, AllocError>
+    ensures { IfOk result (λ c. app_of c ≡ scripts) }
+{
+    let run = Command::new(alloc, "run")
+        .about("Runs a script from standard input to standard output")
+        .after_help(SCRIPTS);
+    let check = Command::new(alloc, "check").about(
+        "Judges the bundle on standard input: valid, invalid or bad",
+    );
+    shell(alloc)
+        .subcommand(run)?
+        .subcommand(certify(alloc)?)?
+        .subcommand(check)
+}
+
+/// The same with the jobs that show one query to a person.
+fn queries<'a>(alloc: Global) -> Result<Command<'a>, AllocError>
+    ensures { IfOk result (λ c. app_of c ≡ queries) }
+{
+    let explain = "Runs a script from standard input and tells what a query read and was charged";
+    let picture = "Runs a script from standard input and writes a picture of a query, an SVG";
+    let commands = scripts(alloc)?;
+    let commands = with_named(alloc, commands, "explain", explain)?;
+    with_named(alloc, commands, "picture", picture)
+}
+
+/// The program with all its commands.
+pub fn program<'a>(alloc: Global) -> Result<Command<'a>, AllocError>
+    ensures { IfOk result (λ c. app_of c ≡ program) }
+{
+    let audit = "Runs a script from standard input and audits each committed query";
+    let drive = "Runs the sessions of a drive file from standard input, each on a thread";
+    let commands = queries(alloc)?;
+    let commands = with_parallel(alloc, commands, "audit", audit)?;
+    with_parallel(alloc, commands, "drive", drive)
+}
