@@ -2,7 +2,8 @@
 #![tactic(auto)]
 
 ghost use Rattle.std.specs.Prelude.{◌≡◌, IfOk, MatchResult, Some, codes, option_map};
-ghost use Rattle.clap.specs.Words.{fault_of, first_of, found_of, kind_of, rows_of, subcommand_of, subcommand_rows_of, FailsBy};
+ghost use Rattle.clap.specs.Words.{fault_of, first_of, found_of, kind_of, rows_of};
+ghost use Rattle.clap.specs.Words.{subcommand_of, subcommand_rows_of, FailsBy};
 ghost use Rattle.clap.specs.Walk.{texts};
 ghost use Rattle.clap.specs.declared.error.kind.ErrorKind.TheVariants.{OutOfMemory};
 ghost use Rattle.esr_commands.specs.Program.{program};

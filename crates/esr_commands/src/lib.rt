@@ -1,4 +1,4 @@
-//! The commands of the program `esr`, as `clap` reads them, and their help.
+//! The commands of the program `esr`, and what help says of each.
 #![tactic(auto)]
 
 ghost use Rattle.std.specs.Prelude.{◌≡◌, IfOk, false};
@@ -137,7 +137,7 @@ fn queries<'a>(alloc: Global) -> Result<Command<'a>, AllocError>
     with_named(alloc, commands, "picture", picture)
 }
 
-/// The program with all its commands.
+/// The program `esr` with all its commands, as `clap` is told of them.
 pub fn program<'a>(alloc: Global) -> Result<Command<'a>, AllocError>
     ensures { IfOk result (λ c. app_of c ≡ program) }
 {

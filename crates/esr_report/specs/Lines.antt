@@ -1,12 +1,12 @@
 -- The lines of a report.
-use Rattle.std.specs.Prelude.{ℕ, ℤ, List, [], ◌∷◌, ◌++◌, Option, None, Some, map, codes, decimal}
+use Rattle.std.specs.Prelude.{ℕ, ℤ, List, [], ◌∷◌, ◌++◌, map, codes, decimal, Option, None, Some}
 use Rattle.std.specs.List.{join_with_byte}
 use Rattle.std.specs.Fmt.{signed_decimal}
 use Rattle.esr_history.specs.declared.event.Reply.{Reply}
 use Rattle.esr_history.specs.declared.event.Reply.TheVariants.{Begun, Value, Wrote, Committed, Aborted, Refused}
 use Rattle.esr_history.specs.declared.event.Refusal.{Refusal}
 use Rattle.esr_history.specs.declared.event.TxnId.{TxnId}
-use Rattle.esr_history.specs.Refusals.{blocker, refusal_number, refusal_words}
+use Rattle.esr_history.specs.Refusals.{refusal_number, refusal_words, refusal_named}
 use Rattle.esr_report.specs.declared.lines.LineError.{LineError}
 use Rattle.esr_report.specs.declared.lines.LineError.TheVariants as error
 use Rattle.esr_report.specs.Names.{name_of_transaction}
@@ -45,15 +45,22 @@ committed_line txn = line (codes "committed" ∷ txn ∷ [])
 abbrev pub aborted_line : List ℕ → List ℕ
 aborted_line txn = line (codes "aborted" ∷ txn ∷ [])
 
--- why an event was refused, and by which transaction it was blocked, where it was by one
-abbrev pub refusal_line_by : List (List ℕ) → Refusal → Option TxnId → List ℕ
-refusal_line_by names why None = line (codes "refused" ∷ decimal (refusal_number why) ∷ refusal_words why ∷ [])
-refusal_line_by names why (Some t) =
-    line (codes "blocked" ∷ decimal (refusal_number why) ∷ refusal_words why ∷ name_of_transaction names t.0 ∷ [])
+-- an event that was refused, and one that was blocked, by the number of the refusal, its words, and whom it names
+abbrev pub refused : ℕ → List ℕ → List ℕ
+refused number words = line (codes "refused" ∷ decimal number ∷ words ∷ [])
 
--- the same; the names are those of the transactions, in the order of their numbers
+abbrev pub blocked : ℕ → List ℕ → List ℕ → List ℕ
+blocked number words name = line (codes "blocked" ∷ decimal number ∷ words ∷ name ∷ [])
+
+-- why an event was refused; where the refusal names a transaction, that one blocks the event
+abbrev pub reason_line : List (List ℕ) → Refusal → Option TxnId → List ℕ
+reason_line names why None = refused (refusal_number why) (refusal_words why)
+reason_line names why (Some txn) =
+    blocked (refusal_number why) (refusal_words why) (name_of_transaction names txn.0)
+
+-- the same for whom it names itself; the names are those of the transactions, in the order of their numbers
 abbrev pub refusal_line : List (List ℕ) → Refusal → List ℕ
-refusal_line names why = refusal_line_by names why (blocker why)
+refusal_line names why = reason_line names why (refusal_named why)
 
 -- what an event names: a transaction, an item and a value to write, as far as it has them
 pub record Named : Type 0 where

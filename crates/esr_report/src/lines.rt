@@ -1,7 +1,7 @@
-ghost use Rattle.std.specs.Prelude.{◌≡◌, ◌≤◌, [], ◌++◌, ◌∷◌, OnOk, OnErr, IsOk, map, take, length, codes, decimal};
+ghost use Rattle.std.specs.Prelude.{◌≡◌, ◌≤◌, [], ◌++◌, ◌∷◌, OnOk, OnErr, IsOk, map, take, length};
 ghost use Rattle.std.specs.List.{join_with_byte};
 ghost use Rattle.esr_history.specs.Watch.{BeginsWith};
-ghost use Rattle.esr_report.specs.Lines.{line, item_line, weighted_item_line, session_line, begun_line, value_line, wrote_line, refusal_line, reply_line, totals_line, listed, audit_line, names_line, order_line, error_line};
+ghost use Rattle.esr_report.specs.Lines.{refused, blocked, line, item_line, weighted_item_line, session_line, begun_line, value_line, wrote_line, refusal_line, reply_line, totals_line, listed, audit_line, names_line, order_line, error_line};
 ghost use Rattle.esr_report.specs.Subjects.{named_by};
 ghost use Rattle.esr_report.specs.Names.{name_of_transaction};
 
@@ -147,18 +147,16 @@ pub fn name_of_transaction<N: TransactionNames>(names: &N, txn: TxnId) -> &str
 
 /// Appends the line of an event that was refused.
 fn push_refused(out: &mut Vec<u8>, number: u32, words: &str) -> Result<(), AllocError>
-    ensures ok { OnOk result (out.new.items
-        ≡ out.old.items ++ line (codes "refused" ∷ decimal number ∷ words.now ∷ [])) }
+    ensures ok { OnOk result (out.new.items ≡ out.old.items ++ refused number words.now) }
     ensures err { OnErr result (out.new.items ≡ out.old.items) }
 {
     let mut digits = itoa::Buffer::new();
     push_line(out, "refused", &[digits.format(number), words])
 }
 
-/// Appends the line of an event that was blocked by the transaction of that name.
+/// Appends the line of an event that was blocked by what the transaction holds.
 fn push_blocked(out: &mut Vec<u8>, number: u32, words: &str, name: &str) -> Result<(), AllocError>
-    ensures ok { OnOk result (out.new.items
-        ≡ out.old.items ++ line (codes "blocked" ∷ decimal number ∷ words.now ∷ name.now ∷ [])) }
+    ensures ok { OnOk result (out.new.items ≡ out.old.items ++ blocked number words.now name.now) }
     ensures err { OnErr result (out.new.items ≡ out.old.items) }
 {
     let mut digits = itoa::Buffer::new();
@@ -175,10 +173,10 @@ pub fn refusal_line<N: TransactionNames>(
     ensures ok { OnOk result (out.new.items ≡ out.old.items ++ refusal_line (N.names names.now) why) }
     ensures err { OnErr result (out.new.items ≡ out.old.items) }
 {
-    match why.blocker() {
+    match why.named() {
         None => push_refused(out, why.number(), why.words()),
-        Some(t) => {
-            let name = name_of_transaction(names, t);
+        Some(txn) => {
+            let name = name_of_transaction(names, txn);
             push_blocked(out, why.number(), why.words(), name)
         }
     }
