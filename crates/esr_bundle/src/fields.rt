@@ -1,32 +1,26 @@
 //! Fields of a JSON tree: numbers and lists of them, and the members of an object.
-ghost use Rattle.std.specs.Prelude.{◌≡◌, ◌≢◌, ◌≤◌, Some, None, IfOk, IfErr, map};
+ghost use Rattle.std.specs.Prelude.{◌≡◌, ◌≢◌, ◌≤◌, ℕ, List, Option, Some, None, IfOk, IfErr, map};
+ghost use Rattle.serde_json.specs.Data.{Data};
 ghost use Rattle.serde_json.specs.Find.{get};
 ghost use Rattle.serde_json.specs.View.{view};
-ghost use Rattle.esr_bundle.specs.Fields.{natural_in, naturals_in, pair_of, pairs_of, rows_of, has_keys, one_if, field, numbers_if, number_if};
+ghost use Rattle.esr_bundle.specs.Fields.{natural_in, naturals_in, pair_of, pairs_of, list_of, has_keys, one_if, field, numbers_if, number_if};
 
 use esr_cert::BundleFault;
 use serde_json::Value;
 use std::alloc::Global;
 
-/// A list of numbers.
-pub fn numbers(alloc: Global, value: &Value) -> Result<Vec<u64>, BundleFault>
-    ensures ok { IfOk result (λ v. naturals_in (view value.now) ≡ Some v.items) }
-    ensures err { IfErr result (λ e. e ≢ BundleFault.NoMemory → (e ≡ BundleFault.Shape)
-        × (naturals_in (view value.now) ≡ None)) }
-{
-    let Some(items) = value.as_array() else {
-        return Err(BundleFault::Shape);
-    };
-    let mut found = Vec::new(alloc);
-    for item in items {
-        let Some(number) = item.as_u64() else {
-            return Err(BundleFault::Shape);
-        };
-        if found.push(number).is_err() {
-            return Err(BundleFault::NoMemory);
-        }
-    }
-    Ok(found)
+/// What is read from a tree.
+pub trait Part: Drop + Sized {
+    ghost Kind: { Type 0 };
+
+    ghost shown: { Self → Kind };
+
+    ghost part_of: { Data → Option Kind };
+
+    fn read(alloc: Global, value: &Value) -> Result<Self, BundleFault>
+        ensures ok { IfOk result (λ v. part_of (view value.now) ≡ Some (shown v)) }
+        ensures err { IfErr result (λ e. e ≢ BundleFault.NoMemory → (e ≡ BundleFault.Shape)
+            × (part_of (view value.now) ≡ None)) };
 }
 
 fn pair(value: &Value) -> Option<(u64, u64)>
@@ -39,44 +33,77 @@ fn pair(value: &Value) -> Option<(u64, u64)>
     Some((first.as_u64()?, second.as_u64()?))
 }
 
-/// A list of pairs of numbers.
-pub fn pairs(alloc: Global, value: &Value) -> Result<Vec<(u64, u64)>, BundleFault>
-    ensures ok { IfOk result (λ v. pairs_of (view value.now) ≡ Some v.items) }
+impl Part for u64 {
+    ghost Kind = { ℕ };
+
+    ghost shown = { λ n. n };
+
+    ghost part_of = { natural_in };
+
+    fn read(_alloc: Global, value: &Value) -> Result<u64, BundleFault> {
+        value.as_u64().ok_or(BundleFault::Shape)
+    }
+}
+
+impl Part for (u64, u64) {
+    ghost Kind = { ℕ × ℕ };
+
+    ghost shown = { λ e. e };
+
+    ghost part_of = { pair_of };
+
+    fn read(_alloc: Global, value: &Value) -> Result<(u64, u64), BundleFault> {
+        pair(value).ok_or(BundleFault::Shape)
+    }
+}
+
+impl Part for Vec<u64> {
+    ghost Kind = { List ℕ };
+
+    ghost shown = { λ row. row.items };
+
+    ghost part_of = { naturals_in };
+
+    fn read(alloc: Global, value: &Value) -> Result<Vec<u64>, BundleFault> {
+        numbers(alloc, value)
+    }
+}
+
+/// A list of such parts.
+pub fn list<T: Part>(alloc: Global, value: &Value) -> Result<Vec<T>, BundleFault>
+    ensures ok { IfOk result (λ v. list_of T.part_of (view value.now) ≡ Some (map T.shown v.items)) }
     ensures err { IfErr result (λ e. e ≢ BundleFault.NoMemory → (e ≡ BundleFault.Shape)
-        × (pairs_of (view value.now) ≡ None)) }
+        × (list_of T.part_of (view value.now) ≡ None)) }
 {
     let Some(items) = value.as_array() else {
         return Err(BundleFault::Shape);
     };
     let mut found = Vec::new(alloc);
     for item in items {
-        let Some(two) = pair(item) else {
-            return Err(BundleFault::Shape);
-        };
-        if found.push(two).is_err() {
+        let part = T::read(alloc, item)?;
+        if found.push(part).is_err() {
             return Err(BundleFault::NoMemory);
         }
     }
     Ok(found)
 }
 
-/// A list of lists of numbers.
-pub fn rows(alloc: Global, value: &Value) -> Result<Vec<Vec<u64>>, BundleFault>
-    ensures ok { IfOk result (λ v. rows_of (view value.now) ≡ Some (map (λ r. r.items) v.items)) }
+/// A list of numbers.
+pub fn numbers(alloc: Global, value: &Value) -> Result<Vec<u64>, BundleFault>
+    ensures ok { IfOk result (λ v. naturals_in (view value.now) ≡ Some v.items) }
     ensures err { IfErr result (λ e. e ≢ BundleFault.NoMemory → (e ≡ BundleFault.Shape)
-        × (rows_of (view value.now) ≡ None)) }
+        × (naturals_in (view value.now) ≡ None)) }
 {
-    let Some(items) = value.as_array() else {
-        return Err(BundleFault::Shape);
-    };
-    let mut found = Vec::new(alloc);
-    for item in items {
-        let row = numbers(alloc, item)?;
-        if found.push(row).is_err() {
-            return Err(BundleFault::NoMemory);
-        }
-    }
-    Ok(found)
+    list(alloc, value)
+}
+
+/// A list of pairs of numbers.
+pub fn pairs(alloc: Global, value: &Value) -> Result<Vec<(u64, u64)>, BundleFault>
+    ensures ok { IfOk result (λ v. pairs_of (view value.now) ≡ Some v.items) }
+    ensures err { IfErr result (λ e. e ≢ BundleFault.NoMemory → (e ≡ BundleFault.Shape)
+        × (pairs_of (view value.now) ≡ None)) }
+{
+    list(alloc, value)
 }
 
 /// Whether it is an object with so many keys.

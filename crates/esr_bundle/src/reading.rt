@@ -1,55 +1,41 @@
 //! From bytes to a problem and a certificate.
-ghost use Rattle.std.specs.Prelude.{◌≡◌, ◌≢◌, Some, None, IfOk, IfErr, map};
+ghost use Rattle.std.specs.Prelude.{◌≡◌, ◌≢◌, Some, None, IfOk, IfErr};
 ghost use Rattle.serde_json.specs.View.{view};
-ghost use Rattle.esr_bundle.specs.Fields.{list_of};
 ghost use Rattle.esr_bundle.specs.Bundle.{chain_of, problem_of, certificate_of, parts_of};
+ghost use Rattle.esr_cert.specs.Problem.{Chain};
 ghost use Rattle.esr_cert.specs.Drafts.{drafted_chain, drafted_problem};
 ghost use Rattle.esr_bundle.specs.Drafts.{drafted_certificate};
 ghost use Rattle.esr_bundle.specs.Reading.{IsTree, HasNoTree, IsReadingOf};
 
 use crate::draft::CertificateDraft;
 use crate::fields::{
-    at, has_keys, number_at, number_if, numbers_at, numbers_if, one_if, pairs, rows,
+    Part, at, has_keys, list, number_at, number_if, numbers_at, numbers_if, one_if, pairs,
 };
 use crate::sound::finished;
 use esr_cert::{BundleFault, Certificate, ChainDraft, Problem, ProblemDraft};
 use serde_json::Value;
 use std::alloc::Global;
 
-fn chain(alloc: Global, value: &Value) -> Result<ChainDraft, BundleFault>
-    ensures ok { IfOk result (λ k. chain_of (view value.now) ≡ Some (drafted_chain k)) }
-    ensures err { IfErr result (λ e. e ≢ BundleFault.NoMemory → (e ≡ BundleFault.Shape)
-        × (chain_of (view value.now) ≡ None)) }
-{
-    if !has_keys(value, 3) {
-        return Err(BundleFault::Shape);
-    }
-    let costs = numbers_at(alloc, value, "costs")?;
-    let item = number_at(value, "item")?;
-    let writers = numbers_at(alloc, value, "writers")?;
-    Ok(ChainDraft {
-        item,
-        writers,
-        costs,
-    })
-}
+impl Part for ChainDraft {
+    ghost Kind = { Chain };
 
-fn chains(alloc: Global, value: &Value) -> Result<Vec<ChainDraft>, BundleFault>
-    ensures ok { IfOk result (λ v. list_of chain_of (view value.now) ≡ Some (map drafted_chain v.items)) }
-    ensures err { IfErr result (λ e. e ≢ BundleFault.NoMemory → (e ≡ BundleFault.Shape)
-        × (list_of chain_of (view value.now) ≡ None)) }
-{
-    let Some(items) = value.as_array() else {
-        return Err(BundleFault::Shape);
-    };
-    let mut found = Vec::new(alloc);
-    for item in items {
-        let one = chain(alloc, item)?;
-        if found.push(one).is_err() {
-            return Err(BundleFault::NoMemory);
+    ghost shown = { drafted_chain };
+
+    ghost part_of = { chain_of };
+
+    fn read(alloc: Global, value: &Value) -> Result<ChainDraft, BundleFault> {
+        if !has_keys(value, 3) {
+            return Err(BundleFault::Shape);
         }
+        let costs = numbers_at(alloc, value, "costs")?;
+        let item = number_at(value, "item")?;
+        let writers = numbers_at(alloc, value, "writers")?;
+        Ok(ChainDraft {
+            item,
+            writers,
+            costs,
+        })
     }
-    Ok(found)
 }
 
 fn problem(alloc: Global, value: &Value) -> Result<ProblemDraft, BundleFault>
@@ -61,7 +47,7 @@ fn problem(alloc: Global, value: &Value) -> Result<ProblemDraft, BundleFault>
         return Err(BundleFault::Shape);
     }
     let before = pairs(alloc, at(value, "before")?)?;
-    let chains = chains(alloc, at(value, "chains")?)?;
+    let chains = list(alloc, at(value, "chains")?)?;
     let must = numbers_if(alloc, value, "must")?;
     let updates = numbers_at(alloc, value, "updates")?;
     Ok(ProblemDraft {
@@ -85,7 +71,7 @@ fn certificate(alloc: Global, value: &Value) -> Result<CertificateDraft, BundleF
     }
     let augmentations = number_if(value, "augmentations")?;
     let back_flow = numbers_at(alloc, value, "back_flow")?;
-    let chain_flow = rows(alloc, at(value, "chain_flow")?)?;
+    let chain_flow = list(alloc, at(value, "chain_flow")?)?;
     let must_flow = numbers_if(alloc, value, "must_flow")?;
     let set = numbers_at(alloc, value, "set")?;
     let worth = number_at(value, "worth")?;

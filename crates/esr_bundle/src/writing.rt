@@ -1,8 +1,9 @@
 //! From a problem and a certificate to bytes.
 ghost use Rattle.std.specs.Prelude.{◌≡◌, IfOk, OnOk, Ok, map, true};
-ghost use Rattle.serde_json.specs.View.{view, members_view};
+ghost use Rattle.serde_json.specs.Data.{Data, array};
+ghost use Rattle.serde_json.specs.View.{view, members_view, items_of};
 ghost use Rattle.esr_cert.specs.Views as views;
-ghost use Rattle.esr_bundle.specs.Bundle.{numbers_data, pair_data, pairs_data, rows_data, chain_data, chains_data, problem_data, certificate_data, bundle_data, bundle, is_position};
+ghost use Rattle.esr_bundle.specs.Bundle.{number_data, numbers_data, pair_data, chain_data, problem_data, certificate_data, bundle_data, bundle, is_position};
 ghost use Rattle.std.specs.List.{list_all};
 ghost use Rattle.esr_bundle.specs.Members.{with_list, with_number};
 ghost use Rattle.esr_bundle.specs.Reading.{StandsFor};
@@ -12,79 +13,71 @@ use esr_history::{NoMemory, TxnId};
 use serde_json::{Map, Value, json, put};
 use std::alloc::{AllocError, Global};
 
-fn numbers(alloc: Global, numbers: &[u64]) -> Result<Value, AllocError>
-    ensures { IfOk result (λ v. view v ≡ numbers_data numbers.now) }
-{
-    let mut items = Vec::with_capacity(alloc, numbers.len())?;
-    for number in numbers {
-        items.push(Value::from(*number))?;
+/// What is written as a tree.
+trait Written {
+    ghost shown: { Self → Data };
+
+    fn tree(&self, alloc: Global) -> Result<Value, AllocError>
+        ensures { IfOk result (λ v. view v ≡ shown self.now) };
+}
+
+impl Written for u64 {
+    ghost shown = { number_data };
+
+    fn tree(&self, _alloc: Global) -> Result<Value, AllocError> {
+        Ok(Value::from(*self))
     }
-    Ok(Value::Array(items))
 }
 
-fn positions(alloc: Global, positions: &[u32]) -> Result<Value, AllocError>
-    ensures { IfOk result (λ v. view v ≡ numbers_data positions.now) }
-{
-    let mut items = Vec::with_capacity(alloc, positions.len())?;
-    for position in positions {
-        items.push(Value::from(*position))?;
+impl Written for u32 {
+    ghost shown = { number_data };
+
+    fn tree(&self, _alloc: Global) -> Result<Value, AllocError> {
+        Ok(Value::from(*self))
     }
-    Ok(Value::Array(items))
 }
 
-fn transactions(alloc: Global, transactions: &[TxnId]) -> Result<Value, AllocError>
-    ensures { IfOk result (λ v. view v ≡ numbers_data (map (λ t. t.0) transactions.now)) }
-{
-    let mut items = Vec::with_capacity(alloc, transactions.len())?;
-    for transaction in transactions {
-        items.push(Value::from(transaction.0))?;
+impl Written for TxnId {
+    ghost shown = { λ t. number_data t.0 };
+
+    fn tree(&self, _alloc: Global) -> Result<Value, AllocError> {
+        Ok(Value::from(self.0))
     }
-    Ok(Value::Array(items))
 }
 
-fn pair(alloc: Global, u: u32, v: u32) -> Result<Value, AllocError>
-    ensures { IfOk result (λ d. view d ≡ pair_data (u, v)) }
-{
-    json!(in alloc; [u, v])
-}
+impl Written for (u32, u32) {
+    ghost shown = { pair_data };
 
-fn pairs(alloc: Global, pairs: &[(u32, u32)]) -> Result<Value, AllocError>
-    ensures { IfOk result (λ v. view v ≡ pairs_data pairs.now) }
-{
-    let mut items = Vec::with_capacity(alloc, pairs.len())?;
-    for (u, v) in pairs {
-        let one = pair(alloc, *u, *v)?;
-        items.push(one)?;
+    fn tree(&self, alloc: Global) -> Result<Value, AllocError> {
+        json!(in alloc; [self.0, self.1])
     }
-    Ok(Value::Array(items))
 }
 
-fn rows(alloc: Global, rows: &[Vec<u64>]) -> Result<Value, AllocError>
-    ensures { IfOk result (λ v. view v ≡ rows_data (views.rows_of rows.now)) }
-{
-    let mut items = Vec::with_capacity(alloc, rows.len())?;
-    for row in rows {
-        let one = numbers(alloc, row)?;
-        items.push(one)?;
+impl Written for Vec<u64> {
+    ghost shown = { λ row. numbers_data row.items };
+
+    fn tree(&self, alloc: Global) -> Result<Value, AllocError> {
+        list(alloc, self)
     }
-    Ok(Value::Array(items))
 }
 
-fn chain(alloc: Global, chain: &Chain) -> Result<Value, AllocError>
-    ensures { IfOk result (λ v. view v ≡ chain_data (views.chain_of chain.now)) }
-{
-    let costs = numbers(alloc, &chain.costs)?;
-    let writers = positions(alloc, &chain.writers)?;
-    json!(in alloc; {"costs": costs, "item": chain.item.0, "writers": writers})
+impl Written for Chain {
+    ghost shown = { λ chain. chain_data (views.chain_of chain) };
+
+    fn tree(&self, alloc: Global) -> Result<Value, AllocError> {
+        let costs = list(alloc, &self.costs)?;
+        let writers = list(alloc, &self.writers)?;
+        json!(in alloc; {"costs": costs, "item": self.item.0, "writers": writers})
+    }
 }
 
-fn chains(alloc: Global, chains: &[Chain]) -> Result<Value, AllocError>
-    ensures { IfOk result (λ v. view v ≡ chains_data (map views.chain_of chains.now)) }
+/// The tree of a list.
+fn list<T: Written>(alloc: Global, list: &[T]) -> Result<Value, AllocError>
+    ensures { IfOk result (λ v. view v ≡ array (items_of (map T.shown list.now))) }
 {
-    let mut items = Vec::with_capacity(alloc, chains.len())?;
-    for one in chains {
-        let value = chain(alloc, one)?;
-        items.push(value)?;
+    let mut items = Vec::with_capacity(alloc, list.len())?;
+    for one in list {
+        items.push(one.tree(alloc)?)?;
     }
     Ok(Value::Array(items))
 }
@@ -94,15 +87,15 @@ fn put_positions(
     members: &mut Map<String, Value>,
     alloc: Global,
     key: &str,
-    list: &[u32],
+    these: &[u32],
 ) -> Result<(), AllocError>
     ensures { OnOk result (members_view members.new.entries
-        ≡ with_list key.now list.now (members_view members.old.entries)) }
+        ≡ with_list key.now these.now (members_view members.old.entries)) }
 {
-    if list.is_empty() {
+    if these.is_empty() {
         return Ok(());
     }
-    put(members, alloc, key, positions(alloc, list)?)
+    put(members, alloc, key, list(alloc, these)?)
 }
 
 /// Puts the numbers at the key, where there are any.
@@ -110,15 +103,15 @@ fn put_numbers(
     members: &mut Map<String, Value>,
     alloc: Global,
     key: &str,
-    list: &[u64],
+    these: &[u64],
 ) -> Result<(), AllocError>
     ensures { OnOk result (members_view members.new.entries
-        ≡ with_list key.now list.now (members_view members.old.entries)) }
+        ≡ with_list key.now these.now (members_view members.old.entries)) }
 {
-    if list.is_empty() {
+    if these.is_empty() {
         return Ok(());
     }
-    put(members, alloc, key, numbers(alloc, list)?)
+    put(members, alloc, key, list(alloc, these)?)
 }
 
 /// Puts the number at the key, where there is one.
@@ -145,20 +138,20 @@ fn problem(alloc: Global, problem: &Problem) -> Result<Value, AllocError>
         &mut members,
         alloc,
         "before",
-        pairs(alloc, problem.before())?,
+        list(alloc, problem.before())?,
     )?;
     put(
         &mut members,
         alloc,
         "chains",
-        chains(alloc, problem.chains())?,
+        list(alloc, problem.chains())?,
     )?;
     put_positions(&mut members, alloc, "must", problem.must())?;
     put(
         &mut members,
         alloc,
         "updates",
-        transactions(alloc, problem.updates())?,
+        list(alloc, problem.updates())?,
     )?;
     Ok(Value::Object(members))
 }
@@ -177,21 +170,16 @@ fn certificate(alloc: Global, certificate: &Certificate) -> Result<Value, AllocE
         &mut members,
         alloc,
         "back_flow",
-        numbers(alloc, &certificate.back_flow)?,
+        list(alloc, &certificate.back_flow)?,
     )?;
     put(
         &mut members,
         alloc,
         "chain_flow",
-        rows(alloc, &certificate.chain_flow)?,
+        list(alloc, &certificate.chain_flow)?,
     )?;
     put_numbers(&mut members, alloc, "must_flow", &certificate.must_flow)?;
-    put(
-        &mut members,
-        alloc,
-        "set",
-        positions(alloc, &certificate.set)?,
-    )?;
+    put(&mut members, alloc, "set", list(alloc, &certificate.set)?)?;
     put(&mut members, alloc, "worth", Value::from(certificate.worth))?;
     Ok(Value::Object(members))
 }
