@@ -1,6 +1,6 @@
 //! The updates of a picture, and the arrows between them.
 
-use crate::elements::{push_centred, push_straight, push_vertical};
+use crate::elements::{close_text, open_centred, push_straight, push_vertical};
 use crate::frame::{Frame, arch, is_straight};
 use crate::order::Arrow;
 use crate::scene::{Scene, Update};
@@ -46,18 +46,15 @@ fn push_box(
     let top = frame.boxes();
     let left = x.saturating_sub(u32::from(width / 2));
     push_rect(out, class, left, top, width)?;
-    push_centred(out, "m", x, top + 19, update.name)
+    open_centred(out, "m", x, top + 19)?;
+    close_text(out, update.name)?;
+    out.push_str("\n")
 }
 
 /// The boxes of the updates.
-fn push_boxes(
-    out: &mut String,
-    updates: &[Update<'_>],
-    line: u8,
-    frame: &Frame,
-) -> Result<(), AllocError> {
-    for update in updates {
-        push_box(out, *update, line, frame)?;
+fn push_boxes(out: &mut String, scene: &Scene<'_>, frame: &Frame) -> Result<(), AllocError> {
+    for update in &scene.updates {
+        push_box(out, *update, scene.line, frame)?;
     }
     Ok(())
 }
@@ -119,5 +116,5 @@ fn push_arrows(
 pub fn push_updates(out: &mut String, scene: &Scene<'_>, frame: &Frame) -> Result<(), AllocError> {
     push_drops(out, &scene.updates, frame)?;
     push_arrows(out, scene.query, &scene.arrows, scene.line, frame)?;
-    push_boxes(out, &scene.updates, scene.line, frame)
+    push_boxes(out, scene, frame)
 }

@@ -7,6 +7,20 @@ pub fn open_text(out: &mut String, class: &str, x: u32, y: u32) -> Result<(), Al
     write!(out, "<text class='{class}' x='{x}' y='{y}'>")
 }
 
+/// The start of a text with its middle at x.
+pub fn open_centred(out: &mut String, class: &str, x: u32, y: u32) -> Result<(), AllocError> {
+    write!(
+        out,
+        "<text class='{class}' x='{x}' y='{y}' text-anchor='middle'>"
+    )
+}
+
+/// The words of a text, and its end.
+pub fn close_text(out: &mut String, words: &str) -> Result<(), AllocError> {
+    out.push_str(words)?;
+    out.push_str("</text>")
+}
+
 /// A text.
 pub fn push_text(
     out: &mut String,
@@ -16,24 +30,7 @@ pub fn push_text(
     words: &str,
 ) -> Result<(), AllocError> {
     open_text(out, class, x, y)?;
-    out.push_str(words)?;
-    out.push_str("</text>")
-}
-
-/// A text with its middle at x, and a line feed.
-pub fn push_centred(
-    out: &mut String,
-    class: &str,
-    x: u32,
-    y: u32,
-    words: &str,
-) -> Result<(), AllocError> {
-    write!(
-        out,
-        "<text class='{class}' x='{x}' y='{y}' text-anchor='middle'>"
-    )?;
-    out.push_str(words)?;
-    out.push_str("</text>\n")
+    close_text(out, words)
 }
 
 /// A line from the left to the right.

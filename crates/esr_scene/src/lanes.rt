@@ -2,7 +2,9 @@
 
 ghost use Rattle.std.specs.Prelude.{◌≤◌};
 
-use crate::elements::{open_text, push_centred, push_horizontal, push_text, push_vertical};
+use crate::elements::{
+    close_text, open_centred, open_text, push_horizontal, push_text, push_vertical,
+};
 use crate::frame::Frame;
 use crate::scene::{Lane, LaneReads, Scene, Stretch};
 use std::alloc::AllocError;
@@ -130,14 +132,9 @@ fn push_crossing(out: &mut String, off: u64, x: u32, y: u32) -> Result<(), Alloc
 }
 
 /// What each lane is off where the line crosses it.
-fn push_crossings(
-    out: &mut String,
-    lanes: &[Lane<'_>],
-    line: u8,
-    frame: &Frame,
-) -> Result<(), AllocError> {
-    let x = frame.x(line);
-    for (number, lane) in (0u8..24).zip(lanes.iter()) {
+fn push_crossings(out: &mut String, scene: &Scene<'_>, frame: &Frame) -> Result<(), AllocError> {
+    let x = frame.x(scene.line);
+    for (number, lane) in (0u8..24).zip(scene.lanes.iter()) {
         push_crossing(out, lane.off, x, frame.y(number))?;
     }
     Ok(())
@@ -150,12 +147,14 @@ fn push_line(out: &mut String, query: &str, line: u8, frame: &Frame) -> Result<(
     let floor = frame.floor();
     push_vertical(out, "l", x, top, floor)?;
     out.push_str("\n")?;
-    push_centred(out, "m n r", x, floor + 16, query)
+    open_centred(out, "m n r", x, floor + 16)?;
+    close_text(out, query)?;
+    out.push_str("\n")
 }
 
 /// The lanes and the line.
 pub fn push_audit(out: &mut String, scene: &Scene<'_>, frame: &Frame) -> Result<(), AllocError> {
     push_lanes(out, &scene.lanes, frame)?;
     push_line(out, scene.query, scene.line, frame)?;
-    push_crossings(out, &scene.lanes, scene.line, frame)
+    push_crossings(out, scene, frame)
 }
