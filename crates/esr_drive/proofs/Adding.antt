@@ -10,7 +10,7 @@ use Rattle.std.proofs.lemmas.List.Elements.{filter_map-append, All-push}
 use Rattle.esr_items.specs.Values.{IsValue, is_value}
 use Rattle.esr_items.specs.Weights.{IsWeight, is_weight}
 use Rattle.esr_report.specs.Names.{position_of, is_bound}
-use Rattle.esr_script.specs.Command.{Command}
+use Rattle.esr_line.specs.Command.{Command}
 use Rattle.esr_drive.specs.declared.call.Call.{Call}
 use Rattle.esr_drive.specs.declared.draft.Draft.{Draft}
 use Rattle.esr_drive.specs.Calls.{command_of, IsResolved, AreResolved}

@@ -14,10 +14,9 @@ use Rattle.esr_drive.specs.declared.fault.DriveFault.TheVariants as fault
 use Rattle.esr_drive.specs.declared.fault.DriveFault.TheVariants.{TooManyLines, LineTooLong}
 use Rattle.std.specs.List.{position}
 use Rattle.esr_history.proofs.Ascending.{le_ltb, lt_ltb}
-use Rattle.esr_script.specs.Lines.{lines}
-use Rattle.esr_script.specs.Parts.{line_len}
-use Rattle.esr_script.proofs.Cutting.{Begins, begins, front, behind_front, split-front, plain-front, lines-line, lines-last}
-use Rattle.esr_script.proofs.Prefix.{none_is_length}
+use Rattle.esr_line.specs.Lines.{lines, line_len}
+use Rattle.esr_line.proofs.Cutting.{Begins, begins, front, behind_front, split-front, plain-front, lines-line, lines-last}
+use Rattle.esr_line.proofs.Prefix.{none_is_length}
 use Rattle.esr_drive.proofs.Calling.{position_within}
 
 pub no_feed : (bytes : List ℕ) → position (λ b. nat_eq b 10) bytes ≡ None → 0 < length bytes → lines bytes ≡ bytes ∷ []

@@ -2,7 +2,7 @@
 use Rattle.std.proofs.Common.{◌≡◌, refl, [], ◌∷◌, Ok, Err, Some, None}
 use Rattle.std.specs.Prelude.{codes, pos, negsuc}
 use Rattle.std.specs.Fmt.{digits}
-use Rattle.esr_script.specs.Command.{begin_update, begin_query, read, write, commit}
+use Rattle.esr_line.specs.Command.{begin_update, begin_query, read, write, commit}
 use Rattle.esr_drive.specs.declared.fault.DriveFault.TheVariants.{BadScript}
 use Rattle.esr_drive.specs.Plan.{plan_of}
 

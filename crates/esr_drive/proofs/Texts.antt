@@ -6,14 +6,14 @@ use Rattle.esr_items.specs.declared.store.Versions.{Versions}
 use Rattle.esr_history.specs.declared.event.Reply.{Reply}
 use Rattle.esr_history.specs.Machine.{Schedule}
 use Rattle.esr_core.proofs.Replayed.{first}
-use Rattle.esr_script.specs.Lines.{lines}
+use Rattle.esr_line.specs.Lines.{lines}
 use Rattle.esr_drive.specs.declared.fault.DriveFault.{DriveFault}
 use Rattle.esr_drive.specs.declared.fault.DriveFault.TheVariants as fault
 use Rattle.esr_drive.specs.declared.sheet.Sheet.{Sheet}
 use Rattle.esr_drive.specs.declared.call.Call.{Call}
 use Rattle.esr_drive.specs.Calls.{command_of, AreResolved}
 use Rattle.esr_drive.specs.Plan.{Plan, plan_of, plan_from, cut_fault, with_line, nothing, weights_of}
-use Rattle.esr_script.specs.declared.pending.TheConstants.{MAX_LINES, MAX_LINE_BYTES}
+use Rattle.esr_line.specs.declared.limits.TheConstants.{MAX_LINES, MAX_LINE_BYTES}
 use Rattle.esr_drive.specs.Sheets.{plan_in, IsSound}
 use Rattle.esr_drive.specs.Driven.{IsDriven, all_answers}
 use Rattle.esr_drive.specs.Drive.{IsDriveText, text_of}

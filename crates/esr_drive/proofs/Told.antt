@@ -1,8 +1,8 @@
 -- What an audit finds is what its line says.
 use Rattle.std.proofs.Common.{◌≡◌, ℕ, ℤ, zero, suc, ◌+◌, ◌<◌, List, [], ◌∷◌, ◌++◌, length, take, map, get_or, Option, Result, OnOk, refl, sym, ap, subst, ◌∙◌, append_assoc, append-nil, length-take, arith, ◌≤◌}
 use Rattle.std.specs.List.{flat_map}
+use Rattle.std.proofs.lemmas.Grind.{flat_map-append}
 use Rattle.std.proofs.lemmas.List.{take_more, take_all}
-use Rattle.esr_script.proofs.Audited.{lines_more}
 use Rattle.esr_items.specs.Weights.{weighted}
 use Rattle.esr_history.specs.Machine.{Schedule, charges_in, import_in}
 use Rattle.esr_order.specs.Placements.{is_among}
@@ -32,6 +32,12 @@ told h names name f found is =
     ∙ (ap (λ d. audit_line names (name_of_transaction names f.query.0) d f.import (before_of f)) (found.answer.distance_is ∙ law.1)
     ∙ (ap (λ i. audit_line names (name_of_transaction names f.query.0) (least_cost weighted h f.query.0) i (before_of f)) found.answer.import_is
     ∙ ap (audit_line names (name_of_transaction names f.query.0) (least_cost weighted h f.query.0) (import_in (charges_in weighted h) f.query.0)) (found.answer.in_order ∙ law.0)))
+
+-- one line more
+pub lines_more : {X : Type 0} (f : X → List ℕ) (xs : List X) (i : ℕ) (x : X) (old mid all : List ℕ)
+    → mid ≡ old ++ flat_map f (take i xs) → i < length xs → x ≡ get_or xs i x → all ≡ mid ++ f x → all ≡ old ++ flat_map f (take (i + 1) xs)
+lines_more f xs i x old mid all so_far lt is more =
+    grind (arith, append_assoc old (flat_map f (take i xs)) (f x), take_more xs i x lt, flat_map-append f (take i xs) (x ∷ []), append-nil (f x))
 
 pub whole_text : {X : Type 0} (f : X → List ℕ) (xs : List X) (i : ℕ) (old all : List ℕ) → length xs ≤ i → all ≡ old ++ flat_map f (take i xs) → all ≡ old ++ flat_map f xs
 whole_text f xs i old all le is = is ∙ ap (λ l. old ++ flat_map f l) (take_all i xs le)

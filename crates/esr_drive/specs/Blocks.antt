@@ -11,7 +11,7 @@ use Rattle.esr_history.specs.declared.event.Event.TheVariants as event
 use Rattle.esr_history.specs.declared.event.Reply.{Reply}
 use Rattle.esr_history.specs.declared.event.Reply.TheVariants.{Begun}
 use Rattle.esr_report.specs.Names.{position_of}
-use Rattle.esr_script.specs.Command.{Command, begin_update, begin_query, begin_strict_query, read, write, commit, abort}
+use Rattle.esr_line.specs.Command.{Command, begin_update, begin_query, begin_strict_query, read, write, commit, abort}
 use Rattle.esr_session.specs.declared.receipt.Receipt.{Receipt}
 use Rattle.esr_session.specs.Receipts.{is_blocked}
 use Rattle.esr_drive.specs.Plan.{new_name}

@@ -6,7 +6,7 @@ use Rattle.esr_history.specs.declared.event.TxnId.{TxnId}
 use Rattle.esr_history.specs.declared.event.Event.{Event}
 use Rattle.esr_history.specs.declared.event.Event.TheVariants as event
 use Rattle.esr_history.specs.declared.event.Reply.{Reply}
-use Rattle.esr_script.specs.Command.{Command, begin_update, begin_query, begin_strict_query, read, write, commit, abort}
+use Rattle.esr_line.specs.Command.{Command, begin_update, begin_query, begin_strict_query, read, write, commit, abort}
 use Rattle.esr_drive.specs.declared.call.Caller.{Caller}
 use Rattle.esr_drive.specs.declared.call.Operand.{Operand}
 use Rattle.esr_drive.specs.declared.call.Call.{Call}

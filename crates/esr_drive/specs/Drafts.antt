@@ -5,7 +5,7 @@ use Rattle.esr_items.specs.declared.TheConstants.{MOST_ITEMS}
 use Rattle.esr_items.specs.Values.{IsValue}
 use Rattle.esr_items.specs.Weights.{IsWeight}
 use Rattle.esr_report.specs.Names.{position_of}
-use Rattle.esr_script.specs.Command.{Command}
+use Rattle.esr_line.specs.Command.{Command}
 use Rattle.esr_drive.specs.declared.call.Call.{Call}
 use Rattle.esr_drive.specs.declared.draft.TheConstants.{MAX_BLOCKS}
 use Rattle.esr_drive.specs.declared.draft.Draft.{Draft}

@@ -12,7 +12,7 @@ use Rattle.esr_audit.specs.Findings.{committed_queries}
 use Rattle.esr_report.specs.Names.{name_of_transaction}
 use Rattle.esr_history.specs.Watch.{BeginsWith}
 use Rattle.esr_report.specs.Lines.{Named, item_line, weighted_item_line, session_line, reply_line, audit_line, totals_line}
-use Rattle.esr_script.specs.Command.{Command, item, weighted_item, begin_update, begin_query, begin_strict_query, read, write, commit, abort, audit, totals}
+use Rattle.esr_line.specs.Command.{Command, item, weighted_item, begin_update, begin_query, begin_strict_query, read, write, commit, abort, audit, totals}
 use Rattle.esr_session.specs.declared.receipt.Receipt.{Receipt}
 use Rattle.esr_session.specs.Receipts.{Matches}
 use Rattle.esr_drive.specs.declared.fault.DriveFault.{DriveFault}

@@ -6,10 +6,9 @@ use Rattle.esr_items.specs.declared.TheConstants.{MOST_ITEMS}
 use Rattle.esr_items.specs.Values.{is_value}
 use Rattle.esr_items.specs.Weights.{is_weight}
 use Rattle.esr_report.specs.Names.{is_bound}
-use Rattle.esr_script.specs.Lines.{lines}
-use Rattle.esr_script.specs.Command.{Command, item, weighted_item, begin_update, begin_query, begin_strict_query, audit, totals, is_skipped}
-use Rattle.esr_script.specs.Reading.{reading}
-use Rattle.esr_script.specs.declared.pending.TheConstants.{MAX_LINES, MAX_LINE_BYTES}
+use Rattle.esr_line.specs.Lines.{lines}
+use Rattle.esr_line.specs.Command.{Command, item, weighted_item, begin_update, begin_query, begin_strict_query, audit, totals, is_skipped, reading}
+use Rattle.esr_line.specs.declared.limits.TheConstants.{MAX_LINES, MAX_LINE_BYTES}
 use Rattle.esr_drive.specs.declared.draft.TheConstants.{MAX_BLOCKS}
 use Rattle.esr_drive.specs.declared.fault.DriveFault.{DriveFault}
 use Rattle.esr_drive.specs.declared.fault.DriveFault.TheVariants.{LineTooLong, TooManyLines, BadScript}

@@ -1,7 +1,7 @@
 -- A file that is being read, line by line.
 use Rattle.std.specs.Prelude.{◌≡◌, ℕ, ◌<◌, ◌≤◌, List, ◌++◌, Option, Err, IfSome, length, drop}
-use Rattle.esr_script.specs.declared.pending.TheConstants.{MAX_LINES, MAX_LINE_BYTES}
-use Rattle.esr_script.specs.Lines.{lines}
+use Rattle.esr_line.specs.declared.limits.TheConstants.{MAX_LINES, MAX_LINE_BYTES}
+use Rattle.esr_line.specs.Lines.{lines}
 use Rattle.esr_drive.specs.Plan.{cut_fault, plan_of}
 use Rattle.esr_drive.specs.declared.reading.Mark.{Mark}
 use Rattle.esr_drive.specs.declared.fault.DriveFault.{DriveFault}

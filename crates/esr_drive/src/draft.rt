@@ -1,10 +1,10 @@
 //! Makes the plan of a drive file, line after line.
 
-ghost use Rattle.esr_script.specs.declared.pending.TheConstants.{MAX_LINES};
+ghost use Rattle.esr_line.specs.declared.limits.TheConstants.{MAX_LINES};
 ghost use Rattle.std.specs.Prelude.{◌≡◌, ◌+◌, ◌<◌, ◌≤◌, ◌⊎◌, ◌^◌, true, false, Ok, Err, Some, None, OnOk, IfOk, IfErr, length};
 ghost use Rattle.esr_items.specs.Weights.{is_weight};
-ghost use Rattle.esr_script.specs.Lines.{lines};
-ghost use Rattle.esr_script.specs.Reading.{view};
+ghost use Rattle.esr_line.specs.Lines.{lines};
+ghost use Rattle.esr_line.specs.Command.{view};
 ghost use Rattle.esr_drive.specs.Plan.{with_session, with_item, with_operation, with_begin, with_command, with_line, plan_from, nothing, new_name, weight_in};
 ghost use Rattle.esr_drive.specs.Calls.{command_of, place_of, IsCaller, IsOperand, IsResolved};
 ghost use Rattle.esr_drive.specs.Drafts.{plan_in, current_calls, IsSound, IsWrong};
@@ -13,8 +13,8 @@ use crate::call::{Call, Caller, Operand};
 use crate::fault::DriveFault;
 use crate::reading::first_line;
 use esr_items::{ItemId, LARGEST_VALUE, LARGEST_WEIGHT, MOST_ITEMS};
+use esr_line::{Line, Parsed, parse_line};
 use esr_report::Names;
-use esr_script::{Line, Parsed, parse_line};
 use esr_session::MOST_SESSIONS;
 use std::alloc::Global;
 

@@ -1,17 +1,17 @@
 //! Reads a drive file, and cuts it into lines. Reading stops at the first line that is too long, or is one too many.
 
-ghost use Rattle.esr_script.specs.declared.pending.TheConstants.{MAX_LINES, MAX_LINE_BYTES};
+ghost use Rattle.esr_line.specs.declared.limits.TheConstants.{MAX_LINES, MAX_LINE_BYTES};
 ghost use Rattle.std.specs.Prelude.{◌≡◌, ℕ, List, false, ◌<◌, ◌≤◌, ◌↔◌, [], ◌∷◌, ◌++◌, None, Some, IfOk, IfErr, IsErrOf, IsTrue, MatchOption, MatchResult, length, nat_eq};
 ghost use Rattle.std.specs.List.{position};
 ghost use Rattle.std.specs.Io.KnownBytes.{Consumes, IsAtEnd};
 ghost use Rattle.esr_history.specs.Watch.{inner, failed};
-ghost use Rattle.esr_script.specs.Lines.{lines};
+ghost use Rattle.esr_line.specs.Lines.{lines};
 ghost use Rattle.esr_drive.specs.Plan.{cut_fault};
 ghost use Rattle.esr_drive.specs.Readings.{IsMark, IsLineFault, IsReadFault, rest_from};
 
 use crate::fault::DriveFault;
 use esr_history::Watched;
-use esr_script::{INPUT_ROOM, MAX_LINE_BYTES, MAX_LINES};
+use esr_line::{INPUT_ROOM, MAX_LINE_BYTES, MAX_LINES};
 use std::alloc::{AllocError, Global};
 use std::io::Read;
 

@@ -1,7 +1,7 @@
 //! The plan of a drive file.
 
 ghost use Rattle.std.specs.Prelude.{◌≡◌, ◌⊎◌, None, Ok, Err, IfOk, IfErr};
-ghost use Rattle.esr_script.specs.Lines.{lines};
+ghost use Rattle.esr_line.specs.Lines.{lines};
 ghost use Rattle.esr_drive.specs.Plan.{plan_of, cut_fault};
 ghost use Rattle.esr_drive.specs.Drafts as drafts;
 ghost use Rattle.esr_drive.specs.Sheets.{plan_in, IsSound};

@@ -1,5 +1,5 @@
 -- Bytes ahead in a buffer, from a start to an end.
-use Rattle.std.proofs.Common.{◌≡◌, ℕ, ◌+◌, ◌-◌, ◌≤◌, ◌<◌, List, ◌++◌, length, take, drop, sym, ◌∙◌, ap, arith, length-drop, length-take, length-append}
+use Rattle.std.proofs.Common.{◌≡◌, ℕ, ◌+◌, ◌-◌, ◌≤◌, ◌<◌, List, [], ◌∷◌, ◌++◌, append-nil, length, take, drop, sym, ◌∙◌, ap, arith, length-drop, length-take, length-append}
 use borrow.Rule.Slice.PartMut.{put_mid, post_of, mid_of, same_len_mid}
 use Rattle.std.proofs.Math.Seq.{take-append_seam, take-append-add, drop-drop}
 use Rattle.std.proofs.lemmas.List.{drop-take, take-append-le, length-take-le}
@@ -50,3 +50,8 @@ module _ (items moved ahead : List ℕ) (s e len : ℕ) (order : s ≤ e) (withi
     -- there is room behind few bytes
     pub has_room : length ahead ≤ 200 → len ≡ 65536 → 0 < length read
     has_room few all = omega (arith, room, size, long, whole, few, all, length-take part (drop (e - s) moved), length-drop (e - s) moved)
+
+-- no bytes that came leave those that were there
+pub same_bytes : (before after more : List ℕ) (n : ℕ) → length more ≡ n → n ≡ 0 → after ≡ before ++ more → after ≡ before
+same_bytes before after [] n size none e = e ∙ append-nil before
+same_bytes before after (x ∷ xs) n size none e = absurd (omega (arith, size, none))

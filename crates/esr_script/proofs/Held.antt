@@ -4,13 +4,14 @@ use Rattle.std.specs.Io.KnownBytes.{IsAtEnd, Consumes, Keeps}
 use Rattle.esr_history.specs.Watch.{BeginsWith}
 use Rattle.esr_script.specs.declared.fault.RunFault.{RunFault}
 use Rattle.esr_script.specs.declared.fault.RunFault.TheVariants as fault
-use Rattle.esr_script.specs.declared.pending.Next.{Next}
-use Rattle.esr_script.specs.declared.pending.Next.TheVariants as next
-use Rattle.esr_script.specs.declared.pending.TheConstants.{MAX_LINES, MAX_LINE_BYTES}
+use Rattle.esr_line.specs.declared.next.Next.{Next}
+use Rattle.esr_line.specs.declared.next.Next.TheVariants as next
+use Rattle.esr_line.specs.declared.limits.TheConstants.{MAX_LINES, MAX_LINE_BYTES}
 use Rattle.esr_script.specs.Text.{ScriptState, answer, outcome}
 use Rattle.esr_script.specs.Run.{IsRunBy}
-use Rattle.esr_script.specs.Parts.{line_len, IsNext, Standing, IsHeldRun, is_read_fault, is_write_fault}
-use Rattle.esr_script.proofs.Prefix.{line_len-le}
+use Rattle.esr_line.specs.Lines.{line_len, IsNext}
+use Rattle.esr_script.specs.Parts.{Standing, IsHeldRun, is_read_fault, is_write_fault}
+use Rattle.esr_line.proofs.Prefix.{line_len-le}
 use Rattle.esr_script.proofs.Steps.{advance, all_read, text_begins, at_memory, at_long, at_many, at_fault_line, at_last, at_fault_last, at_read}
 use Rattle.std.proofs.lemmas.Grind.{common_steps}
 

@@ -1,13 +1,8 @@
-pub mod Cutting
-pub mod Prefix
-pub mod Blanks
-pub mod Laws
 pub mod Steps
 pub mod Held
 pub mod ReaderToWriter
 pub mod Replays
 pub mod Ends
-pub mod Spelling
 pub mod Asks
 pub mod Audits
 pub mod Answering

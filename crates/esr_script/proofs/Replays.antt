@@ -8,8 +8,8 @@ use Rattle.esr_cert.proofs.Certified.{faultless, certifies_from}
 use Rattle.esr_bundle.specs.Bundle.{bundle}
 use Rattle.esr_script.specs.declared.fault.RunFault.{RunFault}
 use Rattle.esr_script.specs.declared.fault.RunFault.TheVariants as fault
-use Rattle.esr_script.specs.declared.pending.Next.TheVariants as next
-use Rattle.esr_script.specs.declared.pending.TheConstants.{MAX_LINES, MAX_LINE_BYTES}
+use Rattle.esr_line.specs.declared.next.Next.TheVariants as next
+use Rattle.esr_line.specs.declared.limits.TheConstants.{MAX_LINES, MAX_LINE_BYTES}
 use Rattle.esr_script.specs.Text.{ScriptState, transaction_called, Outcome, answer}
 use Rattle.esr_cert.specs.Views.{certificate_of}
 use Rattle.esr_script.specs.declared.asked.Asked.{Asked}
@@ -17,7 +17,8 @@ use Rattle.esr_script.specs.Ask.{IsAnswered}
 use Rattle.esr_script.specs.Certify.{IsFound, IsBundleOf, IsBundleLine}
 use Rattle.esr_script.specs.Ends.{EndsBy}
 use Rattle.esr_script.specs.Replays.{IsReplay, with_count}
-use Rattle.esr_script.specs.Parts.{line_len, IsNext, Standing}
+use Rattle.esr_line.specs.Lines.{line_len, IsNext}
+use Rattle.esr_script.specs.Parts.{Standing}
 use Rattle.esr_script.proofs.Steps.{all_read, step_line, at_long, at_many, at_last, at_fault_line, at_fault_last, state_at_last}
 
 abbrev fault_of : Outcome → Option RunFault

@@ -4,14 +4,14 @@ use Rattle.std.proofs.Math.Seq.{take-append_seam}
 use Rattle.std.specs.Io.KnownBytes.{IsAtEnd, Consumes}
 use Rattle.esr_script.specs.declared.fault.RunFault.{RunFault}
 use Rattle.esr_script.specs.declared.fault.RunFault.TheVariants.{LineTooLong, TooManyLines}
-use Rattle.esr_script.specs.Lines.{lines, whole_lines}
-use Rattle.esr_script.specs.declared.pending.TheConstants.{MAX_LINES, MAX_LINE_BYTES}
+use Rattle.esr_line.specs.Lines.{lines, whole_lines, line_len}
+use Rattle.esr_line.specs.declared.limits.TheConstants.{MAX_LINES, MAX_LINE_BYTES}
 use Rattle.esr_script.specs.Text.{ScriptState, start, answer, next_state, state_after, final, Outcome, outcome, outcome_from, outcome_of_lines, behind, stopped}
 use Rattle.esr_history.specs.Watch.{BeginsWith}
 use Rattle.esr_script.specs.Run.{IsWholeText}
-use Rattle.esr_script.specs.Parts.{line_len, Progress, Standing}
-use Rattle.esr_script.proofs.Cutting.{lines-line, whole-line, front, behind_front, plain-front, split-front, lines-last, whole-none, Begins, begins}
-use Rattle.esr_script.proofs.Prefix.{line_len-le}
+use Rattle.esr_script.specs.Parts.{Progress, Standing}
+use Rattle.esr_line.proofs.Cutting.{lines-line, whole-line, front, behind_front, plain-front, split-front, lines-last, whole-none, Begins, begins}
+use Rattle.esr_line.proofs.Prefix.{line_len-le}
 
 -- ---- one line of an outcome
 

@@ -1,6 +1,5 @@
-pub mod Lines
-pub mod Command
-pub mod Reading
+pub use Rattle.esr_line.specs.Lines
+pub use Rattle.esr_line.specs.Command
 pub mod Text
 pub mod Run
 pub mod Ends

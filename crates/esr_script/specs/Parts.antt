@@ -1,25 +1,11 @@
 -- What the private parts of a run speak of.
-use Rattle.std.specs.Prelude.{◌≡◌, ℕ, List, ◌++◌, ◌<◌, ◌≤◌, Bool, true, false, length, nat_eq, Option, Some, Result, Err}
-use Rattle.std.specs.List.{position_or_len}
+use Rattle.std.specs.Prelude.{◌≡◌, ℕ, List, ◌++◌, Bool, true, false, length, Option, Some, Result, Err}
 use Rattle.esr_history.specs.Watch.{BeginsWith}
 use Rattle.esr_script.specs.declared.fault.RunFault.{RunFault}
 use Rattle.esr_script.specs.declared.fault.RunFault.TheVariants as fault
-use Rattle.esr_script.specs.declared.pending.Next.{Next}
-use Rattle.esr_script.specs.declared.pending.Next.TheVariants as next
-use Rattle.esr_script.specs.Lines.{lines, whole_lines}
+use Rattle.esr_line.specs.Lines.{lines, whole_lines}
 use Rattle.esr_script.specs.Run.{IsRunBy}
-use Rattle.esr_script.specs.declared.pending.TheConstants.{MAX_LINE_BYTES}
 use Rattle.esr_script.specs.Text.{ScriptState, start, state_after, outcome, outcome_of_lines, outcome_from, behind}
-
--- how many bytes are before the first line feed
-abbrev pub line_len : List ℕ → ℕ
-line_len bytes = position_or_len (λ b. nat_eq b 10) bytes
-
--- what comes next in the bytes ahead
-abbrev pub IsNext : Next → List ℕ → Type 0
-IsNext (next.Line n) bytes = (n ≡ line_len bytes) × (n < length bytes) × (n ≤ MAX_LINE_BYTES)
-IsNext next.TooLong bytes = MAX_LINE_BYTES < line_len bytes
-IsNext next.More bytes = (line_len bytes ≡ length bytes) × (length bytes ≤ MAX_LINE_BYTES)
 
 -- whether a read failed, and whether a write did
 abbrev pub is_read_fault : {T : Type 0} → Result T RunFault → Bool

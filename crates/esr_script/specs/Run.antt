@@ -4,7 +4,7 @@ use Rattle.std.specs.Io.KnownBytes.{Consumes}
 use Rattle.esr_history.specs.Watch.{BeginsWith}
 use Rattle.esr_script.specs.declared.fault.RunFault.{RunFault}
 use Rattle.esr_script.specs.declared.fault.RunFault.TheVariants as fault
-use Rattle.esr_script.specs.Lines.{lines, whole_lines}
+use Rattle.esr_line.specs.Lines.{lines, whole_lines}
 use Rattle.esr_script.specs.Text.{Outcome, outcome, outcome_of_lines}
 
 -- no line ends the run, and this is its text

@@ -1,14 +1,16 @@
 //! Answers the lines in the bytes ahead, whether their text is to be written or dropped.
 
-ghost use Rattle.esr_script.specs.declared.pending.TheConstants.{MAX_LINES, MAX_LINE_BYTES};
+ghost use Rattle.esr_line.specs.declared.limits.TheConstants.{MAX_LINES, MAX_LINE_BYTES};
 ghost use Rattle.std.specs.Prelude.{◌≡◌, ◌≢◌, ℕ, List, ◌+◌, ◌++◌, ◌≤◌, Option, Err, OnOk, IfErr, false, length};
 ghost use Rattle.std.specs.Io.KnownBytes.{IsAtEnd};
 ghost use Rattle.esr_script.specs.Replays.{IsReplay};
-ghost use Rattle.esr_script.specs.Parts.{line_len, IsNext, Standing, IsHeldRun, is_read_fault, is_write_fault};
+ghost use Rattle.esr_line.specs.Lines.{line_len, IsNext};
+ghost use Rattle.esr_script.specs.Parts.{Standing, IsHeldRun, is_read_fault, is_write_fault};
 
 use crate::fault::RunFault;
-use crate::pending::{MAX_LINES, Next, Pending};
+use crate::pending::Pending;
 use crate::script::Script;
+use esr_line::{MAX_LINES, Next};
 
 /// Answers the next line, and goes on after its line feed.
 pub fn answer_next(

@@ -1,26 +1,17 @@
 //! Bytes that were read and are not yet used.
 
-ghost use Rattle.esr_script.specs.declared.pending.TheConstants.{MAX_LINE_BYTES};
-ghost use Rattle.std.specs.Prelude.{◌≡◌, ℕ, ◌<◌, ◌≤◌, List, [], ◌++◌, IfOk, IfErr, drop, take, ◌-◌, length, nat_eq, ◌||◌};
-ghost use Rattle.std.specs.List.{position};
+ghost use Rattle.esr_line.specs.declared.limits.TheConstants.{MAX_LINE_BYTES};
+ghost use Rattle.std.specs.Prelude.{◌≡◌, ℕ, ◌<◌, ◌≤◌, List, [], ◌++◌, IfOk, IfErr, drop, take, ◌-◌, length, ◌||◌};
 ghost use Rattle.std.specs.Io.KnownBytes.{Consumes, Keeps, IsAtEnd};
 ghost use Rattle.esr_history.specs.Watch.{inner, failed};
-ghost use Rattle.esr_script.specs.Parts.{line_len, IsNext, is_read_fault};
+ghost use Rattle.esr_script.specs.Parts.{is_read_fault};
 
 use crate::fault::RunFault;
 use esr_history::Watched;
+use esr_line::INPUT_ROOM;
 use std::alloc::{AllocError, Global};
 use std::io::Read;
 use std::marker::Model;
-
-/// The most bytes that are asked for at once: many lines, so that reads are few.
-pub const INPUT_ROOM: usize = 65536;
-
-/// The most lines of an input.
-pub const MAX_LINES: u64 = 2_000_000;
-
-/// The most bytes of a line, its line feed aside.
-pub const MAX_LINE_BYTES: usize = 200;
 
 /// Bytes that were read and are not yet used, seen as the list of them. They are
 /// in one buffer from `start` to `end`.
@@ -32,7 +23,7 @@ pub struct Pending {
 }
 
 impl Model for Pending {
-    ghost use Rattle.esr_script.specs.declared.pending.TheConstants.{INPUT_ROOM};
+    ghost use Rattle.esr_line.specs.declared.limits.TheConstants.{INPUT_ROOM};
     ghost use Rattle.std.specs.Prelude.{◌≡◌, ◌≤◌, ◌-◌, ℕ, List, drop, take, length};
 
     ghost Value = { List ℕ };
@@ -89,45 +80,5 @@ impl Pending {
             }
             Err(_) => Err(RunFault::Read),
         }
-    }
-}
-
-/// What comes next in the bytes ahead.
-#[derive(Clone, Copy, Debug)]
-pub enum Next {
-    /// A line of so many bytes, and a line feed.
-    Line(usize),
-    TooLong,
-    /// No whole line yet.
-    More,
-}
-
-fn find_line_feed(bytes: &[u8]) -> Option<usize>
-    ensures { result ≡ position (λ b. nat_eq b 10) bytes.now }
-{
-    bytes.iter().position(|b| *b == b'\n')
-}
-
-/// The count of bytes before the first line feed.
-#[tactic(auto, using(crate::proofs::Prefix::none_is_length))]
-fn line_len(bytes: &[u8]) -> usize
-    ensures { result ≡ line_len bytes.now }
-{
-    match find_line_feed(bytes) {
-        Some(place) => place,
-        None => bytes.len(),
-    }
-}
-
-pub fn next_line(bytes: &[u8]) -> Next
-    ensures { IsNext result bytes.now }
-{
-    let length = line_len(bytes);
-    if length > MAX_LINE_BYTES {
-        Next::TooLong
-    } else if length < bytes.len() {
-        Next::Line(length)
-    } else {
-        Next::More
     }
 }

@@ -9,9 +9,10 @@ ghost use Rattle.esr_script.specs.Parts.{is_read_fault, is_write_fault};
 
 use crate::ahead::{answer_last, answer_next};
 use crate::fault::RunFault;
-use crate::pending::{Next, Pending, next_line};
+use crate::pending::Pending;
 use crate::script::Script;
 use esr_history::Watched;
+use esr_line::{Next, next_line};
 use std::alloc::Global;
 use std::io::Read;
 

@@ -1,6 +1,6 @@
 //! A run over a script, from its reader to its writer.
 
-ghost use Rattle.esr_script.specs.declared.pending.TheConstants.{MAX_LINE_BYTES};
+ghost use Rattle.esr_line.specs.declared.limits.TheConstants.{MAX_LINE_BYTES};
 ghost use Rattle.std.specs.Prelude.{◌≡◌, ℕ, List, [], ◌++◌, Some, Ok, Err, IfSome, IsErrOf, IfErr, IfOk, IsTrue, ◌↔◌, false, ◌≤◌, ◌⊎◌, length, ◌||◌};
 ghost use Rattle.std.specs.Io.KnownBytes.{Appends, Consumes, IsAtEnd, Keeps};
 ghost use Rattle.esr_history.specs.Watch.{inner, failed, BeginsWith};
@@ -11,10 +11,11 @@ ghost use Rattle.esr_script.specs.ReaderToWriter.{ReadsAndWrites};
 
 use crate::ahead::{answer_last, answer_next};
 use crate::fault::RunFault;
-use crate::pending::{Next, Pending, next_line};
+use crate::pending::Pending;
 use crate::script::Script;
 use crate::sending::{OUTPUT_ROOM, send_all};
 use esr_history::Watched;
+use esr_line::{Next, next_line};
 use std::alloc::Global;
 use std::io::{Read, Write};
 

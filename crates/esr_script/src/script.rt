@@ -5,21 +5,21 @@ ghost use Rattle.std.specs.Prelude.{◌≡◌, ℕ, List, ◌+◌, ◌<◌, ◌�
 ghost use Rattle.esr_report.specs.Names.{position_of};
 ghost use Rattle.esr_report.specs.Subjects.{named_by};
 ghost use Rattle.esr_script.specs.Text.{start, transaction_called, item_called, item_error, with_item, begin, ask, obey, answer};
-ghost use Rattle.esr_script.specs.Command as command;
+ghost use Rattle.esr_line.specs.Command as command;
 ghost use Rattle.esr_script.specs.Stages.{IsBegin};
 ghost use Rattle.esr_script.specs.Ask.{IsAnswered};
 ghost use Rattle.esr_script.specs.Audit.{audit_output};
 ghost use Rattle.esr_history.specs.Queries.{is_committed_query};
-ghost use Rattle.esr_script.specs.Reading.{view};
+ghost use Rattle.esr_line.specs.Command.{view};
 
 use crate::asked::Asked;
 use crate::book::push_audit;
 use crate::fault::RunFault;
-use crate::parse::{Line, Parsed, parse_line};
 use crate::stage::Stage;
 use esr_audit::AuditError;
 use esr_history::{Event, Reply, TxnId};
 use esr_items::{ItemId, LARGEST_VALUE, LARGEST_WEIGHT, MOST_ITEMS};
+use esr_line::{Line, Parsed, parse_line};
 use esr_report::{
     LineError, Names, Subject, audit_line, error_line, item_line, reply_line, totals_line,
     weighted_item_line,
@@ -42,7 +42,7 @@ impl Model for Script {
     ghost use Rattle.esr_items.specs.declared.TheConstants.{MOST_ITEMS};
     ghost use Rattle.std.specs.Prelude.{◌≤◌, length};
     ghost use Rattle.esr_script.specs.Text.{ScriptState};
-    ghost use Rattle.esr_script.specs.Command as command;
+    ghost use Rattle.esr_line.specs.Command as command;
     ghost use Rattle.esr_script.specs.Stages.{is_running, history_of};
 
     ghost Value = { ScriptState };

@@ -1,5 +1,5 @@
 use Rattle.std.proofs.Common.{◌≡◌, ◌+◌, ◌<◌, length}
-use Rattle.esr_script.specs.Lines.{lines}
+use Rattle.esr_line.specs.Lines.{lines}
 use Rattle.esr_drive.specs.Plan.{plan_from, nothing}
 use Rattle.esr_drive.specs.Drafts.{IsSound, plan_in}
 use Rattle.esr_drive.proofs.draft.draft_of.Given as goal

@@ -1,7 +1,7 @@
 use Rattle.std.proofs.Common.{◌≡◌, ◌<◌, false, None, length}
 use Rattle.std.specs.Io.KnownBytes.{Consumes}
 use Rattle.esr_history.specs.Watch.{inner, failed}
-use Rattle.esr_script.specs.Lines.{lines}
+use Rattle.esr_line.specs.Lines.{lines}
 use Rattle.esr_drive.specs.Plan.{cut_fault}
 use Rattle.esr_drive.specs.Readings.{IsMark, rest_from}
 use Rattle.esr_drive.proofs.reading.read_all.Given as goal

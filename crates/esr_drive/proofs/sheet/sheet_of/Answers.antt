@@ -1,5 +1,5 @@
 use Rattle.std.proofs.Common.{arith}
-use Rattle.esr_script.specs.Lines.{lines}
+use Rattle.esr_line.specs.Lines.{lines}
 use Rattle.esr_drive.proofs.Cuts.{few_lines}
 use Rattle.esr_drive.proofs.sheet.sheet_of.Goals as goal
 

@@ -1,6 +1,6 @@
 use Rattle.std.proofs.Common.{rules}
 use Rattle.esr_drive.specs.Drive.{finding_text}
-use Rattle.esr_script.proofs.Audited.{lines_more}
+use Rattle.esr_drive.proofs.Told.{lines_more}
 use Rattle.esr_drive.specs.Tables.{names_in}
 use Rattle.esr_drive.proofs.text.push_each.Goals as goal
 

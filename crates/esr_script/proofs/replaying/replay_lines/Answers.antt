@@ -1,6 +1,6 @@
 use Rattle.std.proofs.Common.{◌≡◌, ◌++◌, length, arith, sym, ◌∙◌}
-use Rattle.esr_script.specs.Parts.{line_len}
-use Rattle.esr_script.proofs.Prefix.{same_bytes}
+use Rattle.esr_line.specs.Lines.{line_len}
+use Rattle.esr_script.proofs.Buffers.{same_bytes}
 use Rattle.esr_script.proofs.Steps.{advance}
 use Rattle.esr_script.proofs.replaying.replay_lines.Goals as goal
 

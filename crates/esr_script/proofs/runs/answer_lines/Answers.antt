@@ -1,8 +1,9 @@
 use Rattle.std.proofs.Common.{rules, ◌≡◌, [], ◌++◌, Err, inl, inr, length, arith, sym, ◌∙◌, ap, subst, refl}
 use Rattle.std.proofs.KnownBytes.{Appends-trans}
 use Rattle.esr_history.specs.Watch.{inner}
-use Rattle.esr_script.specs.Parts.{line_len, IsHeldRun}
-use Rattle.esr_script.proofs.Prefix.{same_bytes}
+use Rattle.esr_line.specs.Lines.{line_len}
+use Rattle.esr_script.specs.Parts.{IsHeldRun}
+use Rattle.esr_script.proofs.Buffers.{same_bytes}
 use Rattle.esr_script.proofs.Steps.{advance}
 use Rattle.esr_script.proofs.Held.{all_sent, all_grown, is_not_read, unread, held_read, held_write}
 use Rattle.esr_script.proofs.runs.answer_lines.Goals as goal

@@ -1,6 +1,6 @@
 use Rattle.std.proofs.Common.{arith}
-use Rattle.esr_script.proofs.Blanks.{name_utf8}
-use Rattle.esr_script.proofs.words.name.Goals as goal
+use Rattle.esr_line.proofs.Blanks.{name_utf8}
+use Rattle.esr_line.proofs.words.name.Goals as goal
 
 pub returns-in-Err : goal.returns-in-Err
 returns-in-Err c = grind (arith, name_utf8)

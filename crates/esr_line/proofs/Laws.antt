@@ -12,8 +12,7 @@ use Rattle.std.proofs.lemmas.Fmt.{digits_value-decimal, digits_decimal, decimal_
 use Rattle.std.proofs.lemmas.List.{take_more, take_all}
 use Rattle.std.proofs.lemmas.Option.{cond_some}
 use Rattle.std.proofs.Math.Nat.{pow-succ', pow-le-pow_right}
-use Rattle.esr_script.specs.Command.{IsPlainWord, IsInt, IsLimit}
-use Rattle.esr_script.specs.Reading.{words_of, is_blank, number_below, value_from, int_of, limit_in, minus}
+use Rattle.esr_line.specs.Command.{IsPlainWord, IsInt, IsLimit, words_of, is_blank, number_below, value_from, int_of, limit_in, minus}
 use Rattle.std.proofs.lemmas.Bool.{cases_Bool}
 
 -- ---- options

@@ -1,6 +1,6 @@
 use Rattle.std.proofs.Common.{arith}
-use Rattle.esr_script.proofs.Blanks.{one_of_more}
-use Rattle.esr_script.proofs.words.one_word.Goals as goal
+use Rattle.esr_line.proofs.Blanks.{one_of_more}
+use Rattle.esr_line.proofs.words.one_word.Goals as goal
 
 pub returns-in_default-Some : goal.returns-in_default-Some
 returns-in_default-Some c = grind (arith, one_of_more c.cut_word.result.0.now c.in_default-Some.field-0-1.now)

@@ -1,8 +1,7 @@
 //! The lines of a script.
 
 ghost use Rattle.std.specs.Prelude.{◌≡◌, ◌↔◌, Option, Some, option_map, IsTrue};
-ghost use Rattle.esr_script.specs.Command.{Command, is_skipped, Spells};
-ghost use Rattle.esr_script.specs.Reading.{words_of, words_after, totals_of, plain_item_of, weighted_item_of, item_of, plain_begin_of, strict_query_of, begin_of, read_of, write_of, one_name_of, reading, view, command_in, IsReadingOf};
+ghost use Rattle.esr_line.specs.Command.{Command, is_skipped, Spells, words_of, words_after, totals_of, plain_item_of, weighted_item_of, item_of, plain_begin_of, strict_query_of, begin_of, read_of, write_of, one_name_of, reading, view, command_in, IsReadingOf};
 
 use crate::words::{cut_word, four_words, int, limit, name, one_word, three_words, two_words};
 

@@ -1,11 +1,10 @@
 //! The words of a line, and what each may be.
 
-ghost use Rattle.esr_script.specs.declared.words.TheConstants.{INT_END};
+ghost use Rattle.esr_line.specs.declared.words.TheConstants.{INT_END};
 ghost use Rattle.std.specs.Prelude.{◌≡◌, ◌∷◌, ◌<◌, ◌≤◌, ◌^◌, Option, option_map, length, IfSome, IfNone, true, false};
 ghost use Rattle.std.specs.Str.{all_ascii_digits};
 ghost use Rattle.std.specs.List.{position, list_all};
-ghost use Rattle.esr_script.specs.Command.{is_letter, is_name_byte, is_name};
-ghost use Rattle.esr_script.specs.Reading.{value_from, number_below, is_blank, words_of, words_after, name_of, limit_in, int_of, one_of, two_of, three_of, four_of};
+ghost use Rattle.esr_line.specs.Command.{is_letter, is_name_byte, is_name, value_from, number_below, is_blank, words_of, words_after, name_of, limit_in, int_of, one_of, two_of, three_of, four_of};
 
 use std::str::from_utf8;
 

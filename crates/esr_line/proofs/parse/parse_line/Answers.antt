@@ -1,6 +1,6 @@
 use Rattle.std.proofs.Common.{sym, ◌∙◌}
-use Rattle.esr_script.proofs.Spelling.{spelled, read_back}
-use Rattle.esr_script.proofs.parse.parse_line.Goals as goal
+use Rattle.esr_line.proofs.Spelling.{spelled, read_back}
+use Rattle.esr_line.proofs.parse.parse_line.Goals as goal
 
 pub returns-in-Some-clause-command : goal.returns-in-Some-clause-command
 returns-in-Some-clause-command c k = (λ e. read_back c.args.line.now k (sym c.in-Some.ensures ∙ e), λ h. c.in-Some.ensures ∙ spelled c.args.line.now k h)

@@ -6,8 +6,7 @@ use Rattle.std.proofs.lemmas.Str.{IsUtf8-from_ascii}
 use Rattle.std.proofs.lemmas.Bool.{cases_Bool, or_cases, and_parts}
 use Rattle.std.proofs.lemmas.Option.{cond_some}
 use Rattle.std.specs.List.{position, position_or_len, onto_first, list_all}
-use Rattle.esr_script.specs.Command.{is_letter, is_name_byte, is_name, is_between}
-use Rattle.esr_script.specs.Reading.{words_of, is_blank, one_of, totals_of}
+use Rattle.esr_line.specs.Command.{is_letter, is_name_byte, is_name, is_between, words_of, is_blank, one_of, totals_of}
 
 pub chosen_none : (v : Bool) (n : ℕ) → cond v (Some n) None ≡ None → v ≡ false
 chosen_none true n e = cc

@@ -1,6 +1,6 @@
 use Rattle.std.proofs.Common.{refl, sym, arith}
-use Rattle.esr_script.proofs.Laws.{one_digit, fits, all_read}
-use Rattle.esr_script.proofs.words.digits_value.Goals as goal
+use Rattle.esr_line.proofs.Laws.{one_digit, fits, all_read}
+use Rattle.esr_line.proofs.words.digits_value.Goals as goal
 
 pub overflow_mul-value : goal.overflow_mul-value
 overflow_mul-value c =

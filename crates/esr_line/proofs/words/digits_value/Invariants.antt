@@ -1,5 +1,5 @@
-use Rattle.esr_script.proofs.Laws.{IsValueOf}
-use Rattle.esr_script.proofs.words.digits_value.Given as goal
+use Rattle.esr_line.proofs.Laws.{IsValueOf}
+use Rattle.esr_line.proofs.words.digits_value.Given as goal
 
 abbrev pub invariant-loop-digit : goal.invariant-loop-digit
 invariant-loop-digit l = IsValueOf l.digits l.digit-index l.value

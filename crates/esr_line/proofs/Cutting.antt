@@ -2,8 +2,7 @@
 use Rattle.std.proofs.Common.{◌≡◌, ℕ, suc, ◌+◌, ◌<◌, ◌≤◌, List, [], ◌∷◌, ◌++◌, inl, inr, true, false, length, take, drop, refl, sym, ◌∙◌, ap, arith, nat_eq, one-add, add-one, eqb-true}
 use Rattle.std.specs.List.{onto_first}
 use Rattle.std.proofs.lemmas.Bool.{cases_Bool}
-use Rattle.esr_script.specs.Lines.{lines, whole_lines, onto_first_whole}
-use Rattle.esr_script.specs.Parts.{line_len}
+use Rattle.esr_line.specs.Lines.{lines, whole_lines, onto_first_whole, line_len}
 
 len-feed : (b : ℕ) (bs : List ℕ) → nat_eq b 10 ≡ true → line_len (b ∷ bs) ≡ 0
 len-feed b bs e = rw e refl

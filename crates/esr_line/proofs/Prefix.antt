@@ -1,9 +1,9 @@
 -- Where no byte is a line feed, the count of bytes before the first is the length.
-use Rattle.std.proofs.Common.{◌≡◌, ℕ, ◌≤◌, List, [], ◌∷◌, ◌++◌, append-nil, length, ◌∙◌, arith, nat_eq, nat_lt, None, ltb-false}
+use Rattle.std.proofs.Common.{◌≡◌, ℕ, ◌≤◌, List, [], ◌∷◌, length, arith, nat_eq, nat_lt, None, ltb-false}
 use Rattle.std.specs.List.{position}
-use Rattle.esr_script.specs.Parts.{line_len}
+use Rattle.esr_line.specs.Lines.{line_len}
 use Rattle.std.proofs.lemmas.Bool.{cases_Bool}
-use Rattle.esr_script.proofs.Blanks.{chosen_none}
+use Rattle.esr_line.proofs.Blanks.{chosen_none}
 
 pub line_len-le : (bytes : List ℕ) → line_len bytes ≤ length bytes
 line_len-le [] = omega arith
@@ -11,7 +11,3 @@ line_len-le (b ∷ bs) = grind (arith, cases_Bool (nat_eq b 10), nat_eq b 10, li
 
 pub none_is_length : (bytes : List ℕ) → position (λ b. nat_eq b 10) bytes ≡ None → length bytes ≡ line_len bytes
 none_is_length bytes e = grind (arith, nat_lt (line_len bytes) (length bytes), chosen_none _ _ e, ltb-false, line_len-le bytes)
-
-pub same_bytes : (before after more : List ℕ) (n : ℕ) → length more ≡ n → n ≡ 0 → after ≡ before ++ more → after ≡ before
-same_bytes before after [] n size none e = e ∙ append-nil before
-same_bytes before after (x ∷ xs) n size none e = absurd (omega (arith, size, none))

@@ -8,10 +8,9 @@ use Rattle.std.specs.Fmt.{signed_decimal}
 use Rattle.std.proofs.lemmas.List.Elements.{All-nil, All-cons}
 use Rattle.std.proofs.lemmas.List.Splits.{join_with_byte-slice_split}
 use Rattle.std.proofs.lemmas.Slice.Eq.{bytes_eq-Decides}
-use Rattle.esr_script.specs.Command.{Command, item, weighted_item, begin_update, begin_query, begin_strict_query, read, write, commit, abort, audit, totals, words, is_letter, is_name_byte, is_name, IsName, IsLimit, IsCommand, Spells, IsPlainWord}
-use Rattle.esr_script.specs.Reading.{words_of, name_of, limit_in, int_of, one_of, two_of, three_of, four_of, both, plain_item_of, weighted_item_of, item_of, plain_begin_of, strict_query_of, begin_of, read_of, write_of, one_name_of, totals_of, command_of, command_by, reading}
+use Rattle.esr_line.specs.Command.{Command, item, weighted_item, begin_update, begin_query, begin_strict_query, read, write, commit, abort, audit, totals, words, is_letter, is_name_byte, is_name, IsName, IsLimit, IsCommand, Spells, IsPlainWord, words_of, name_of, limit_in, int_of, one_of, two_of, three_of, four_of, both, plain_item_of, weighted_item_of, item_of, plain_begin_of, strict_query_of, begin_of, read_of, write_of, one_name_of, totals_of, command_of, command_by, reading}
 use Rattle.std.proofs.lemmas.Bool.{cases_Bool, and_parts}
-use Rattle.esr_script.proofs.Laws.{and_then_some, map_some, split_join, number_again, number_found, all_digits, int_again, int_found}
+use Rattle.esr_line.proofs.Laws.{and_then_some, map_some, split_join, number_again, number_found, all_digits, int_again, int_found}
 use Rattle.std.proofs.lemmas.Grind.{common_steps}
 
 -- ---- words without blanks

@@ -1,0 +1,5 @@
+pub mod Prefix
+pub mod Cutting
+pub mod Blanks
+pub mod Laws
+pub mod Spelling
