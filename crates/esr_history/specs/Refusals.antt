@@ -1,17 +1,37 @@
--- The numbers by which refusals are known outside the program.
-use Rattle.std.specs.Prelude.{ℕ}
+-- How refusals are told outside the program.
+use Rattle.std.specs.Prelude.{ℕ, List, codes, Option, None, Some}
+use Rattle.esr_history.specs.declared.event.TxnId.{TxnId}
 use Rattle.esr_history.specs.declared.event.Refusal.{Refusal}
 use Rattle.esr_history.specs.declared.event.Refusal.TheVariants.{NoSuchTransaction, AlreadyEnded, NoSuchItem, QueryMayNotWrite, ValueOutOfRange, LimitOutOfRange, TooManyTransactions, TooManyReads, BlockedByLock, BlockedByImport, BlockedByExport}
 
+-- a number, words, and the transaction that is named, where one is
+pub record Told : Type 0 where
+  pub number : ℕ
+  pub words : List ℕ
+  pub named : Option TxnId
+
+abbrev pub telling : ℕ → List ℕ → Option TxnId → Told
+telling number words named = record { number = number; words = words; named = named }
+
+-- each refusal in turn; of the last three, what blocks the event, and whose it is
+abbrev pub told : Refusal → Told
+told NoSuchTransaction = telling 1 (codes "no such transaction") None
+told AlreadyEnded = telling 2 (codes "already ended") None
+told NoSuchItem = telling 3 (codes "no such item") None
+told QueryMayNotWrite = telling 4 (codes "a query may not write") None
+told ValueOutOfRange = telling 5 (codes "value out of range") None
+told LimitOutOfRange = telling 6 (codes "limit out of range") None
+told TooManyTransactions = telling 7 (codes "too many transactions") None
+told TooManyReads = telling 8 (codes "too many reads") None
+told (BlockedByLock holder) = telling 9 (codes "lock") (Some holder)
+told (BlockedByImport query) = telling 10 (codes "import") (Some query)
+told (BlockedByExport update) = telling 11 (codes "export") (Some update)
+
 abbrev pub refusal_number : Refusal → ℕ
-refusal_number NoSuchTransaction = 1
-refusal_number AlreadyEnded = 2
-refusal_number NoSuchItem = 3
-refusal_number QueryMayNotWrite = 4
-refusal_number ValueOutOfRange = 5
-refusal_number LimitOutOfRange = 6
-refusal_number TooManyTransactions = 7
-refusal_number TooManyReads = 8
-refusal_number (BlockedByLock holder) = 9
-refusal_number (BlockedByImport query) = 10
-refusal_number (BlockedByExport update) = 11
+refusal_number why = (told why).number
+
+abbrev pub refusal_words : Refusal → List ℕ
+refusal_words why = (told why).words
+
+abbrev pub refusal_named : Refusal → Option TxnId
+refusal_named why = (told why).named

@@ -1,12 +1,12 @@
 -- The lines of a report.
-use Rattle.std.specs.Prelude.{ℕ, ℤ, List, [], ◌∷◌, ◌++◌, map, codes, decimal}
+use Rattle.std.specs.Prelude.{ℕ, ℤ, List, [], ◌∷◌, ◌++◌, map, codes, decimal, Option, None, Some}
 use Rattle.std.specs.List.{join_with_byte}
 use Rattle.std.specs.Fmt.{signed_decimal}
 use Rattle.esr_history.specs.declared.event.Reply.{Reply}
 use Rattle.esr_history.specs.declared.event.Reply.TheVariants.{Begun, Value, Wrote, Committed, Aborted, Refused}
 use Rattle.esr_history.specs.declared.event.Refusal.{Refusal}
-use Rattle.esr_history.specs.declared.event.Refusal.TheVariants.{NoSuchTransaction, AlreadyEnded, NoSuchItem, QueryMayNotWrite, ValueOutOfRange, LimitOutOfRange, TooManyTransactions, TooManyReads, BlockedByLock, BlockedByImport, BlockedByExport}
-use Rattle.esr_history.specs.Refusals.{refusal_number}
+use Rattle.esr_history.specs.declared.event.TxnId.{TxnId}
+use Rattle.esr_history.specs.Refusals.{refusal_number, refusal_words, refusal_named}
 use Rattle.esr_report.specs.declared.lines.LineError.{LineError}
 use Rattle.esr_report.specs.declared.lines.LineError.TheVariants as error
 use Rattle.esr_report.specs.Names.{name_of_transaction}
@@ -45,29 +45,22 @@ committed_line txn = line (codes "committed" ∷ txn ∷ [])
 abbrev pub aborted_line : List ℕ → List ℕ
 aborted_line txn = line (codes "aborted" ∷ txn ∷ [])
 
--- an event that was refused, and one that was blocked, with the number of the refusal, what it is, and whom it names
-abbrev pub refused : Refusal → List ℕ → List ℕ
-refused why text = line (codes "refused" ∷ decimal (refusal_number why) ∷ text ∷ [])
+-- an event that was refused, and one that was blocked, by the number of the refusal, its words, and whom it names
+abbrev pub refused : ℕ → List ℕ → List ℕ
+refused number words = line (codes "refused" ∷ decimal number ∷ words ∷ [])
 
-abbrev pub blocked : Refusal → List ℕ → List ℕ → List ℕ
-blocked why text name = line (codes "blocked" ∷ decimal (refusal_number why) ∷ text ∷ name ∷ [])
+abbrev pub blocked : ℕ → List ℕ → List ℕ → List ℕ
+blocked number words name = line (codes "blocked" ∷ decimal number ∷ words ∷ name ∷ [])
 
--- why an event was refused; the names are those of the transactions, in the order of their numbers
+-- why an event was refused; where the refusal names a transaction, that one blocks the event
+abbrev pub reason_line : List (List ℕ) → Refusal → Option TxnId → List ℕ
+reason_line names why None = refused (refusal_number why) (refusal_words why)
+reason_line names why (Some txn) =
+    blocked (refusal_number why) (refusal_words why) (name_of_transaction names txn.0)
+
+-- the same for whom it names itself; the names are those of the transactions, in the order of their numbers
 abbrev pub refusal_line : List (List ℕ) → Refusal → List ℕ
-refusal_line names NoSuchTransaction = refused NoSuchTransaction (codes "no such transaction")
-refusal_line names AlreadyEnded = refused AlreadyEnded (codes "already ended")
-refusal_line names NoSuchItem = refused NoSuchItem (codes "no such item")
-refusal_line names QueryMayNotWrite = refused QueryMayNotWrite (codes "a query may not write")
-refusal_line names ValueOutOfRange = refused ValueOutOfRange (codes "value out of range")
-refusal_line names LimitOutOfRange = refused LimitOutOfRange (codes "limit out of range")
-refusal_line names TooManyTransactions = refused TooManyTransactions (codes "too many transactions")
-refusal_line names TooManyReads = refused TooManyReads (codes "too many reads")
-refusal_line names (BlockedByLock holder) =
-    blocked (BlockedByLock holder) (codes "lock") (name_of_transaction names holder.0)
-refusal_line names (BlockedByImport query) =
-    blocked (BlockedByImport query) (codes "import") (name_of_transaction names query.0)
-refusal_line names (BlockedByExport update) =
-    blocked (BlockedByExport update) (codes "export") (name_of_transaction names update.0)
+refusal_line names why = reason_line names why (refusal_named why)
 
 -- what an event names: a transaction, an item and a value to write, as far as it has them
 pub record Named : Type 0 where

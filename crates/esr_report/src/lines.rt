@@ -146,21 +146,21 @@ pub fn name_of_transaction<N: TransactionNames>(names: &N, txn: TxnId) -> &str
 }
 
 /// Appends the line of an event that was refused.
-fn push_refused(out: &mut Vec<u8>, why: Refusal, text: &str) -> Result<(), AllocError>
-    ensures ok { OnOk result (out.new.items ≡ out.old.items ++ refused why text.now) }
+fn push_refused(out: &mut Vec<u8>, number: u32, words: &str) -> Result<(), AllocError>
+    ensures ok { OnOk result (out.new.items ≡ out.old.items ++ refused number words.now) }
     ensures err { OnErr result (out.new.items ≡ out.old.items) }
 {
     let mut digits = itoa::Buffer::new();
-    push_line(out, "refused", &[digits.format(why.number()), text])
+    push_line(out, "refused", &[digits.format(number), words])
 }
 
 /// Appends the line of an event that was blocked by what the transaction holds.
-fn push_blocked(out: &mut Vec<u8>, why: Refusal, text: &str, name: &str) -> Result<(), AllocError>
-    ensures ok { OnOk result (out.new.items ≡ out.old.items ++ blocked why text.now name.now) }
+fn push_blocked(out: &mut Vec<u8>, number: u32, words: &str, name: &str) -> Result<(), AllocError>
+    ensures ok { OnOk result (out.new.items ≡ out.old.items ++ blocked number words.now name.now) }
     ensures err { OnErr result (out.new.items ≡ out.old.items) }
 {
     let mut digits = itoa::Buffer::new();
-    push_line(out, "blocked", &[digits.format(why.number()), text, name])
+    push_line(out, "blocked", &[digits.format(number), words, name])
 }
 
 /// Appends the line of a refusal. The names are those of the transactions, in the
@@ -173,23 +173,11 @@ pub fn refusal_line<N: TransactionNames>(
     ensures ok { OnOk result (out.new.items ≡ out.old.items ++ refusal_line (N.names names.now) why) }
     ensures err { OnErr result (out.new.items ≡ out.old.items) }
 {
-    match why {
-        Refusal::NoSuchTransaction => push_refused(out, why, "no such transaction"),
-        Refusal::AlreadyEnded => push_refused(out, why, "already ended"),
-        Refusal::NoSuchItem => push_refused(out, why, "no such item"),
-        Refusal::QueryMayNotWrite => push_refused(out, why, "a query may not write"),
-        Refusal::ValueOutOfRange => push_refused(out, why, "value out of range"),
-        Refusal::LimitOutOfRange => push_refused(out, why, "limit out of range"),
-        Refusal::TooManyTransactions => push_refused(out, why, "too many transactions"),
-        Refusal::TooManyReads => push_refused(out, why, "too many reads"),
-        Refusal::BlockedByLock(holder) => {
-            push_blocked(out, why, "lock", name_of_transaction(names, holder))
-        }
-        Refusal::BlockedByImport(query) => {
-            push_blocked(out, why, "import", name_of_transaction(names, query))
-        }
-        Refusal::BlockedByExport(update) => {
-            push_blocked(out, why, "export", name_of_transaction(names, update))
+    match why.named() {
+        None => push_refused(out, why.number(), why.words()),
+        Some(txn) => {
+            let name = name_of_transaction(names, txn);
+            push_blocked(out, why.number(), why.words(), name)
         }
     }
 }
