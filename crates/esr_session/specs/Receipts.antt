@@ -7,7 +7,7 @@ use Rattle.esr_history.specs.declared.event.Event.{Event}
 use Rattle.esr_history.specs.declared.event.Reply.{Reply}
 use Rattle.esr_history.specs.declared.event.Reply.TheVariants.{Begun, Value, Wrote, Committed, Aborted, Refused}
 use Rattle.esr_history.specs.declared.event.Refusal.{Refusal}
-use Rattle.esr_history.specs.declared.event.Refusal.TheVariants.{NoSuchTransaction, AlreadyEnded, NoSuchItem, QueryMayNotWrite, ValueOutOfRange, LimitOutOfRange, TooManyTransactions, TooManyReads, BlockedByLock, BlockedByImport, BlockedByExport}
+use Rattle.esr_history.specs.declared.event.Refusal.TheVariants.{BlockedByLock, BlockedByImport, BlockedByExport}
 use Rattle.esr_history.specs.declared.event.Entry.{Entry}
 use Rattle.esr_session.specs.declared.receipt.Receipt.{Receipt}
 use Rattle.esr_session.specs.declared.receipt.CloseError.{CloseError}
@@ -99,17 +99,10 @@ IsVerdict entries lists (Err NoMemory) = length entries ≤ count_in lists
 
 -- the refusals that may be other replies when the event is given again
 abbrev pub is_block : Refusal → Bool
-is_block NoSuchTransaction = false
-is_block AlreadyEnded = false
-is_block NoSuchItem = false
-is_block QueryMayNotWrite = false
-is_block ValueOutOfRange = false
-is_block LimitOutOfRange = false
-is_block TooManyTransactions = false
-is_block TooManyReads = false
 is_block (BlockedByLock holder) = true
 is_block (BlockedByImport query) = true
 is_block (BlockedByExport update) = true
+is_block _ = false
 
 abbrev pub is_blocked : Reply → Bool
 is_blocked (Begun number) = false
