@@ -58,7 +58,8 @@ pub record IsEntry (arcs : List Arc) (flow : List ℕ) (v : ℕ) (step : Residua
   pub back : e.back ≡ within 1 (residual_capacity arcs flow (opposite step))
 
 -- the steps that start at a node, and no others, and a row of their entries
-pub record Lists (arcs : List Arc) (flow : List ℕ) (v : ℕ) (steps : List ResidualArc) (row : List AdjacencyEntry) : Type 0 where
+pub record Lists (arcs : List Arc) (flow : List ℕ) (v : ℕ) (steps : List ResidualArc) (row : List AdjacencyEntry)
+    : Type 0 where
   pub count : length row ≡ length steps
   pub entries : (k : ℕ) → k < length row → IsEntry arcs flow v (step_at steps k) (entry_at row k)
   pub all : (step : ResidualArc) → arc_of step < length arcs → start arcs step ≡ v → Contains steps step

@@ -134,7 +134,8 @@ minus n = cond (nat_eq n 0) None (Some (neg_ℤ (pos n)))
 abbrev pub int_of : List ℕ → Option ℤ
 int_of [] = None
 int_of (c ∷ cs) =
-    cond (nat_eq c 45) (option_and_then minus (number_below INT_END cs)) (option_map pos (number_below INT_END (c ∷ cs)))
+    cond (nat_eq c 45)
+    (option_and_then minus (number_below INT_END cs)) (option_map pos (number_below INT_END (c ∷ cs)))
 
 -- the words, where there are so many
 abbrev pub one_of : List (List ℕ) → Option (List ℕ)

@@ -23,7 +23,8 @@ chain_back x (s ∷ operations) =
 -- the positions of the reads of item x that no write of it comes before, back from the last to the first
 abbrev pub readers_of : ℕ → List UpdateOperation → List ℕ
 readers_of x [] = []
-readers_of x (s ∷ operations) = if s.item == x then readers_with (readers_of x operations) s else readers_of x operations
+readers_of x (s ∷ operations) =
+    if s.item == x then readers_with (readers_of x operations) s else readers_of x operations
 
 abbrev pub writer_in : Option ℕ → List ℕ
 writer_in None = []

@@ -312,8 +312,8 @@ pub fn audit_line<N: TransactionNames>(
     push_listed_line(out, "audit", &words, names, before)
 }
 
-/// Appends a line of a word and the names of transactions, separated by commas, or a minus where there is none. The names
-/// are those of the transactions, in the order of their numbers.
+/// Appends a line of a word and the names of transactions, separated by commas, or a minus where there is none. The
+/// names are those of the transactions, in the order of their numbers.
 pub fn names_line<N: TransactionNames>(
     out: &mut Vec<u8>,
     first: &str,

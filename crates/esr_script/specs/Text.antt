@@ -100,7 +100,8 @@ abbrev pub audit_text : ScriptState → List ℕ → List ℕ
 audit_text s name =
     let h = s.history in let q = (transaction_called s name).0 in
     if is_committed_query h q
-    then audit_line s.transactions name (least_cost weighted h q) (import_in (charges_in weighted h) q) (least_set weighted h q)
+    then audit_line s.transactions name
+    (least_cost weighted h q) (import_in (charges_in weighted h) q) (least_set weighted h q)
     else error_line NotACommittedQuery
 
 -- the state after a command, and its line

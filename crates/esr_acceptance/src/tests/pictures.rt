@@ -95,7 +95,8 @@ fn little_is_drawn(rt: HostRuntime) -> Result<(), Fail> {
     Ok(())
 }
 
-/// A report beside so many updates of one item, which reads it after the first one, and then another that is not written.
+/// A report beside so many updates of one item, which reads it after the first one, and then another that is not
+/// written.
 fn beside(alloc: Global, updates: u32) -> Result<String, AllocError> {
     let mut script = String::from_str(alloc, "item a 0\nitem b 0\nitem c 5\nbegin q query 999\n")?;
     for i in 0..updates {
