@@ -1,6 +1,6 @@
 -- The problem gathered from an order of a query breaks no rule of shape.
 use Rattle.std.proofs.Common.{◌≡◌, ◌≢◌, ℕ, zero, suc, ◌+◌, ◌<◌, Bool, true, false, cond, not, ◌&&◌, ◌||◌, eqb, List, [], ◌∷◌, length, filter, map, refl, sym, ap, ◌∙◌, subst, inl, inr, arith, Some, Contains}
-use Rattle.std.specs.Prelude.{nat_lt}
+use Rattle.std.specs.Prelude.{nat_lt, IsTrue}
 use Rattle.std.specs.List.{list_all, slice_index_or, range_with_len, AllByRecursion}
 use Rattle.std.proofs.lemmas.Bool.{and_from, or_left, or_right, eq-eqb, ne_eqb, lt-ltb}
 use Rattle.std.proofs.lemmas.List.{length-map}
@@ -10,15 +10,13 @@ use Rattle.esr_history.specs.declared.event.TxnId.{TxnId}
 use Rattle.esr_history.specs.Machine.{Distance, Schedule, IsLegal}
 use Rattle.esr_history.specs.Serial.{is_before}
 use Rattle.esr_history.proofs.Membership.{In, Pairs, Pairs-from_all, any-from_In, Contains-In}
-use Rattle.std.specs.Prelude.{IsTrue}
 use Rattle.esr_order.specs.Listing.{IsBelow}
 use Rattle.esr_order.specs.Chains as orders
 use Rattle.esr_order.specs.Chains.{nth, chain_from, if_written, last_among}
 use Rattle.esr_order.specs.Orders.{Ordered, IsOrderAmong}
-use Rattle.esr_order.specs.Near.{AreNear}
+use Rattle.esr_order.specs.Near.{AreNear, has_written}
 use Rattle.esr_cert.specs.Problem.{Chain, in_set, is_ascending, pair_lt, are_pairs_ascending, has_pair, are_linked, is_distinct, chain_has_shape, has_shape}
 use Rattle.esr_cert.proofs.Sound.{all_from}
-use Rattle.esr_order.specs.Near.{has_written}
 use Rattle.esr_audit.specs.Problems.{places, items_read, writers_of, passes_at, version_cost, chain_for}
 use Rattle.esr_audit.proofs.Places.{length-places}
 use Rattle.esr_audit.proofs.Versions.{chain_writers}

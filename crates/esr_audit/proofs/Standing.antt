@@ -15,12 +15,11 @@ use Rattle.esr_history.proofs.Membership.{In, In-any, In-of_filter, Pairs, each_
 use Rattle.esr_order.specs.Placements.{is_among, IsClosed}
 use Rattle.esr_order.specs.Chains.{nth}
 use Rattle.esr_order.specs.Orders.{Ordered, IsClosedAt, IsOrderAmong}
-use Rattle.esr_order.specs.Near.{AreNear}
+use Rattle.esr_order.specs.Near.{AreNear, has_written}
 use Rattle.esr_order.proofs.NearLaws.{near_closed, near_writers}
 use Rattle.esr_cert.specs.Problem.{Problem, is_closed, in_set, is_ascending}
 use Rattle.esr_cert.proofs.Sound as sound
 use Rattle.esr_audit.specs.declared.reads.ItemRead.{ItemRead}
-use Rattle.esr_order.specs.Near.{has_written}
 use Rattle.esr_audit.specs.Problems.{passes_at, places, items_read, writers_of, chain_for, StandsFor}
 use Rattle.esr_audit.specs.Reads.{gathered, items_in, item_read_of}
 use Rattle.esr_audit.proofs.Smallest.{passes_here, among_element}

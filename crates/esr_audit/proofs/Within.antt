@@ -24,14 +24,13 @@ use Rattle.esr_history.proofs.Versions.{wrote_by}
 use Rattle.esr_history.proofs.Words.{values_trace}
 use Rattle.esr_order.specs.Chains.{nth}
 use Rattle.esr_order.specs.Orders.{Ordered, IsOrderAmong}
-use Rattle.esr_order.specs.Near.{AreNear}
+use Rattle.esr_order.specs.Near.{AreNear, has_written}
 use Rattle.esr_order.proofs.NearLaws.{near_updates}
 use Rattle.esr_items.specs.declared.TheConstants.{MOST_ITEMS}
 use Rattle.esr_history.specs.declared.limits.TheConstants.{MOST_TRANSACTIONS}
 use Rattle.esr_cert.specs.declared.range.TheConstants.{MAX_COST}
 use Rattle.esr_cert.specs.Problem.{Chain, Problem, size, greatest, chain_is_in_range, is_in_range, is_sound}
 use Rattle.esr_cert.proofs.Sound.{all_from}
-use Rattle.esr_order.specs.Near.{has_written}
 use Rattle.esr_audit.specs.Problems.{passes_at, places, items_read, writers_of, version_cost, chain_for}
 use Rattle.esr_audit.proofs.Costs.{by_item, sum_mapped}
 use Rattle.esr_audit.proofs.Standing.{problem_from}

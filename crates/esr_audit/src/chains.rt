@@ -7,8 +7,7 @@ ghost use Rattle.esr_order.specs.Chains as orders;
 ghost use Rattle.esr_order.specs.Orders.{chain_at};
 ghost use Rattle.esr_cert.specs.Views.{chain_of as chain_view};
 ghost use Rattle.std.specs.Option.{option_map};
-ghost use Rattle.esr_order.specs.Chains.{seen_links};
-ghost use Rattle.esr_order.specs.Chains.{writers_in};
+ghost use Rattle.esr_order.specs.Chains.{seen_links, writers_in};
 ghost use Rattle.esr_audit.specs.Reads.{values_of, distance_sum, values_in, gathered, gathered_from, items_in};
 
 use crate::reads::ItemRead;

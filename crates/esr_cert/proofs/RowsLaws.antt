@@ -7,10 +7,8 @@ use Rattle.esr_cert.specs.declared.network.Arc.{Arc}
 use Rattle.esr_cert.specs.declared.residual.ResidualArc.{ResidualArc}
 use Rattle.esr_cert.specs.declared.residual.ResidualArc.TheVariants.{Forward, Backward}
 use Rattle.esr_cert.specs.declared.rows.Span.{Span}
-use Rattle.esr_cert.specs.Steps.{start}
-use Rattle.esr_cert.specs.Rows.{row_in, span_at}
-use Rattle.esr_cert.specs.Steps.{step_at}
-use Rattle.esr_cert.specs.Rows.{first_steps, steps_from, row_of, AreDegrees, AreRows, longer}
+use Rattle.esr_cert.specs.Steps.{start, step_at}
+use Rattle.esr_cert.specs.Rows.{row_in, span_at, first_steps, steps_from, row_of, AreDegrees, AreRows, longer}
 use Rattle.esr_cert.proofs.StepsLaws.{steps_here, steps_other, room_for, first_within, first_more, first_count, last_or_not, not_last, at_last}
 
 pub row_length : {X : Type 0} (list : List X) (span : Span) → span.end ≤ length list → length (row_in list span) ≡ span.end - span.begin

@@ -2,7 +2,7 @@
 use Rattle.std.proofs.Common.{◌≡◌, ℕ, ℤ, zero, suc, ◌+◌, ◌<◌, List, [], ◌∷◌, ◌++◌, length, take, map, get_or, Option, Result, OnOk, refl, sym, ap, subst, ◌∙◌, append_assoc, append-nil, length-take, arith, ◌≤◌}
 use Rattle.std.specs.List.{flat_map}
 use Rattle.std.proofs.lemmas.Grind.{flat_map-append}
-use Rattle.std.proofs.lemmas.List.{take_more, take_all}
+use Rattle.std.proofs.lemmas.List.{take_more, take_all, get_or_default}
 use Rattle.esr_items.specs.Weights.{weighted}
 use Rattle.esr_history.specs.Machine.{Schedule, charges_in, import_in}
 use Rattle.esr_order.specs.Placements.{is_among}
@@ -15,7 +15,6 @@ use Rattle.esr_history.specs.declared.event.Reply.{Reply}
 use Rattle.esr_drive.specs.declared.call.Call.{Call}
 use Rattle.esr_drive.specs.Calls.{command_of, answers_of}
 use Rattle.esr_drive.specs.Tables.{answered}
-use Rattle.std.proofs.lemmas.List.{get_or_default}
 use Rattle.esr_drive.proofs.Noting.{answer_at, length_answers}
 use Rattle.esr_report.specs.Names.{name_of_transaction}
 use Rattle.esr_drive.specs.Blocks.{Answered}

@@ -10,10 +10,9 @@ use Rattle.esr_flow.specs.declared.entry.AdjacencyEntry.{AdjacencyEntry}
 use Rattle.esr_cert.specs.declared.rows.Span.{Span}
 use Rattle.esr_flow.specs.declared.graph.Graph.{Graph}
 use Rattle.esr_cert.specs.Flow.{within, amount_at}
-use Rattle.esr_cert.specs.Steps.{arc_of, start}
+use Rattle.esr_cert.specs.Steps.{arc_of, start, step_at, same_step, has_step, HasSteps}
 use Rattle.esr_flow.specs.Residual.{residual_capacity, left_of}
 use Rattle.esr_flow.specs.Graph.{arcs_of, net_of, IsGraph, adjacency_entry, entry_at, AreEntries, IsEntry, Lists}
-use Rattle.esr_cert.specs.Steps.{step_at, same_step, has_step, HasSteps}
 use Rattle.esr_cert.specs.Rows.{span_at, row_in}
 use Rattle.esr_flow.proofs.WalkLaws.{start_in}
 

@@ -7,10 +7,9 @@ use Rattle.esr_cert.specs.declared.residual.ResidualArc.{ResidualArc}
 use Rattle.esr_cert.specs.declared.residual.ResidualArc.TheVariants.{Forward, Backward}
 use Rattle.esr_flow.specs.declared.entry.AdjacencyEntry.{AdjacencyEntry}
 use Rattle.esr_flow.specs.declared.search.Visit.{Visit}
-use Rattle.esr_cert.specs.Steps.{arc_of, start}
+use Rattle.esr_cert.specs.Steps.{arc_of, start, step_at}
 use Rattle.esr_flow.specs.Residual.{finish, IsResidual}
 use Rattle.esr_cert.specs.Network.{Network, IsNetwork}
-use Rattle.esr_cert.specs.Steps.{step_at}
 use Rattle.esr_flow.specs.Graph.{IsEntry, Lists}
 use Rattle.esr_flow.specs.Search.{visit_at, is_marked, Leads, Searched, FoundSink}
 use Rattle.esr_flow.proofs.SearchLaws.{visit_more, next_head, unmarked_far}

@@ -3,9 +3,8 @@ ghost use Rattle.std.specs.Prelude.{◌≡◌, ◌+◌, ◌<◌, ◌≤◌, true
 ghost use Rattle.esr_cert.specs.declared.residual.ResidualArc.{ResidualArc};
 ghost use Rattle.esr_cert.specs.Flow.{within};
 ghost use Rattle.esr_flow.specs.Residual.{residual_capacity};
-ghost use Rattle.esr_cert.specs.Steps.{opposite};
+ghost use Rattle.esr_cert.specs.Steps.{opposite, step_at};
 ghost use Rattle.esr_flow.specs.Graph.{arcs_of, net_of, IsGraph, AreEntries, Lists, entry_at};
-ghost use Rattle.esr_cert.specs.Steps.{step_at};
 ghost use Rattle.esr_flow.specs.Search.{Guides, IsGuided, label_at};
 ghost use Rattle.esr_flow.specs.Maximum.{InArcs};
 

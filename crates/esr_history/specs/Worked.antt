@@ -1,5 +1,5 @@
 -- Worked examples: the machine's replies, charges and locks on some lists of events.
-use Rattle.std.specs.Prelude.{◌≡◌, ℕ, ℤ, pos, List, [], ◌∷◌, true, false, refl, map}
+use Rattle.std.specs.Prelude.{◌≡◌, ℕ, ℤ, pos, List, [], ◌∷◌, true, false, refl, map, Some}
 use Rattle.esr_items.specs.Values.{gap}
 use Rattle.esr_history.specs.declared.event.TxnId.{TxnId}
 use Rattle.esr_items.specs.declared.metric.ItemId.{ItemId}
@@ -10,7 +10,6 @@ use Rattle.esr_history.specs.declared.event.Reply.TheVariants.{Begun, Value, Wro
 use Rattle.esr_history.specs.declared.event.Refusal.TheVariants.{NoSuchTransaction, AlreadyEnded, NoSuchItem, QueryMayNotWrite, ValueOutOfRange, LimitOutOfRange, BlockedByLock, BlockedByImport, BlockedByExport}
 use Rattle.esr_history.specs.Machine.{Schedule, Distance, schedule_of, extended, reply_to, charges_in, total, import_in, export_in, done}
 use Rattle.esr_history.specs.ItemLocks.{item_locks}
-use Rattle.std.specs.Prelude.{Some}
 
 abbrev pub plain : Distance
 plain w x a b = gap a b

@@ -13,8 +13,7 @@ use Rattle.esr_order.specs.Near.{AreNear}
 use Rattle.esr_order.proofs.Ordered.{few_updates, in_order}
 use Rattle.esr_order.proofs.Early.{must_positions, must_below}
 use Rattle.esr_order.proofs.Complete.{range_below, in_range}
-use Rattle.esr_order.proofs.Lists.{filter_shorter}
-use Rattle.esr_order.proofs.Lists.{in_map, same_default}
+use Rattle.esr_order.proofs.Lists.{filter_shorter, in_map, same_default}
 
 map_agree : (f g : ℕ → ℕ) (xs : List ℕ) → ((x : ℕ) → In x xs → f x ≡ g x) → map f xs ≡ map g xs
 map_agree f g [] same = refl

@@ -2,13 +2,11 @@ ghost use Rattle.std.specs.Prelude.{◌≡◌, ◌↔◌, ◌<◌, ◌≤◌, �
 ghost use Rattle.std.specs.List.{range_with_len};
 ghost use Rattle.std.specs.Option.{option_map};
 ghost use Rattle.esr_history.specs.declared.limits.TheConstants.{MOST_TRANSACTIONS};
-ghost use Rattle.esr_history.specs.Queries.{is_committed_query};
-ghost use Rattle.esr_order.specs.Chains.{seen_links};
+ghost use Rattle.esr_history.specs.Queries.{is_committed_query, must};
+ghost use Rattle.esr_order.specs.Chains.{seen_links, nth};
 ghost use Rattle.esr_order.specs.Orders.{IsOrderOf, IsOrderAmong, chain_at, operations_of};
-ghost use Rattle.esr_order.specs.Chains.{nth};
 ghost use Rattle.esr_order.specs.Near.{AreNear};
 ghost use Rattle.esr_order.specs.Placements.{is_among};
-ghost use Rattle.esr_history.specs.Queries.{must};
 ghost use Rattle.esr_history.specs.Serial.{is_before};
 ghost use Rattle.esr_history.specs.Machine.{done};
 ghost use Rattle.esr_history.specs.Operations.{commit_order, operations};

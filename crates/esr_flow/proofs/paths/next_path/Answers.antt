@@ -7,9 +7,8 @@ use Rattle.esr_cert.specs.declared.residual.ResidualArc.{ResidualArc}
 use Rattle.esr_cert.specs.declared.residual.ResidualArc.TheVariants.{Forward}
 use Rattle.esr_flow.specs.declared.entry.AdjacencyEntry.{AdjacencyEntry}
 use Rattle.esr_flow.specs.Residual.{residual_capacity, finish}
-use Rattle.esr_cert.specs.Steps.{arc_of, start, opposite}
+use Rattle.esr_cert.specs.Steps.{arc_of, start, opposite, step_at}
 use Rattle.esr_flow.specs.Graph.{arcs_of, net_of, Lists, IsEntry, entry_at}
-use Rattle.esr_cert.specs.Steps.{step_at}
 use Rattle.esr_cert.specs.Rows.{span_at}
 use Rattle.esr_flow.specs.Search.{label_at, IsGuided}
 use Rattle.esr_flow.proofs.EntriesLaws.{lists_read}
