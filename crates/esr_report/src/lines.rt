@@ -267,23 +267,6 @@ fn push_listed<N: TransactionNames>(
     push_names(out, names, txns)
 }
 
-/// Appends a line of words and the names of transactions.
-fn push_listed_line<N: TransactionNames>(
-    out: &mut Vec<u8>,
-    first: &str,
-    rest: &[&str],
-    names: &N,
-    txns: &[TxnId],
-) -> Result<(), AllocError>
-    ensures ok { OnOk result (out.new.items ≡ out.old.items ++ line (first.now
-        ∷ map (λ word. word.now) rest.now ++ listed (N.names names.now) (map (λ t. t.0) txns.now) ∷ [])) }
-    ensures err { OnErr result (out.new.items ≡ out.old.items) }
-{
-    let mark = out.len();
-    let words = push_listed(out, first, rest, names, txns);
-    end_line(out, mark, words)
-}
-
 /// Appends the line of what the audit of a query found: its distance, what it
 /// imported, and the updates before its position. The names are those of the
 /// transactions, in the order of their numbers.
@@ -309,7 +292,9 @@ pub fn audit_line<N: TransactionNames>(
         import_digits.format(import),
         "before",
     ];
-    push_listed_line(out, "audit", &words, names, before)
+    let mark = out.len();
+    let listed = push_listed(out, "audit", &words, names, before);
+    end_line(out, mark, listed)
 }
 
 /// Appends a line of a word and the names of transactions, separated by commas, or a minus where there is none. The
@@ -324,7 +309,9 @@ pub fn names_line<N: TransactionNames>(
         ++ names_line first.now (N.names names.now) (map (λ t. t.0) txns.now)) }
     ensures err { OnErr result (out.new.items ≡ out.old.items) }
 {
-    push_listed_line(out, first, &[], names, txns)
+    let mark = out.len();
+    let listed = push_listed(out, first, &[], names, txns);
+    end_line(out, mark, listed)
 }
 
 /// Appends the line of the committed updates in a serial order. The names are those of the
