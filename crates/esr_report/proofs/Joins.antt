@@ -18,15 +18,16 @@ one_behind c out x xs y before parted after stood part grew =
 
 module _ {X : Type 0} (spell : X → List ℕ) (c : ℕ) (out first : List ℕ) (xs : List X) where
   -- a word more behind those before it
-  pub one_more : (i : ℕ) (d : X) (word before parted after : List ℕ) → i < length xs
+  pub one_more : (i : ℕ) (d : X) (word before after : List ℕ) → i < length xs
       → before ≡ out ++ join_with_byte c (first ∷ map spell (take i xs))
-      → word ≡ spell (get_or xs i d) → parted ≡ before ++ c ∷ [] → after ≡ parted ++ word
+      → word ≡ spell (get_or xs i d) → after ≡ before ++ c ∷ word
       → after ≡ out ++ join_with_byte c (first ∷ map spell (take (i + 1) xs))
-  one_more i d word before parted after within stood is part grew =
+  one_more i d word before after within stood is grew =
       let grown : map spell (take (i + 1) xs) ≡ map spell (take i xs) ++ word ∷ [] =
       ap (map spell) (take_more xs i d within) ∙ map-append spell (take i xs) (get_or xs i d ∷ [])
       ∙ ap (λ w. map spell (take i xs) ++ w ∷ []) (sym is) in
-      one_behind c out first (map spell (take i xs)) word before parted after stood part grew
+      one_behind c out first (map spell (take i xs)) word before (before ++ c ∷ []) after stood refl
+      (grew ∙ sym (append_assoc before (c ∷ []) word))
       ∙ ap (λ l. out ++ join_with_byte c (first ∷ l)) (sym grown)
 
   -- after the last word

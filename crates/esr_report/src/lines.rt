@@ -30,6 +30,15 @@ pub struct Subject<'a> {
     pub value: i64,
 }
 
+/// Appends a byte that separates, and a word.
+fn push_behind(out: &mut Vec<u8>, byte: u8, word: &str) -> Result<(), AllocError>
+    ensures ok { OnOk result (out.new.items ≡ out.old.items ++ byte ∷ word.now) }
+    ensures kept { BeginsWith out.new.items out.old.items }
+{
+    out.push(byte)?;
+    out.extend_from_slice(word.as_bytes())
+}
+
 /// Appends words separated by single spaces.
 fn push_words(out: &mut Vec<u8>, first: &str, rest: &[&str]) -> Result<(), AllocError>
     ensures ok { OnOk result (out.new.items ≡ out.old.items
@@ -38,8 +47,7 @@ fn push_words(out: &mut Vec<u8>, first: &str, rest: &[&str]) -> Result<(), Alloc
 {
     out.extend_from_slice(first.as_bytes())?;
     for word in rest {
-        out.push(b' ')?;
-        out.extend_from_slice(word.as_bytes())?;
+        push_behind(out, b' ', word)?;
     }
     Ok(())
 }
@@ -243,8 +251,7 @@ fn push_names<N: TransactionNames>(
     };
     out.extend_from_slice(name_of_transaction(names, *first).as_bytes())?;
     for txn in rest {
-        out.push(b',')?;
-        out.extend_from_slice(name_of_transaction(names, *txn).as_bytes())?;
+        push_behind(out, b',', name_of_transaction(names, *txn))?;
     }
     Ok(())
 }

@@ -19,8 +19,8 @@ loop-txn-preserved g c =
     let so_far = c.loop-txn.invariant in (
       so_far.0,
       so_far.1,
-      one_more (λ (t : TxnId). name_of_transaction (g.N.TransactionNames.names c.args.names.now) t.0) 44 _ _ _ _ _ _ _ _ _ c.loop-txn-test.true so_far.2
-          (c.as_bytes-in-loop-txn.ensures.value ∙ c.name_of_transaction-in-loop-txn.ensures) c.in_ok-push-2.ensures.items c.in_ok-extend_from_slice-2.ensures.items,
+      one_more (λ (t : TxnId). name_of_transaction (g.N.TransactionNames.names c.args.names.now) t.0) 44 _ _ _ _ _ _ _ _ c.loop-txn-test.true so_far.2
+          c.name_of_transaction-in-loop-txn.ensures c.in_ok-push_behind.ensures.ok,
     )
 
 pub returns-clause-ok : goal.returns-clause-ok
