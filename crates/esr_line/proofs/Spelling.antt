@@ -203,14 +203,8 @@ strict_query_found ws c e =
       | inl t ↦
           let tests = and_parts (bytes_eq p.0.1 (codes "query")) (bytes_eq p.0.3 (codes "strict")) t in
           let rest : both begin_strict_query (name_of p.0.0) (limit_in p.0.2) ≡ Some c = rw t at p.2 in
-          let b = both_found begin_strict_query (name_of p.0.0) (limit_in p.0.2) c rest in
-          let n = name_found p.0.0 b.0 b.2 in
-          let l = number_found (10 ^ 19) p.0.2 b.1 b.3 in
-          subst (Behind (codes "begin") ws) b.4 (
-            (n.0, l.0),
-            ap (λ l. codes "begin" ∷ l) (four_found ws p.0 p.1
-                ∙ same_four n.1 ((bytes_eq-Decides p.0.1 (codes "query")).0 tests.0) l.1 ((bytes_eq-Decides p.0.3 (codes "strict")).0 tests.1)),
-          )
+          grind (arith, both_found begin_strict_query (name_of p.0.0) (limit_in p.0.2) c rest, name_found, number_found, codes "begin",
+              four_found ws p.0 p.1, same_four, bytes_eq-Decides p.0.1 (codes "query"), bytes_eq-Decides p.0.3 (codes "strict"))
       | inr f ↦ let none : None ≡ Some c = rw f at p.2 in cc
     ]
 
