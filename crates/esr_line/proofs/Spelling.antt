@@ -250,10 +250,10 @@ behind k ws c e =
     choose k (codes "read") ws _ _ c e (read_found ws c) (λ e.
     choose k (codes "write") ws _ _ c e (write_found ws c) (λ e.
     choose k (codes "begin") ws _ _ c e (begin_found ws c) (λ e.
+    choose k (codes "item") ws _ _ c e (item_found ws c) (λ e.
     choose k (codes "commit") ws _ _ c e (commit_found ws c) (λ e.
     choose k (codes "abort") ws _ _ c e (abort_found ws c) (λ e.
-    choose k (codes "audit") ws _ _ c e (audit_found ws c) (λ e.
-    choose k (codes "item") ws _ _ c e (item_found ws c) (λ e. cc))))))))
+    choose k (codes "audit") ws _ _ c e (audit_found ws c) (λ e. cc))))))))
 
 by_words : (ws : List (List ℕ)) (c : Command) → command_by ws ≡ Some c → IsCommand c × (ws ≡ words c)
 by_words [] c e = cc

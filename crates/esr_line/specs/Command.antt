@@ -203,17 +203,21 @@ abbrev pub totals_command : List (List ℕ) → Option Command
 totals_command [] = Some totals
 totals_command ws = None
 
+abbrev pub one_name_command : List ℕ → List (List ℕ) → Option Command
+one_name_command word ws =
+    if bytes_eq word (codes "commit") then option_map commit (one_name_of ws)
+    else if bytes_eq word (codes "abort") then option_map abort (one_name_of ws)
+    else if bytes_eq word (codes "audit") then option_map audit (one_name_of ws)
+    else None
+
 abbrev pub command_of : List ℕ → List (List ℕ) → Option Command
 command_of word ws =
     if bytes_eq word (codes "totals") then totals_command ws
     else if bytes_eq word (codes "read") then read_command ws
     else if bytes_eq word (codes "write") then write_command ws
     else if bytes_eq word (codes "begin") then begin_command ws
-    else if bytes_eq word (codes "commit") then option_map commit (one_name_of ws)
-    else if bytes_eq word (codes "abort") then option_map abort (one_name_of ws)
-    else if bytes_eq word (codes "audit") then option_map audit (one_name_of ws)
     else if bytes_eq word (codes "item") then item_command ws
-    else None
+    else one_name_command word ws
 
 abbrev pub command_by : List (List ℕ) → Option Command
 command_by [] = None

@@ -1,7 +1,7 @@
 //! The lines of a script.
 
 ghost use Rattle.std.specs.Prelude.{◌≡◌, ◌↔◌, Option, Some, option_map, IsTrue};
-ghost use Rattle.esr_line.specs.Command.{Command, is_skipped, Spells, words_of, words_after, totals_command, plain_item_command, weighted_item_command, item_command, plain_begin_command, strict_query_command, begin_command, read_command, write_command, one_name_of, reading, view, command_in, IsReadingOf};
+ghost use Rattle.esr_line.specs.Command.{Command, is_skipped, Spells, words_of, words_after, totals_command, plain_item_command, weighted_item_command, item_command, plain_begin_command, strict_query_command, begin_command, read_command, write_command, one_name_command, reading, view, command_in, IsReadingOf};
 
 use crate::words::{cut_word, four_words, int, limit, name, one_word, three_words, two_words};
 
@@ -172,11 +172,20 @@ fn write(words: &[u8]) -> Option<Line<'_>>
     Some(Line::Write { txn, item, value })
 }
 
-/// The name, where it is the only word.
-fn one_name(words: &[u8]) -> Option<&str>
-    ensures { option_map (λ t. t.now) result ≡ one_name_of (words_of words.now) }
+/// The command of the first word, where it has one name.
+fn of_one_name<'a>(word: &[u8], words: &'a [u8]) -> Option<Line<'a>>
+    ensures { option_map view result ≡ one_name_command word.now (words_of words.now) }
 {
-    name(one_word(words)?)
+    let txn = name(one_word(words)?)?;
+    if word == b"commit".as_slice() {
+        Some(Line::Commit { txn })
+    } else if word == b"abort".as_slice() {
+        Some(Line::Abort { txn })
+    } else if word == b"audit".as_slice() {
+        Some(Line::Audit { txn })
+    } else {
+        None
+    }
 }
 
 #[tactic(auto, using(crate::proofs::Blanks::no_totals))]
@@ -204,19 +213,10 @@ fn command(line: &[u8]) -> Option<Line<'_>>
         write(words)
     } else if word == b"begin".as_slice() {
         begin(words)
-    } else if word == b"commit".as_slice() {
-        let txn = one_name(words)?;
-        Some(Line::Commit { txn })
-    } else if word == b"abort".as_slice() {
-        let txn = one_name(words)?;
-        Some(Line::Abort { txn })
-    } else if word == b"audit".as_slice() {
-        let txn = one_name(words)?;
-        Some(Line::Audit { txn })
     } else if word == b"item".as_slice() {
         item(words)
     } else {
-        None
+        of_one_name(word, words)
     }
 }
 
