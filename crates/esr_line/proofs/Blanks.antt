@@ -6,7 +6,7 @@ use Rattle.std.proofs.lemmas.Str.{IsUtf8-from_ascii}
 use Rattle.std.proofs.lemmas.Bool.{cases_Bool, or_cases, and_parts}
 use Rattle.std.proofs.lemmas.Option.{cond_some}
 use Rattle.std.specs.List.{position, position_or_len, onto_first, list_all}
-use Rattle.esr_line.specs.Command.{is_letter, is_name_byte, is_name, is_between, words_of, is_blank, one_of, totals_of}
+use Rattle.esr_line.specs.Command.{is_letter, is_name_byte, is_name, is_between, words_of, is_blank, one_of, totals_command}
 
 pub chosen_none : (v : Bool) (n : ℕ) → cond v (Some n) None ≡ None → v ≡ false
 chosen_none true n e = cc
@@ -73,5 +73,5 @@ some_word (b ∷ bs) = elim (cases_Bool (nat_eq b 32)) [
 pub one_of_more : (w rest : List ℕ) → None ≡ one_of (w ∷ words_of rest)
 one_of_more w rest = rw (some_word rest).2 refl
 
-pub totals_of_more : (rest : List ℕ) → None ≡ totals_of (words_of rest)
-totals_of_more rest = rw (some_word rest).2 refl
+pub no_totals : (rest : List ℕ) → None ≡ totals_command (words_of rest)
+no_totals rest = rw (some_word rest).2 refl

@@ -22,21 +22,13 @@ whole-other b bs e = rw e refl
 -- bytes with no line feed, and then one, are a line
 pub lines-line : (l rest : List ℕ) → line_len l ≡ length l → lines (l ++ 10 ∷ rest) ≡ l ∷ lines rest
 lines-line [] rest h = refl
-lines-line (b ∷ bs) rest h = elim (cases_Bool (nat_eq b 10)) [
-  | inl e ↦ absurd (omega (arith, h, len-feed b bs e))
-  | inr e ↦
-      let inside : line_len bs ≡ length bs = omega (arith, h, len-other b bs e) in
-      lines-other b (bs ++ 10 ∷ rest) e ∙ ap (onto_first b) (lines-line bs rest inside)
-]
+lines-line (b ∷ bs) rest h =
+    grind (arith, cases_Bool (nat_eq b 10), len-feed b bs, len-other b bs, lines-other b (bs ++ 10 ∷ rest), lines-line bs rest)
 
 pub whole-line : (l rest : List ℕ) → line_len l ≡ length l → whole_lines (l ++ 10 ∷ rest) ≡ l ∷ whole_lines rest
 whole-line [] rest h = refl
-whole-line (b ∷ bs) rest h = elim (cases_Bool (nat_eq b 10)) [
-  | inl e ↦ absurd (omega (arith, h, len-feed b bs e))
-  | inr e ↦
-      let inside : line_len bs ≡ length bs = omega (arith, h, len-other b bs e) in
-      whole-other b (bs ++ 10 ∷ rest) e ∙ ap (onto_first_whole b) (whole-line bs rest inside)
-]
+whole-line (b ∷ bs) rest h =
+    grind (arith, cases_Bool (nat_eq b 10), len-feed b bs, len-other b bs, whole-other b (bs ++ 10 ∷ rest), whole-line bs rest)
 
 -- the bytes before the first line feed, and those after it
 abbrev pub front : List ℕ → List ℕ

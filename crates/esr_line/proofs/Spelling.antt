@@ -8,7 +8,7 @@ use Rattle.std.specs.Fmt.{signed_decimal}
 use Rattle.std.proofs.lemmas.List.Elements.{All-nil, All-cons}
 use Rattle.std.proofs.lemmas.List.Splits.{join_with_byte-slice_split}
 use Rattle.std.proofs.lemmas.Slice.Eq.{bytes_eq-Decides}
-use Rattle.esr_line.specs.Command.{Command, item, weighted_item, begin_update, begin_query, begin_strict_query, read, write, commit, abort, audit, totals, words, is_letter, is_name_byte, is_name, IsName, IsLimit, IsCommand, Spells, IsPlainWord, words_of, name_of, limit_in, int_of, one_of, two_of, three_of, four_of, both, plain_item_of, weighted_item_of, item_of, plain_begin_of, strict_query_of, begin_of, read_of, write_of, one_name_of, totals_of, command_of, command_by, reading}
+use Rattle.esr_line.specs.Command.{Command, item, weighted_item, begin_update, begin_query, begin_strict_query, read, write, commit, abort, audit, totals, words, is_letter, is_name_byte, is_name, IsName, IsLimit, IsCommand, Spells, IsPlainWord, words_of, name_of, limit_in, int_of, one_of, two_of, three_of, four_of, both, plain_item_command, weighted_item_command, item_command, plain_begin_command, strict_query_command, begin_command, read_command, write_command, one_name_of, totals_command, command_of, command_by, reading}
 use Rattle.std.proofs.lemmas.Bool.{cases_Bool, and_parts}
 use Rattle.esr_line.proofs.Laws.{and_then_some, map_some, split_join, number_again, number_found, all_digits, int_again, int_found}
 use Rattle.std.proofs.lemmas.Grind.{common_steps}
@@ -128,7 +128,7 @@ same_four {a} {b} {c} {d} {w} {x} {y} {z} e f g h = rw (e, f, g, h) refl
 abbrev Behind : List ℕ → List (List ℕ) → Command → Type 0
 Behind k ws c = IsCommand c × (k ∷ ws ≡ words c)
 
-plain_item_found : (ws : List (List ℕ)) (c : Command) → plain_item_of ws ≡ Some c → Behind (codes "item") ws c
+plain_item_found : (ws : List (List ℕ)) (c : Command) → plain_item_command ws ≡ Some c → Behind (codes "item") ws c
 plain_item_found ws c e =
     let p = and_then_some (λ (q : List ℕ × List ℕ). both item (name_of q.0) (int_of q.1)) (two_of ws) c e in
     let b = both_found item (name_of p.0.0) (int_of p.0.1) c p.2 in
@@ -136,7 +136,7 @@ plain_item_found ws c e =
     let v = int_found p.0.1 b.1 b.3 in
     subst (Behind (codes "item") ws) b.4 ((n.0, v.0), ap (λ l. codes "item" ∷ l) (two_found ws p.0 p.1 ∙ same_two n.1 v.1))
 
-weighted_item_found : (ws : List (List ℕ)) (c : Command) → weighted_item_of ws ≡ Some c → Behind (codes "item") ws c
+weighted_item_found : (ws : List (List ℕ)) (c : Command) → weighted_item_command ws ≡ Some c → Behind (codes "item") ws c
 weighted_item_found ws c e =
     let p = and_then_some (λ (q : List ℕ × List ℕ × List ℕ × List ℕ). cond (bytes_eq q.2 (codes "weight"))
     (option_and_then (λ n. both (weighted_item n) (int_of q.1) (limit_in q.3)) (name_of q.0)) None) (four_of ws) c e in
@@ -155,16 +155,16 @@ weighted_item_found ws c e =
       | inr f ↦ let none : None ≡ Some c = rw f at p.2 in cc
     ]
 
-item_found : (ws : List (List ℕ)) (c : Command) → item_of ws ≡ Some c → Behind (codes "item") ws c
-item_found ws c e = elim (or_found (plain_item_of ws) (weighted_item_of ws) c e) [
+item_found : (ws : List (List ℕ)) (c : Command) → item_command ws ≡ Some c → Behind (codes "item") ws c
+item_found ws c e = elim (or_found (plain_item_command ws) (weighted_item_command ws) c e) [
   | inl h ↦ plain_item_found ws c h
   | inr h ↦ weighted_item_found ws c h
 ]
 
-read_found : (ws : List (List ℕ)) (c : Command) → read_of ws ≡ Some c → Behind (codes "read") ws c
+read_found : (ws : List (List ℕ)) (c : Command) → read_command ws ≡ Some c → Behind (codes "read") ws c
 read_found ws c e = grind (arith, and_then_some, both_found, name_found, codes "read", two_found, same_two)
 
-write_found : (ws : List (List ℕ)) (c : Command) → write_of ws ≡ Some c → Behind (codes "write") ws c
+write_found : (ws : List (List ℕ)) (c : Command) → write_command ws ≡ Some c → Behind (codes "write") ws c
 write_found ws c e =
     let p = and_then_some (λ (q : List ℕ × List ℕ × List ℕ). option_and_then (λ t. both (write t) (name_of q.1) (int_of q.2)) (name_of q.0)) (three_of ws) c e in
     let a = and_then_some (λ t. both (write t) (name_of p.0.1) (int_of p.0.2)) (name_of p.0.0) c p.2 in
@@ -180,7 +180,7 @@ begin_by : (kind : List ℕ) (f : List ℕ → ℕ → Command) (ws : List (List
 begin_by kind f ws p c three is_kind e spells =
     grind (arith, both_found f (name_of p.0) (limit_in p.2) c e, name_found, number_found, codes "begin", same_three, bytes_eq-Decides p.1 kind)
 
-plain_begin_found : (ws : List (List ℕ)) (c : Command) → plain_begin_of ws ≡ Some c → Behind (codes "begin") ws c
+plain_begin_found : (ws : List (List ℕ)) (c : Command) → plain_begin_command ws ≡ Some c → Behind (codes "begin") ws c
 plain_begin_found ws c e =
     let p = and_then_some (λ (q : List ℕ × List ℕ × List ℕ). cond (bytes_eq q.1 (codes "update")) (both begin_update (name_of q.0) (limit_in q.2))
     (cond (bytes_eq q.1 (codes "query")) (both begin_query (name_of q.0) (limit_in q.2)) None)) (three_of ws) c e in
@@ -195,7 +195,7 @@ plain_begin_found ws c e =
           ]
     ]
 
-strict_query_found : (ws : List (List ℕ)) (c : Command) → strict_query_of ws ≡ Some c → Behind (codes "begin") ws c
+strict_query_found : (ws : List (List ℕ)) (c : Command) → strict_query_command ws ≡ Some c → Behind (codes "begin") ws c
 strict_query_found ws c e =
     let p = and_then_some (λ (q : List ℕ × List ℕ × List ℕ × List ℕ). cond (bytes_eq q.1 (codes "query") && bytes_eq q.3 (codes "strict"))
     (both begin_strict_query (name_of q.0) (limit_in q.2)) None) (four_of ws) c e in
@@ -203,24 +203,27 @@ strict_query_found ws c e =
       | inl t ↦
           let tests = and_parts (bytes_eq p.0.1 (codes "query")) (bytes_eq p.0.3 (codes "strict")) t in
           let rest : both begin_strict_query (name_of p.0.0) (limit_in p.0.2) ≡ Some c = rw t at p.2 in
-          let b = both_found begin_strict_query (name_of p.0.0) (limit_in p.0.2) c rest in
-          let n = name_found p.0.0 b.0 b.2 in
-          let l = number_found (10 ^ 19) p.0.2 b.1 b.3 in
-          subst (Behind (codes "begin") ws) b.4 (
-            (n.0, l.0),
-            ap (λ l. codes "begin" ∷ l) (four_found ws p.0 p.1
-                ∙ same_four n.1 ((bytes_eq-Decides p.0.1 (codes "query")).0 tests.0) l.1 ((bytes_eq-Decides p.0.3 (codes "strict")).0 tests.1)),
+          grind (
+            arith,
+            both_found begin_strict_query (name_of p.0.0) (limit_in p.0.2) c rest,
+            name_found,
+            number_found,
+            codes "begin",
+            four_found ws p.0 p.1,
+            same_four,
+            bytes_eq-Decides p.0.1 (codes "query"),
+            bytes_eq-Decides p.0.3 (codes "strict"),
           )
       | inr f ↦ let none : None ≡ Some c = rw f at p.2 in cc
     ]
 
-begin_found : (ws : List (List ℕ)) (c : Command) → begin_of ws ≡ Some c → Behind (codes "begin") ws c
-begin_found ws c e = elim (or_found (plain_begin_of ws) (strict_query_of ws) c e) [
+begin_found : (ws : List (List ℕ)) (c : Command) → begin_command ws ≡ Some c → Behind (codes "begin") ws c
+begin_found ws c e = elim (or_found (plain_begin_command ws) (strict_query_command ws) c e) [
   | inl h ↦ plain_begin_found ws c h
   | inr h ↦ strict_query_found ws c h
 ]
 
-totals_found : (ws : List (List ℕ)) (c : Command) → totals_of ws ≡ Some c → Behind (codes "totals") ws c
+totals_found : (ws : List (List ℕ)) (c : Command) → totals_command ws ≡ Some c → Behind (codes "totals") ws c
 totals_found [] c e = let same : totals ≡ c = cc in subst (Behind (codes "totals") []) same (tt, refl)
 totals_found (w ∷ ws) c e = cc
 
@@ -247,10 +250,10 @@ behind k ws c e =
     choose k (codes "read") ws _ _ c e (read_found ws c) (λ e.
     choose k (codes "write") ws _ _ c e (write_found ws c) (λ e.
     choose k (codes "begin") ws _ _ c e (begin_found ws c) (λ e.
+    choose k (codes "item") ws _ _ c e (item_found ws c) (λ e.
     choose k (codes "commit") ws _ _ c e (commit_found ws c) (λ e.
     choose k (codes "abort") ws _ _ c e (abort_found ws c) (λ e.
-    choose k (codes "audit") ws _ _ c e (audit_found ws c) (λ e.
-    choose k (codes "item") ws _ _ c e (item_found ws c) (λ e. cc))))))))
+    choose k (codes "audit") ws _ _ c e (audit_found ws c) (λ e. cc))))))))
 
 by_words : (ws : List (List ℕ)) (c : Command) → command_by ws ≡ Some c → IsCommand c × (ws ≡ words c)
 by_words [] c e = cc

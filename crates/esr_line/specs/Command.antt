@@ -159,61 +159,65 @@ abbrev pub both : {A B C : Type 0} → (A → B → C) → Option A → Option B
 both f a b = option_and_then (λ x. option_map (f x) b) a
 
 -- the words behind each first word
-abbrev pub plain_item_of : List (List ℕ) → Option Command
-plain_item_of ws = option_and_then (λ p. both item (name_of p.0) (int_of p.1)) (two_of ws)
+abbrev pub plain_item_command : List (List ℕ) → Option Command
+plain_item_command ws = option_and_then (λ p. both item (name_of p.0) (int_of p.1)) (two_of ws)
 
-abbrev pub weighted_item_of : List (List ℕ) → Option Command
-weighted_item_of ws =
+abbrev pub weighted_item_command : List (List ℕ) → Option Command
+weighted_item_command ws =
     option_and_then (λ p.
     if bytes_eq p.2 (codes "weight")
     then option_and_then (λ n. both (weighted_item n) (int_of p.1) (limit_in p.3)) (name_of p.0)
     else None) (four_of ws)
 
-abbrev pub item_of : List (List ℕ) → Option Command
-item_of ws = option_or (plain_item_of ws) (weighted_item_of ws)
+abbrev pub item_command : List (List ℕ) → Option Command
+item_command ws = option_or (plain_item_command ws) (weighted_item_command ws)
 
-abbrev pub strict_query_of : List (List ℕ) → Option Command
-strict_query_of ws =
+abbrev pub strict_query_command : List (List ℕ) → Option Command
+strict_query_command ws =
     option_and_then (λ p.
     if bytes_eq p.1 (codes "query") && bytes_eq p.3 (codes "strict")
     then both begin_strict_query (name_of p.0) (limit_in p.2)
     else None) (four_of ws)
 
-abbrev pub plain_begin_of : List (List ℕ) → Option Command
-plain_begin_of ws =
+abbrev pub plain_begin_command : List (List ℕ) → Option Command
+plain_begin_command ws =
     option_and_then (λ p.
     if bytes_eq p.1 (codes "update") then both begin_update (name_of p.0) (limit_in p.2)
     else if bytes_eq p.1 (codes "query") then both begin_query (name_of p.0) (limit_in p.2)
     else None) (three_of ws)
 
-abbrev pub begin_of : List (List ℕ) → Option Command
-begin_of ws = option_or (plain_begin_of ws) (strict_query_of ws)
+abbrev pub begin_command : List (List ℕ) → Option Command
+begin_command ws = option_or (plain_begin_command ws) (strict_query_command ws)
 
-abbrev pub read_of : List (List ℕ) → Option Command
-read_of ws = option_and_then (λ p. both read (name_of p.0) (name_of p.1)) (two_of ws)
+abbrev pub read_command : List (List ℕ) → Option Command
+read_command ws = option_and_then (λ p. both read (name_of p.0) (name_of p.1)) (two_of ws)
 
-abbrev pub write_of : List (List ℕ) → Option Command
-write_of ws =
+abbrev pub write_command : List (List ℕ) → Option Command
+write_command ws =
     option_and_then (λ p. option_and_then (λ t. both (write t) (name_of p.1) (int_of p.2)) (name_of p.0)) (three_of ws)
 
 abbrev pub one_name_of : List (List ℕ) → Option (List ℕ)
 one_name_of ws = option_and_then name_of (one_of ws)
 
-abbrev pub totals_of : List (List ℕ) → Option Command
-totals_of [] = Some totals
-totals_of ws = None
+abbrev pub totals_command : List (List ℕ) → Option Command
+totals_command [] = Some totals
+totals_command ws = None
+
+abbrev pub one_name_command : List ℕ → List (List ℕ) → Option Command
+one_name_command word ws =
+    if bytes_eq word (codes "commit") then option_map commit (one_name_of ws)
+    else if bytes_eq word (codes "abort") then option_map abort (one_name_of ws)
+    else if bytes_eq word (codes "audit") then option_map audit (one_name_of ws)
+    else None
 
 abbrev pub command_of : List ℕ → List (List ℕ) → Option Command
 command_of word ws =
-    if bytes_eq word (codes "totals") then totals_of ws
-    else if bytes_eq word (codes "read") then read_of ws
-    else if bytes_eq word (codes "write") then write_of ws
-    else if bytes_eq word (codes "begin") then begin_of ws
-    else if bytes_eq word (codes "commit") then option_map commit (one_name_of ws)
-    else if bytes_eq word (codes "abort") then option_map abort (one_name_of ws)
-    else if bytes_eq word (codes "audit") then option_map audit (one_name_of ws)
-    else if bytes_eq word (codes "item") then item_of ws
-    else None
+    if bytes_eq word (codes "totals") then totals_command ws
+    else if bytes_eq word (codes "read") then read_command ws
+    else if bytes_eq word (codes "write") then write_command ws
+    else if bytes_eq word (codes "begin") then begin_command ws
+    else if bytes_eq word (codes "item") then item_command ws
+    else one_name_command word ws
 
 abbrev pub command_by : List (List ℕ) → Option Command
 command_by [] = None

@@ -1,7 +1,7 @@
 //! The lines of a script.
 
 ghost use Rattle.std.specs.Prelude.{◌≡◌, ◌↔◌, Option, Some, option_map, IsTrue};
-ghost use Rattle.esr_line.specs.Command.{Command, is_skipped, Spells, words_of, words_after, totals_of, plain_item_of, weighted_item_of, item_of, plain_begin_of, strict_query_of, begin_of, read_of, write_of, one_name_of, reading, view, command_in, IsReadingOf};
+ghost use Rattle.esr_line.specs.Command.{Command, is_skipped, Spells, words_of, words_after, totals_command, plain_item_command, weighted_item_command, item_command, plain_begin_command, strict_query_command, begin_command, read_command, write_command, one_name_command, reading, view, command_in, IsReadingOf};
 
 use crate::words::{cut_word, four_words, int, limit, name, one_word, three_words, two_words};
 
@@ -82,7 +82,7 @@ fn is_skipped(line: &[u8]) -> bool
 }
 
 fn plain_item(words: &[u8]) -> Option<Line<'_>>
-    ensures { option_map view result ≡ plain_item_of (words_of words.now) }
+    ensures { option_map view result ≡ plain_item_command (words_of words.now) }
 {
     let (first, second) = two_words(words)?;
     let name = name(first)?;
@@ -91,7 +91,7 @@ fn plain_item(words: &[u8]) -> Option<Line<'_>>
 }
 
 fn weighted_item(words: &[u8]) -> Option<Line<'_>>
-    ensures { option_map view result ≡ weighted_item_of (words_of words.now) }
+    ensures { option_map view result ≡ weighted_item_command (words_of words.now) }
 {
     let (first, second, kind, last) = four_words(words)?;
     if kind != b"weight".as_slice() {
@@ -108,7 +108,7 @@ fn weighted_item(words: &[u8]) -> Option<Line<'_>>
 }
 
 fn item(words: &[u8]) -> Option<Line<'_>>
-    ensures { option_map view result ≡ item_of (words_of words.now) }
+    ensures { option_map view result ≡ item_command (words_of words.now) }
 {
     match plain_item(words) {
         Some(line) => Some(line),
@@ -117,16 +117,14 @@ fn item(words: &[u8]) -> Option<Line<'_>>
 }
 
 fn plain_begin(words: &[u8]) -> Option<Line<'_>>
-    ensures { option_map view result ≡ plain_begin_of (words_of words.now) }
+    ensures { option_map view result ≡ plain_begin_command (words_of words.now) }
 {
     let (first, kind, last) = three_words(words)?;
+    let name = name(first)?;
+    let limit = limit(last)?;
     if kind == b"update".as_slice() {
-        let name = name(first)?;
-        let limit = limit(last)?;
         Some(Line::BeginUpdate { name, limit })
     } else if kind == b"query".as_slice() {
-        let name = name(first)?;
-        let limit = limit(last)?;
         Some(Line::BeginQuery { name, limit })
     } else {
         None
@@ -134,7 +132,7 @@ fn plain_begin(words: &[u8]) -> Option<Line<'_>>
 }
 
 fn strict_query(words: &[u8]) -> Option<Line<'_>>
-    ensures { option_map view result ≡ strict_query_of (words_of words.now) }
+    ensures { option_map view result ≡ strict_query_command (words_of words.now) }
 {
     let (first, kind, second, last) = four_words(words)?;
     if kind == b"query".as_slice() && last == b"strict".as_slice() {
@@ -147,7 +145,7 @@ fn strict_query(words: &[u8]) -> Option<Line<'_>>
 }
 
 fn begin(words: &[u8]) -> Option<Line<'_>>
-    ensures { option_map view result ≡ begin_of (words_of words.now) }
+    ensures { option_map view result ≡ begin_command (words_of words.now) }
 {
     match plain_begin(words) {
         Some(line) => Some(line),
@@ -156,7 +154,7 @@ fn begin(words: &[u8]) -> Option<Line<'_>>
 }
 
 fn read(words: &[u8]) -> Option<Line<'_>>
-    ensures { option_map view result ≡ read_of (words_of words.now) }
+    ensures { option_map view result ≡ read_command (words_of words.now) }
 {
     let (first, second) = two_words(words)?;
     let txn = name(first)?;
@@ -165,7 +163,7 @@ fn read(words: &[u8]) -> Option<Line<'_>>
 }
 
 fn write(words: &[u8]) -> Option<Line<'_>>
-    ensures { option_map view result ≡ write_of (words_of words.now) }
+    ensures { option_map view result ≡ write_command (words_of words.now) }
 {
     let (first, second, third) = three_words(words)?;
     let txn = name(first)?;
@@ -174,16 +172,25 @@ fn write(words: &[u8]) -> Option<Line<'_>>
     Some(Line::Write { txn, item, value })
 }
 
-/// The name, where it is the only word.
-fn one_name(words: &[u8]) -> Option<&str>
-    ensures { option_map (λ t. t.now) result ≡ one_name_of (words_of words.now) }
+/// The command of the first word, where it has one name.
+fn of_one_name<'a>(word: &[u8], words: &'a [u8]) -> Option<Line<'a>>
+    ensures { option_map view result ≡ one_name_command word.now (words_of words.now) }
 {
-    name(one_word(words)?)
+    let txn = name(one_word(words)?)?;
+    if word == b"commit".as_slice() {
+        Some(Line::Commit { txn })
+    } else if word == b"abort".as_slice() {
+        Some(Line::Abort { txn })
+    } else if word == b"audit".as_slice() {
+        Some(Line::Audit { txn })
+    } else {
+        None
+    }
 }
 
-#[tactic(auto, using(crate::proofs::Blanks::totals_of_more))]
+#[tactic(auto, using(crate::proofs::Blanks::no_totals))]
 fn totals(words: Option<&[u8]>) -> Option<Line<'static>>
-    ensures { option_map view result ≡ totals_of (words_after words.entry) }
+    ensures { option_map view result ≡ totals_command (words_after words.entry) }
 {
     match words {
         None => Some(Line::Totals),
@@ -206,19 +213,10 @@ fn command(line: &[u8]) -> Option<Line<'_>>
         write(words)
     } else if word == b"begin".as_slice() {
         begin(words)
-    } else if word == b"commit".as_slice() {
-        let txn = one_name(words)?;
-        Some(Line::Commit { txn })
-    } else if word == b"abort".as_slice() {
-        let txn = one_name(words)?;
-        Some(Line::Abort { txn })
-    } else if word == b"audit".as_slice() {
-        let txn = one_name(words)?;
-        Some(Line::Audit { txn })
     } else if word == b"item".as_slice() {
         item(words)
     } else {
-        None
+        of_one_name(word, words)
     }
 }
 

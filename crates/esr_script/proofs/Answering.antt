@@ -7,8 +7,8 @@ use Rattle.esr_history.specs.Queries.{is_committed_query}
 use Rattle.esr_cert.specs.Views.{certificate_of}
 use Rattle.esr_order.specs.Least.{least_set, least_cost}
 use Rattle.esr_audit.specs.Findings.{IsShown, summary, summary_of}
-use Rattle.esr_script.specs.declared.asked.Asked.{Asked}
-use Rattle.esr_script.specs.Ask.{IsAnswered}
+use Rattle.esr_audit.specs.declared.finding.Finding.{Finding}
+use Rattle.esr_script.specs.Ask.{IsFoundOf}
 use Rattle.esr_script.specs.Certify.{IsFound}
 use Rattle.esr_script.specs.Text.{ScriptState, transaction_called}
 use Rattle.std.proofs.lemmas.Grind.{common_steps}
@@ -28,17 +28,14 @@ module _ (s : ScriptState) (items names : List (List ℕ)) (was : Bool) (first h
   pub refused : is_committed_query h q.0 ≡ false → is_committed_query s.history (transaction_called s name).0 ≡ false
   refused none = both (λ k n. is_committed_query k n ≡ false) none
 
-  pub answered : (a : Asked) → a.items ≡ items → a.transactions ≡ names → a.history.schedule ≡ h → a.finding.query ≡ q
-      → is_committed_query h q.0 ≡ true → a.finding.distance ≡ least_cost weighted h q.0 → a.finding.import ≡ import_in (charges_in weighted h) q.0
-      → map (λ (t : TxnId). t.0) a.finding.before.items ≡ least_set weighted h q.0
-      → IsShown weighted h q.0 a.finding.distance (map (λ (t : TxnId). t.0) a.finding.before.items) a.finding.problem (certificate_of a.finding.certificate)
-      → IsAnswered s name a
-  answered a i t is query committed distance import before shown = record {
-    items = i ∙ ap (λ (z : ScriptState). z.items) seen;
-    transactions = t ∙ ap (λ (z : ScriptState). z.transactions) seen;
-    history = is ∙ history_is;
+  pub found_of : (f : Finding) → f.query ≡ q
+      → is_committed_query h q.0 ≡ true → f.distance ≡ least_cost weighted h q.0 → f.import ≡ import_in (charges_in weighted h) q.0
+      → map (λ (t : TxnId). t.0) f.before.items ≡ least_set weighted h q.0
+      → IsShown weighted h q.0 f.distance (map (λ (t : TxnId). t.0) f.before.items) f.problem (certificate_of f.certificate)
+      → IsFoundOf s name f
+  found_of f query committed distance import before shown = record {
     committed = both (λ k n. is_committed_query k n ≡ true) committed;
-    told = both (λ k n. summary a.finding ≡ summary_of weighted k n) (four (ap (λ (t : TxnId). t.0) query) distance import before);
-    found = both (λ k n. IsFound k n a.finding.problem (certificate_of a.finding.certificate))
+    told = both (λ k n. summary f ≡ summary_of weighted k n) (four (ap (λ (t : TxnId). t.0) query) distance import before);
+    found = both (λ k n. IsFound k n f.problem (certificate_of f.certificate))
         (record { stands = shown.stands; certified = shown.certified; set_is = sym shown.set_is ∙ before; counted = shown.counted });
   }

@@ -1,6 +1,5 @@
 -- Each end of the audit of a script.
-use Rattle.std.proofs.Common.{◌≡◌, ℕ, ◌+◌, ◌<◌, true, false, List, [], ◌∷◌, ◌++◌, Bool, length, take, map, get_or, refl, ap, Result, Ok, Err, OnOk, append_assoc, append-nil, arith}
-use Rattle.std.specs.Prelude.{◌↔◌, IsOk}
+use Rattle.std.proofs.Common.{◌≡◌, ℕ, ◌+◌, ◌<◌, List, [], ◌∷◌, ◌++◌, Bool, length, take, map, get_or, refl, ap, append_assoc, append-nil, arith}
 use Rattle.std.specs.List.{flat_map}
 use Rattle.std.proofs.lemmas.List.{take_more}
 use Rattle.std.proofs.lemmas.Grind.{flat_map-append, common_steps}
@@ -9,7 +8,6 @@ use Rattle.esr_history.specs.Serial.{committed_updates}
 use Rattle.esr_history.specs.Totals.{all_imports, all_exports}
 use Rattle.esr_audit.specs.Findings.{summary_of, committed_queries}
 use Rattle.esr_report.specs.Lines.{order_line, totals_line}
-use Rattle.esr_script.specs.declared.fault.RunFault.{RunFault}
 use Rattle.esr_items.specs.Weights.{weighted}
 use Rattle.esr_script.specs.Text.{ScriptState}
 use Rattle.esr_script.specs.Audit.{told_line, audit_output}
@@ -27,20 +25,9 @@ lines_of_map f g [] = refl
 lines_of_map f g (x ∷ xs) = ap (λ l. f (g x) ++ l) (lines_of_map f g xs)
 
 -- the lines of a book over a history are the output of a state with this history
-pub book_lines : {E : Type 0} (r : Result (Unit {0}) RunFault) (p : Result (Unit {0}) E) (items names : List (List ℕ)) (was : Bool) (h0 h : Schedule) (s : ScriptState)
-    (order : List ℕ) (tolds : List (ℕ × ℕ × ℕ × List ℕ)) (imports exports entries : ℕ) (out grown : List ℕ)
+pub book_lines : (items names : List (List ℕ)) (was : Bool) (h0 h : Schedule) (s : ScriptState)
+    (order : List ℕ) (tolds : List (ℕ × ℕ × ℕ × List ℕ)) (imports exports entries : ℕ)
     → record { items = items; transactions = names; closed = was; history = h0 } ≡ s → h ≡ h0
     → order ≡ committed_updates h → tolds ≡ map (summary_of weighted h) (committed_queries h) → imports ≡ all_imports weighted h → exports ≡ all_exports weighted h → entries ≡ length h.entries
-    → IsOk r ↔ IsOk p → OnOk p (grown ≡ out ++ order_line names order ++ flat_map (told_line names) tolds ++ totals_line imports exports entries)
-    → OnOk r (grown ≡ out ++ audit_output s)
-book_lines {E} r p items names was h0 h s order tolds imports exports entries out grown seen same o t i e n said lines = ended r p said lines
-  where
-    whole : order_line names order ++ flat_map (told_line names) tolds ++ totals_line imports exports entries ≡ audit_output s
-    whole = grind (arith, common_steps)
-
-    ended : (r : Result (Unit {0}) RunFault) (p : Result (Unit {0}) E) → IsOk r ↔ IsOk p
-        → OnOk p (grown ≡ out ++ order_line names order ++ flat_map (told_line names) tolds ++ totals_line imports exports entries) → OnOk r (grown ≡ out ++ audit_output s)
-    ended (Err f) p said lines = tt
-    ended (Ok u) (Err f) said lines = let none : false ≡ true = said.0 refl in cc
-    ended (Ok u) (Ok v) said lines =
-        grind (arith, append_assoc out (order_line names order) (flat_map (told_line names) tolds), append_assoc, whole)
+    → order_line names order ++ flat_map (told_line names) tolds ++ totals_line imports exports entries ≡ audit_output s
+book_lines items names was h0 h s order tolds imports exports entries seen same o t i e n = grind (arith, common_steps)

@@ -1,5 +1,5 @@
 -- What an audit finds is what its line says.
-use Rattle.std.proofs.Common.{◌≡◌, ℕ, List, ◌++◌, Result, Ok, Err, IfOk, OnOk, map, refl, sym, ◌∙◌, ap, subst, Bool, true, false, if◌then◌else◌, arith}
+use Rattle.std.proofs.Common.{◌≡◌, ℕ, List, ◌++◌, Result, Ok, Err, IfOk, OnOk, map, refl, sym, ◌∙◌, ap, true, false, arith}
 use Rattle.std.specs.Prelude.{◌↔◌, IsErrOf, IsOk}
 use Rattle.esr_history.specs.declared.event.TxnId.{TxnId}
 use Rattle.esr_history.specs.Machine.{Distance, Schedule, charges_in, import_in}
@@ -12,11 +12,11 @@ use Rattle.esr_audit.specs.declared.finding.Finding.{Finding}
 use Rattle.esr_audit.specs.declared.finding.AuditError.{AuditError}
 use Rattle.esr_audit.specs.declared.finding.AuditError.TheVariants.{NotACommittedQuery}
 use Rattle.esr_audit.specs.Findings.{IsShown, IsFindingOf}
-use Rattle.esr_report.specs.Lines.{audit_line, error_line}
-use Rattle.esr_report.specs.declared.lines.LineError.TheVariants as errors
+use Rattle.esr_report.specs.Lines.{audit_line}
 use Rattle.esr_script.specs.declared.fault.RunFault.{RunFault}
 use Rattle.esr_items.specs.Weights.{weighted}
-use Rattle.esr_script.specs.Text.{ScriptState, transaction_called, audit_text}
+use Rattle.esr_script.specs.Ask.{IsFoundOf}
+use Rattle.esr_script.specs.Text.{ScriptState, transaction_called, audit_text, closed}
 use Rattle.std.proofs.lemmas.Grind.{common_steps}
 
 module _ (d : Distance) (h : Schedule) (q : ℕ) where
@@ -40,35 +40,19 @@ module _ (d : Distance) (h : Schedule) (q : ℕ) where
   committed (Ok f) refused = grind (arith, common_steps)
   committed (Err e) refused = tt
 
-abbrev pub answered : ScriptState → List ℕ → Result (ScriptState × List ℕ) RunFault
-answered s text = Ok (s, text)
-
 -- the line of what was found is the audit's text
-pub said_so : {E : Type 0} (r : Result (Unit {0}) RunFault) (p : Result (Unit {0}) E) (items names : List (List ℕ)) (was running : Bool) (h0 h : Schedule) (s : ScriptState)
-    (name : List ℕ) (q : TxnId) (distance import : ℕ) (before out grown : List ℕ)
-    → record { items = items; transactions = names; closed = was; history = h0 } ≡ s → (running ≡ true) × (h ≡ h0)
-    → q ≡ transaction_called (record { items = items; transactions = names; closed = running; history = h }) name
-    → is_committed_query h q.0 ≡ true → distance ≡ least_cost weighted h q.0 → import ≡ import_in (charges_in weighted h) q.0 → before ≡ least_set weighted h q.0
-    → IsOk r ↔ IsOk p → OnOk p (grown ≡ out ++ audit_line names name distance import before)
-    → OnOk r ((text : List ℕ) × (answered (record s { closed = true }) (audit_text s name) ≡ answered (record { items = items; transactions = names; closed = running; history = h }) text) × (grown ≡ out ++ text))
-said_so {E} r p items names was running h0 h s name q distance import before out grown seen closed called shown d i b said line =
-    subst (λ s. OnOk r ((text : List ℕ) × (answered (record s { closed = true }) (audit_text s name) ≡ answered (record { items = items; transactions = names; closed = running; history = h }) text) × (grown ≡ out ++ text))) seen
-    (subst (λ k. OnOk r ((text : List ℕ) × (answered (record { items = items; transactions = names; closed = true; history = k }) (audit_text (record { items = items; transactions = names; closed = was; history = k }) name) ≡ answered (record { items = items; transactions = names; closed = running; history = h }) text) × (grown ≡ out ++ text))) closed.1
-    (ended r p said line))
-  where
-    state : Bool → ScriptState
-    state c = record { items = items; transactions = names; closed = c; history = h }
-
-    whole : ℕ → List ℕ
-    whole n =
-        if is_committed_query h n then audit_line names name (least_cost weighted h n) (import_in (charges_in weighted h) n) (least_set weighted h n)
-        else error_line errors.NotACommittedQuery
-
-    text : audit_text (state was) name ≡ audit_line names name distance import before
-    text = grind (arith, whole)
-
-    ended : (r : Result (Unit {0}) RunFault) (p : Result (Unit {0}) E) → IsOk r ↔ IsOk p → OnOk p (grown ≡ out ++ audit_line names name distance import before)
-        → OnOk r ((text : List ℕ) × (answered (state true) (audit_text (state was) name) ≡ answered (state running) text) × (grown ≡ out ++ text))
-    ended (Err e) p said line = tt
-    ended (Ok u) (Err e) said line = let none : false ≡ true = said.0 refl in cc
-    ended (Ok u) (Ok v) said line = (audit_text (state was) name, ap (λ c. answered (state c) (audit_text (state was) name)) (sym closed.0), line ∙ ap (λ l. out ++ l) (sym text))
+pub said_so : {E : Type 0} (r : Result (Unit {0}) RunFault) (p : Result (Unit {0}) E) (s after : ScriptState) (name : List ℕ) (f : Finding) (names : List (List ℕ)) (out grown : List ℕ)
+    → IsFoundOf s name f → after ≡ closed s → names ≡ after.transactions
+    → IsOk r ↔ IsOk p → OnOk p (grown ≡ out ++ audit_line names name f.distance f.import (map (λ (t : TxnId). t.0) f.before.items))
+    → OnOk r ((text : List ℕ) × (◌≡◌ {A = Result (ScriptState × List ℕ) RunFault} (Ok (closed s, audit_text s name)) (Ok (after, text))) × (grown ≡ out ++ text))
+said_so (Err e) p s after name f names out grown found is same said line = tt
+said_so (Ok u) (Err e) s after name f names out grown found is same said line = let none : false ≡ true = said.0 refl in cc
+said_so (Ok u) (Ok v) s after name f names out grown found is same said line =
+    let q = (transaction_called s name).0 in
+    let text : audit_text s name ≡ audit_line s.transactions name (least_cost weighted s.history q) (import_in (charges_in weighted s.history) q) (least_set weighted s.history q) = rw found.committed refl in
+    let told = ap (λ (t : ℕ × ℕ × ℕ × List ℕ). audit_line s.transactions name t.1 t.2 t.3) found.told in
+    let bound : names ≡ s.transactions = same ∙ ap (λ (z : ScriptState). z.transactions) is in (
+      audit_text s name,
+      ap (λ (z : ScriptState). Ok (z, audit_text s name)) (sym is),
+      line ∙ ap (λ l. out ++ l) (ap (λ ns. audit_line ns name f.distance f.import (map (λ (t : TxnId). t.0) f.before.items)) bound ∙ (told ∙ sym text)),
+    )

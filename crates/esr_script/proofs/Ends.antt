@@ -24,6 +24,12 @@ module _ (input : List ℕ) (left : Option (List ℕ)) where
   reached_fault P Q M N less fault.TooManyLines h = h
   reached_fault P Q M N less fault.NotACommittedQuery h = less h
 
+  -- what is made after a replay
+  pub reached_then : {T : Type 0} (P : T → Type 0) (N : Type 0) (r : Result T RunFault) → Consumes (Some input) left input → IsWhole input
+      → IfOk r P → IfErr r (λ f. f ≡ fault.NoMemory) → IsReachedBy P N input left r
+  reached_then P N (Ok value) read whole ok err = (read, whole, ok)
+  reached_then P N (Err f) read whole ok err = rw err tt
+
   -- nothing was written
   pub written_fault : {T : Type 0} (P : T → Type 0) (Q : List ℕ → Type 0) (N : Type 0) (f : RunFault)
       → IsReachedBy P N input left (Err f) → IsWrittenBy Q N input left (Err f) []

@@ -21,11 +21,6 @@ has_bytes (next.Line n) bytes h other = omega (arith, h.1)
 has_bytes next.TooLong bytes h other = omega (arith, h, line_len-le bytes)
 has_bytes next.More bytes h other = absurd (other refl)
 
-pub is_long : (found : Next) (bytes : List ℕ) → IsNext found bytes → (found ≡ next.More → ⊥) → ((n : ℕ) → found ≡ next.Line n → ⊥) → MAX_LINE_BYTES < line_len bytes
-is_long (next.Line n) bytes h more line = absurd (line n refl)
-is_long next.TooLong bytes h more line = h
-is_long next.More bytes h more line = absurd (more refl)
-
 -- where all output was sent
 pub all_sent : {input : List ℕ} {left : Option (List ℕ)} {bytes : List ℕ} {n : ℕ} {s : ScriptState} (w : List ℕ) → Standing input left bytes n s w → Standing input left bytes n s (w ++ [])
 all_sent w here = rw append-nil here

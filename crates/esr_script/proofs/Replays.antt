@@ -65,4 +65,4 @@ pub bundle_told : (steps : Bool) (s : ScriptState) (name : List ℕ) (a : Asked)
     → line ≡ bundle a.finding.problem (with_count steps (certificate_of a.finding.certificate)) ++ 10 ∷ [] → IsBundleLine steps s.history (transaction_called s name).0 line
 bundle_told steps s name a h line is =
     let p = a.finding.problem in let c = certificate_of a.finding.certificate in
-    (bundle p (with_count steps c), bundled steps s.history (transaction_called s name).0 p c h.found, is)
+    (bundle p (with_count steps c), bundled steps s.history (transaction_called s name).0 p c h.finding.found, is)

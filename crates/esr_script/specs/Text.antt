@@ -42,6 +42,10 @@ start = record {
   history = record { opening = []; weights = []; entries = [] };
 }
 
+-- where no more items may be declared
+abbrev pub closed : ScriptState → ScriptState
+closed s = record s { closed = true }
+
 -- transactions are numbered from 1; a name that is not bound stands for 0
 abbrev pub transaction_called : ScriptState → List ℕ → TxnId
 transaction_called s name = record { 0 = option_map_or (λ n. n + 1) (position_of s.transactions name) 0 }

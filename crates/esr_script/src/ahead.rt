@@ -1,7 +1,7 @@
 //! Answers the lines in the bytes ahead, whether their text is to be written or dropped.
 
 ghost use Rattle.esr_line.specs.declared.limits.TheConstants.{MAX_LINES, MAX_LINE_BYTES};
-ghost use Rattle.std.specs.Prelude.{◌≡◌, ◌≢◌, ℕ, List, ◌+◌, ◌++◌, ◌≤◌, Option, Err, OnOk, IfErr, false, length};
+ghost use Rattle.std.specs.Prelude.{◌≡◌, ◌≢◌, ℕ, List, ◌+◌, ◌++◌, ◌≤◌, ◌⊎◌, Option, Err, OnOk, IfOk, IfErr, IsErrOf, false, length};
 ghost use Rattle.std.specs.Io.KnownBytes.{IsAtEnd};
 ghost use Rattle.esr_script.specs.Replays.{IsReplay};
 ghost use Rattle.esr_line.specs.Lines.{line_len, IsNext};
@@ -11,6 +11,24 @@ use crate::fault::RunFault;
 use crate::pending::Pending;
 use crate::script::Script;
 use esr_line::{MAX_LINES, Next};
+
+/// The count of bytes of the line that is next, where it may be answered.
+fn next_length(next: Next, count: u64) -> Result<usize, RunFault>
+    requires { next ≢ Next.More }
+    ensures ok { IfOk result (λ length. (next ≡ Next.Line length) × (count ≢ MAX_LINES)) }
+    ensures many { IsErrOf result RunFault.TooManyLines → count ≡ MAX_LINES }
+    ensures long { IsErrOf result RunFault.LineTooLong → (next ≡ Next.TooLong) × (count ≢ MAX_LINES) }
+    ensures faults { IfErr result (λ e. (e ≡ RunFault.TooManyLines) ⊎ (e ≡ RunFault.LineTooLong)) }
+{
+    if count == MAX_LINES {
+        return Err(RunFault::TooManyLines);
+    }
+    match next {
+        Next::Line(length) => Ok(length),
+        Next::TooLong => Err(RunFault::LineTooLong),
+        Next::More => unreachable!(),
+    }
+}
 
 /// Answers the next line, and goes on after its line feed.
 pub fn answer_next(
@@ -34,11 +52,9 @@ pub fn answer_next(
     ensures read { is_read_fault result ≡ false }
     ensures write { is_write_fault result ≡ false }
 {
-    if count == MAX_LINES {
-        return Err(RunFault::TooManyLines);
-    }
-    let Next::Line(length) = next else {
-        return Err(RunFault::LineTooLong);
+    let length = match next_length(next, count) {
+        Ok(length) => length,
+        Err(fault) => return Err(fault),
     };
     if let Err(fault) = script.answer(&pending.bytes()[..length], out) {
         return Err(fault);

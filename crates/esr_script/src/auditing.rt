@@ -32,13 +32,8 @@ fn prepare<T: Threads + Sync, R: Read>(
     ensures reader { failed reader.new ≡ is_read_fault result }
     ensures write { is_write_fault result ≡ false }
 {
-    let mut script = match replay(alloc, reader) {
-        Ok(script) => script,
-        Err(fault) => return Err(fault),
-    };
-    let mut out = Vec::new(alloc);
-    match script.audit_all(rt, workers, &mut out) {
-        Ok(()) => Ok(out),
+    match replay(alloc, reader) {
+        Ok(mut script) => script.audit_all(rt, workers),
         Err(fault) => Err(fault),
     }
 }

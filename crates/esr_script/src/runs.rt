@@ -1,7 +1,7 @@
 //! A run over a script, from its reader to its writer.
 
 ghost use Rattle.esr_line.specs.declared.limits.TheConstants.{MAX_LINE_BYTES};
-ghost use Rattle.std.specs.Prelude.{◌≡◌, ℕ, List, [], ◌++◌, Some, Ok, Err, IfSome, IsErrOf, IfErr, IfOk, IsTrue, ◌↔◌, false, ◌≤◌, ◌⊎◌, length, ◌||◌};
+ghost use Rattle.std.specs.Prelude.{◌≡◌, ℕ, List, [], ◌++◌, Option, Some, Ok, Err, IfSome, IsErrOf, IfErr, IfOk, IsTrue, ◌↔◌, false, ◌≤◌, ◌⊎◌, length, ◌||◌};
 ghost use Rattle.std.specs.Io.KnownBytes.{Appends, Consumes, IsAtEnd, Keeps};
 ghost use Rattle.esr_history.specs.Watch.{inner, failed, BeginsWith};
 ghost use Rattle.esr_script.specs.Text.{start};
@@ -44,13 +44,7 @@ pub fn run<R: Read, W: Write>(
     };
     let mut script = Script::new(alloc);
     let ended = answer_lines(reader, writer, &mut pending, &mut script, &mut out);
-    if is_lost(ended) {
-        return ended;
-    }
-    if let Err(fault) = send_all(&mut out, writer) {
-        return Err(fault);
-    }
-    ended
+    send_rest(ended, &mut out, writer)
 }
 
 /// Whether the reader or the writer has failed.
@@ -58,6 +52,29 @@ fn is_lost(ended: Result<(), RunFault>) -> bool
     ensures { result ≡ (is_read_fault ended || is_write_fault ended) }
 {
     matches!(ended, Err(RunFault::Read | RunFault::Write))
+}
+
+/// Sends the rest of the output of a run that ended so, unless the reader or the writer has failed.
+fn send_rest<W: Write>(
+    ended: Result<(), RunFault>,
+    out: &mut Vec<u8>,
+    writer: &mut Watched<W>,
+) -> Result<(), RunFault>
+    requires read { IsErrOf ended RunFault.Read → out.old.items ≡ [] }
+    requires writer { failed writer.old ≡ is_write_fault ended }
+    ensures text { (input sent : List ℕ) (left : Option (List ℕ)) → IsHeldRun input left out.old.items ended sent
+        → (rest : List ℕ) × Appends (W.contents (inner writer.old)) (W.contents (inner writer.new)) rest
+        × IsRunBy input left result (sent ++ rest) }
+    ensures read { is_read_fault result ≡ is_read_fault ended }
+    ensures writer { failed writer.new ≡ is_write_fault result }
+{
+    if is_lost(ended) {
+        return ended;
+    }
+    if let Err(fault) = send_all(out, writer) {
+        return Err(fault);
+    }
+    ended
 }
 
 /// Answers line after line. What is answered and not yet written is in `out`.

@@ -1,13 +1,13 @@
 //! What a run keeps of the lines so far, and its answer to a line.
 
 ghost use Rattle.esr_board.specs.declared.board.TheConstants.{MOST_SEATS};
-ghost use Rattle.std.specs.Prelude.{◌≡◌, ℕ, List, ◌+◌, ◌<◌, ◌≤◌, ◌⊎◌, [], ◌++◌, Ok, Err, None, OnErr, OnOk, IfOk, IfErr, IsErrOf, IsOk, false, ◌↔◌, length, pos};
+ghost use Rattle.std.specs.Prelude.{◌≡◌, ◌≢◌, ℕ, List, ◌+◌, ◌<◌, ◌≤◌, ◌⊎◌, [], ◌++◌, Ok, Err, None, OnErr, OnOk, IfOk, IfErr, IsErrOf, IsOk, true, false, ◌↔◌, length, pos};
 ghost use Rattle.esr_report.specs.Names.{position_of};
 ghost use Rattle.esr_report.specs.Subjects.{named_by};
-ghost use Rattle.esr_script.specs.Text.{start, transaction_called, item_called, item_error, with_item, begin, ask, obey, answer};
+ghost use Rattle.esr_script.specs.Text.{start, closed, transaction_called, item_called, item_error, with_item, begin, ask, obey, answer};
 ghost use Rattle.esr_line.specs.Command as command;
 ghost use Rattle.esr_script.specs.Stages.{IsBegin};
-ghost use Rattle.esr_script.specs.Ask.{IsAnswered};
+ghost use Rattle.esr_script.specs.Ask.{IsAnswered, IsFoundOf};
 ghost use Rattle.esr_script.specs.Audit.{audit_output};
 ghost use Rattle.esr_history.specs.Queries.{is_committed_query};
 ghost use Rattle.esr_line.specs.Command.{view};
@@ -16,7 +16,7 @@ use crate::asked::Asked;
 use crate::book::push_audit;
 use crate::fault::RunFault;
 use crate::stage::Stage;
-use esr_audit::AuditError;
+use esr_audit::{AuditError, Finding};
 use esr_history::{Event, Reply, TxnId};
 use esr_items::{ItemId, LARGEST_VALUE, LARGEST_WEIGHT, MOST_ITEMS};
 use esr_line::{Line, Parsed, parse_line};
@@ -286,6 +286,22 @@ impl Script {
         said(totals_line(out, totals.import, totals.export, totals.entries))
     }
 
+    /// What the audit of the transaction of that name finds. The machine is made, where it is not made yet.
+    fn find(&mut self, name: &str) -> Result<Finding, RunFault>
+        ensures ok { OnOk result (self.new ≡ closed self.old) }
+        ensures found { IfOk result (IsFoundOf self.old name.now) }
+        ensures refused { IsErrOf result RunFault.NotACommittedQuery → (self.new ≡ closed self.old)
+            × (is_committed_query self.old.history (transaction_called self.old name.now).0 ≡ false) }
+        ensures faults { IfErr result (λ e. (e ≡ RunFault.NoMemory) ⊎ (e ≡ RunFault.NotACommittedQuery)) }
+    {
+        let q = self.transaction(name);
+        self.stage.close(self.alloc)?;
+        match self.stage.audit(self.alloc, q) {
+            Ok(found) => Ok(found),
+            Err(error) => Err(fault_of(error)),
+        }
+    }
+
     /// Audits a query.
     fn audit(&mut self, txn: &str, out: &mut Vec<u8>) -> Result<(), RunFault>
         ensures ok { OnOk result ((text : List ℕ) × (obey self.old (command.audit txn.now) ≡ Ok (self.new, text))
@@ -293,15 +309,12 @@ impl Script {
         ensures err { OnErr result (out.new.items ≡ out.old.items) }
         ensures faults { IfErr result (λ e. e ≡ RunFault.NoMemory) }
     {
-        self.stage.close(self.alloc)?;
-        let q = self.transaction(txn);
-        let found = match self.stage.audit(self.alloc, q) {
+        let found = match self.find(txn) {
             Ok(found) => found,
-            Err(AuditError::NotACommittedQuery) => {
+            Err(RunFault::NotACommittedQuery) => {
                 return said(error_line(out, LineError::NotACommittedQuery));
             }
-            Err(AuditError::NoMemory) => return Err(RunFault::NoMemory),
-            Err(AuditError::WorkersOutOfRange) => unreachable!(),
+            Err(fault) => return Err(fault),
         };
         // let go before the line is made, which may be long
         drop(found.problem);
@@ -317,49 +330,58 @@ impl Script {
     }
 
     /// Ends the run, and tells of the query of that name.
-    pub fn asked(self, name: &str) -> Result<Asked, RunFault>
+    pub fn asked(mut self, name: &str) -> Result<Asked, RunFault>
         ensures answered { IfOk result (IsAnswered self name.now) }
         ensures refused { IsErrOf result RunFault.NotACommittedQuery
             → is_committed_query self.history (transaction_called self name.now).0 ≡ false }
         ensures faults { IfErr result (λ e. (e ≡ RunFault.NoMemory) ⊎ (e ≡ RunFault.NotACommittedQuery)) }
     {
-        let q = self.transaction(name);
+        match self.find(name) {
+            Ok(finding) => Ok(self.with(finding)),
+            Err(fault) => Err(fault),
+        }
+    }
+
+    /// What it tells, and what was found of a query.
+    fn with(self, finding: Finding) -> Asked
+        requires { self.closed ≡ true }
+        ensures items { result.items ≡ self.items }
+        ensures transactions { result.transactions ≡ self.transactions }
+        ensures history { result.history.schedule ≡ self.history }
+        ensures finding { result.finding ≡ finding }
+    {
         let Script {
-            alloc,
+            alloc: _,
             items,
             transactions,
-            mut stage,
+            stage,
         } = self;
-        stage.close(alloc)?;
-        let finding = match stage.audit(alloc, q) {
-            Ok(found) => found,
-            Err(AuditError::NotACommittedQuery) => return Err(RunFault::NotACommittedQuery),
-            Err(AuditError::NoMemory) => return Err(RunFault::NoMemory),
-            Err(AuditError::WorkersOutOfRange) => unreachable!(),
-        };
-        Ok(Asked {
+        Asked {
             items,
             transactions,
             history: stage.into_history(),
             finding,
-        })
+        }
     }
 
-    /// Appends the audit of the whole history, by so many workers. After an error the output is spoiled.
+    /// The audit of the whole history, by so many workers.
     pub fn audit_all<T: Threads + Sync>(
         &mut self,
         rt: &T,
         workers: u64,
-        out: &mut Vec<u8>,
-    ) -> Result<(), RunFault>
+    ) -> Result<Vec<u8>, RunFault>
         requires { (1 ≤ workers) × (workers ≤ MOST_SEATS) }
-        ensures ok { OnOk result (out.new.items ≡ out.old.items ++ audit_output self.old) }
+        ensures ok { IfOk result (λ out. out.items ≡ audit_output self.old) }
         ensures faults { IfErr result (λ e. e ≡ RunFault.NoMemory) }
     {
         self.stage.close(self.alloc)?;
         let book = self.stage.audit_all(rt, self.alloc, workers)?;
         let totals = self.stage.totals();
-        said(push_audit(out, &self.transactions, &book, totals))
+        let mut out = Vec::new(self.alloc);
+        match push_audit(&mut out, &self.transactions, &book, totals) {
+            Ok(()) => Ok(out),
+            Err(_) => Err(RunFault::NoMemory),
+        }
     }
 
     /// Obeys a command.
@@ -429,6 +451,19 @@ fn alone(txn: &str) -> Subject<'_>
         txn,
         item: "",
         value: 0,
+    }
+}
+
+/// The fault of a run of which the audit of a query ended so.
+fn fault_of(error: AuditError) -> RunFault
+    requires { error ≢ AuditError.WorkersOutOfRange }
+    ensures query { (result ≡ RunFault.NotACommittedQuery) ↔ (error ≡ AuditError.NotACommittedQuery) }
+    ensures faults { (result ≡ RunFault.NoMemory) ⊎ (result ≡ RunFault.NotACommittedQuery) }
+{
+    match error {
+        AuditError::NotACommittedQuery => RunFault::NotACommittedQuery,
+        AuditError::NoMemory => RunFault::NoMemory,
+        AuditError::WorkersOutOfRange => unreachable!(),
     }
 }
 

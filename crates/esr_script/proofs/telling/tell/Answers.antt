@@ -17,7 +17,7 @@ returns-in-Err g c = record {
 pub returns : goal.returns
 returns g c = record {
   text = λ input known. let asked = c.in-Ok.ensures.asked input known in let text = c.in-Ok-text_of.text in
-      written_sent input (g.R.Read.remaining (inner c.ask.new.reader)) _ _ text.items asked.0 asked.1 (asked.2.committed, (c.in-Ok.asked, asked.2, text, c.in-Ok-text_of.ensures, refl))
+      written_sent input (g.R.Read.remaining (inner c.ask.new.reader)) _ _ text.items asked.0 asked.1 (asked.2.finding.committed, (c.in-Ok.asked, asked.2, text, c.in-Ok-text_of.ensures, refl))
       c.send_all.result _ _ _ c.send_all.ensures.ok c.send_all.ensures.err;
   reader = search rules;
   writer = search rules;

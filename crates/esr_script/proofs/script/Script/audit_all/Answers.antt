@@ -1,15 +1,14 @@
-use Rattle.std.proofs.Common.{map}
+use Rattle.std.proofs.Common.{map, ◌∙◌}
 use Rattle.esr_audit.specs.Findings.{summary}
 use Rattle.esr_script.specs.Stages.{is_running, history_of}
 use Rattle.esr_script.proofs.Audited.{book_lines}
 use Rattle.esr_script.proofs.script.Script.audit_all.Goals as goal
 
-pub returns-clause-ok : goal.returns-clause-ok
-returns-clause-ok g c =
+pub returns-in-Ok-clause-ok : goal.returns-in-Ok-clause-ok
+returns-in-Ok-clause-ok g c =
     let book = c.in_ok-book.book in let totals = c.totals-totals in
-    book_lines c.said.result c.push_audit.result c.self.inside.items c.self.inside.transactions (is_running c.self.inside.stage)
+    let lines = book_lines c.self.inside.items c.self.inside.transactions (is_running c.self.inside.stage)
     (history_of c.self.inside.stage) (history_of c.close.new.self) c.args.self.now
     (map (λ t. t.0) book.order.items) (map summary book.findings.items) totals.result.import totals.result.export totals.result.entries
-    c.args.out.now.items c.push_audit.new.out.items
-    c.self.view_is c.in_ok-close.ensures.ok.1 c.in_ok-book.ensures.book.order c.in_ok-book.ensures.book.summaries totals.ensures.import totals.ensures.export totals.ensures.entries
-    c.said.ensures.ok c.push_audit.ensures
+    c.self.view_is c.in_ok-close.ensures.ok.1 c.in_ok-book.ensures.book.order c.in_ok-book.ensures.book.summaries totals.ensures.import totals.ensures.export totals.ensures.entries in
+    c.in-Ok.ensures ∙ rw c.new-out.ensures.items lines
