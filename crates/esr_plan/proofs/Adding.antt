@@ -1,5 +1,5 @@
 -- One more line in a plan.
-use Rattle.std.proofs.Common.{◌≡◌, ℕ, ℤ, ◌+◌, ◌<◌, true, false, List, [], ◌∷◌, ◌++◌, All, length, length-append, map, Option, Some, None, Ok, Vec, Global, refl, ap, sym, subst, ◌∙◌, append_assoc, append-nil, arith, nat_eq}
+use Rattle.std.proofs.Common.{◌≡◌, ◌≤◌, ℕ, ℤ, ◌+◌, ◌<◌, true, false, List, [], ◌∷◌, ◌++◌, All, length, length-append, map, Option, Some, None, Ok, Vec, Global, refl, ap, sym, subst, ◌∙◌, append_assoc, append-nil, arith, nat_eq}
 use Rattle.std.specs.Prelude.{is_some}
 use Rattle.std.specs.List.{flat_map, filter_map}
 use Rattle.std.specs.Option.{option_map}
@@ -11,13 +11,13 @@ use Rattle.esr_items.specs.Values.{IsValue, is_value}
 use Rattle.esr_items.specs.Weights.{IsWeight, is_weight}
 use Rattle.esr_report.specs.Names.{position_of, is_bound}
 use Rattle.esr_line.specs.Command.{Command}
-use Rattle.esr_drive.specs.declared.call.Call.{Call}
-use Rattle.esr_drive.specs.declared.draft.Draft.{Draft}
-use Rattle.esr_drive.specs.Calls.{command_of, IsResolved, AreResolved}
-use Rattle.esr_drive.specs.Plan.{Plan, new_name, new_names, onto_last, weight_in, weights_of, with_session, with_item, with_operation, with_begin}
-use Rattle.esr_drive.specs.Drafts.{commands_in, current_calls, blocks_with, blocks_of, plan_in, ArePlaces, IsSound}
-use Rattle.esr_drive.specs.Sheets as sheets
-use Rattle.esr_drive.proofs.Placing.{places_kept, places_more, places_opened, resolved_none, resolved_more}
+use Rattle.esr_plan.specs.declared.call.Call.{Call}
+use Rattle.esr_plan.specs.declared.draft.Draft.{Draft}
+use Rattle.esr_plan.specs.Calls.{command_of, IsResolved, AreResolved}
+use Rattle.esr_plan.specs.Plan.{Plan, new_name, new_names, onto_last, weight_in, weights_of, with_session, with_item, with_operation, with_begin}
+use Rattle.esr_plan.specs.Drafts.{commands_in, current_calls, blocks_with, blocks_of, plan_in, ArePlaces, IsSound}
+use Rattle.esr_plan.specs.Sheets as sheets
+use Rattle.esr_plan.proofs.Placing.{places_kept, places_more, places_opened, resolved_none, resolved_more}
 
 onto-current : (done : List (List Command)) (cur : List Command) (c : Command) → onto_last c (done ++ cur ∷ []) ≡ done ++ (cur ++ c ∷ []) ∷ []
 onto-current (b ∷ next ∷ done) cur c = ap (λ l. b ∷ l) (onto-current (next ∷ done) cur c)
@@ -63,6 +63,33 @@ calls-current d block is = ap (λ (o : Option (Vec Call Global)). elim o [ Some 
 pushed : (block grown : Vec Call Global) (call : Call) → grown.items ≡ block.items ++ call ∷ [] → commands_in grown.items ≡ commands_in block.items ++ command_of call ∷ []
 pushed block grown call more = ap commands_in more ∙ map-append command_of block.items (call ∷ [])
 
+-- one more call in the open block, and the transaction that it begins, if it does
+grown_sound : (d : Draft) (block grown : Vec Call Global) (begun : List (List ℕ)) (places : Vec ℕ Global) (call : Call) → IsSound d → d.current ≡ Some block → grown.items ≡ block.items ++ call ∷ []
+    → begun ≡ new_names (blocks_of d) ++ filter_map new_name (command_of call ∷ []) → length places.items ≡ length begun → length d.begun ≤ length begun
+    → ArePlaces (current_calls d ++ call ∷ []) d.earlier places.items begun → IsResolved d.names (current_calls d) call
+    → IsSound (record d { current = Some grown; begun = begun; places = places })
+grown_sound d block grown begun places call sound is more named every longer placed resolves =
+    let c = command_of call in
+    let cur = commands_in block.items in
+    let now = blocks-current d block is in
+    let then : commands_in grown.items ≡ cur ++ c ∷ [] = pushed block grown call more in
+    let onto : grown.items ≡ current_calls d ++ call ∷ [] = more ∙ ap (λ (l : List Call). l ++ call ∷ []) (sym (calls-current d block is)) in
+    record {
+      begun = named ∙ (ap (λ b. new_names b ++ filter_map new_name (c ∷ [])) now ∙ (sym (names-onto (done_in d) cur c) ∙ ap (λ l. new_names (done_in d ++ l ∷ [])) (sym then)));
+      values = sound.values;
+      weights = sound.weights;
+      in_range = sound.in_range;
+      weighed = sound.weighed;
+      opened = tt;
+      items = sound.items;
+      blocks = omega (arith, sound.blocks, ap length now, length-append (done_in d) (cur ∷ []), length-append (done_in d) (commands_in grown.items ∷ []));
+      every = every;
+      earlier = omega (arith, sound.earlier, longer);
+      places = subst (λ (l : List Call). ArePlaces l d.earlier places.items begun) (sym onto) placed;
+      resolved = subst (λ (l : List Call). AreResolved d.names l) (sym onto) (resolved_more d.names (current_calls d) call sound.resolved resolves);
+      done_resolved = sound.done_resolved;
+    }
+
 -- a call that begins no transaction
 pub operation_added : (d : Draft) (block grown : Vec Call Global) (call : Call) → IsSound d → d.current ≡ Some block → grown.items ≡ block.items ++ call ∷ []
     → new_name (command_of call) ≡ None → IsResolved d.names (current_calls d) call
@@ -70,27 +97,12 @@ pub operation_added : (d : Draft) (block grown : Vec Call Global) (call : Call) 
 operation_added d block grown call sound is more plain resolves =
     let c = command_of call in
     let cur = commands_in block.items in
-    let now = blocks-current d block is in
-    let then : commands_in grown.items ≡ cur ++ c ∷ [] = pushed block grown call more in
-    let onto : grown.items ≡ current_calls d ++ call ∷ [] = more ∙ ap (λ (l : List Call). l ++ call ∷ []) (sym (calls-current d block is)) in
     let none : filter_map new_name (c ∷ []) ≡ [] = rw plain refl in (
-      record {
-        begun = sound.begun ∙ (ap new_names now ∙ (sym (append-nil (new_names (done_in d ++ cur ∷ []))) ∙ (ap (λ l. new_names (done_in d ++ cur ∷ []) ++ l) (sym none) ∙ (sym (names-onto (done_in d) cur c) ∙ ap (λ l. new_names (done_in d ++ l ∷ [])) (sym then)))));
-        values = sound.values;
-        weights = sound.weights;
-        in_range = sound.in_range;
-        weighed = sound.weighed;
-        opened = tt;
-        items = sound.items;
-        blocks = omega (arith, sound.blocks, ap length now, length-append (done_in d) (cur ∷ []), length-append (done_in d) (commands_in grown.items ∷ []));
-        every = sound.every;
-        earlier = sound.earlier;
-        places = subst (λ (l : List Call). ArePlaces l d.earlier d.places.items d.begun) (sym onto) (places_kept (current_calls d) call d.earlier d.places.items d.begun plain sound.places);
-        resolved = subst (λ (l : List Call). AreResolved d.names l) (sym onto) (resolved_more d.names (current_calls d) call sound.resolved resolves);
-        done_resolved = sound.done_resolved;
-      },
-      ap (λ b. with_operation (plan d.names d.values.items d.weights.items b) c) now
-          ∙ (operation_onto d.names d.values.items d.weights.items (done_in d) cur c ∙ ap (λ l. Ok (plan d.names d.values.items d.weights.items (done_in d ++ l ∷ []))) (sym then)),
+      grown_sound d block grown d.begun d.places call sound is more
+          (sound.begun ∙ (sym (append-nil (new_names (blocks_of d))) ∙ ap (λ l. new_names (blocks_of d) ++ l) (sym none)))
+          sound.every (omega arith) (places_kept (current_calls d) call d.earlier d.places.items d.begun plain sound.places) resolves,
+      ap (λ b. with_operation (plan d.names d.values.items d.weights.items b) c) (blocks-current d block is)
+          ∙ (operation_onto d.names d.values.items d.weights.items (done_in d) cur c ∙ ap (λ l. Ok (plan d.names d.values.items d.weights.items (done_in d ++ l ∷ []))) (sym (pushed block grown call more))),
     )
 
 -- a call that begins a transaction
@@ -103,30 +115,18 @@ begin_added d block grown begun places call name sound is more named free bound 
     let c = command_of call in
     let cur = commands_in block.items in
     let now = blocks-current d block is in
-    let then : commands_in grown.items ≡ cur ++ c ∷ [] = pushed block grown call more in
     let one : filter_map new_name (c ∷ []) ≡ name ∷ [] = rw named refl in
-    let onto : grown.items ≡ current_calls d ++ call ∷ [] = more ∙ ap (λ (l : List Call). l ++ call ∷ []) (sym (calls-current d block is)) in
-    let was : d.begun ≡ new_names (done_in d ++ cur ∷ []) = sound.begun ∙ ap new_names now in (
-      record {
-        begun = bound ∙ (ap (λ l. l ++ name ∷ []) was ∙ (ap (λ l. new_names (done_in d ++ cur ∷ []) ++ l) (sym one) ∙ (sym (names-onto (done_in d) cur c) ∙ ap (λ l. new_names (done_in d ++ l ∷ [])) (sym then))));
-        values = sound.values;
-        weights = sound.weights;
-        in_range = sound.in_range;
-        weighed = sound.weighed;
-        opened = tt;
-        items = sound.items;
-        blocks = omega (arith, sound.blocks, ap length now, length-append (done_in d) (cur ∷ []), length-append (done_in d) (commands_in grown.items ∷ []));
-        every = omega (arith, sound.every, ap length bound, ap length placed, length-append d.begun (name ∷ []), length-append d.places.items (length (current_calls d) ∷ []));
-        earlier = omega (arith, sound.earlier, ap length bound, length-append d.begun (name ∷ []));
-        places = subst (λ (l : List Call). ArePlaces l d.earlier places.items begun) (sym onto)
-            (subst (λ (ps : List ℕ). ArePlaces (current_calls d ++ call ∷ []) d.earlier ps begun) (sym placed)
-            (subst (λ (ns : List (List ℕ)). ArePlaces (current_calls d ++ call ∷ []) d.earlier (d.places.items ++ length (current_calls d) ∷ []) ns) (sym bound)
-            (places_more (current_calls d) call d.earlier d.places.items d.begun name sound.places sound.every sound.earlier named free)));
-        resolved = subst (λ (l : List Call). AreResolved d.names l) (sym onto) (resolved_more d.names (current_calls d) call sound.resolved resolves);
-        done_resolved = sound.done_resolved;
-      },
+    let was : d.begun ≡ new_names (done_in d ++ cur ∷ []) = sound.begun ∙ ap new_names now in
+    let longer = length-append d.begun (name ∷ []) in (
+      grown_sound d block grown begun places call sound is more
+          (bound ∙ (ap (λ l. l ++ name ∷ []) sound.begun ∙ ap (λ l. new_names (blocks_of d) ++ l) (sym one)))
+          (omega (arith, sound.every, ap length bound, ap length placed, longer, length-append d.places.items (length (current_calls d) ∷ [])))
+          (omega (arith, ap length bound, longer))
+          (subst (λ (ps : List ℕ). ArePlaces (current_calls d ++ call ∷ []) d.earlier ps begun) (sym placed)
+          (subst (λ (ns : List (List ℕ)). ArePlaces (current_calls d ++ call ∷ []) d.earlier (d.places.items ++ length (current_calls d) ∷ []) ns) (sym bound)
+          (places_more (current_calls d) call d.earlier d.places.items d.begun name sound.places sound.every sound.earlier named free))) resolves,
       ap (λ b. with_begin (plan d.names d.values.items d.weights.items b) name c) now
-          ∙ (begin_onto d.names d.values.items d.weights.items (done_in d) cur c name (subst (λ (l : List (List ℕ)). position_of l name ≡ None) was free) ∙ ap (λ l. Ok (plan d.names d.values.items d.weights.items (done_in d ++ l ∷ []))) (sym then)),
+          ∙ (begin_onto d.names d.values.items d.weights.items (done_in d) cur c name (subst (λ (l : List (List ℕ)). position_of l name ≡ None) was free) ∙ ap (λ l. Ok (plan d.names d.values.items d.weights.items (done_in d ++ l ∷ []))) (sym (pushed block grown call more))),
     )
 
 -- a block that is opened, after those that are done

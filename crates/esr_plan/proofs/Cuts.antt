@@ -7,17 +7,22 @@ use Rattle.std.proofs.lemmas.Option.{cond_some}
 use Rattle.std.proofs.lemmas.Bool.{cases_Bool}
 use Rattle.std.specs.Prelude.{nat_lt, IfSome, Option, if◌then◌else◌}
 use Rattle.std.specs.Io.KnownBytes.{Consumes}
-use Rattle.esr_drive.specs.Plan.{cut_fault, plan_of, plan_from, nothing}
-use Rattle.esr_drive.specs.Readings.{IsLineFault, IsReadFault}
-use Rattle.esr_drive.specs.declared.fault.DriveFault.{DriveFault}
-use Rattle.esr_drive.specs.declared.fault.DriveFault.TheVariants as fault
-use Rattle.esr_drive.specs.declared.fault.DriveFault.TheVariants.{TooManyLines, LineTooLong}
-use Rattle.std.specs.List.{position}
+use Rattle.esr_plan.specs.Plan.{cut_fault, plan_of, plan_from, nothing}
+use Rattle.esr_plan.specs.Readings.{IsLineFault, IsReadFault}
+use Rattle.esr_plan.specs.declared.fault.DriveFault.{DriveFault}
+use Rattle.esr_plan.specs.declared.fault.DriveFault.TheVariants as fault
+use Rattle.esr_plan.specs.declared.fault.DriveFault.TheVariants.{TooManyLines, LineTooLong}
+use Rattle.std.specs.List.{position, position_or_len}
 use Rattle.esr_history.proofs.Ascending.{le_ltb, lt_ltb}
 use Rattle.esr_line.specs.Lines.{lines, line_len}
 use Rattle.esr_line.proofs.Cutting.{Begins, begins, front, behind_front, split-front, plain-front, lines-line, lines-last}
 use Rattle.esr_line.proofs.Prefix.{none_is_length}
-use Rattle.esr_drive.proofs.Calling.{position_within}
+
+pub position_within : {X : Type 0} (p : X → Bool) (xs : List X) (place : ℕ) → position p xs ≡ Some place → place < length xs
+position_within p xs place e =
+    let found = cond_some _ _ _ e in
+    let lt : position_or_len p xs < length xs = ltb-true _ _ found.0 in
+    omega (arith, lt, found.1)
 
 pub no_feed : (bytes : List ℕ) → position (λ b. nat_eq b 10) bytes ≡ None → 0 < length bytes → lines bytes ≡ bytes ∷ []
 no_feed bytes e some = lines-last bytes (sym (none_is_length bytes e)) some
@@ -193,12 +198,12 @@ begun_fine bytes start count is few short = last_fine (drop start bytes) count (
 
 -- ---- the faults of reading
 
-abbrev IsCut : DriveFault → Type 0
+abbrev pub IsCut : DriveFault → Type 0
 IsCut fault.LineTooLong = Unit {0}
 IsCut fault.TooManyLines = Unit {0}
 IsCut _ = ⊥
 
-abbrev IsNoneOrCut : Option DriveFault → Type 0
+abbrev pub IsNoneOrCut : Option DriveFault → Type 0
 IsNoneOrCut None = Unit {0}
 IsNoneOrCut (Some e) = IsCut e
 
@@ -206,7 +211,7 @@ chosen_cut : (b : Bool) (e : DriveFault) (o : Option DriveFault) → IsCut e →
 chosen_cut true e o p q = p
 chosen_cut false e o p q = q
 
-all_cut : (count : ℕ) (ls : List (List ℕ)) → IsNoneOrCut (cut_fault count ls)
+pub all_cut : (count : ℕ) (ls : List (List ℕ)) → IsNoneOrCut (cut_fault count ls)
 all_cut count [] = tt
 all_cut count (l ∷ ls) =
     chosen_cut (nat_eq count 2000000) fault.TooManyLines _ tt (chosen_cut (nat_lt 200 (length l)) fault.LineTooLong _ tt (all_cut (count + 1) ls))

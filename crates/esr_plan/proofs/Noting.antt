@@ -12,13 +12,12 @@ use Rattle.esr_history.specs.declared.event.Entry.{Entry}
 use Rattle.esr_history.specs.declared.event.Reply.{Reply}
 use Rattle.esr_history.specs.Events.{Beginning, is_refusal, accepted, beginning_of, beginnings}
 use Rattle.esr_history.specs.BackLinks.{begun_count}
-use Rattle.esr_drive.specs.declared.call.Call.{Call}
-use Rattle.esr_drive.specs.Plan.{new_name}
-use Rattle.esr_drive.specs.Blocks.{Answered, number_in}
-use Rattle.esr_drive.specs.Calls.{answers_of}
-use Rattle.esr_drive.specs.Drive.{has_begun, name_begun}
-use Rattle.esr_drive.specs.Driven.{AreAnswered, all_answers}
-use Rattle.esr_drive.specs.Tables.{answered, is_begin, with_number, with_begun, noted}
+use Rattle.esr_plan.specs.declared.call.Call.{Call}
+use Rattle.esr_plan.specs.Plan.{new_name}
+use Rattle.esr_plan.specs.Blocks.{Answered, number_in}
+use Rattle.esr_plan.specs.Calls.{answers_of, AreAnswered, all_answers}
+use Rattle.esr_plan.specs.Text.{has_begun, name_begun}
+use Rattle.esr_plan.specs.Tables.{answered, is_begin, with_number, with_begun, noted}
 
 -- ---- the names that the lines give
 

@@ -11,11 +11,11 @@ use Rattle.std.proofs.lemmas.Bool.{cases_Bool}
 use Rattle.std.proofs.lemmas.Option.{cond_some}
 use Rattle.esr_history.proofs.Ascending.{le_ltb, lt_ltb}
 use Rattle.esr_report.specs.Names.{position_of}
-use Rattle.esr_drive.specs.declared.call.Call.{Call}
-use Rattle.esr_drive.specs.Plan.{new_name}
-use Rattle.esr_drive.specs.Blocks.{begins}
-use Rattle.esr_drive.specs.Calls.{command_of, place_of, IsResolved, AreResolved}
-use Rattle.esr_drive.specs.Drafts.{place_since, ArePlaces}
+use Rattle.esr_plan.specs.declared.call.Call.{Call}
+use Rattle.esr_plan.specs.Plan.{new_name}
+use Rattle.esr_plan.specs.Blocks.{begins}
+use Rattle.esr_plan.specs.Calls.{command_of, place_of, IsResolved, AreResolved}
+use Rattle.esr_plan.specs.Drafts.{place_since, ArePlaces}
 
 -- ---- the first place that passes a test
 

@@ -1,10 +1,18 @@
 -- Drive files with what they ask for.
-use Rattle.std.proofs.Common.{◌≡◌, refl, [], ◌∷◌, Ok, Err, Some, None}
+use Rattle.std.proofs.Common.{◌≡◌, refl, List, [], ◌∷◌, Result, Ok, Err, Some, None}
 use Rattle.std.specs.Prelude.{codes, pos, negsuc}
 use Rattle.std.specs.Fmt.{digits}
-use Rattle.esr_line.specs.Command.{begin_update, begin_query, read, write, commit}
-use Rattle.esr_drive.specs.declared.fault.DriveFault.TheVariants.{BadScript}
-use Rattle.esr_drive.specs.Plan.{plan_of}
+use Rattle.esr_line.specs.Command.{Command, begin_update, begin_query, read, write, commit}
+use Rattle.esr_plan.specs.declared.fault.DriveFault.{DriveFault}
+use Rattle.esr_plan.specs.declared.fault.DriveFault.TheVariants.{BadScript}
+use Rattle.esr_plan.specs.Plan.{Plan, plan_of}
+
+-- the plan of one item with these blocks
+abbrev one_item : List (List Command) → Result Plan DriveFault
+one_item blocks = Ok (record { names = codes "a" ∷ []; values = pos 0 ∷ []; weights = None ∷ []; blocks = blocks })
+
+abbrev update : List Command
+update = begin_update (codes "u") 0 ∷ write (codes "u") (codes "a") (pos 5) ∷ commit (codes "u") ∷ []
 
 begin_before_a_session : plan_of (codes "item a 0\nbegin u update 0\n") ≡ Err (BadScript 2 1)
 unfolding digits
@@ -19,12 +27,7 @@ unfolding digits
 name_in_two_blocks = refl
 
 one_block : plan_of (codes "item a 0\n\nsession\nbegin u update 0\nwrite u a 5\n# note\ncommit u\n")
-    ≡ Ok (record {
-      names = codes "a" ∷ [];
-      values = pos 0 ∷ [];
-      weights = None ∷ [];
-      blocks = (begin_update (codes "u") 0 ∷ write (codes "u") (codes "a") (pos 5) ∷ commit (codes "u") ∷ []) ∷ [];
-    })
+    ≡ one_item (update ∷ [])
 unfolding digits
 one_block = refl
 
@@ -33,13 +36,7 @@ unfolding digits
 too_many_sessions = refl
 
 file_of_two_blocks : plan_of (codes "item a 0\nsession\nbegin u update 0\nwrite u a 5\ncommit u\nsession\nbegin q query 100\ncommit q\nread u a\n")
-    ≡ Ok (record {
-      names = codes "a" ∷ [];
-      values = pos 0 ∷ [];
-      weights = None ∷ [];
-      blocks = (begin_update (codes "u") 0 ∷ write (codes "u") (codes "a") (pos 5) ∷ commit (codes "u") ∷ [])
-          ∷ (begin_query (codes "q") 100 ∷ commit (codes "q") ∷ read (codes "u") (codes "a") ∷ []) ∷ [];
-    })
+    ≡ one_item (update ∷ (begin_query (codes "q") 100 ∷ commit (codes "q") ∷ read (codes "u") (codes "a") ∷ []) ∷ [])
 unfolding digits
 file_of_two_blocks = refl
 

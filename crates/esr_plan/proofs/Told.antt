@@ -12,13 +12,13 @@ use Rattle.esr_audit.specs.declared.finding.Finding.{Finding}
 use Rattle.esr_audit.specs.Findings.{IsFinding}
 use Rattle.esr_report.specs.Lines.{audit_line, reply_line, session_line}
 use Rattle.esr_history.specs.declared.event.Reply.{Reply}
-use Rattle.esr_drive.specs.declared.call.Call.{Call}
-use Rattle.esr_drive.specs.Calls.{command_of, answers_of}
-use Rattle.esr_drive.specs.Tables.{answered}
-use Rattle.esr_drive.proofs.Noting.{answer_at, length_answers}
+use Rattle.esr_plan.specs.declared.call.Call.{Call}
+use Rattle.esr_plan.specs.Calls.{command_of, answers_of}
+use Rattle.esr_plan.specs.Tables.{answered}
+use Rattle.esr_plan.proofs.Noting.{answer_at, length_answers}
 use Rattle.esr_report.specs.Names.{name_of_transaction}
-use Rattle.esr_drive.specs.Blocks.{Answered}
-use Rattle.esr_drive.specs.Drive.{finding_text, item_text, items_text, subject_of, replies_text, blocks_text}
+use Rattle.esr_plan.specs.Blocks.{Answered}
+use Rattle.esr_plan.specs.Text.{finding_text, item_text, items_text, subject_of, replies_text, blocks_text}
 
 abbrev before_of : Finding → List ℕ
 before_of f = map (λ t. t.0) f.before.items

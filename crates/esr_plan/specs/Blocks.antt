@@ -14,7 +14,7 @@ use Rattle.esr_report.specs.Names.{position_of}
 use Rattle.esr_line.specs.Command.{Command, begin_update, begin_query, begin_strict_query, read, write, commit, abort}
 use Rattle.esr_session.specs.declared.receipt.Receipt.{Receipt}
 use Rattle.esr_session.specs.Receipts.{is_blocked}
-use Rattle.esr_drive.specs.Plan.{new_name}
+use Rattle.esr_plan.specs.Plan.{new_name}
 
 -- a command with the last reply to it
 pub record Answered : Type 0 where

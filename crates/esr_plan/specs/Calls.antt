@@ -7,11 +7,11 @@ use Rattle.esr_history.specs.declared.event.Event.{Event}
 use Rattle.esr_history.specs.declared.event.Event.TheVariants as event
 use Rattle.esr_history.specs.declared.event.Reply.{Reply}
 use Rattle.esr_line.specs.Command.{Command, begin_update, begin_query, begin_strict_query, read, write, commit, abort}
-use Rattle.esr_drive.specs.declared.call.Caller.{Caller}
-use Rattle.esr_drive.specs.declared.call.Operand.{Operand}
-use Rattle.esr_drive.specs.declared.call.Call.{Call}
-use Rattle.esr_drive.specs.declared.call.Call.TheVariants as call
-use Rattle.esr_drive.specs.Blocks.{Answered, begins, number_in, item_called}
+use Rattle.esr_plan.specs.declared.call.Caller.{Caller}
+use Rattle.esr_plan.specs.declared.call.Operand.{Operand}
+use Rattle.esr_plan.specs.declared.call.Call.{Call}
+use Rattle.esr_plan.specs.declared.call.Call.TheVariants as call
+use Rattle.esr_plan.specs.Blocks.{Answered, begins, number_in, item_called}
 
 abbrev pub command_of : Call → Command
 command_of (call.BeginUpdate name limit) = begin_update name.now limit
@@ -27,6 +27,18 @@ abbrev pub answers_of : List Call → List Reply → List Answered
 answers_of [] replies = []
 answers_of (c ∷ calls) [] = []
 answers_of (c ∷ calls) (reply ∷ replies) = record { command = command_of c; reply = reply } ∷ answers_of calls replies
+
+-- block by block, the calls with the last replies to them
+abbrev pub all_answers : List (List Call) → List (List Reply) → List (List Answered)
+all_answers [] replies = []
+all_answers (b ∷ blocks) [] = []
+all_answers (b ∷ blocks) (r ∷ replies) = answers_of b r ∷ all_answers blocks replies
+
+-- block by block, as many replies as calls
+abbrev pub AreAnswered : List (List Call) → List (List Reply) → Type 0
+AreAnswered [] [] = Unit {0}
+AreAnswered (b ∷ blocks) (r ∷ replies) = (length r ≡ length b) × AreAnswered blocks replies
+AreAnswered _ _ = ⊥
 
 -- the number that the begin at that place got, and 0 where there is none
 abbrev pub number_by : List Reply → Option ℕ → TxnId

@@ -6,13 +6,13 @@ use Rattle.esr_items.specs.Values.{IsValue}
 use Rattle.esr_items.specs.Weights.{IsWeight}
 use Rattle.esr_report.specs.Names.{position_of}
 use Rattle.esr_line.specs.Command.{Command}
-use Rattle.esr_drive.specs.declared.call.Call.{Call}
-use Rattle.esr_drive.specs.declared.draft.TheConstants.{MAX_BLOCKS}
-use Rattle.esr_drive.specs.declared.draft.Draft.{Draft}
-use Rattle.esr_drive.specs.declared.draft.Wrong.{Wrong}
-use Rattle.esr_drive.specs.declared.draft.Wrong.TheVariants as wrong
-use Rattle.esr_drive.specs.Calls.{command_of, place_of, AreResolved}
-use Rattle.esr_drive.specs.Plan.{Plan, new_names, weights_of}
+use Rattle.esr_plan.specs.declared.call.Call.{Call}
+use Rattle.esr_plan.specs.declared.draft.TheConstants.{MAX_BLOCKS}
+use Rattle.esr_plan.specs.declared.draft.Draft.{Draft}
+use Rattle.esr_plan.specs.declared.draft.Wrong.{Wrong}
+use Rattle.esr_plan.specs.declared.draft.Wrong.TheVariants as wrong
+use Rattle.esr_plan.specs.Calls.{command_of, place_of, AreResolved}
+use Rattle.esr_plan.specs.Plan.{Plan, new_names, weights_of}
 
 abbrev pub commands_in : List Call → List Command
 commands_in calls = map command_of calls

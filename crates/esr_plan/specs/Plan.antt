@@ -9,9 +9,9 @@ use Rattle.esr_report.specs.Names.{is_bound}
 use Rattle.esr_line.specs.Lines.{lines}
 use Rattle.esr_line.specs.Command.{Command, item, weighted_item, begin_update, begin_query, begin_strict_query, audit, totals, is_skipped, reading}
 use Rattle.esr_line.specs.declared.limits.TheConstants.{MAX_LINES, MAX_LINE_BYTES}
-use Rattle.esr_drive.specs.declared.draft.TheConstants.{MAX_BLOCKS}
-use Rattle.esr_drive.specs.declared.fault.DriveFault.{DriveFault}
-use Rattle.esr_drive.specs.declared.fault.DriveFault.TheVariants.{LineTooLong, TooManyLines, BadScript}
+use Rattle.esr_plan.specs.declared.draft.TheConstants.{MAX_BLOCKS}
+use Rattle.esr_plan.specs.declared.fault.DriveFault.{DriveFault}
+use Rattle.esr_plan.specs.declared.fault.DriveFault.TheVariants.{LineTooLong, TooManyLines, BadScript}
 
 -- the names of the items, the values with which they open and the weights that were given,
 -- and the commands of each block

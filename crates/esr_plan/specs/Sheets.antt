@@ -3,11 +3,11 @@ use Rattle.std.specs.Prelude.{◌≡◌, ◌≤◌, All, length, map}
 use Rattle.esr_items.specs.declared.TheConstants.{MOST_ITEMS}
 use Rattle.esr_items.specs.Values.{IsValue}
 use Rattle.esr_items.specs.Weights.{IsWeight}
-use Rattle.esr_drive.specs.declared.draft.TheConstants.{MAX_BLOCKS}
-use Rattle.esr_drive.specs.declared.sheet.Sheet.{Sheet}
-use Rattle.esr_drive.specs.Calls.{AreResolved}
-use Rattle.esr_drive.specs.Drafts.{commands_in}
-use Rattle.esr_drive.specs.Plan.{Plan, weights_of}
+use Rattle.esr_plan.specs.declared.draft.TheConstants.{MAX_BLOCKS}
+use Rattle.esr_plan.specs.declared.sheet.Sheet.{Sheet}
+use Rattle.esr_plan.specs.Calls.{AreResolved}
+use Rattle.esr_plan.specs.Drafts.{commands_in}
+use Rattle.esr_plan.specs.Plan.{Plan, weights_of}
 
 abbrev pub plan_in : Sheet → Plan
 plan_in s =

@@ -3,10 +3,10 @@
 ghost use Rattle.std.specs.Prelude.{◌≡◌};
 ghost use Rattle.std.specs.Option.{option_map};
 ghost use Rattle.esr_report.specs.Subjects.{named_by};
-ghost use Rattle.esr_drive.specs.Calls.{command_of, number_by, event_by};
-ghost use Rattle.esr_drive.specs.Plan.{new_name};
-ghost use Rattle.esr_drive.specs.Blocks.{number_in};
-ghost use Rattle.esr_drive.specs.Drive.{subject_of};
+ghost use Rattle.esr_plan.specs.Calls.{command_of, number_by, event_by};
+ghost use Rattle.esr_plan.specs.Plan.{new_name};
+ghost use Rattle.esr_plan.specs.Blocks.{number_in};
+ghost use Rattle.esr_plan.specs.Text.{subject_of};
 
 use esr_history::{Event, Reply, TxnId};
 use esr_items::ItemId;

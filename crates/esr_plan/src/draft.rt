@@ -5,9 +5,9 @@ ghost use Rattle.std.specs.Prelude.{◌≡◌, ◌+◌, ◌<◌, ◌≤◌, ◌�
 ghost use Rattle.esr_items.specs.Weights.{is_weight};
 ghost use Rattle.esr_line.specs.Lines.{lines};
 ghost use Rattle.esr_line.specs.Command.{view};
-ghost use Rattle.esr_drive.specs.Plan.{with_session, with_item, with_operation, with_begin, with_command, with_line, plan_from, nothing, new_name, weight_in};
-ghost use Rattle.esr_drive.specs.Calls.{command_of, place_of, IsCaller, IsOperand, IsResolved};
-ghost use Rattle.esr_drive.specs.Drafts.{plan_in, current_calls, IsSound, IsWrong};
+ghost use Rattle.esr_plan.specs.Plan.{with_session, with_item, with_operation, with_begin, with_command, with_line, plan_from, nothing, new_name, weight_in};
+ghost use Rattle.esr_plan.specs.Calls.{command_of, place_of, IsCaller, IsOperand, IsResolved};
+ghost use Rattle.esr_plan.specs.Drafts.{plan_in, current_calls, IsSound, IsWrong};
 
 use crate::call::{Call, Caller, Operand};
 use crate::fault::DriveFault;

@@ -4,7 +4,7 @@ ghost use Rattle.esr_items.specs.declared.TheConstants.{MOST_ITEMS};
 ghost use Rattle.std.specs.Prelude.{◌≡◌, ◌≤◌, All, IfOk, length, map};
 ghost use Rattle.esr_items.specs.Values.{IsValue};
 ghost use Rattle.esr_items.specs.Weights.{IsWeight};
-ghost use Rattle.esr_drive.specs.Plan.{weights_of};
+ghost use Rattle.esr_plan.specs.Plan.{weights_of};
 
 use esr_items::{ItemsError, Store, Weighted};
 use std::alloc::{AllocError, Global};

@@ -6,8 +6,8 @@ ghost use Rattle.std.specs.List.{position};
 ghost use Rattle.std.specs.Io.KnownBytes.{Consumes, IsAtEnd};
 ghost use Rattle.esr_history.specs.Watch.{inner, failed};
 ghost use Rattle.esr_line.specs.Lines.{lines};
-ghost use Rattle.esr_drive.specs.Plan.{cut_fault};
-ghost use Rattle.esr_drive.specs.Readings.{IsMark, IsLineFault, IsReadFault, rest_from};
+ghost use Rattle.esr_plan.specs.Plan.{cut_fault};
+ghost use Rattle.esr_plan.specs.Readings.{IsMark, IsLineFault, IsReadFault, rest_from};
 
 use crate::fault::DriveFault;
 use esr_history::Watched;

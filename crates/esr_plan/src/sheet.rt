@@ -2,9 +2,9 @@
 
 ghost use Rattle.std.specs.Prelude.{◌≡◌, ◌⊎◌, None, Ok, Err, IfOk, IfErr};
 ghost use Rattle.esr_line.specs.Lines.{lines};
-ghost use Rattle.esr_drive.specs.Plan.{plan_of, cut_fault};
-ghost use Rattle.esr_drive.specs.Drafts as drafts;
-ghost use Rattle.esr_drive.specs.Sheets.{plan_in, IsSound};
+ghost use Rattle.esr_plan.specs.Plan.{plan_of, cut_fault};
+ghost use Rattle.esr_plan.specs.Drafts as drafts;
+ghost use Rattle.esr_plan.specs.Sheets.{plan_in, IsSound};
 
 use crate::call::Call;
 use crate::draft::{Draft, draft_of};

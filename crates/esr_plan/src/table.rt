@@ -2,10 +2,9 @@
 
 ghost use Rattle.std.specs.Prelude.{◌≡◌, ◌<◌, IfOk, length, map};
 ghost use Rattle.esr_history.specs.BackLinks.{begun_count};
-ghost use Rattle.esr_drive.specs.Calls.{answers_of};
-ghost use Rattle.esr_drive.specs.Drive.{names_of};
-ghost use Rattle.esr_drive.specs.Driven.{AreAnswered, all_answers};
-ghost use Rattle.esr_drive.specs.Tables.{answered, names_in, with_begun, noted, is_begin};
+ghost use Rattle.esr_plan.specs.Calls.{answers_of, AreAnswered, all_answers};
+ghost use Rattle.esr_plan.specs.Text.{names_of};
+ghost use Rattle.esr_plan.specs.Tables.{answered, names_in, with_begun, noted, is_begin};
 
 use crate::call::{Call, number_in};
 use esr_history::{Entry, Event, History, Log, Reply};
@@ -20,7 +19,7 @@ pub struct BegunNames<'a> {
 }
 
 impl<'a> TransactionNames for BegunNames<'a> {
-    ghost use Rattle.esr_drive.specs.Tables.{names_in};
+    ghost use Rattle.esr_plan.specs.Tables.{names_in};
 
     ghost names = { names_in };
 

@@ -1,6 +1,5 @@
 //! The text of a drive, part by part.
 
-ghost use Rattle.esr_board.specs.declared.board.TheConstants.{MOST_SEATS};
 ghost use Rattle.esr_history.specs.declared.limits.TheConstants.{MOST_ENTRIES};
 ghost use Rattle.esr_items.specs.declared.TheConstants.{MOST_ITEMS};
 ghost use Rattle.std.specs.Prelude.{◌≡◌, ◌<◌, ◌≤◌, slice_index_or, ◌++◌, [], OnOk, All, length, map};
@@ -9,16 +8,14 @@ ghost use Rattle.esr_items.specs.Weights.{weighted};
 ghost use Rattle.esr_history.specs.Totals.{all_imports, all_exports};
 ghost use Rattle.esr_audit.specs.Findings.{IsFinding};
 ghost use Rattle.esr_report.specs.Lines.{reply_line, totals_line};
-ghost use Rattle.esr_drive.specs.Calls.{command_of, answers_of};
-ghost use Rattle.esr_drive.specs.Drive.{item_text, items_text, subject_of, replies_text, blocks_text, finding_text, findings_text};
-ghost use Rattle.esr_drive.specs.Driven.{AreAnswered, all_answers};
-ghost use Rattle.esr_drive.specs.Tables.{names_in};
+ghost use Rattle.esr_plan.specs.Calls.{command_of, answers_of, AreAnswered, all_answers};
+ghost use Rattle.esr_plan.specs.Text.{item_text, items_text, subject_of, replies_text, blocks_text, finding_text};
+ghost use Rattle.esr_plan.specs.Tables.{names_in};
 
 use crate::call::Call;
 use crate::replay::replayed;
 use crate::table::BegunNames;
-use esr_audit::{AuditError, Finding};
-use esr_board::{NoGate, audit_parallel};
+use esr_audit::Finding;
 use esr_history::{History, Reply};
 use esr_items::{Store, Weighted};
 use esr_report::{
@@ -26,7 +23,6 @@ use esr_report::{
     weighted_item_line,
 };
 use std::alloc::{AllocError, Global};
-use std::thread::Threads;
 
 /// The name at a place.
 fn name_at(names: &Names, place: usize) -> &str
@@ -146,7 +142,7 @@ fn push_finding(
 
 /// Appends the lines of what was found of queries.
 #[tactic(auto, using(crate::proofs::Told::whole_text))]
-fn push_each(
+pub fn push_each(
     out: &mut Vec<u8>,
     history: &History<Weighted>,
     names: &BegunNames<'_>,
@@ -160,27 +156,6 @@ fn push_each(
         push_finding(out, history, names, finding)?;
     }
     Ok(())
-}
-
-/// Appends the lines of what so many workers find of the committed queries.
-pub fn push_findings<R: Threads + Sync>(
-    rt: &R,
-    alloc: Global,
-    out: &mut Vec<u8>,
-    history: &History<Weighted>,
-    names: &BegunNames<'_>,
-    workers: u64,
-) -> Result<(), AllocError>
-    requires { (1 ≤ workers) × (workers ≤ MOST_SEATS) }
-    ensures { OnOk result (out.new.items ≡ out.old.items
-        ++ findings_text history.now.schedule (names_in names.now)) }
-{
-    match audit_parallel(rt, alloc, history, workers, &NoGate) {
-        Ok(book) => push_each(out, history, names, book.findings.as_slice()),
-        Err(AuditError::NoMemory) => Err(AllocError),
-        Err(AuditError::NotACommittedQuery) => unreachable!(),
-        Err(AuditError::WorkersOutOfRange) => unreachable!(),
-    }
 }
 
 /// Appends the line of the totals.

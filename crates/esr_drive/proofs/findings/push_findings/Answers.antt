@@ -1,9 +1,9 @@
 use Rattle.std.proofs.Common.{ap, ◌∙◌}
 use Rattle.std.specs.List.{flat_map}
-use Rattle.esr_drive.specs.Drive.{finding_text}
-use Rattle.esr_drive.proofs.Told.{by_queries, same_end}
-use Rattle.esr_drive.specs.Tables.{names_in}
-use Rattle.esr_drive.proofs.text.push_findings.Goals as goal
+use Rattle.esr_plan.specs.Text.{finding_text}
+use Rattle.esr_plan.proofs.Told.{by_queries, same_end}
+use Rattle.esr_plan.specs.Tables.{names_in}
+use Rattle.esr_drive.proofs.findings.push_findings.Goals as goal
 
 pub returns-in-Ok : goal.returns-in-Ok
 returns-in-Ok g c =

@@ -1,8 +1,8 @@
 use Rattle.std.proofs.Common.{◌≡◌, ◌+◌, ◌<◌, length}
 use Rattle.esr_line.specs.Lines.{lines}
-use Rattle.esr_drive.specs.Plan.{plan_from, nothing}
-use Rattle.esr_drive.specs.Drafts.{IsSound, plan_in}
-use Rattle.esr_drive.proofs.draft.draft_of.Given as goal
+use Rattle.esr_plan.specs.Plan.{plan_from, nothing}
+use Rattle.esr_plan.specs.Drafts.{IsSound, plan_in}
+use Rattle.esr_plan.proofs.draft.draft_of.Given as goal
 
 -- the lines that are left go on to the plan of all
 abbrev pub invariant-loop-line : goal.invariant-loop-line

@@ -1,6 +1,6 @@
 use Rattle.std.proofs.Common.{sym, ◌∙◌, length, ◌<◌}
-use Rattle.esr_drive.proofs.Cuts.{no_feed, some}
-use Rattle.esr_drive.proofs.reading.first_line.Goals as goal
+use Rattle.esr_plan.proofs.Cuts.{no_feed, some}
+use Rattle.esr_plan.proofs.reading.first_line.Goals as goal
 
 pub returns-in-None : goal.returns-in-None
 returns-in-None c =

@@ -3,8 +3,8 @@ use Rattle.std.proofs.lemmas.Grind.{common_steps}
 use Rattle.std.specs.Prelude.{is_ok}
 use Rattle.std.specs.Io.KnownBytes.{Consumes}
 use Rattle.esr_history.specs.Watch.{inner, failed}
-use Rattle.esr_drive.proofs.Cuts.{mark_grown, taken, whole_fine, read_fault, not_read_error, not_failed}
-use Rattle.esr_drive.proofs.reading.read_all.Goals as goal
+use Rattle.esr_plan.proofs.Cuts.{mark_grown, taken, whole_fine, read_fault, not_read_error, not_failed}
+use Rattle.esr_plan.proofs.reading.read_all.Goals as goal
 
 pub returns-in-Ok-eq0-clause-fine : goal.returns-in-Ok-eq0-clause-fine
 returns-in-Ok-eq0-clause-fine g c =

@@ -2,9 +2,9 @@ use Rattle.std.proofs.Common.{◌≡◌, ◌<◌, false, None, length}
 use Rattle.std.specs.Io.KnownBytes.{Consumes}
 use Rattle.esr_history.specs.Watch.{inner, failed}
 use Rattle.esr_line.specs.Lines.{lines}
-use Rattle.esr_drive.specs.Plan.{cut_fault}
-use Rattle.esr_drive.specs.Readings.{IsMark, rest_from}
-use Rattle.esr_drive.proofs.reading.read_all.Given as goal
+use Rattle.esr_plan.specs.Plan.{cut_fault}
+use Rattle.esr_plan.specs.Readings.{IsMark, rest_from}
+use Rattle.esr_plan.proofs.reading.read_all.Given as goal
 
 -- the bytes are those that were read, and no line so far ends the reading
 abbrev pub invariant-loop : goal.invariant-loop

@@ -1,13 +1,22 @@
-use Rattle.std.proofs.Common.{List, length, sym, ap, ◌∙◌, arith}
+use Rattle.std.proofs.Common.{◌≡◌, ℕ, ℤ, List, [], length, map, sym, ap, ◌∙◌, arith}
 use Rattle.std.specs.Prelude.{slice_get}
+use Rattle.esr_items.specs.declared.store.Versions.{Versions}
 use Rattle.esr_items.specs.Weights.{weighted}
 use Rattle.esr_history.specs.declared.event.Entry.{Entry}
 use Rattle.esr_history.specs.declared.event.Reply.{Reply}
 use Rattle.esr_history.specs.Machine.{Schedule, extended, reply_to}
 use Rattle.esr_core.proofs.Replayed.{first, IsNext, next, entry_there}
-use Rattle.esr_drive.proofs.Texts.{opened_as}
-use Rattle.esr_drive.proofs.replay.replayed.Goals as goal
-use Rattle.esr_drive.proofs.replay.replayed.Goals.{in-Some+in_ok-step_again, in_default}
+use Rattle.esr_plan.proofs.replay.replayed.Goals as goal
+use Rattle.esr_plan.proofs.replay.replayed.Goals.{in-Some+in_ok-step_again, in_default}
+
+-- the machine's first history
+opened_as : (items : List Versions) (metric : List ℕ) (h : Schedule) → h.opening ≡ map (λ (w : Versions). w.committed) items → h.weights ≡ metric
+    → record { opening = map (λ (w : Versions). w.committed) items; weights = metric; entries = [] } ≡ first h 0
+opened_as items metric h opening weights =
+    ap (λ (o : List ℤ). start o metric) (sym opening) ∙ ap (start h.opening) (sym weights)
+  where
+    start : List ℤ → List ℕ → Schedule
+    start o w = record { opening = o; weights = w; entries = [] }
 
 pub loop-i-init : goal.loop-i-init
 loop-i-init c =

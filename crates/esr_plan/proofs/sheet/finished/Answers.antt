@@ -1,7 +1,7 @@
 use Rattle.std.proofs.Common.{rules}
-use Rattle.esr_drive.proofs.Adding.{done_with, done_alone, sheet_sound}
-use Rattle.esr_drive.proofs.sheet.finished.Goals as goal
-use Rattle.esr_drive.proofs.sheet.finished.Goals.{in-None, in-Some+in_ok-push-in-Some}
+use Rattle.esr_plan.proofs.Adding.{done_with, done_alone, sheet_sound}
+use Rattle.esr_plan.proofs.sheet.finished.Goals as goal
+use Rattle.esr_plan.proofs.sheet.finished.Goals.{in-None, in-Some+in_ok-push-in-Some}
 
 pub returns-clause-sound : goal.returns-clause-sound
 returns-clause-sound c =

@@ -1,9 +1,9 @@
 use Rattle.std.proofs.Common.{sym, ◌∙◌, arith}
 use Rattle.esr_core.proofs.Replayed.{entry_there}
-use Rattle.esr_drive.specs.Tables.{is_begin}
-use Rattle.esr_drive.proofs.Noting.{count_step, count_one, count_none}
-use Rattle.esr_drive.proofs.table.begun_count.Goals as goal
-use Rattle.esr_drive.proofs.table.begun_count.Goals.{in-Some+then-begins, in-Some+else-begins, in_default}
+use Rattle.esr_plan.specs.Tables.{is_begin}
+use Rattle.esr_plan.proofs.Noting.{count_step, count_one, count_none}
+use Rattle.esr_plan.proofs.table.begun_count.Goals as goal
+use Rattle.esr_plan.proofs.table.begun_count.Goals.{in-Some+then-begins, in-Some+else-begins, in_default}
 
 pub loop-i-preserved : goal.loop-i-preserved
 loop-i-preserved c =

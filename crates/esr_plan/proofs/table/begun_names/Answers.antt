@@ -2,11 +2,10 @@ use Rattle.std.proofs.Common.{rules, ◌≡◌, ◌+◌, ◌-◌, ◌<◌, [], l
 use Rattle.std.specs.List.{flat_map}
 use Rattle.esr_history.specs.BackLinks.{begun_count}
 use Rattle.std.proofs.lemmas.List.{length-map}
-use Rattle.esr_drive.specs.Calls.{answers_of}
-use Rattle.esr_drive.specs.Driven.{all_answers}
-use Rattle.esr_drive.specs.Tables.{names_in, noted}
-use Rattle.esr_drive.proofs.Noting.{as_many, block_answered, items_at, blocks_noted, none_left, map_replicate, names_noted}
-use Rattle.esr_drive.proofs.table.begun_names.Goals as goal
+use Rattle.esr_plan.specs.Calls.{answers_of, all_answers}
+use Rattle.esr_plan.specs.Tables.{names_in, noted}
+use Rattle.esr_plan.proofs.Noting.{as_many, block_answered, items_at, blocks_noted, none_left, map_replicate, names_noted}
+use Rattle.esr_plan.proofs.table.begun_names.Goals as goal
 
 pub loop-i-init : goal.loop-i-init
 loop-i-init c = (

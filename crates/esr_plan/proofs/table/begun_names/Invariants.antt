@@ -2,9 +2,9 @@ use Rattle.std.proofs.Common.{◌≡◌, ◌≤◌, [], length, drop, map}
 use Rattle.std.specs.Prelude.{replicate}
 use Rattle.std.specs.List.{flat_map}
 use Rattle.esr_history.specs.BackLinks.{begun_count}
-use Rattle.esr_drive.specs.Driven.{all_answers}
-use Rattle.esr_drive.specs.Tables.{names_in, noted}
-use Rattle.esr_drive.proofs.table.begun_names.Given as goal
+use Rattle.esr_plan.specs.Calls.{all_answers}
+use Rattle.esr_plan.specs.Tables.{names_in, noted}
+use Rattle.esr_plan.proofs.table.begun_names.Given as goal
 
 -- the names of the blocks from i on were taken down
 abbrev pub invariant-loop-i : goal.invariant-loop-i

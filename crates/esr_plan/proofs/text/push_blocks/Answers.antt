@@ -1,12 +1,11 @@
 use Rattle.std.proofs.Common.{rules, ◌≤◌, ◌++◌, length, map, ap, ap₂, sym, ◌∙◌, arith}
 use Rattle.std.proofs.lemmas.List.{length-map}
-use Rattle.esr_drive.specs.Calls.{answers_of}
-use Rattle.esr_drive.specs.Drive.{replies_text}
-use Rattle.esr_drive.specs.Driven.{all_answers}
-use Rattle.esr_drive.specs.Tables.{names_in}
-use Rattle.esr_drive.proofs.Noting.{as_many, block_answered, items_at, all_at, length-blocks}
-use Rattle.esr_drive.proofs.Told.{blocks_text_more, blocks_text_all}
-use Rattle.esr_drive.proofs.text.push_blocks.Goals as goal
+use Rattle.esr_plan.specs.Calls.{answers_of, all_answers}
+use Rattle.esr_plan.specs.Text.{replies_text}
+use Rattle.esr_plan.specs.Tables.{names_in}
+use Rattle.esr_plan.proofs.Noting.{as_many, block_answered, items_at, all_at, length-blocks}
+use Rattle.esr_plan.proofs.Told.{blocks_text_more, blocks_text_all}
+use Rattle.esr_plan.proofs.text.push_blocks.Goals as goal
 
 pub bounds-replies-i : goal.bounds-replies-i
 bounds-replies-i c = omega (arith, as_many c.args.blocks.now c.args.replies.now c.requires, c.loop-i-test.true)

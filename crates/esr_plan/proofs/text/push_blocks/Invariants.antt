@@ -1,8 +1,8 @@
 use Rattle.std.proofs.Common.{◌≡◌, ◌++◌, take, map}
-use Rattle.esr_drive.specs.Drive.{blocks_text}
-use Rattle.esr_drive.specs.Driven.{all_answers}
-use Rattle.esr_drive.specs.Tables.{names_in}
-use Rattle.esr_drive.proofs.text.push_blocks.Given as goal
+use Rattle.esr_plan.specs.Text.{blocks_text}
+use Rattle.esr_plan.specs.Calls.{all_answers}
+use Rattle.esr_plan.specs.Tables.{names_in}
+use Rattle.esr_plan.proofs.text.push_blocks.Given as goal
 
 -- the lines of the blocks so far
 abbrev pub invariant-loop-i : goal.invariant-loop-i

@@ -1,8 +1,8 @@
 use Rattle.std.proofs.Common.{rules}
-use Rattle.esr_drive.specs.Drive.{finding_text}
-use Rattle.esr_drive.proofs.Told.{lines_more}
-use Rattle.esr_drive.specs.Tables.{names_in}
-use Rattle.esr_drive.proofs.text.push_each.Goals as goal
+use Rattle.esr_plan.specs.Text.{finding_text}
+use Rattle.esr_plan.proofs.Told.{lines_more}
+use Rattle.esr_plan.specs.Tables.{names_in}
+use Rattle.esr_plan.proofs.text.push_each.Goals as goal
 
 pub loop-finding-preserved : goal.loop-finding-preserved
 loop-finding-preserved c =

@@ -1,8 +1,8 @@
 use Rattle.std.proofs.Common.{◌≡◌, ◌++◌, take}
 use Rattle.std.specs.List.{flat_map}
-use Rattle.esr_drive.specs.Drive.{finding_text}
-use Rattle.esr_drive.specs.Tables.{names_in}
-use Rattle.esr_drive.proofs.text.push_each.Given as goal
+use Rattle.esr_plan.specs.Text.{finding_text}
+use Rattle.esr_plan.specs.Tables.{names_in}
+use Rattle.esr_plan.proofs.text.push_each.Given as goal
 
 -- the lines of the findings so far
 abbrev pub invariant-loop-finding : goal.invariant-loop-finding

@@ -1,8 +1,8 @@
 use Rattle.std.proofs.Common.{map, ap, ◌∙◌}
-use Rattle.esr_drive.proofs.Told.{told, same_end}
+use Rattle.esr_plan.proofs.Told.{told, same_end}
 use Rattle.esr_report.specs.Lines.{audit_line}
-use Rattle.esr_drive.specs.Tables.{names_in}
-use Rattle.esr_drive.proofs.text.push_finding.Goals as goal
+use Rattle.esr_plan.specs.Tables.{names_in}
+use Rattle.esr_plan.proofs.text.push_finding.Goals as goal
 
 pub returns : goal.returns
 returns c =

@@ -1,6 +1,6 @@
 use Rattle.std.proofs.Common.{rules, pos, None}
-use Rattle.esr_drive.proofs.Told.{items_text_more}
-use Rattle.esr_drive.proofs.text.push_items.Goals as goal
+use Rattle.esr_plan.proofs.Told.{items_text_more}
+use Rattle.esr_plan.proofs.text.push_items.Goals as goal
 
 pub loop-i-preserved : goal.loop-i-preserved
 loop-i-preserved c =

@@ -1,6 +1,6 @@
 use Rattle.std.proofs.Common.{◌≡◌, ◌++◌, take}
-use Rattle.esr_drive.specs.Drive.{items_text}
-use Rattle.esr_drive.proofs.text.push_items.Given as goal
+use Rattle.esr_plan.specs.Text.{items_text}
+use Rattle.esr_plan.proofs.text.push_items.Given as goal
 
 -- the lines of the items so far
 abbrev pub invariant-loop-i : goal.invariant-loop-i

@@ -1,11 +1,11 @@
 use Rattle.std.proofs.Common.{rules, ◌≤◌, length, arith}
 use Rattle.esr_report.specs.Lines.{reply_line}
-use Rattle.esr_drive.specs.Calls.{answers_of}
-use Rattle.esr_drive.specs.Drive.{subject_of}
-use Rattle.esr_drive.specs.Tables.{names_in}
-use Rattle.esr_drive.proofs.Noting.{length_answers}
-use Rattle.esr_drive.proofs.Told.{replies_more, whole_text}
-use Rattle.esr_drive.proofs.text.push_replies.Goals as goal
+use Rattle.esr_plan.specs.Calls.{answers_of}
+use Rattle.esr_plan.specs.Text.{subject_of}
+use Rattle.esr_plan.specs.Tables.{names_in}
+use Rattle.esr_plan.proofs.Noting.{length_answers}
+use Rattle.esr_plan.proofs.Told.{replies_more, whole_text}
+use Rattle.esr_plan.proofs.text.push_replies.Goals as goal
 
 pub loop-i-preserved : goal.loop-i-preserved
 loop-i-preserved c =

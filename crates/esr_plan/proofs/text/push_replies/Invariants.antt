@@ -1,8 +1,8 @@
 use Rattle.std.proofs.Common.{◌≡◌, ◌++◌, take}
-use Rattle.esr_drive.specs.Calls.{answers_of}
-use Rattle.esr_drive.specs.Drive.{replies_text}
-use Rattle.esr_drive.specs.Tables.{names_in}
-use Rattle.esr_drive.proofs.text.push_replies.Given as goal
+use Rattle.esr_plan.specs.Calls.{answers_of}
+use Rattle.esr_plan.specs.Text.{replies_text}
+use Rattle.esr_plan.specs.Tables.{names_in}
+use Rattle.esr_plan.proofs.text.push_replies.Given as goal
 
 -- the lines of the replies so far
 abbrev pub invariant-loop-i : goal.invariant-loop-i

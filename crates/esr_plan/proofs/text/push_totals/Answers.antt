@@ -3,8 +3,8 @@ use Rattle.esr_items.specs.Weights.{weighted}
 use Rattle.esr_history.specs.Machine.{Schedule}
 use Rattle.esr_history.specs.Totals.{all_imports, all_exports}
 use Rattle.esr_report.specs.Lines.{totals_line}
-use Rattle.esr_drive.proofs.Told.{same_end}
-use Rattle.esr_drive.proofs.text.push_totals.Goals as goal
+use Rattle.esr_plan.proofs.Told.{same_end}
+use Rattle.esr_plan.proofs.text.push_totals.Goals as goal
 
 pub returns : goal.returns
 returns c =

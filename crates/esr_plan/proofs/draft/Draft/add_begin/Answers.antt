@@ -1,6 +1,6 @@
 use Rattle.std.proofs.Common.{rules}
-use Rattle.esr_drive.proofs.Adding.{begin_added}
-use Rattle.esr_drive.proofs.draft.Draft.add_begin.Goals as goal
+use Rattle.esr_plan.proofs.Adding.{begin_added}
+use Rattle.esr_plan.proofs.draft.Draft.add_begin.Goals as goal
 
 pub returns-clause-ok : goal.returns-clause-ok
 returns-clause-ok c =

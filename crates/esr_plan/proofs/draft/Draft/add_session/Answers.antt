@@ -1,7 +1,7 @@
 use Rattle.std.proofs.Common.{rules}
-use Rattle.esr_drive.proofs.Adding.{opens_none, opens_some, session_after}
-use Rattle.esr_drive.proofs.draft.Draft.add_session.Goals as goal
-use Rattle.esr_drive.proofs.draft.Draft.add_session.Goals.{in-None, in-Some+else-len-ge-MAX_BLOCKS+else-is_err}
+use Rattle.esr_plan.proofs.Adding.{opens_none, opens_some, session_after}
+use Rattle.esr_plan.proofs.draft.Draft.add_session.Goals as goal
+use Rattle.esr_plan.proofs.draft.Draft.add_session.Goals.{in-None, in-Some+else-len-ge-MAX_BLOCKS+else-is_err}
 
 pub returns-clause-ok : goal.returns-clause-ok
 returns-clause-ok c =

@@ -1,7 +1,7 @@
 use Rattle.std.proofs.Common.{◌≡◌, ◌≤◌, length, drop}
-use Rattle.esr_drive.specs.Calls.{answers_of}
-use Rattle.esr_drive.specs.Tables.{names_in, noted}
-use Rattle.esr_drive.proofs.table.BegunNames.note_block.Given as goal
+use Rattle.esr_plan.specs.Calls.{answers_of}
+use Rattle.esr_plan.specs.Tables.{names_in, noted}
+use Rattle.esr_plan.proofs.table.BegunNames.note_block.Given as goal
 
 -- the names of the lines from i on were taken down
 abbrev pub invariant-loop-i : goal.invariant-loop-i
