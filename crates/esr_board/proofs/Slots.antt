@@ -1,5 +1,5 @@
 -- Findings put back at the places of their jobs.
-use Rattle.std.proofs.Common.{◌≡◌, ℕ, ◌<◌, ◌≢◌, ◌⊎◌, cond, eqb, List, [], ◌∷◌, ◌++◌, map, length, get_or, set, sym, refl, subst, ⊎_elim, arith, Any, Option, Some, None, Result, Ok, Err, IfOk, IfErr, MatchResult, length-set, get_or-set_same, get_or-set_other, ne_eqb, false, true≢false}
+use Rattle.std.proofs.Common.{◌≡◌, ℕ, ◌<◌, ◌≢◌, ◌⊎◌, cond, eqb, List, [], ◌∷◌, ◌++◌, map, length, get_or, set, sym, refl, ap, ◌∙◌, subst, ⊎_elim, arith, Any, Option, Some, None, Result, Ok, Err, IfOk, IfErr, MatchResult, length-set, get_or-set_same, get_or-set_other, ne_eqb, false, true≢false}
 use Rattle.std.proofs.lemmas.List.{map-append}
 use Rattle.std.proofs.lemmas.List.Sums.{sum_by_push}
 use Rattle.esr_history.specs.declared.event.TxnId.{TxnId}
@@ -27,23 +27,23 @@ worked_is d h queries jobs old new (Err WorkersOutOfRange) none_yet len committe
 worked_is d h queries jobs old new (Err NotACommittedQuery) none_yet len committed drew found ended err other =
     grind (arith, any_holds, true≢false)
 
-module _ (d : Distance) (h : Schedule) (queries : List TxnId) (slots : List (Option Finding)) (job : ℕ) (f : Finding) (room : job < length slots) where
-  abbrev after : List (Option Finding)
-  after = set slots job (Some f)
-
-  same_here : get_or after job None ≡ Some f
+module _ (d : Distance) (h : Schedule) (queries : List TxnId) (slots after : List (Option Finding)) (job : ℕ) (f : Finding) (is : after ≡ set slots job (Some f)) (room : job < length slots) where
+  same_here : get_or (set slots job (Some f)) job None ≡ Some f
   same_here = get_or-set_same slots job (Some f) None room
 
+  as_set : (P : List (Option Finding) → Type 0) → P (set slots job (Some f)) → P after
+  as_set P p = subst P (sym is) p
+
   pub put_kept : (k : ℕ) → IsFilled slots k → IsFilled after k
-  put_kept k was = grind (arith, same_here, get_or-set_other)
+  put_kept k was = as_set (λ l. IsFilled l k) (grind (arith, same_here, get_or-set_other))
 
   pub put_right : IsFindingFor d h queries job f → AreRight d h queries slots → AreRight d h queries after
-  put_right is right k l = grind (arith, same_here, get_or-set_other, length-set slots job (Some f))
+  put_right here right = as_set (AreRight d h queries) (λ k l. grind (arith, same_here, get_or-set_other, length-set slots job (Some f)))
 
   pub put_filled : (old new : List (ℕ × Finding)) (total k : ℕ) → old ≡ new ++ (job, f) ∷ [] → IsFilled slots k ⊎ (times k (map (λ p. p.0) old) ≡ total) → IsFilled after k ⊎ (times k (map (λ p. p.0) new) ≡ total)
-  put_filled old new total k e so_far =
-      grind (arith, same_here, ⊎_elim, put_kept, map, map-append, sum_by_push, cond, eqb, ne_eqb)
+  put_filled old new total k e so_far = as_set (λ l. IsFilled l k ⊎ (times k (map (λ (p : ℕ × Finding). p.0) new) ≡ total))
+      (grind (arith, same_here, ⊎_elim, get_or-set_other, map, map-append, sum_by_push, cond, eqb, ne_eqb))
 
   pub put_share : (old new : List (ℕ × Finding)) → old ≡ new ++ (job, f) ∷ [] → AreFound d h queries (length slots) old → AreFound d h queries (length after) new
-  put_share old new e a = subst (λ (n : ℕ). AreFound d h queries n new) (sym (length-set slots job (Some f)))
+  put_share old new e a = subst (λ (n : ℕ). AreFound d h queries n new) (sym (ap length is ∙ length-set slots job (Some f)))
       (all_popped (λ (p : ℕ × Finding). (p.0 < length slots) × IsFindingFor d h queries p.0 p.1) old new (job, f) e a).0

@@ -1,5 +1,5 @@
 //! The audit of a whole history by several workers.
-ghost use Rattle.std.specs.Prelude.{◌≡◌, ℕ, ◌+◌, ◌<◌, ◌≤◌, ◌↔◌, ◌⊎◌, [], length, map, All, IfOk, IfErr, vec_len, slice_index_or, None};
+ghost use Rattle.std.specs.Prelude.{◌≡◌, ℕ, ◌+◌, ◌<◌, ◌≤◌, ◌↔◌, ◌⊎◌, [], length, map, All, IfOk, IfErr, vec_len, slice_index_or, slice_set, Some, None};
 ghost use Rattle.esr_audit.specs.Findings.{IsFinding, IsBook};
 ghost use Rattle.esr_board.specs.declared.board.TheConstants.{MOST_JOBS};
 ghost use Rattle.esr_board.specs.Claims.{times, count_past};
@@ -15,6 +15,14 @@ use esr_items::Metric;
 use std::alloc::{AllocError, Global};
 use std::thread;
 use std::thread::Threads;
+
+/// Puts a finding at the place of its job.
+fn put(slots: &mut Vec<Option<Finding>>, job: usize, finding: Finding)
+    requires { job < vec_len slots.old }
+    ensures { slots.new.items ≡ slice_set slots.old.items job (Some finding) }
+{
+    slots[job] = Some(finding);
+}
 
 /// Puts each finding of a share at the place of its job.
 fn put_in_order<M: Metric>(
@@ -32,7 +40,7 @@ fn put_in_order<M: Metric>(
 {
     let Share { mut found } = share;
     while let Some((job, finding)) = found.pop() {
-        slots[job as usize] = Some(finding);
+        put(slots, job as usize, finding);
     }
 }
 

@@ -2,7 +2,7 @@
 #![tactic(auto)]
 
 ghost use Rattle.std.specs.Prelude.{◌≡◌, IfOk, false};
-ghost use Rattle.clap.specs.Words.{app_of, with_subcommand};
+ghost use Rattle.clap.specs.Words.{app_of, new_app, with_subcommand};
 ghost use Rattle.clap.specs.declared.builder.command.Command.TheViews.{out-Command};
 ghost use Rattle.esr_commands.specs.Program.{certify, esr, named, parallel, program, queries, scripts};
 
@@ -37,13 +37,21 @@ For example:
 
 docs/FORMATS.md has every rule.";
 
+/// `name`
+fn plain<'a>(alloc: Global, name: &'a str, about: &'a str) -> Command<'a>
+    ensures app { app_of result ≡ new_app name.entry.now }
+    ensures local { (out-Command result).has_globals ≡ false }
+{
+    Command::new(alloc, name).about(about)
+}
+
 /// `name NAME`
 fn named<'a>(alloc: Global, name: &'a str, about: &'a str) -> Result<Command<'a>, AllocError>
     ensures app { IfOk result (λ c. app_of c ≡ named name.entry.now) }
     ensures local { IfOk result (λ c. (out-Command c).has_globals ≡ false) }
 {
     let query = Arg::new(alloc, "NAME").required(true).help("The query");
-    Command::new(alloc, name).about(about).arg(query)
+    plain(alloc, name, about).arg(query)
 }
 
 /// `certify [--steps] NAME`
@@ -59,19 +67,6 @@ fn certify<'a>(alloc: Global) -> Result<Command<'a>, AllocError>
     named(alloc, "certify", about)?.arg(steps)
 }
 
-/// Adds `name NAME` to a program.
-fn with_named<'a>(
-    alloc: Global,
-    commands: Command<'a>,
-    name: &'a str,
-    about: &'a str,
-) -> Result<Command<'a>, AllocError>
-    ensures { IfOk result (λ c. app_of c ≡ with_subcommand (app_of commands.entry) (named name.entry.now).top) }
-{
-    let command = named(alloc, name, about)?;
-    commands.subcommand(command)
-}
-
 /// `name [--workers W]`
 fn parallel<'a>(alloc: Global, name: &'a str, about: &'a str) -> Result<Command<'a>, AllocError>
     ensures app { IfOk result (λ c. app_of c ≡ parallel name.entry.now) }
@@ -83,20 +78,15 @@ fn parallel<'a>(alloc: Global, name: &'a str, about: &'a str) -> Result<Command<
         .value_parser(value_parser!(u64).range(1..=64))
         .default_value("4")
         .help("How many threads audit, 1 to 64");
-    Command::new(alloc, name).about(about).arg(workers)
+    plain(alloc, name, about).arg(workers)
 }
 
-/// Adds `name [--workers W]` to a program.
-fn with_parallel<'a>(
-    alloc: Global,
-    commands: Command<'a>,
-    name: &'a str,
-    about: &'a str,
-) -> Result<Command<'a>, AllocError>
-    ensures { IfOk result (λ c. app_of c ≡ with_subcommand (app_of commands.entry) (parallel name.entry.now).top) }
+/// Adds a command to a program.
+fn with<'a>(program: Command<'a>, command: Command<'a>) -> Result<Command<'a>, AllocError>
+    requires { (out-Command command).has_globals ≡ false }
+    ensures { IfOk result (λ c. app_of c ≡ with_subcommand (app_of program.entry) (app_of command.entry).top) }
 {
-    let command = parallel(alloc, name, about)?;
-    commands.subcommand(command)
+    program.subcommand(command)
 }
 
 /// The program without its commands.
@@ -114,16 +104,12 @@ fn shell<'a>(alloc: Global) -> Command<'a>
 fn scripts<'a>(alloc: Global) -> Result<Command<'a>, AllocError>
     ensures { IfOk result (λ c. app_of c ≡ scripts) }
 {
-    let run = Command::new(alloc, "run")
-        .about("Runs a script from standard input to standard output")
-        .after_help(SCRIPTS);
-    let check = Command::new(alloc, "check").about(
-        "Judges the bundle on standard input: valid, invalid or bad",
-    );
-    shell(alloc)
-        .subcommand(run)?
-        .subcommand(certify(alloc)?)?
-        .subcommand(check)
+    let run = "Runs a script from standard input to standard output";
+    let check = "Judges the bundle on standard input: valid, invalid or bad";
+    let run = plain(alloc, "run", run).after_help(SCRIPTS);
+    let commands = with(shell(alloc), run)?;
+    let commands = with(commands, certify(alloc)?)?;
+    with(commands, plain(alloc, "check", check))
 }
 
 /// The same with the jobs that show one query to a person.
@@ -132,9 +118,8 @@ fn queries<'a>(alloc: Global) -> Result<Command<'a>, AllocError>
 {
     let explain = "Runs a script from standard input and tells what a query read and was charged";
     let picture = "Runs a script from standard input and writes a picture of a query, an SVG";
-    let commands = scripts(alloc)?;
-    let commands = with_named(alloc, commands, "explain", explain)?;
-    with_named(alloc, commands, "picture", picture)
+    let commands = with(scripts(alloc)?, named(alloc, "explain", explain)?)?;
+    with(commands, named(alloc, "picture", picture)?)
 }
 
 /// The program `esr` with all its commands, as `clap` is told of them.
@@ -143,7 +128,6 @@ pub fn program<'a>(alloc: Global) -> Result<Command<'a>, AllocError>
 {
     let audit = "Runs a script from standard input and audits each committed query";
     let drive = "Runs the sessions of a drive file from standard input, each on a thread";
-    let commands = queries(alloc)?;
-    let commands = with_parallel(alloc, commands, "audit", audit)?;
-    with_parallel(alloc, commands, "drive", drive)
+    let commands = with(queries(alloc)?, parallel(alloc, "audit", audit)?)?;
+    with(commands, parallel(alloc, "drive", drive)?)
 }

@@ -14,10 +14,10 @@ use Rattle.esr_history.specs.declared.event.TxnId.{TxnId}
 use Rattle.esr_history.specs.Machine.{Distance}
 use Rattle.esr_session.specs.declared.receipt.Receipt.{Receipt}
 use Rattle.esr_session.specs.Receipts.{AreBlocked, is_blocked}
-use Rattle.esr_drive.specs.declared.call.Call.{Call}
-use Rattle.esr_drive.specs.declared.call.Call.TheVariants as call
-use Rattle.esr_drive.specs.Calls.{command_of, answers_of, number_by, event_by, place_of, IsResolved, AreResolved}
-use Rattle.esr_drive.specs.Blocks.{Answered, IsRun, AreRuns, more, event_of, begins, number_in, number_got, transaction_called}
+use Rattle.esr_plan.specs.declared.call.Call.{Call}
+use Rattle.esr_plan.specs.declared.call.Call.TheVariants as call
+use Rattle.esr_plan.specs.Calls.{command_of, answers_of, number_by, event_by, place_of, IsResolved, AreResolved}
+use Rattle.esr_plan.specs.Blocks.{Answered, IsRun, AreRuns, more, event_of, begins, number_in, number_got, transaction_called}
 
 -- what a patient call leaves is a run
 pub run_of : (d : Distance) (o : List ℤ) (w : List ℕ) (e : Event) (r : Receipt) (blocked : List Receipt)
@@ -114,12 +114,6 @@ event_resolved names calls replies (call.Write txn x value) e is =
 event_resolved names calls replies (call.Commit txn) e is = ap (λ t. Some (event.Commit t)) (number_same calls replies txn.name.now txn.begin e is)
 event_resolved names calls replies (call.Abort txn) e is = ap (λ t. Some (event.Abort t)) (number_same calls replies txn.name.now txn.begin e is)
 event_resolved names calls replies _ e is = refl
-
-pub position_within : {X : Type 0} (p : X → Bool) (xs : List X) (place : ℕ) → position p xs ≡ Some place → place < length xs
-position_within p xs place e =
-    let found = cond_some _ _ _ e in
-    let lt : position_or_len p xs < length xs = ltb-true _ _ found.0 in
-    omega (arith, lt, found.1)
 
 -- one more call with its receipts
 pub block_more : (names : List (List ℕ)) (d : Distance) (o : List ℤ) (w : List ℕ) (calls : List Call) (replies seen : List Reply) (i : ℕ) (x : Call) (e : Event) (r : Receipt) (old new blocked : List Receipt)

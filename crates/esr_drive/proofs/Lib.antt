@@ -1,10 +1,4 @@
-pub mod Cuts
 pub mod Calling
-pub mod Placing
-pub mod Adding
 pub mod Tasks
 pub mod Texts
-pub mod Noting
-pub mod Told
-pub mod Rows
 pub mod Worked

@@ -5,11 +5,10 @@ use Rattle.std.proofs.lemmas.List.Elements.{All-push}
 use Rattle.esr_history.specs.declared.event.Reply.{Reply}
 use Rattle.esr_core.specs.declared.machine.StepError.{StepError}
 use Rattle.esr_session.specs.declared.receipt.Receipt.{Receipt}
-use Rattle.esr_drive.specs.declared.call.Call.{Call}
-use Rattle.esr_drive.specs.Calls.{command_of, answers_of, AreResolved}
-use Rattle.esr_drive.specs.Blocks.{Answered, AreBlocks}
+use Rattle.esr_plan.specs.declared.call.Call.{Call}
+use Rattle.esr_plan.specs.Calls.{command_of, answers_of, AreResolved, all_answers, AreAnswered}
+use Rattle.esr_plan.specs.Blocks.{Answered, AreBlocks}
 use Rattle.esr_drive.specs.Runs.{IsBlockRun}
-use Rattle.esr_drive.specs.Driven.{all_answers, AreAnswered}
 
 left : {X : Type 0} (P : X → Type 0) (xs : List X) (x : X) → All P (xs ++ x ∷ []) → All P xs
 left P [] x h k d lt = absurd (omega (arith, lt))

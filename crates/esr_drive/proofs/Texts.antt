@@ -7,26 +7,19 @@ use Rattle.esr_history.specs.declared.event.Reply.{Reply}
 use Rattle.esr_history.specs.Machine.{Schedule}
 use Rattle.esr_core.proofs.Replayed.{first}
 use Rattle.esr_line.specs.Lines.{lines}
-use Rattle.esr_drive.specs.declared.fault.DriveFault.{DriveFault}
-use Rattle.esr_drive.specs.declared.fault.DriveFault.TheVariants as fault
-use Rattle.esr_drive.specs.declared.sheet.Sheet.{Sheet}
-use Rattle.esr_drive.specs.declared.call.Call.{Call}
-use Rattle.esr_drive.specs.Calls.{command_of, AreResolved}
-use Rattle.esr_drive.specs.Plan.{Plan, plan_of, plan_from, cut_fault, with_line, nothing, weights_of}
+use Rattle.esr_plan.specs.declared.fault.DriveFault.{DriveFault}
+use Rattle.esr_plan.specs.declared.fault.DriveFault.TheVariants as fault
+use Rattle.esr_plan.specs.declared.sheet.Sheet.{Sheet}
+use Rattle.esr_plan.specs.declared.call.Call.{Call}
+use Rattle.esr_plan.specs.Calls.{command_of, AreResolved, all_answers}
+use Rattle.esr_plan.specs.Plan.{Plan, plan_of, plan_from, cut_fault, with_line, nothing, weights_of}
 use Rattle.esr_line.specs.declared.limits.TheConstants.{MAX_LINES, MAX_LINE_BYTES}
-use Rattle.esr_drive.specs.Sheets.{plan_in, IsSound}
-use Rattle.esr_drive.specs.Driven.{IsDriven, all_answers}
-use Rattle.esr_drive.specs.Drive.{IsDriveText, text_of}
+use Rattle.esr_plan.specs.Sheets.{plan_in, IsSound}
+use Rattle.esr_plan.proofs.Cuts.{IsCut, IsNoneOrCut, all_cut}
+use Rattle.esr_drive.specs.Driven.{IsDriven}
+use Rattle.esr_drive.specs.Drive.{IsDriveText}
+use Rattle.esr_plan.specs.Text.{text_of}
 use Rattle.esr_drive.specs.Faults.{IsTextFault, is_engine_fault}
-
--- the machine's first history
-pub opened_as : (items : List Versions) (metric : List ℕ) (h : Schedule) → h.opening ≡ map (λ (w : Versions). w.committed) items → h.weights ≡ metric
-    → record { opening = map (λ (w : Versions). w.committed) items; weights = metric; entries = [] } ≡ first h 0
-opened_as items metric h opening weights =
-    ap (λ (o : List ℤ). start o metric) (sym opening) ∙ ap (start h.opening) (sym weights)
-  where
-    start : List ℤ → List ℕ → Schedule
-    start o w = record { opening = o; weights = w; entries = [] }
 
 all_items : (P : List Call → Type 0) (bs : List (Vec Call Global)) → All (λ b. P b.items) bs → All P (map (λ b. b.items) bs)
 all_items P [] all i x lt = absurd (omega (arith, lt))
@@ -66,18 +59,10 @@ abbrev IsFine : {X : Type 0} → Result X DriveFault → Type 0
 IsFine (Ok p) = Unit {0}
 IsFine (Err e) = IsPlanFault e
 
-abbrev IsCutFault : Option DriveFault → Type 0
-IsCutFault None = Unit {0}
-IsCutFault (Some e) = IsPlanFault e
-
-chosen : (b : Bool) (e : DriveFault) (o : Option DriveFault) → IsPlanFault e → IsCutFault o → IsCutFault (if b then Some e else o)
-chosen true e o p q = p
-chosen false e o p q = q
-
-cut_fine : (count : ℕ) (ls : List (List ℕ)) → IsCutFault (cut_fault count ls)
-cut_fine count [] = tt
-cut_fine count (l ∷ ls) =
-    chosen (nat_eq count MAX_LINES) fault.TooManyLines _ tt (chosen (nat_lt MAX_LINE_BYTES (length l)) fault.LineTooLong _ tt (cut_fine (count + 1) ls))
+cut_is_plan : (e : DriveFault) → IsCut e → IsPlanFault e
+cut_is_plan fault.LineTooLong c = tt
+cut_is_plan fault.TooManyLines c = tt
+cut_is_plan _ c = absurd c
 
 from_fine : (number : ℕ) (p : Plan) (ls : List (List ℕ)) → IsFine (plan_from number p ls)
 from_fine number p [] = tt
@@ -88,11 +73,11 @@ from_fine number p (l ∷ ls) = at (with_line p l) (λ next. from_fine (number +
     at (Err error) more = tt
 
 plan_fine : (bytes : List ℕ) → IsFine (plan_of bytes)
-plan_fine bytes = at (cut_fault 0 (lines bytes)) (cut_fine 0 (lines bytes))
+plan_fine bytes = at (cut_fault 0 (lines bytes)) (all_cut 0 (lines bytes))
   where
-    at : (o : Option DriveFault) → IsCutFault o → IsFine (elim o [ Some e ↦ Err e | None ↦ plan_from 1 nothing (lines bytes) ])
+    at : (o : Option DriveFault) → IsNoneOrCut o → IsFine (elim o [ Some e ↦ Err e | None ↦ plan_from 1 nothing (lines bytes) ])
     at None p = from_fine 1 nothing (lines bytes)
-    at (Some e) p = p
+    at (Some e) p = cut_is_plan e p
 
 fault_is : (bytes : List ℕ) (e : DriveFault) → IsPlanFault e → plan_of bytes ≡ Err e → IsTextFault bytes e
 fault_is bytes fault.Read p is = p

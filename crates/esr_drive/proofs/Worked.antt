@@ -14,7 +14,7 @@ use Rattle.esr_line.specs.Command.{Command, begin_update, begin_query, read, wri
 use Rattle.esr_session.specs.declared.receipt.Receipt.{Receipt}
 use Rattle.esr_session.specs.Receipts.{is_blocked, entry_of}
 use Rattle.esr_session.proofs.Good.{good_matches}
-use Rattle.esr_drive.specs.Blocks.{Answered, IsRun, AreRuns, start, more}
+use Rattle.esr_plan.specs.Blocks.{Answered, IsRun, AreRuns, start, more}
 use Rattle.esr_drive.specs.Drive.{IsDriveText}
 
 none : (P : Receipt → Type 0) → All P []

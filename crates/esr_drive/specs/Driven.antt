@@ -1,26 +1,17 @@
 -- What the engine of a drive leaves.
-use Rattle.std.specs.Prelude.{◌≡◌, ◌≤◌, ℕ, ℤ, List, [], ◌∷◌, All, length, map}
+use Rattle.std.specs.Prelude.{◌≡◌, ◌≤◌, ℕ, ℤ, List, All, Result, Ok, Err, length, map, true}
 use Rattle.esr_items.specs.Weights.{weighted}
 use Rattle.esr_history.specs.declared.limits.TheConstants.{MOST_ENTRIES}
 use Rattle.esr_history.specs.declared.event.Reply.{Reply}
 use Rattle.esr_history.specs.Machine.{Schedule, IsLegal}
 use Rattle.esr_session.specs.declared.receipt.Receipt.{Receipt}
 use Rattle.esr_session.specs.Receipts.{Matches}
-use Rattle.esr_drive.specs.declared.call.Call.{Call}
-use Rattle.esr_drive.specs.Calls.{command_of, answers_of, AreResolved}
-use Rattle.esr_drive.specs.Blocks.{Answered, AreBlocks}
-
--- block by block, the calls with the last replies to them
-abbrev pub all_answers : List (List Call) → List (List Reply) → List (List Answered)
-all_answers [] replies = []
-all_answers (b ∷ blocks) [] = []
-all_answers (b ∷ blocks) (r ∷ replies) = answers_of b r ∷ all_answers blocks replies
-
--- block by block, as many replies as calls
-abbrev pub AreAnswered : List (List Call) → List (List Reply) → Type 0
-AreAnswered [] [] = Unit {0}
-AreAnswered (b ∷ blocks) (r ∷ replies) = (length r ≡ length b) × AreAnswered blocks replies
-AreAnswered _ _ = ⊥
+use Rattle.esr_plan.specs.declared.call.Call.{Call}
+use Rattle.esr_plan.specs.Calls.{command_of, all_answers, AreAnswered, AreResolved}
+use Rattle.esr_plan.specs.Blocks.{AreBlocks}
+use Rattle.esr_plan.specs.declared.fault.DriveFault.{DriveFault}
+use Rattle.esr_drive.specs.declared.driven.Driven.{Driven}
+use Rattle.esr_drive.specs.Faults.{is_engine_fault}
 
 -- A legal history over these opening values and weights, whose entries the receipts of the blocks name, with the last
 -- replies of each block. The names of items are those that the calls were resolved by.
@@ -36,3 +27,9 @@ pub record IsDriven (opening : List ℤ) (weights : List ℕ) (blocks : List (Li
   pub runs : (names : List (List ℕ)) → All (AreResolved names) blocks
       → AreBlocks names (all_answers blocks replies) receipts
   pub matching : Matches history.entries receipts
+
+-- what the engine leaves of blocks, or the fault of the engine, or of memory
+abbrev pub DrivesTo : List ℤ → List ℕ → List (List Call) → Result Driven DriveFault → Type 0
+DrivesTo opening weights blocks (Ok d) =
+    IsDriven opening weights blocks d.history.schedule (map (λ r. r.items) d.replies.items)
+DrivesTo opening weights blocks (Err fault) = is_engine_fault fault ≡ true

@@ -3,9 +3,9 @@ use Rattle.std.specs.Prelude.{◌≡◌, ℕ, List, Bool, true, false, Option, S
 use Rattle.std.specs.List.{list_any}
 use Rattle.esr_core.specs.declared.machine.StepError.{StepError}
 use Rattle.esr_core.specs.declared.machine.StepError.TheVariants as error
-use Rattle.esr_drive.specs.Plan.{Plan, plan_of}
-use Rattle.esr_drive.specs.declared.fault.DriveFault.{DriveFault}
-use Rattle.esr_drive.specs.declared.fault.DriveFault.TheVariants as fault
+use Rattle.esr_plan.specs.Plan.{Plan, plan_of}
+use Rattle.esr_plan.specs.declared.fault.DriveFault.{DriveFault}
+use Rattle.esr_plan.specs.declared.fault.DriveFault.TheVariants as fault
 
 abbrev pub is_write_fault : {T : Type 0} → Result T DriveFault → Bool
 is_write_fault (Err fault.Write) = true

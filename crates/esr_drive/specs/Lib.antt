@@ -1,11 +1,4 @@
-pub mod Plan
-pub mod Blocks
 pub mod Drive
-pub mod Calls
-pub mod Drafts
 pub mod Runs
 pub mod Driven
-pub mod Sheets
-pub mod Tables
-pub mod Readings
 pub mod Faults

@@ -2,9 +2,9 @@
 use Rattle.std.specs.Prelude.{◌≡◌, ℕ, List, length, ◌<◌, slice_index_or}
 use Rattle.esr_history.specs.declared.event.Reply.{Reply}
 use Rattle.esr_session.specs.declared.receipt.Receipt.{Receipt}
-use Rattle.esr_drive.specs.declared.call.Call.{Call}
-use Rattle.esr_drive.specs.Calls.{AreResolved, answers_of}
-use Rattle.esr_drive.specs.Blocks.{AreRuns}
+use Rattle.esr_plan.specs.declared.call.Call.{Call}
+use Rattle.esr_plan.specs.Calls.{AreResolved, answers_of}
+use Rattle.esr_plan.specs.Blocks.{AreRuns}
 
 -- all calls of the block were answered, the last time so; the names are those of the items
 pub record IsBlockRun (calls : List Call) (replies : List Reply) (receipts : List Receipt) : Type 0 where

@@ -1,17 +1,15 @@
 //! One engine for all blocks.
 
-ghost use Rattle.esr_drive.specs.declared.draft.TheConstants.{MAX_BLOCKS};
+ghost use Rattle.esr_plan.specs.declared.draft.TheConstants.{MAX_BLOCKS};
 ghost use Rattle.esr_session.specs.declared.naming.TheConstants.{LEDGER_PARTS};
-ghost use Rattle.std.specs.Prelude.{◌≡◌, ◌≤◌, [], true, IfOk, IfErr, All, length, map, vec_len};
-ghost use Rattle.esr_drive.specs.Driven.{IsDriven};
-ghost use Rattle.esr_drive.specs.Faults.{is_engine_fault};
+ghost use Rattle.std.specs.Prelude.{◌≡◌, ◌≤◌, [], IfOk, All, length, map, vec_len};
+ghost use Rattle.esr_drive.specs.Driven.{DrivesTo};
 
-use crate::call::Call;
-use crate::fault::DriveFault;
 use crate::threads::{BlockResults, BlockTask, gather, run_blocks};
 use esr_board::Gate;
 use esr_history::{History, NoMemory, Reply};
 use esr_items::{Store, Weighted};
+use esr_plan::{Call, DriveFault};
 use esr_session::{CloseError, Engine, LEDGER_PARTS, Naming, Session};
 use std::alloc::{AllocError, Global};
 use std::marker::Brand;
@@ -83,9 +81,7 @@ fn drive_blocks<N: Naming + Send + Sync, R: Threads + Wait + Sync, G: Gate + Syn
     requires opening { map (λ w. w.committed) items ≡ N.opening }
     requires weights { metric ≡ N.weights }
     requires blocks { length blocks.now ≤ MAX_BLOCKS }
-    ensures faults { IfErr result (λ e. is_engine_fault e ≡ true) }
-    ensures driven { IfOk result (λ d. IsDriven (map (λ w. w.committed) items) metric
-        (map (λ b. b.items) blocks.now) d.history.schedule (map (λ r. r.items) d.replies.items)) }
+    ensures { DrivesTo (map (λ w. w.committed) items) metric (map (λ b. b.items) blocks.now) result }
 {
     let Ok(mut engine) = Engine::<Weighted, N>::new(alloc, blank, items, metric) else {
         return Err(DriveFault::NoMemory);
@@ -125,9 +121,7 @@ pub fn run_plan<R: Threads + Wait + Sync, G: Gate + Sync>(
     gate: &G,
 ) -> Result<Driven, DriveFault>
     requires { length blocks.now ≤ MAX_BLOCKS }
-    ensures faults { IfErr result (λ e. is_engine_fault e ≡ true) }
-    ensures driven { IfOk result (λ d. IsDriven (map (λ w. w.committed) items) metric
-        (map (λ b. b.items) blocks.now) d.history.schedule (map (λ r. r.items) d.replies.items)) }
+    ensures { DrivesTo (map (λ w. w.committed) items) metric (map (λ b. b.items) blocks.now) result }
 {
     drive_blocks::<Brand, R, G>(
         rt,

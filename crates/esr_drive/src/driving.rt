@@ -5,21 +5,22 @@ ghost use Rattle.std.specs.Prelude.{◌≡◌, ℕ, List, ◌≤◌, ◌↔◌, 
 ghost use Rattle.esr_line.specs.Lines.{lines};
 ghost use Rattle.std.specs.Io.KnownBytes.{Appends};
 ghost use Rattle.esr_history.specs.Watch.{inner, failed};
-ghost use Rattle.esr_drive.specs.Drive.{IsDriveBy, IsDriveText, text_of};
-ghost use Rattle.esr_drive.specs.Driven.{IsDriven, all_answers};
+ghost use Rattle.esr_drive.specs.Drive.{IsDriveBy, IsDriveText};
+ghost use Rattle.esr_plan.specs.Text.{text_of};
+ghost use Rattle.esr_drive.specs.Driven.{IsDriven};
+ghost use Rattle.esr_plan.specs.Calls.{all_answers};
 ghost use Rattle.esr_drive.specs.Faults.{IsTextFault};
-ghost use Rattle.esr_drive.specs.Sheets.{plan_in, IsSound};
-ghost use Rattle.esr_drive.specs.Plan.{cut_fault, weights_of};
+ghost use Rattle.esr_plan.specs.Sheets.{plan_in, IsSound};
+ghost use Rattle.esr_plan.specs.Plan.{cut_fault, weights_of};
 
 use crate::driven::{Driven, run_plan};
-use crate::fault::DriveFault;
-use crate::opening::{metric_of, store_of};
-use crate::reading::read_all;
-use crate::sheet::{Sheet, sheet_of};
-use crate::table::begun_names;
-use crate::text::{push_blocks, push_findings, push_items, push_totals};
+use crate::findings::push_findings;
 use esr_board::Gate;
 use esr_history::Watched;
+use esr_plan::{
+    DriveFault, Sheet, begun_names, metric_of, push_blocks, push_items, push_totals, read_all,
+    sheet_of, store_of,
+};
 use std::alloc::{AllocError, Global};
 use std::io::{Read, Write};
 use std::sync::Wait;

@@ -3,10 +3,10 @@
 ghost use Rattle.std.specs.Prelude.{◌≡◌, [], IfOk};
 ghost use Rattle.esr_drive.specs.Runs.{IsBlockRun};
 
-use crate::call::{Call, event_of};
 use esr_core::StepError;
 use esr_history::Reply;
 use esr_items::Weighted;
+use esr_plan::{Call, event_of};
 use esr_session::{Naming, Session};
 use std::alloc::Global;
 use std::sync::Wait;

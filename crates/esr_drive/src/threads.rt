@@ -4,13 +4,12 @@ ghost use Rattle.std.specs.Prelude.{◌≡◌, ◌⊎◌, [], true, Ok, Some, If
 ghost use Rattle.esr_drive.specs.Faults.{is_engine_fault, told_fault, worse};
 ghost use Rattle.esr_drive.specs.Runs.{IsBlockRun, AllPairs};
 
-use crate::call::Call;
-use crate::fault::DriveFault;
 use crate::run::{Ran, run_block};
 use esr_board::Gate;
 use esr_core::StepError;
 use esr_history::Reply;
 use esr_items::Weighted;
+use esr_plan::{Call, DriveFault};
 use esr_session::{Naming, Session};
 use std::alloc::{AllocError, Global};
 use std::sync::Wait;

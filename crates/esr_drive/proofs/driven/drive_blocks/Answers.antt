@@ -1,14 +1,13 @@
 use Rattle.std.proofs.Common.{rules, ◌≡◌, ℕ, List, All, length, map, sym, subst, ◌∙◌}
 use Rattle.esr_session.specs.declared.receipt.Receipt.{Receipt}
-use Rattle.esr_drive.specs.declared.call.Call.{Call}
-use Rattle.esr_drive.specs.Calls.{command_of, AreResolved}
-use Rattle.esr_drive.specs.Blocks.{AreBlocks}
-use Rattle.esr_drive.specs.Driven.{all_answers, AreAnswered}
+use Rattle.esr_plan.specs.declared.call.Call.{Call}
+use Rattle.esr_plan.specs.Calls.{command_of, AreResolved, all_answers, AreAnswered}
+use Rattle.esr_plan.specs.Blocks.{AreBlocks}
 use Rattle.esr_drive.proofs.Tasks.{blocks_ran}
 use Rattle.esr_drive.proofs.driven.drive_blocks.Goals as goal
 
-pub returns-in-Ok-close-clause-driven : goal.returns-in-Ok-close-clause-driven
-returns-in-Ok-close-clause-driven g c =
+pub returns-in-Ok-close : goal.returns-in-Ok-close
+returns-in-Ok-close g c =
     let h = c.in-Ok-close.ensures.history in
     let tasks = c.in-Ok-tasks_of.tasks.items in
     let rans = c.in-Ok-run_blocks.all.items in

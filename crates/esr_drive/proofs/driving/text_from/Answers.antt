@@ -1,7 +1,7 @@
 use Rattle.std.proofs.Common.{◌≡◌, ◌++◌, map, ap, ap₂, ◌∙◌}
-use Rattle.esr_drive.specs.Driven.{all_answers}
-use Rattle.esr_drive.specs.Drive.{names_of, items_text, blocks_text, findings_text}
-use Rattle.esr_drive.specs.Tables.{names_in}
+use Rattle.esr_plan.specs.Calls.{all_answers}
+use Rattle.esr_plan.specs.Text.{names_of, items_text, blocks_text, findings_text}
+use Rattle.esr_plan.specs.Tables.{names_in}
 use Rattle.esr_drive.proofs.Texts.{four_parts}
 use Rattle.esr_drive.proofs.driving.text_from.Goals as goal
 

@@ -1,7 +1,7 @@
 use Rattle.std.proofs.Common.{◌≡◌, ◌≤◌, ℕ, List, length, take, vec_len}
 use Rattle.std.specs.Vec.{vec_capacity}
-use Rattle.esr_drive.specs.Blocks.{AreRuns}
-use Rattle.esr_drive.specs.Calls.{answers_of, AreResolved}
+use Rattle.esr_plan.specs.Blocks.{AreRuns}
+use Rattle.esr_plan.specs.Calls.{answers_of, AreResolved}
 use Rattle.esr_drive.proofs.run.call_all.Given as goal
 
 -- the calls so far have their runs

@@ -8,13 +8,15 @@ use Rattle.esr_session.specs.Marks.{AreMarked}
 use Rattle.esr_session.proofs.Good.{good_unmarked, unmarked_good, cut_at, good_from-snoc, next_place-snoc, marked-snoc, named_below}
 use Rattle.esr_session.proofs.matching.match_list.Goals as goal
 
+abbrev none : Receipt
+none = receipt 0 (BeginUpdate 0) (Begun (record { 0 = 0 }))
+
 pub returns-then-not-is_good-clause-foreign : goal.returns-then-not-is_good-clause-foreign
 returns-then-not-is_good-clause-foreign g c =
     let es = c.args.history.now.schedule.entries in
     let earlier = receipts_in (map g.L.HasReceipts.receipts c.args.done.now) in
     let list = c.args.list.now in
     let i = c.loop-r.r-index in
-    let none = receipt 0 (BeginUpdate 0) (Begun (record { 0 = 0 })) in
     let r = get_or list i none in
     let inv = c.loop-r.invariant in
     let len : length c.loop-r.marks.items ≡ length es = omega (arith, c.loop-r.marks.ok, inv.len) in
@@ -45,7 +47,6 @@ loop-r-preserved g c =
     let earlier = receipts_in (map g.L.HasReceipts.receipts c.args.done.now) in
     let list = c.args.list.now in
     let i = c.loop-r.r-index in
-    let none = receipt 0 (BeginUpdate 0) (Begun (record { 0 = 0 })) in
     let r = get_or list i none in
     let marks = c.loop-r.marks.items in
     let inv = c.loop-r.invariant in

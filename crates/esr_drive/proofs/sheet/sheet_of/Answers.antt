@@ -1,7 +1,0 @@
-use Rattle.std.proofs.Common.{arith}
-use Rattle.esr_line.specs.Lines.{lines}
-use Rattle.esr_drive.proofs.Cuts.{few_lines}
-use Rattle.esr_drive.proofs.sheet.sheet_of.Goals as goal
-
-pub draft_of-requires : goal.draft_of-requires
-draft_of-requires c = let few = few_lines 0 (lines c.args.bytes.now) (omega arith) c.requires in omega (arith, few)

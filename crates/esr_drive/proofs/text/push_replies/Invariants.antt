@@ -1,9 +1,0 @@
-use Rattle.std.proofs.Common.{◌≡◌, ◌++◌, take}
-use Rattle.esr_drive.specs.Calls.{answers_of}
-use Rattle.esr_drive.specs.Drive.{replies_text}
-use Rattle.esr_drive.specs.Tables.{names_in}
-use Rattle.esr_drive.proofs.text.push_replies.Given as goal
-
--- the lines of the replies so far
-abbrev pub invariant-loop-i : goal.invariant-loop-i
-invariant-loop-i l = l.out.items ≡ l.fn.out.items ++ replies_text (names_in l.names) (take l.i (answers_of l.calls l.replies))

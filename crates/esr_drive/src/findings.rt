@@ -1,0 +1,35 @@
+//! What workers find of the queries, as text.
+
+ghost use Rattle.esr_board.specs.declared.board.TheConstants.{MOST_SEATS};
+ghost use Rattle.std.specs.Prelude.{◌≡◌, ◌≤◌, ◌++◌, OnOk};
+ghost use Rattle.esr_plan.specs.Text.{findings_text};
+ghost use Rattle.esr_plan.specs.Tables.{names_in};
+
+use esr_audit::AuditError;
+use esr_board::{NoGate, audit_parallel};
+use esr_history::History;
+use esr_items::Weighted;
+use esr_plan::{BegunNames, push_each};
+use std::alloc::{AllocError, Global};
+use std::thread::Threads;
+
+/// Appends the lines of what so many workers find of the committed queries.
+pub fn push_findings<R: Threads + Sync>(
+    rt: &R,
+    alloc: Global,
+    out: &mut Vec<u8>,
+    history: &History<Weighted>,
+    names: &BegunNames<'_>,
+    workers: u64,
+) -> Result<(), AllocError>
+    requires { (1 ≤ workers) × (workers ≤ MOST_SEATS) }
+    ensures { OnOk result (out.new.items ≡ out.old.items
+        ++ findings_text history.now.schedule (names_in names.now)) }
+{
+    match audit_parallel(rt, alloc, history, workers, &NoGate) {
+        Ok(book) => push_each(out, history, names, book.findings.as_slice()),
+        Err(AuditError::NoMemory) => Err(AllocError),
+        Err(AuditError::NotACommittedQuery) => unreachable!(),
+        Err(AuditError::WorkersOutOfRange) => unreachable!(),
+    }
+}

@@ -1,0 +1,121 @@
+-- What an audit finds is what its line says.
+use Rattle.std.proofs.Common.{◌≡◌, ℕ, ℤ, zero, suc, ◌+◌, ◌<◌, List, [], ◌∷◌, ◌++◌, length, take, map, get_or, Option, Result, OnOk, refl, sym, ap, subst, ◌∙◌, append_assoc, append-nil, length-take, arith, ◌≤◌}
+use Rattle.std.specs.List.{flat_map}
+use Rattle.std.proofs.lemmas.Grind.{flat_map-append}
+use Rattle.std.proofs.lemmas.List.{take_more, take_all, get_or_default}
+use Rattle.esr_items.specs.Weights.{weighted}
+use Rattle.esr_history.specs.Machine.{Schedule, charges_in, import_in}
+use Rattle.esr_order.specs.Placements.{is_among}
+use Rattle.esr_order.specs.Least.{least_cost}
+use Rattle.esr_order.proofs.Least.{law_of_listed_sets}
+use Rattle.esr_audit.specs.declared.finding.Finding.{Finding}
+use Rattle.esr_audit.specs.Findings.{IsFinding}
+use Rattle.esr_report.specs.Lines.{audit_line, reply_line, session_line}
+use Rattle.esr_history.specs.declared.event.Reply.{Reply}
+use Rattle.esr_plan.specs.declared.call.Call.{Call}
+use Rattle.esr_plan.specs.Calls.{command_of, answers_of}
+use Rattle.esr_plan.specs.Tables.{answered}
+use Rattle.esr_plan.proofs.Noting.{answer_at, length_answers}
+use Rattle.esr_report.specs.Names.{name_of_transaction}
+use Rattle.esr_plan.specs.Blocks.{Answered}
+use Rattle.esr_plan.specs.Text.{finding_text, item_text, items_text, subject_of, replies_text, blocks_text}
+
+abbrev before_of : Finding → List ℕ
+before_of f = map (λ t. t.0) f.before.items
+
+pub told : (h : Schedule) (names : List (List ℕ)) (name : List ℕ) (f : Finding) → IsFinding weighted h f → name ≡ name_of_transaction names f.query.0
+    → audit_line names name f.distance f.import (before_of f) ≡ finding_text h names f.query.0
+told h names name f found is =
+    let law = law_of_listed_sets weighted h f.query.0 (is_among (before_of f)) found.answer.smallest in
+    ap (λ n. audit_line names n f.distance f.import (before_of f)) is
+    ∙ (ap (λ d. audit_line names (name_of_transaction names f.query.0) d f.import (before_of f)) (found.answer.distance_is ∙ law.1)
+    ∙ (ap (λ i. audit_line names (name_of_transaction names f.query.0) (least_cost weighted h f.query.0) i (before_of f)) found.answer.import_is
+    ∙ ap (audit_line names (name_of_transaction names f.query.0) (least_cost weighted h f.query.0) (import_in (charges_in weighted h) f.query.0)) (found.answer.in_order ∙ law.0)))
+
+-- one line more
+pub lines_more : {X : Type 0} (f : X → List ℕ) (xs : List X) (i : ℕ) (x : X) (old mid all : List ℕ)
+    → mid ≡ old ++ flat_map f (take i xs) → i < length xs → x ≡ get_or xs i x → all ≡ mid ++ f x → all ≡ old ++ flat_map f (take (i + 1) xs)
+lines_more f xs i x old mid all so_far lt is more =
+    grind (arith, append_assoc old (flat_map f (take i xs)) (f x), take_more xs i x lt, flat_map-append f (take i xs) (x ∷ []), append-nil (f x))
+
+pub whole_text : {X : Type 0} (f : X → List ℕ) (xs : List X) (i : ℕ) (old all : List ℕ) → length xs ≤ i → all ≡ old ++ flat_map f (take i xs) → all ≡ old ++ flat_map f xs
+whole_text f xs i old all le is = is ∙ ap (λ l. old ++ flat_map f l) (take_all i xs le)
+
+-- the queries of the findings
+pub by_queries : (h : Schedule) (names : List (List ℕ)) (fs : List Finding) (queries : List ℕ) → map (λ f. f.query.0) fs ≡ queries
+    → flat_map (λ f. finding_text h names f.query.0) fs ≡ flat_map (finding_text h names) queries
+by_queries h names [] queries is = ap (flat_map (finding_text h names)) is
+by_queries h names (f ∷ fs) queries is =
+    ap (λ l. finding_text h names f.query.0 ++ l) (by_queries h names fs (map (λ f. f.query.0) fs) refl) ∙ ap (flat_map (finding_text h names)) is
+
+pub same_end : {E : Type 0} (r : Result (Unit {0}) E) (all old a b : List ℕ) → a ≡ b → OnOk r (all ≡ old ++ a) → OnOk r (all ≡ old ++ b)
+same_end r all old a b is h = subst (λ (t : List ℕ). OnOk r (all ≡ old ++ t)) is h
+
+items_more : (names : List (List ℕ)) (values : List ℤ) (weights : List (Option ℕ)) (i : ℕ) (v : ℤ) (w : Option ℕ) → length values ≡ length names → length weights ≡ length names → i < length values
+    → items_text (take (suc i) names) (take (suc i) values) (take (suc i) weights)
+    ≡ items_text (take i names) (take i values) (take i weights) ++ item_text (get_or names i []) (get_or values i v) (get_or weights i w)
+items_more names [] weights i v w e f lt = absurd (omega (arith, lt))
+items_more [] (x ∷ values) weights i v w e f lt = absurd (omega (arith, e))
+items_more (n ∷ names) (x ∷ values) [] i v w e f lt = absurd (omega (arith, f))
+items_more (n ∷ names) (x ∷ values) (g ∷ weights) zero v w e f lt = append-nil (item_text n x g)
+items_more (n ∷ names) (x ∷ values) (g ∷ weights) (suc i) v w e f lt =
+    ap (λ t. item_text n x g ++ t) (items_more names values weights i v w (omega (arith, e)) (omega (arith, f)) (omega (arith, lt)))
+    ∙ sym (append_assoc (item_text n x g) (items_text (take i names) (take i values) (take i weights)) (item_text (get_or names i []) (get_or values i v) (get_or weights i w)))
+
+-- the line of one more item
+pub items_text_more : (names : List (List ℕ)) (values : List ℤ) (weights : List (Option ℕ)) (i : ℕ) (v : ℤ) (w : Option ℕ) (name old mid all : List ℕ)
+    → length values ≡ length names → length weights ≡ length names → i < length values
+    → mid ≡ old ++ items_text (take i names) (take i values) (take i weights) → name ≡ get_or names i [] → all ≡ mid ++ item_text name (get_or values i v) (get_or weights i w)
+    → all ≡ old ++ items_text (take (i + 1) names) (take (i + 1) values) (take (i + 1) weights)
+items_text_more names values weights i v w name old mid all e f lt so_far is more =
+    let on : i + 1 ≡ suc i = omega arith in
+    let part : List ℕ = items_text (take i names) (take i values) (take i weights) in
+    more ∙ (ap (λ l. l ++ item_text name (get_or values i v) (get_or weights i w)) so_far ∙ (append_assoc old part (item_text name (get_or values i v) (get_or weights i w))
+    ∙ ap (λ l. old ++ l) (ap (λ n. part ++ item_text n (get_or values i v) (get_or weights i w)) is
+    ∙ sym (ap (λ n. items_text (take n names) (take n values) (take n weights)) on ∙ items_more names values weights i v w e f lt))))
+
+pub items_text_all : (names : List (List ℕ)) (values : List ℤ) (weights : List (Option ℕ)) (i : ℕ) (old all : List ℕ)
+    → length values ≡ length names → length weights ≡ length names → length values ≤ i
+    → all ≡ old ++ items_text (take i names) (take i values) (take i weights) → all ≡ old ++ items_text names values weights
+items_text_all names values weights i old all e f le is =
+    is ∙ (ap (λ n. old ++ items_text n (take i values) (take i weights)) (take_all i names (omega (arith, e, le)))
+    ∙ (ap (λ v. old ++ items_text names v (take i weights)) (take_all i values le)
+    ∙ ap (λ w. old ++ items_text names values w) (take_all i weights (omega (arith, e, f, le)))))
+
+blocks-snoc : (names : List (List ℕ)) (k : ℕ) (bs : List (List Answered)) (b : List Answered)
+    → blocks_text names k (bs ++ b ∷ []) ≡ blocks_text names k bs ++ (session_line (k + length bs) ++ replies_text names b)
+blocks-snoc names k [] b =
+    append-nil (session_line k ++ replies_text names b) ∙ ap (λ n. session_line n ++ replies_text names b) (omega arith)
+blocks-snoc names k (x ∷ bs) b =
+    ap (λ l. session_line k ++ replies_text names x ++ l) (blocks-snoc names (k + 1) bs b)
+    ∙ (sym (append_assoc (session_line k ++ replies_text names x) (blocks_text names (k + 1) bs) (session_line (k + 1 + length bs) ++ replies_text names b))
+    ∙ ap (λ n. session_line k ++ replies_text names x ++ blocks_text names (k + 1) bs ++ (session_line n ++ replies_text names b)) (omega arith))
+
+length_taken : {X : Type 0} (xs : List X) (i : ℕ) → i < length xs → length (take i xs) ≡ i
+length_taken xs i lt = omega (arith, length-take i xs, lt)
+
+-- the lines of one more block
+pub blocks_text_more : (names : List (List ℕ)) (bs : List (List Answered)) (i : ℕ) (b : List Answered) (old mid said all : List ℕ)
+    → mid ≡ old ++ blocks_text names 0 (take i bs) → i < length bs → b ≡ get_or bs i b → said ≡ mid ++ session_line i → all ≡ said ++ replies_text names b
+    → all ≡ old ++ blocks_text names 0 (take (i + 1) bs)
+blocks_text_more names bs i b old mid said all so_far lt is line more =
+    more ∙ (ap (λ l. l ++ replies_text names b) (line ∙ ap (λ l. l ++ session_line i) so_far)
+    ∙ (append_assoc (old ++ blocks_text names 0 (take i bs)) (session_line i) (replies_text names b)
+    ∙ (append_assoc old (blocks_text names 0 (take i bs)) (session_line i ++ replies_text names b)
+    ∙ ap (λ l. old ++ l) (sym (ap (blocks_text names 0) (take_more bs i b lt ∙ ap (λ x. take i bs ++ x ∷ []) (sym is))
+    ∙ (blocks-snoc names 0 (take i bs) b ∙ ap (λ n. blocks_text names 0 (take i bs) ++ (session_line n ++ replies_text names b)) (ap (λ n. 0 + n) (length_taken bs i lt) ∙ omega arith)))))))
+
+pub blocks_text_all : (names : List (List ℕ)) (bs : List (List Answered)) (i : ℕ) (old all : List ℕ) → length bs ≤ i
+    → all ≡ old ++ blocks_text names 0 (take i bs) → all ≡ old ++ blocks_text names 0 bs
+blocks_text_all names bs i old all le is = is ∙ ap (λ l. old ++ blocks_text names 0 l) (take_all i bs le)
+
+-- the line of one more reply
+pub replies_more : (names : List (List ℕ)) (calls : List Call) (replies : List Reply) (i : ℕ) (call : Call) (reply : Reply) (old mid all : List ℕ)
+    → all ≡ mid ++ reply_line names (subject_of (command_of (get_or calls i call))) (get_or replies i reply) → length replies ≡ length calls → i < length calls
+    → mid ≡ old ++ replies_text names (take i (answers_of calls replies))
+    → all ≡ old ++ replies_text names (take (i + 1) (answers_of calls replies))
+replies_more names calls replies i call reply old mid all is e lt so_far =
+    let c = get_or calls i call in
+    let r = get_or replies i reply in
+    lines_more (λ a. reply_line names (subject_of a.command) a.reply) (answers_of calls replies) i (answered c r) old mid all so_far
+    (omega (arith, lt, length_answers calls replies e)) (answer_at calls replies i c r e lt (get_or_default calls i call c lt) (get_or_default replies i reply r (omega (arith, e, lt)))) is

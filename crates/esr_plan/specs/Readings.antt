@@ -1,0 +1,33 @@
+-- A file that is being read, line by line.
+use Rattle.std.specs.Prelude.{◌≡◌, ℕ, ◌<◌, ◌≤◌, List, ◌++◌, Option, Err, IfSome, length, drop}
+use Rattle.esr_line.specs.declared.limits.TheConstants.{MAX_LINES, MAX_LINE_BYTES}
+use Rattle.esr_line.specs.Lines.{lines}
+use Rattle.esr_plan.specs.Plan.{cut_fault, plan_of}
+use Rattle.esr_plan.specs.declared.reading.Mark.{Mark}
+use Rattle.esr_plan.specs.declared.fault.DriveFault.{DriveFault}
+use Rattle.esr_plan.specs.declared.fault.DriveFault.TheVariants as fault
+
+-- the bytes from the first line on that is not whole yet
+abbrev pub rest_from : List ℕ → Mark → List ℕ
+rest_from bytes m = drop m.start bytes
+
+-- whatever bytes follow, the lines from the mark on are at fault as all are
+abbrev pub IsMark : List ℕ → Mark → Type 0
+IsMark bytes m =
+    (m.start ≤ length bytes)
+    × (m.lines ≤ MAX_LINES)
+    × ((rest : List ℕ) → cut_fault 0 (lines (bytes ++ rest)) ≡ cut_fault m.lines (lines (rest_from bytes m ++ rest)))
+
+-- the fault of a line of so many bytes, after so many lines
+abbrev pub IsLineFault : ℕ → ℕ → DriveFault → Type 0
+IsLineFault count len fault.TooManyLines = count ≡ MAX_LINES
+IsLineFault count len fault.LineTooLong = (count ≡ MAX_LINES → ⊥) × (MAX_LINE_BYTES < len)
+IsLineFault count len _ = ⊥
+
+-- how reading may end before the end, by all bytes that there are
+abbrev pub IsReadFault : Option (List ℕ) → DriveFault → Type 0
+IsReadFault known fault.Read = Unit {0}
+IsReadFault known fault.LineTooLong = IfSome known (λ input. plan_of input ≡ Err fault.LineTooLong)
+IsReadFault known fault.NoMemory = Unit {0}
+IsReadFault known fault.TooManyLines = IfSome known (λ input. plan_of input ≡ Err fault.TooManyLines)
+IsReadFault known _ = ⊥

@@ -1,0 +1,79 @@
+-- The text of a drive, by its plan, its history and the last replies.
+use Rattle.std.specs.Prelude.{ℕ, ◌+◌, ℤ, pos, List, [], ◌∷◌, ◌++◌, Option, Some, None, length, map, unwrap_or, nat_eq, Bool, false}
+use Rattle.std.specs.List.{flat_map, find}
+use Rattle.std.specs.Option.{option_and_then, option_map_or}
+use Rattle.esr_items.specs.Weights.{weighted}
+use Rattle.esr_history.specs.Events.{numbers}
+use Rattle.esr_history.specs.Machine.{Schedule, done, charges_in, import_in}
+use Rattle.esr_history.specs.Totals.{all_imports, all_exports}
+use Rattle.esr_order.specs.Least.{least_set, least_cost}
+use Rattle.esr_audit.specs.Findings.{committed_queries}
+use Rattle.esr_report.specs.Names.{name_of_transaction}
+use Rattle.esr_report.specs.Lines.{Named, item_line, weighted_item_line, session_line, reply_line, audit_line, totals_line}
+use Rattle.esr_line.specs.Command.{Command, item, weighted_item, begin_update, begin_query, begin_strict_query, read, write, commit, abort, audit, totals}
+use Rattle.esr_plan.specs.Plan.{Plan, new_name}
+use Rattle.esr_plan.specs.Blocks.{Answered, number_in}
+
+-- whether the line began the transaction with this number
+abbrev pub has_begun : ℕ → Answered → Bool
+has_begun number a = option_map_or (nat_eq number) (number_in a.reply) false
+
+-- the name that the transaction with this number began by
+abbrev pub name_begun : List Answered → ℕ → List ℕ
+name_begun answers number = unwrap_or (option_and_then (λ a. new_name a.command) (find (has_begun number) answers)) []
+
+-- the names of the transactions, in the order of their numbers
+abbrev pub names_of : Schedule → List (List Answered) → List (List ℕ)
+names_of h blocks = map (name_begun (flat_map (λ b. b) blocks)) (numbers (done h))
+
+-- what a command names
+abbrev pub subject_of : Command → Named
+subject_of (item name value) = record { txn = []; item = name; value = value }
+subject_of (weighted_item name value weight) = record { txn = []; item = name; value = value }
+subject_of (begin_update name limit) = record { txn = name; item = []; value = pos 0 }
+subject_of (begin_query name limit) = record { txn = name; item = []; value = pos 0 }
+subject_of (begin_strict_query name limit) = record { txn = name; item = []; value = pos 0 }
+subject_of (read txn x) = record { txn = txn; item = x; value = pos 0 }
+subject_of (write txn x value) = record { txn = txn; item = x; value = value }
+subject_of (commit txn) = record { txn = txn; item = []; value = pos 0 }
+subject_of (abort txn) = record { txn = txn; item = []; value = pos 0 }
+subject_of (audit txn) = record { txn = txn; item = []; value = pos 0 }
+subject_of totals = record { txn = []; item = []; value = pos 0 }
+
+-- the line of an item, with its weight where one was given
+abbrev pub item_text : List ℕ → ℤ → Option ℕ → List ℕ
+item_text name value None = item_line name value
+item_text name value (Some weight) = weighted_item_line name value weight
+
+abbrev pub items_text : List (List ℕ) → List ℤ → List (Option ℕ) → List ℕ
+items_text [] values weights = []
+items_text (name ∷ names) [] weights = []
+items_text (name ∷ names) (value ∷ values) [] = []
+items_text (name ∷ names) (value ∷ values) (weight ∷ weights) =
+    item_text name value weight ++ items_text names values weights
+
+-- the last replies to the commands of a block
+abbrev pub replies_text : List (List ℕ) → List Answered → List ℕ
+replies_text names answers = flat_map (λ a. reply_line names (subject_of a.command) a.reply) answers
+
+-- the blocks from number k on
+abbrev pub blocks_text : List (List ℕ) → ℕ → List (List Answered) → List ℕ
+blocks_text names k [] = []
+blocks_text names k (b ∷ blocks) = session_line k ++ replies_text names b ++ blocks_text names (k + 1) blocks
+
+-- what the audit finds of a query: its least distance, its import, and the smallest least set
+abbrev pub finding_text : Schedule → List (List ℕ) → ℕ → List ℕ
+finding_text h names q =
+    audit_line names (name_of_transaction names q) (least_cost weighted h q) (import_in (charges_in weighted h) q)
+    (least_set weighted h q)
+
+abbrev pub findings_text : Schedule → List (List ℕ) → List ℕ
+findings_text h names = flat_map (finding_text h names) (committed_queries h)
+
+abbrev pub text_of : Plan → Schedule → List (List Answered) → List ℕ
+text_of p h blocks =
+    let names = names_of h blocks in
+    items_text p.names p.values p.weights
+    ++ blocks_text names 0 blocks
+    ++ findings_text h names
+    ++ totals_line (all_imports weighted h) (all_exports weighted h) (length h.entries)

@@ -1,0 +1,163 @@
+//! What a session is to call, line by line.
+
+ghost use Rattle.std.specs.Prelude.{◌≡◌};
+ghost use Rattle.std.specs.Option.{option_map};
+ghost use Rattle.esr_report.specs.Subjects.{named_by};
+ghost use Rattle.esr_plan.specs.Calls.{command_of, number_by, event_by};
+ghost use Rattle.esr_plan.specs.Plan.{new_name};
+ghost use Rattle.esr_plan.specs.Blocks.{number_in};
+ghost use Rattle.esr_plan.specs.Text.{subject_of};
+
+use esr_history::{Event, Reply, TxnId};
+use esr_items::ItemId;
+use esr_report::Subject;
+
+/// A transaction that a line names.
+#[derive(Clone, Copy, Debug)]
+pub struct Caller<'a> {
+    pub name: &'a str,
+    /// The place in the block of the line that begins it, where an earlier line does.
+    pub begin: Option<usize>,
+}
+
+/// An item that a line names. The number of one that is not declared is no item's.
+#[derive(Clone, Copy, Debug)]
+pub struct Operand<'a> {
+    pub name: &'a str,
+    pub item: ItemId,
+}
+
+/// A command of a block, with its names as text of the file.
+#[derive(Clone, Copy, Debug)]
+pub enum Call<'a> {
+    BeginUpdate {
+        name: &'a str,
+        limit: u64,
+    },
+    BeginQuery {
+        name: &'a str,
+        limit: u64,
+    },
+    BeginStrictQuery {
+        name: &'a str,
+        limit: u64,
+    },
+    Read {
+        txn: Caller<'a>,
+        item: Operand<'a>,
+    },
+    Write {
+        txn: Caller<'a>,
+        item: Operand<'a>,
+        value: i64,
+    },
+    Commit {
+        txn: Caller<'a>,
+    },
+    Abort {
+        txn: Caller<'a>,
+    },
+}
+
+impl<'a> Call<'a> {
+    /// The name of the transaction that the call begins.
+    pub fn new_name(&self) -> Option<&'a str>
+        ensures { option_map (λ name. name.now) result ≡ new_name (command_of self.now) }
+    {
+        match self {
+            Call::BeginUpdate { name, limit: _ } => Some(name),
+            Call::BeginQuery { name, limit: _ } => Some(name),
+            Call::BeginStrictQuery { name, limit: _ } => Some(name),
+            _ => None,
+        }
+    }
+
+    /// What the call names.
+    pub fn subject(&self) -> Subject<'a>
+        ensures { named_by result ≡ subject_of (command_of self.now) }
+    {
+        let none = Subject {
+            txn: "",
+            item: "",
+            value: 0,
+        };
+        match self {
+            Call::BeginUpdate { name, limit: _ } => Subject { txn: name, ..none },
+            Call::BeginQuery { name, limit: _ } => Subject { txn: name, ..none },
+            Call::BeginStrictQuery { name, limit: _ } => Subject { txn: name, ..none },
+            Call::Read { txn, item } => Subject {
+                txn: txn.name,
+                item: item.name,
+                value: 0,
+            },
+            Call::Write { txn, item, value } => Subject {
+                txn: txn.name,
+                item: item.name,
+                value: *value,
+            },
+            Call::Commit { txn } => Subject {
+                txn: txn.name,
+                ..none
+            },
+            Call::Abort { txn } => Subject {
+                txn: txn.name,
+                ..none
+            },
+        }
+    }
+}
+
+/// The number that the reply gives a transaction.
+pub fn number_in(reply: Reply) -> Option<u32>
+    ensures { result ≡ number_in reply }
+{
+    match reply {
+        Reply::Begun(number) => Some(number.0),
+        _ => None,
+    }
+}
+
+/// The transaction that the caller stands for, by the replies to the calls before: 0 where it has not begun.
+fn transaction(replies: &[Reply], caller: Caller<'_>) -> TxnId
+    ensures { result ≡ number_by replies.now caller.entry.begin }
+{
+    let Some(place) = caller.begin else {
+        return TxnId(0);
+    };
+    let Some(reply) = replies.get(place) else {
+        return TxnId(0);
+    };
+    TxnId(number_in(*reply).unwrap_or(0))
+}
+
+/// The event of a call, by the last replies to the calls of its block before it.
+pub fn event_of(replies: &[Reply], call: Call<'_>) -> Event
+    ensures { result ≡ event_by replies.now call.entry }
+{
+    match call {
+        Call::BeginUpdate { name: _, limit } => Event::BeginUpdate { limit },
+        Call::BeginQuery { name: _, limit } => Event::BeginQuery {
+            limit,
+            strict: false,
+        },
+        Call::BeginStrictQuery { name: _, limit } => Event::BeginQuery {
+            limit,
+            strict: true,
+        },
+        Call::Read { txn, item } => Event::Read {
+            txn: transaction(replies, txn),
+            item: item.item,
+        },
+        Call::Write { txn, item, value } => Event::Write {
+            txn: transaction(replies, txn),
+            item: item.item,
+            value,
+        },
+        Call::Commit { txn } => Event::Commit {
+            txn: transaction(replies, txn),
+        },
+        Call::Abort { txn } => Event::Abort {
+            txn: transaction(replies, txn),
+        },
+    }
+}

@@ -1,0 +1,309 @@
+//! Makes the plan of a drive file, line after line.
+
+ghost use Rattle.esr_line.specs.declared.limits.TheConstants.{MAX_LINES};
+ghost use Rattle.std.specs.Prelude.{◌≡◌, ◌+◌, ◌<◌, ◌≤◌, ◌⊎◌, ◌^◌, true, false, Ok, Err, Some, None, OnOk, IfOk, IfErr, length};
+ghost use Rattle.esr_items.specs.Weights.{is_weight};
+ghost use Rattle.esr_line.specs.Lines.{lines};
+ghost use Rattle.esr_line.specs.Command.{view};
+ghost use Rattle.esr_plan.specs.Plan.{with_session, with_item, with_operation, with_begin, with_command, with_line, plan_from, nothing, new_name, weight_in};
+ghost use Rattle.esr_plan.specs.Calls.{command_of, place_of, IsCaller, IsOperand, IsResolved};
+ghost use Rattle.esr_plan.specs.Drafts.{plan_in, current_calls, IsSound, IsWrong};
+
+use crate::call::{Call, Caller, Operand};
+use crate::fault::DriveFault;
+use crate::reading::first_line;
+use esr_items::{ItemId, LARGEST_VALUE, LARGEST_WEIGHT, MOST_ITEMS};
+use esr_line::{Line, Parsed, parse_line};
+use esr_report::Names;
+use esr_session::MOST_SESSIONS;
+use std::alloc::Global;
+
+/// The most blocks of a file: each has a session of its own.
+pub const MAX_BLOCKS: usize = MOST_SESSIONS;
+
+/// A plan that is being made: the items, the blocks that are done, and the one that is open, with
+/// the names of the transactions that begin in them.
+#[derive(Drop)]
+pub struct Draft<'a> {
+    pub names: Names,
+    pub values: Vec<i64>,
+    /// The weights that were given.
+    pub weights: Vec<Option<u32>>,
+    pub done: Vec<Vec<Call<'a>>>,
+    pub current: Option<Vec<Call<'a>>>,
+    pub begun: Names,
+    /// The place of each begin in its block.
+    pub places: Vec<usize>,
+    /// How many transactions begin in the blocks that are done.
+    pub earlier: usize,
+}
+
+/// Why a line does not go into the plan.
+#[derive(Clone, Copy, Debug)]
+pub enum Wrong {
+    /// What is wrong with the line.
+    Line(u32),
+    NoMemory,
+}
+
+/// The weight that an item is given, if it may have it.
+fn weight_of(given: Option<u64>) -> Result<Option<u32>, Wrong>
+    ensures ok { IfOk result (λ weight. (weight ≡ given) × (is_weight (weight_in given) ≡ true)) }
+    ensures err { IfErr result (λ e. (e ≡ Wrong.Line 8) × (is_weight (weight_in given) ≡ false)) }
+{
+    match given {
+        None => Ok(None),
+        Some(weight) if weight == 0 || weight > u64::from(LARGEST_WEIGHT) => Err(Wrong::Line(8)),
+        Some(weight) => Ok(Some(weight as u32)),
+    }
+}
+
+impl<'a> Draft<'a> {
+    pub fn new(alloc: Global) -> Draft<'a>
+        ensures plan { plan_in result ≡ nothing }
+        ensures sound { IsSound result }
+    {
+        Draft {
+            names: Names::new(alloc),
+            values: Vec::new(alloc),
+            weights: Vec::new(alloc),
+            done: Vec::new(alloc),
+            current: None,
+            begun: Names::new(alloc),
+            places: Vec::new(alloc),
+            earlier: 0,
+        }
+    }
+
+    /// Declares an item, with a weight where one is given.
+    fn add_item(&mut self, name: &str, value: i64, weight: Option<u64>) -> Result<(), Wrong>
+        requires { IsSound self.old }
+        ensures ok { OnOk result (IsSound self.new × (with_item (plan_in self.old) name.now value weight
+            ≡ Ok (plan_in self.new))) }
+        ensures err { IfErr result (IsWrong (with_item (plan_in self.old) name.now value weight)) }
+        ensures begun { self.new.begun ≡ self.old.begun }
+    {
+        if self.current.is_some() {
+            return Err(Wrong::Line(2));
+        }
+        if self.names.number_of(name).is_some() {
+            return Err(Wrong::Line(3));
+        }
+        if value.unsigned_abs() > LARGEST_VALUE {
+            return Err(Wrong::Line(4));
+        }
+        if self.names.len() >= MOST_ITEMS {
+            return Err(Wrong::Line(5));
+        }
+        let weight = weight_of(weight)?;
+        if self.names.bind(name).is_err()
+            || self.values.push(value).is_err()
+            || self.weights.push(weight).is_err()
+        {
+            return Err(Wrong::NoMemory);
+        }
+        Ok(())
+    }
+
+    /// Begins a block.
+    fn add_session(&mut self, alloc: Global) -> Result<(), Wrong>
+        requires { IsSound self.old }
+        ensures ok { OnOk result (IsSound self.new × (with_session (plan_in self.old) ≡ Ok (plan_in self.new))) }
+        ensures err { IfErr result (IsWrong (with_session (plan_in self.old))) }
+        ensures begun { self.new.begun ≡ self.old.begun }
+    {
+        match self.current.take() {
+            None => {}
+            Some(block) => {
+                if self.done.len() + 1 >= MAX_BLOCKS {
+                    return Err(Wrong::Line(7));
+                }
+                if self.done.push(block).is_err() {
+                    return Err(Wrong::NoMemory);
+                }
+            }
+        }
+        self.earlier = self.begun.len();
+        self.current = Some(Vec::new(alloc));
+        Ok(())
+    }
+
+    /// The place in the open block of the line that begins the transaction with this name.
+    fn place_of(&self, name: &str) -> Option<usize>
+        requires { IsSound self.now }
+        ensures { result ≡ place_of (current_calls self.now) name.now }
+    {
+        let number = self.begun.number_of(name)? as usize;
+        if number < self.earlier {
+            return None;
+        }
+        self.places.get(number).copied()
+    }
+
+    /// The transaction that a line names.
+    fn caller(&self, name: &'a str) -> Caller<'a>
+        requires { IsSound self.now }
+        ensures name { result.name.now ≡ name.entry.now }
+        ensures begin { IsCaller (current_calls self.now) result }
+    {
+        Caller {
+            name,
+            begin: self.place_of(name),
+        }
+    }
+
+    /// The item that a line names.
+    fn operand(&self, name: &'a str) -> Operand<'a>
+        ensures name { result.name.now ≡ name.entry.now }
+        ensures item { IsOperand self.now.names result }
+    {
+        let item = match self.names.number_of(name) {
+            Some(position) => ItemId(position),
+            None => ItemId(MOST_ITEMS as u32),
+        };
+        Operand { name, item }
+    }
+
+    /// Adds a call that begins no transaction.
+    fn add_operation(&mut self, call: Call<'a>) -> Result<(), Wrong>
+        requires sound { IsSound self.old }
+        requires plain { new_name (command_of call) ≡ None }
+        requires resolved { IsResolved self.old.names (current_calls self.old) call }
+        ensures ok { OnOk result (IsSound self.new × (with_operation (plan_in self.old) (command_of call.entry)
+            ≡ Ok (plan_in self.new))) }
+        ensures err { IfErr result (IsWrong (with_operation (plan_in self.old) (command_of call.entry))) }
+        ensures begun { self.new.begun ≡ self.old.begun }
+    {
+        let Some(block) = &mut self.current else {
+            return Err(Wrong::Line(1));
+        };
+        if block.push(call).is_err() {
+            return Err(Wrong::NoMemory);
+        }
+        Ok(())
+    }
+
+    /// Adds a call that begins the transaction with this name.
+    fn add_begin(&mut self, name: &str, call: Call<'a>) -> Result<(), Wrong>
+        requires sound { IsSound self.old }
+        requires named { new_name (command_of call) ≡ Some name.now }
+        requires resolved { IsResolved self.old.names (current_calls self.old) call }
+        requires room { length self.old.begun < 2 ^ 32 }
+        ensures ok { OnOk result (IsSound self.new × (with_begin (plan_in self.old) name.now (command_of call.entry)
+            ≡ Ok (plan_in self.new))) }
+        ensures err { IfErr result (IsWrong (with_begin (plan_in self.old) name.now (command_of call.entry))) }
+        ensures begun { OnOk result (length self.new.begun ≤ length self.old.begun + 1) }
+    {
+        let Some(block) = &mut self.current else {
+            return Err(Wrong::Line(1));
+        };
+        if self.begun.number_of(name).is_some() {
+            return Err(Wrong::Line(3));
+        }
+        let place = block.len();
+        if block.push(call).is_err()
+            || self.begun.bind(name).is_err()
+            || self.places.push(place).is_err()
+        {
+            return Err(Wrong::NoMemory);
+        }
+        Ok(())
+    }
+
+    /// Adds what a line of a script spells.
+    fn add_command(&mut self, line: Line<'a>) -> Result<(), Wrong>
+        requires sound { IsSound self.old }
+        requires room { length self.old.begun < 2 ^ 32 }
+        ensures ok { OnOk result (IsSound self.new × (with_command (plan_in self.old) (view line.entry)
+            ≡ Ok (plan_in self.new))) }
+        ensures err { IfErr result (IsWrong (with_command (plan_in self.old) (view line.entry))) }
+        ensures begun { OnOk result (length self.new.begun ≤ length self.old.begun + 1) }
+    {
+        match line {
+            Line::Item { name, value } => self.add_item(name, value, None),
+            Line::WeightedItem {
+                name,
+                value,
+                weight,
+            } => self.add_item(name, value, Some(weight)),
+            Line::BeginUpdate { name, limit } => {
+                self.add_begin(name, Call::BeginUpdate { name, limit })
+            }
+            Line::BeginQuery { name, limit } => {
+                self.add_begin(name, Call::BeginQuery { name, limit })
+            }
+            Line::BeginStrictQuery { name, limit } => {
+                self.add_begin(name, Call::BeginStrictQuery { name, limit })
+            }
+            Line::Read { txn, item } => {
+                let txn = self.caller(txn);
+                let item = self.operand(item);
+                self.add_operation(Call::Read { txn, item })
+            }
+            Line::Write { txn, item, value } => {
+                let txn = self.caller(txn);
+                let item = self.operand(item);
+                self.add_operation(Call::Write { txn, item, value })
+            }
+            Line::Commit { txn } => {
+                let txn = self.caller(txn);
+                self.add_operation(Call::Commit { txn })
+            }
+            Line::Abort { txn } => {
+                let txn = self.caller(txn);
+                self.add_operation(Call::Abort { txn })
+            }
+            Line::Audit { txn: _ } => Err(Wrong::Line(1)),
+            Line::Totals => Err(Wrong::Line(1)),
+        }
+    }
+
+    /// Adds a line of a drive file.
+    fn add_line(&mut self, alloc: Global, line: &'a [u8]) -> Result<(), Wrong>
+        requires sound { IsSound self.old }
+        requires room { length self.old.begun < 2 ^ 32 }
+        ensures ok { OnOk result (IsSound self.new × (with_line (plan_in self.old) line.entry.now
+            ≡ Ok (plan_in self.new))) }
+        ensures err { IfErr result (IsWrong (with_line (plan_in self.old) line.entry.now)) }
+        ensures begun { OnOk result (length self.new.begun ≤ length self.old.begun + 1) }
+    {
+        let parsed = parse_line(line);
+        if let Parsed::Skipped = parsed {
+            return Ok(());
+        }
+        if line == b"session".as_slice() {
+            return self.add_session(alloc);
+        }
+        match parsed {
+            Parsed::Command(line) => self.add_command(line),
+            _ => Err(Wrong::Line(1)),
+        }
+    }
+}
+
+/// The plan of the lines.
+pub fn draft_of<'a>(alloc: Global, bytes: &'a [u8]) -> Result<Draft<'a>, DriveFault>
+    requires { length (lines bytes.now) ≤ MAX_LINES }
+    ensures ok { IfOk result (λ d. IsSound d × (plan_from 1 nothing (lines bytes.entry.now) ≡ Ok (plan_in d))) }
+    ensures err { IfErr result (λ e. (e ≡ DriveFault.NoMemory)
+        ⊎ (plan_from 1 nothing (lines bytes.entry.now) ≡ Err e)) }
+{
+    let mut draft = Draft::new(alloc);
+    let mut unread = bytes;
+    let mut number: u64 = 1;
+    while let Some((line, rest)) = first_line(unread) {
+        match draft.add_line(alloc, line) {
+            Ok(()) => {}
+            Err(Wrong::Line(error)) => {
+                return Err(DriveFault::BadScript {
+                    line: number,
+                    error,
+                });
+            }
+            Err(Wrong::NoMemory) => return Err(DriveFault::NoMemory),
+        }
+        unread = rest;
+        number += 1;
+    }
+    Ok(draft)
+}

@@ -1,0 +1,21 @@
+//! Plans: what a drive file asks for, and the text of what came of it.
+#![tactic(auto)]
+
+mod call;
+mod draft;
+mod fault;
+mod opening;
+mod reading;
+mod replay;
+mod sheet;
+mod table;
+mod text;
+
+pub use call::{Call, event_of};
+pub use draft::MAX_BLOCKS;
+pub use fault::DriveFault;
+pub use opening::{metric_of, store_of};
+pub use reading::read_all;
+pub use sheet::{Sheet, sheet_of};
+pub use table::{BegunNames, begun_names};
+pub use text::{push_blocks, push_each, push_items, push_totals};

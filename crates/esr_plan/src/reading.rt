@@ -1,0 +1,124 @@
+//! Reads a drive file, and cuts it into lines. Reading stops at the first line that is too long, or is one too many.
+
+ghost use Rattle.esr_line.specs.declared.limits.TheConstants.{MAX_LINES, MAX_LINE_BYTES};
+ghost use Rattle.std.specs.Prelude.{◌≡◌, ℕ, List, false, ◌<◌, ◌≤◌, ◌↔◌, [], ◌∷◌, ◌++◌, None, Some, IfOk, IfErr, IsErrOf, IsTrue, MatchOption, MatchResult, length, nat_eq};
+ghost use Rattle.std.specs.List.{position};
+ghost use Rattle.std.specs.Io.KnownBytes.{Consumes, IsAtEnd};
+ghost use Rattle.esr_history.specs.Watch.{inner, failed};
+ghost use Rattle.esr_line.specs.Lines.{lines};
+ghost use Rattle.esr_plan.specs.Plan.{cut_fault};
+ghost use Rattle.esr_plan.specs.Readings.{IsMark, IsLineFault, IsReadFault, rest_from};
+
+use crate::fault::DriveFault;
+use esr_history::Watched;
+use esr_line::{INPUT_ROOM, MAX_LINE_BYTES, MAX_LINES};
+use std::alloc::{AllocError, Global};
+use std::io::Read;
+
+fn find_line_feed(bytes: &[u8]) -> Option<usize>
+    ensures { result ≡ position (λ b. nat_eq b 10) bytes.now }
+{
+    bytes.iter().position(|b| *b == b'\n')
+}
+
+/// The first line, and what follows its line feed.
+#[tactic(auto, using(crate::proofs::Cuts::at_feed, crate::proofs::Cuts::shorter))]
+pub fn first_line(bytes: &[u8]) -> Option<(&[u8], &[u8])>
+    ensures { MatchOption result (bytes.now ≡ []) (λ p. (lines bytes.now ≡ p.0.now ∷ lines p.1.now)
+        × (length p.1.now < length bytes.now)) }
+{
+    if bytes.is_empty() {
+        return None;
+    }
+    match find_line_feed(bytes) {
+        None => Some((bytes, &[])),
+        Some(place) => Some((&bytes[..place], &bytes[place + 1..])),
+    }
+}
+
+/// How far the lines of a file were looked at: where the first line begins that is not whole yet, and how many
+/// lines are before it.
+#[derive(Clone, Copy, Debug)]
+pub struct Mark {
+    pub start: usize,
+    pub lines: u64,
+}
+
+/// Whether a line of at least so many bytes may be read after so many lines.
+fn check_line(lines: u64, bytes: usize) -> Result<(), DriveFault>
+    ensures { MatchResult result (λ _. (lines ≡ MAX_LINES → ⊥) × (bytes ≤ MAX_LINE_BYTES)) (IsLineFault lines bytes) }
+{
+    if lines == MAX_LINES {
+        return Err(DriveFault::TooManyLines);
+    }
+    if bytes > MAX_LINE_BYTES {
+        return Err(DriveFault::LineTooLong);
+    }
+    Ok(())
+}
+
+/// Looks at the lines from the mark on. The fault of a line is that of the file, whatever follows.
+fn looked(bytes: &[u8], mark: Mark) -> Result<Mark, DriveFault>
+    requires { IsMark bytes.now mark }
+    ensures mark { IfOk result (IsMark bytes.now) }
+    ensures fine { IfOk result (λ m. cut_fault m.lines (lines (rest_from bytes.now m)) ≡ None) }
+    ensures err { IfErr result (λ e. (rest : List ℕ) → cut_fault 0 (lines (bytes.now ++ rest)) ≡ Some e) }
+{
+    let mut mark = mark;
+    while let Some(len) = find_line_feed(&bytes[mark.start..]) {
+        if let Err(fault) = check_line(mark.lines, len) {
+            return Err(fault);
+        }
+        mark = Mark {
+            start: mark.start + len + 1,
+            lines: mark.lines + 1,
+        };
+    }
+    let begun = bytes.len() - mark.start;
+    if begun > 0 {
+        if let Err(fault) = check_line(mark.lines, begun) {
+            return Err(fault);
+        }
+    }
+    Ok(mark)
+}
+
+/// Room for the bytes of one read.
+fn room(alloc: Global) -> Result<Vec<u8>, AllocError>
+    ensures { IfOk result (λ v. 0 < length v.items) }
+{
+    let chunk = vec![in alloc; 0u8; INPUT_ROOM]?;
+    Ok(chunk)
+}
+
+/// Reads to the end, or to the first line that ends the reading.
+pub fn read_all<R: Read>(alloc: Global, reader: &mut Watched<R>) -> Result<Vec<u8>, DriveFault>
+    requires { failed reader.old ≡ false }
+    ensures ok { IfOk result (λ bytes. Consumes (R.remaining (inner reader.old))
+        (R.remaining (inner reader.new)) bytes.items) }
+    ensures end { IfOk result (λ bytes. IsAtEnd (R.remaining (inner reader.new))) }
+    ensures fine { IfOk result (λ bytes. cut_fault 0 (lines bytes.items) ≡ None) }
+    ensures faults { IfErr result (IsReadFault (R.remaining (inner reader.old))) }
+    ensures failed { IsTrue (failed reader.new) ↔ IsErrOf result DriveFault.Read }
+{
+    let mut bytes = Vec::new(alloc);
+    let mut mark = Mark { start: 0, lines: 0 };
+    let Ok(mut chunk) = room(alloc) else {
+        return Err(DriveFault::NoMemory);
+    };
+    for _ in 0..u64::MAX {
+        let count = match reader.read(&mut chunk) {
+            Ok(0) => return Ok(bytes),
+            Ok(count) => count,
+            Err(_) => return Err(DriveFault::Read),
+        };
+        if bytes.extend_from_slice(&chunk[..count]).is_err() {
+            return Err(DriveFault::NoMemory);
+        }
+        mark = match looked(&bytes, mark) {
+            Ok(mark) => mark,
+            Err(fault) => return Err(fault),
+        };
+    }
+    Err(DriveFault::NoMemory)
+}

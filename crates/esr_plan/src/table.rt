@@ -1,0 +1,111 @@
+//! Which name each transaction of a history began by.
+
+ghost use Rattle.std.specs.Prelude.{◌≡◌, ◌<◌, IfOk, length, map};
+ghost use Rattle.esr_history.specs.BackLinks.{begun_count};
+ghost use Rattle.esr_plan.specs.Calls.{answers_of, AreAnswered, all_answers};
+ghost use Rattle.esr_plan.specs.Text.{names_of};
+ghost use Rattle.esr_plan.specs.Tables.{answered, names_in, with_begun, noted, is_begin};
+
+use crate::call::{Call, number_in};
+use esr_history::{Entry, Event, History, Log, Reply};
+use esr_items::Weighted;
+use esr_report::TransactionNames;
+use std::alloc::{AllocError, Global};
+
+/// The names that transactions began by, in the order of their numbers.
+#[derive(Drop)]
+pub struct BegunNames<'a> {
+    pub names: Vec<&'a str>,
+}
+
+impl<'a> TransactionNames for BegunNames<'a> {
+    ghost use Rattle.esr_plan.specs.Tables.{names_in};
+
+    ghost names = { names_in };
+
+    fn name_at(&self, position: u32) -> Option<&str> {
+        self.names.get(position as usize).copied()
+    }
+}
+
+impl<'a> BegunNames<'a> {
+    /// Takes down the name of a line that began a transaction.
+    #[tactic(auto, using(crate::proofs::Noting::note_is, crate::proofs::Noting::unwrap_now))]
+    fn note(&mut self, call: &Call<'a>, reply: Reply)
+        ensures { names_in self.new ≡ with_begun (answered call.now reply) (names_in self.old) }
+    {
+        let Some(number) = number_in(reply) else {
+            return;
+        };
+        let Some(place) = (number as usize).checked_sub(1) else {
+            return;
+        };
+        if place < self.names.len() {
+            self.names[place] = call.new_name().unwrap_or("");
+        }
+    }
+
+    /// Takes down the names of a block, the last line first.
+    fn note_block(&mut self, calls: &[Call<'a>], replies: &[Reply])
+        requires { length replies.now ≡ length calls.now }
+        ensures { names_in self.new ≡ noted (answers_of calls.now replies.now) (names_in self.old) }
+    {
+        let mut i = calls.len();
+        while i > 0 {
+            i -= 1;
+            self.note(&calls[i], replies[i]);
+        }
+    }
+}
+
+/// Whether a transaction began by this entry.
+fn begins(entry: Entry) -> bool
+    ensures { result ≡ is_begin entry }
+{
+    if let Reply::Refused(_) = entry.reply {
+        return false;
+    }
+    matches!(
+        entry.event,
+        Event::BeginUpdate { .. } | Event::BeginQuery { .. }
+    )
+}
+
+/// How many transactions have begun.
+fn begun_count(log: &Log) -> usize
+    ensures { result ≡ begun_count log.now.entries }
+{
+    let mut count = 0;
+    for i in 0..log.len() {
+        if let Some(entry) = log.get(i) {
+            if begins(entry) {
+                count += 1;
+            }
+        }
+    }
+    count
+}
+
+/// The names that the transactions of a history began by, in the blocks with these replies.
+pub fn begun_names<'a>(
+    alloc: Global,
+    history: &History<Weighted>,
+    blocks: &[Vec<Call<'a>>],
+    replies: &[Vec<Reply>],
+) -> Result<BegunNames<'a>, AllocError>
+    requires { AreAnswered (map (λ b. b.items) blocks.now) (map (λ r. r.items) replies.now) }
+    ensures { IfOk result (λ table. names_in table
+        ≡ names_of history.now.schedule (all_answers (map (λ b. b.items) blocks.now)
+        (map (λ r. r.items) replies.now))) }
+{
+    let count = begun_count(history.log());
+    let mut table = BegunNames {
+        names: vec![in alloc; ""; count]?,
+    };
+    let mut i = blocks.len();
+    while i > 0 {
+        i -= 1;
+        table.note_block(blocks[i].as_slice(), replies[i].as_slice());
+    }
+    Ok(table)
+}
