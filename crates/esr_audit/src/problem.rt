@@ -9,7 +9,7 @@ ghost use Rattle.esr_audit.specs.Problems.{StandsFor};
 use crate::chains::chains_of;
 use crate::finding::AuditError;
 use crate::reads::item_reads;
-use esr_cert::Problem;
+use esr_cert::{Problem, ProblemParts};
 use esr_history::{History, TxnId};
 use esr_items::Metric;
 use esr_order::Order;
@@ -33,6 +33,12 @@ pub fn problem_of<M: Metric>(
     let reads = item_reads(alloc, history, q)?;
     let chains = chains_of(alloc, history, &mut order, &reads)?;
     let (updates, before, must) = order.into_parts();
-    let problem = Problem::of_sound(alloc, updates, before, chains, must)?;
+    let parts = ProblemParts {
+        updates,
+        before,
+        chains,
+        must,
+    };
+    let problem = Problem::of_sound(alloc, parts)?;
     Ok(problem)
 }

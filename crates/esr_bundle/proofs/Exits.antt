@@ -1,9 +1,10 @@
 -- What is known where a call's error is handed on, and of a list one element of which fails a test.
-use Rattle.std.proofs.Common.{◌≡◌, ℕ, ◌+◌, ◌<◌, List, [], ◌∷◌, ◌++◌, Bool, false, Result, Ok, Err, IfErr, map, take, length, get_or, refl, sym, ap, ◌∙◌, subst, true≢false}
+use Rattle.std.proofs.Common.{◌≡◌, ℕ, ◌+◌, ◌<◌, List, [], ◌∷◌, ◌++◌, Bool, true, false, Result, Ok, Err, IfErr, map, take, length, get_or, refl, sym, ap, ◌∙◌, subst, true≢false}
 use Rattle.std.specs.Result.{IsErrAnd}
 use Rattle.std.specs.List.{list_all}
-use Rattle.std.proofs.lemmas.Bool.{false_from_ne_true}
+use Rattle.std.proofs.lemmas.Bool.{false_from_ne_true, and_from, and_parts}
 use Rattle.std.proofs.lemmas.List.{length-map, take-map, map_more}
+use Rattle.std.proofs.lemmas.Simd.{map-map}
 use Rattle.serde_json.specs.Data.{Data, array}
 use Rattle.serde_json.specs.View.{items_of}
 use Rattle.esr_cert.proofs.Steps.{get_or_map_read}
@@ -21,10 +22,10 @@ pub take_map_more : {X Y : Type 0} (f : X → Y) (xs : List X) (i : ℕ) (x : X)
 take_map_more f xs i x l e =
     take-map f (i + 1) xs ∙ map_more f xs i x l ∙ ap (λ y. map f (take i xs) ++ f y ∷ []) (sym e) ∙ ap (λ ys. ys ++ f x ∷ []) (sym (take-map f i xs))
 
-map_after : {X Y Z : Type 0} (f : X → Y) (g : Y → Z) (xs : List X) → map (λ x. g (f x)) xs ≡ map g (map f xs)
-map_after f g [] = refl
-map_after f g (x ∷ xs) = ap (λ rest. g (f x) ∷ rest) (map_after f g xs)
+pub all_push : {Y : Type 0} (p : Y → Bool) (ys : List Y) (y : Y) → list_all p ys ≡ true → p y ≡ true → list_all p (ys ++ y ∷ []) ≡ true
+all_push p [] y all is = and_from (p y) true is refl
+all_push p (z ∷ ys) y all is = let both = and_parts (p z) (list_all p ys) all in and_from (p z) (list_all p (ys ++ y ∷ [])) both.0 (all_push p ys y both.1 is)
 
 -- a list each of whose elements is written as what it stands for
 pub list_written : {X Y : Type 0} (f : X → Y) (g : Y → Data) (v : Data) (xs : List X) (ys : List Y) → v ≡ array (items_of (map (λ x. g (f x)) xs)) → map f xs ≡ ys → v ≡ array (items_of (map g ys))
-list_written f g v xs ys h e = h ∙ ap (λ ds. array (items_of ds)) (map_after f g xs ∙ ap (map g) e)
+list_written f g v xs ys h e = h ∙ ap (λ ds. array (items_of ds)) (sym (map-map g f xs) ∙ ap (map g) e)

@@ -39,16 +39,16 @@ abbrev pub chains_data : List Chain → Data
 chains_data chains = array (items_of (map chain_data chains))
 
 -- an empty list is not written, nor a number that there is not; the others by what joins a member to the rest
-abbrev pub list_by : (List ℕ → Data → Members → Members) → List ℕ → List ℕ → Members → Members
+abbrev pub list_by : (List ℕ → Data → Members → Members) → List ℕ → List Data → Members → Members
 list_by join key [] rest = rest
-list_by join key (n ∷ ns) rest = join key (numbers_data (n ∷ ns)) rest
+list_by join key (d ∷ ds) rest = join key (array (items_of (d ∷ ds))) rest
 
 abbrev pub number_by : (List ℕ → Data → Members → Members) → List ℕ → Option ℕ → Members → Members
 number_by join key None rest = rest
 number_by join key (Some n) rest = join key (number_data n) rest
 
 abbrev pub list_member : List ℕ → List ℕ → Members → Members
-list_member key ns rest = list_by member key ns rest
+list_member key ns rest = list_by member key (map number_data ns) rest
 
 abbrev pub number_member : List ℕ → Option ℕ → Members → Members
 number_member key n rest = number_by member key n rest

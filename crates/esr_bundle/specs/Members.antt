@@ -1,10 +1,10 @@
 -- Members that are put into an object only where there is something to put.
 use Rattle.std.specs.Prelude.{ℕ, List, Option}
-use Rattle.serde_json.specs.Data.{Members, put}
+use Rattle.serde_json.specs.Data.{Data, Members, put}
 use Rattle.esr_bundle.specs.Bundle.{list_by, number_by}
 
-abbrev pub with_list : List ℕ → List ℕ → Members → Members
-with_list key ns ms = list_by put key ns ms
+abbrev pub with_list : List ℕ → List Data → Members → Members
+with_list key ds ms = list_by put key ds ms
 
 abbrev pub with_number : List ℕ → Option ℕ → Members → Members
 with_number key n ms = number_by put key n ms

@@ -1,6 +1,7 @@
 //! From drafts to a problem and a certificate.
-ghost use Rattle.std.specs.Prelude.{◌≡◌, ◌≢◌, map, true, false, Some, None, Ok, Err, IsOk, IfOk, IfErr};
+ghost use Rattle.std.specs.Prelude.{◌≡◌, ◌≢◌, ℕ, Bool, map, true, false, Some, None, Ok, Err, IsOk, IfOk, IfErr};
 ghost use Rattle.std.specs.List.{list_all};
+ghost use Rattle.esr_cert.specs.Problem as spec;
 ghost use Rattle.esr_cert.specs.Faults.{problem_fault};
 ghost use Rattle.esr_cert.specs.Views as views;
 ghost use Rattle.esr_bundle.specs.Bundle.{is_position, is_pair_of_positions, is_chain_of_positions, judged};
@@ -8,7 +9,9 @@ ghost use Rattle.esr_cert.specs.Drafts.{drafted_chain, drafted_problem};
 ghost use Rattle.esr_bundle.specs.Drafts.{drafted_certificate};
 
 use crate::draft::CertificateDraft;
-use esr_cert::{BundleFault, Certificate, Chain, ChainDraft, Problem, ProblemDraft, has_shape};
+use esr_cert::{
+    BundleFault, Certificate, Chain, ChainDraft, Problem, ProblemDraft, ProblemParts, has_shape,
+};
 use esr_history::TxnId;
 use esr_items::ItemId;
 use std::alloc::Global;
@@ -18,6 +21,7 @@ const LARGEST: u64 = 4_294_967_295;
 /// A number as one of 32 bits, where it fits.
 fn position(number: u64) -> Result<u32, BundleFault>
     ensures ok { IfOk result (λ n. n ≡ number) }
+    ensures fits { IsOk result → is_position number ≡ true }
     ensures err { IfErr result (λ e. (e ≡ BundleFault.Range) × (is_position number ≡ false)) }
 {
     if number > LARGEST {
@@ -26,81 +30,120 @@ fn position(number: u64) -> Result<u32, BundleFault>
     Ok(number as u32)
 }
 
+/// What numbers of a draft stand for, where they fit 32 bits.
+trait Fitted: Drop + Sized {
+    type Draft;
+
+    ghost Kind: { Type 0 };
+
+    ghost shown: { Self → Kind };
+
+    ghost drafted: { Self.Draft → Kind };
+
+    ghost is_fit: { Kind → Bool };
+
+    fn of(alloc: Global, draft: &Self::Draft) -> Result<Self, BundleFault>
+        ensures ok { IfOk result (λ one. shown one ≡ drafted draft.now) }
+        ensures fits { IsOk result → is_fit (drafted draft.now) ≡ true }
+        ensures err { IfErr result (λ e. e ≢ BundleFault.NoMemory → (e ≡ BundleFault.Range)
+            × (is_fit (drafted draft.now) ≡ false)) };
+}
+
+impl Fitted for u32 {
+    type Draft = u64;
+
+    ghost Kind = { ℕ };
+
+    ghost shown = { λ n. n };
+
+    ghost drafted = { λ n. n };
+
+    ghost is_fit = { is_position };
+
+    fn of(_alloc: Global, draft: &u64) -> Result<u32, BundleFault> {
+        position(*draft)
+    }
+}
+
+impl Fitted for TxnId {
+    type Draft = u64;
+
+    ghost Kind = { ℕ };
+
+    ghost shown = { λ t. t.0 };
+
+    ghost drafted = { λ n. n };
+
+    ghost is_fit = { is_position };
+
+    fn of(_alloc: Global, draft: &u64) -> Result<TxnId, BundleFault> {
+        Ok(TxnId(position(*draft)?))
+    }
+}
+
+impl Fitted for (u32, u32) {
+    type Draft = (u64, u64);
+
+    ghost Kind = { ℕ × ℕ };
+
+    ghost shown = { λ e. e };
+
+    ghost drafted = { λ e. e };
+
+    ghost is_fit = { is_pair_of_positions };
+
+    fn of(_alloc: Global, draft: &(u64, u64)) -> Result<(u32, u32), BundleFault> {
+        Ok((position(draft.0)?, position(draft.1)?))
+    }
+}
+
+impl Fitted for Chain {
+    type Draft = ChainDraft;
+
+    ghost Kind = { spec.Chain };
+
+    ghost shown = { views.chain_of };
+
+    ghost drafted = { drafted_chain };
+
+    ghost is_fit = { is_chain_of_positions };
+
+    fn of(alloc: Global, draft: &ChainDraft) -> Result<Chain, BundleFault> {
+        let item = position(draft.item)?;
+        let writers = positions(alloc, &draft.writers)?;
+        let costs = draft.costs.to_vec(alloc)?;
+        Ok(Chain {
+            item: ItemId(item),
+            writers,
+            costs,
+        })
+    }
+}
+
+/// What a list of drafts stands for.
+fn list<T: Fitted>(alloc: Global, drafts: &[T::Draft]) -> Result<Vec<T>, BundleFault>
+    ensures ok { IfOk result (λ v. map T.shown v.items ≡ map T.drafted drafts.now) }
+    ensures fits { IsOk result → list_all T.is_fit (map T.drafted drafts.now) ≡ true }
+    ensures err { IfErr result (λ e. e ≢ BundleFault.NoMemory → (e ≡ BundleFault.Range)
+        × (list_all T.is_fit (map T.drafted drafts.now) ≡ false)) }
+{
+    let mut found = Vec::with_capacity(alloc, drafts.len())?;
+    for draft in drafts {
+        let one = T::of(alloc, draft)?;
+        if found.push(one).is_err() {
+            return Err(BundleFault::NoMemory);
+        }
+    }
+    Ok(found)
+}
+
 fn positions(alloc: Global, numbers: &[u64]) -> Result<Vec<u32>, BundleFault>
     ensures ok { IfOk result (λ v. v.items ≡ numbers.now) }
     ensures fits { IsOk result → list_all is_position numbers.now ≡ true }
     ensures err { IfErr result (λ e. e ≢ BundleFault.NoMemory → (e ≡ BundleFault.Range)
         × (list_all is_position numbers.now ≡ false)) }
 {
-    let mut found = Vec::with_capacity(alloc, numbers.len())?;
-    for number in numbers {
-        let position = position(*number)?;
-        if found.push(position).is_err() {
-            return Err(BundleFault::NoMemory);
-        }
-    }
-    Ok(found)
-}
-
-fn transactions(alloc: Global, numbers: &[u64]) -> Result<Vec<TxnId>, BundleFault>
-    ensures ok { IfOk result (λ v. map (λ t. t.0) v.items ≡ numbers.now) }
-    ensures err { IfErr result (λ e. e ≢ BundleFault.NoMemory → (e ≡ BundleFault.Range)
-        × (list_all is_position numbers.now ≡ false)) }
-{
-    let mut found = Vec::with_capacity(alloc, numbers.len())?;
-    for number in numbers {
-        let position = position(*number)?;
-        if found.push(TxnId(position)).is_err() {
-            return Err(BundleFault::NoMemory);
-        }
-    }
-    Ok(found)
-}
-
-fn pairs(alloc: Global, draft: &[(u64, u64)]) -> Result<Vec<(u32, u32)>, BundleFault>
-    ensures ok { IfOk result (λ v. v.items ≡ draft.now) }
-    ensures err { IfErr result (λ e. e ≢ BundleFault.NoMemory → (e ≡ BundleFault.Range)
-        × (list_all is_pair_of_positions draft.now ≡ false)) }
-{
-    let mut found = Vec::with_capacity(alloc, draft.len())?;
-    for (u, v) in draft {
-        let first = position(*u)?;
-        let second = position(*v)?;
-        if found.push((first, second)).is_err() {
-            return Err(BundleFault::NoMemory);
-        }
-    }
-    Ok(found)
-}
-
-fn chain(alloc: Global, draft: &ChainDraft) -> Result<Chain, BundleFault>
-    ensures ok { IfOk result (λ k. views.chain_of k ≡ drafted_chain draft.now) }
-    ensures err { IfErr result (λ e. e ≢ BundleFault.NoMemory → (e ≡ BundleFault.Range)
-        × (is_chain_of_positions (drafted_chain draft.now) ≡ false)) }
-{
-    let item = position(draft.item)?;
-    let writers = positions(alloc, &draft.writers)?;
-    let costs = draft.costs.to_vec(alloc)?;
-    Ok(Chain {
-        item: ItemId(item),
-        writers,
-        costs,
-    })
-}
-
-fn chains(alloc: Global, drafts: &[ChainDraft]) -> Result<Vec<Chain>, BundleFault>
-    ensures ok { IfOk result (λ v. map views.chain_of v.items ≡ map drafted_chain drafts.now) }
-    ensures err { IfErr result (λ e. e ≢ BundleFault.NoMemory → (e ≡ BundleFault.Range)
-        × (list_all is_chain_of_positions (map drafted_chain drafts.now) ≡ false)) }
-{
-    let mut found = Vec::with_capacity(alloc, drafts.len())?;
-    for draft in drafts {
-        let one = chain(alloc, draft)?;
-        if found.push(one).is_err() {
-            return Err(BundleFault::NoMemory);
-        }
-    }
-    Ok(found)
+    list(alloc, numbers)
 }
 
 /// The problem of a draft. A number that does not fit its type is out of its range, since a problem in range has at
@@ -113,11 +156,17 @@ fn problem(alloc: Global, draft: &ProblemDraft) -> Result<Problem, BundleFault>
     if !has_shape(alloc, draft)? {
         return Err(BundleFault::Shape);
     }
-    let updates = transactions(alloc, &draft.updates)?;
-    let before = pairs(alloc, &draft.before)?;
-    let chains = chains(alloc, &draft.chains)?;
+    let updates = list(alloc, &draft.updates)?;
+    let before = list(alloc, &draft.before)?;
+    let chains = list(alloc, &draft.chains)?;
     let must = positions(alloc, &draft.must)?;
-    Problem::of_shape(alloc, updates, before, chains, must)
+    let parts = ProblemParts {
+        updates,
+        before,
+        chains,
+        must,
+    };
+    Problem::of_shape(alloc, parts)
 }
 
 /// The problem and the certificate of the numbers of a bundle.

@@ -82,31 +82,15 @@ fn list<T: Written>(alloc: Global, list: &[T]) -> Result<Value, AllocError>
     Ok(Value::Array(items))
 }
 
-/// Puts the positions at the key, where there are any.
-fn put_positions(
+/// Puts the list at the key, where it is not empty.
+fn put_list<T: Written>(
     members: &mut Map<String, Value>,
     alloc: Global,
     key: &str,
-    these: &[u32],
+    these: &[T],
 ) -> Result<(), AllocError>
     ensures { OnOk result (members_view members.new.entries
-        ≡ with_list key.now these.now (members_view members.old.entries)) }
-{
-    if these.is_empty() {
-        return Ok(());
-    }
-    put(members, alloc, key, list(alloc, these)?)
-}
-
-/// Puts the numbers at the key, where there are any.
-fn put_numbers(
-    members: &mut Map<String, Value>,
-    alloc: Global,
-    key: &str,
-    these: &[u64],
-) -> Result<(), AllocError>
-    ensures { OnOk result (members_view members.new.entries
-        ≡ with_list key.now these.now (members_view members.old.entries)) }
+        ≡ with_list key.now (map T.shown these.now) (members_view members.old.entries)) }
 {
     if these.is_empty() {
         return Ok(());
@@ -146,7 +130,7 @@ fn problem(alloc: Global, problem: &Problem) -> Result<Value, AllocError>
         "chains",
         list(alloc, problem.chains())?,
     )?;
-    put_positions(&mut members, alloc, "must", problem.must())?;
+    put_list(&mut members, alloc, "must", problem.must())?;
     put(
         &mut members,
         alloc,
@@ -178,7 +162,7 @@ fn certificate(alloc: Global, certificate: &Certificate) -> Result<Value, AllocE
         "chain_flow",
         list(alloc, &certificate.chain_flow)?,
     )?;
-    put_numbers(&mut members, alloc, "must_flow", &certificate.must_flow)?;
+    put_list(&mut members, alloc, "must_flow", &certificate.must_flow)?;
     put(&mut members, alloc, "set", list(alloc, &certificate.set)?)?;
     put(&mut members, alloc, "worth", Value::from(certificate.worth))?;
     Ok(Value::Object(members))

@@ -5,14 +5,8 @@ use Rattle.std.proofs.lemmas.List.{drop_more, length-map, get_or-map}
 use Rattle.std.specs.List.{list_all, list_any}
 use Rattle.std.proofs.lemmas.List.Sums.{sum_by_more}
 use Rattle.std.proofs.lemmas.Bool.{or_left, or_right, or_from}
-use Rattle.esr_history.specs.declared.event.TxnId.{TxnId}
-use Rattle.esr_cert.specs.declared.problem.Chain as rust
 use Rattle.esr_cert.specs.Parts.{is_row_within, are_rows_within}
-use Rattle.esr_cert.specs.Views.{problem_of}
 use Rattle.esr_cert.specs.Problem.{Chain, is_ascending, version, greatest, pair_lt, are_pairs_ascending, are_linked}
-
-pub same_parts : {us vs : List TxnId} {xs ys : List (ℕ × ℕ)} {ks ls : List rust.Chain} {ms ns : List ℕ} → us ≡ vs → xs ≡ ys → ks ≡ ls → ms ≡ ns → problem_of us xs ks ms ≡ problem_of vs ys ls ns
-same_parts e f g h = cc
 
 pub ascending_yes : (xs : List ℕ) (i j : ℕ) → j ≡ i + 1 → j < length xs → get_or xs i 0 < get_or xs j 0 → is_ascending (drop i xs) ≡ is_ascending (drop j xs)
 ascending_yes xs i j e h l =

@@ -1,10 +1,11 @@
 -- What contracts see of the values of the code: lists in place of vectors.
-use Rattle.std.specs.Prelude.{ℕ, List, map, Vec}
+use Rattle.std.specs.Prelude.{ℕ, List, map, Option, Vec}
 use Rattle.std.specs.declared.alloc.Global.{Global}
 use Rattle.esr_history.specs.declared.event.TxnId.{TxnId}
 use Rattle.esr_cert.specs.Problem as spec
 use Rattle.esr_cert.specs.Certificate as certificates
 use Rattle.esr_cert.specs.declared.problem.Chain.{Chain}
+use Rattle.esr_cert.specs.declared.problem.ProblemParts.{ProblemParts}
 use Rattle.esr_cert.specs.declared.certificate.Certificate.{Certificate}
 
 abbrev pub chain_of : Chain → spec.Chain
@@ -17,13 +18,20 @@ abbrev pub problem_of : List TxnId → List (ℕ × ℕ) → List Chain → List
 problem_of updates before chains must =
     record { updates = map (λ t. t.0) updates; before = before; chains = map chain_of chains; must = must }
 
+abbrev pub posed_by : ProblemParts → spec.Problem
+posed_by p = problem_of p.updates.items p.before.items p.chains.items p.must.items
+
+abbrev pub certificate_from : List ℕ → List (Vec ℕ Global) → List ℕ → List ℕ → ℕ → Option ℕ → certificates.Certificate
+certificate_from set chain_flow back_flow must_flow worth augmentations =
+    record {
+      set = set;
+      chain_flow = rows_of chain_flow;
+      back_flow = back_flow;
+      must_flow = must_flow;
+      worth = worth;
+      augmentations = augmentations;
+    }
+
 abbrev pub certificate_of : Certificate → certificates.Certificate
 certificate_of c =
-    record {
-      set = c.set.items;
-      chain_flow = rows_of c.chain_flow.items;
-      back_flow = c.back_flow.items;
-      must_flow = c.must_flow.items;
-      worth = c.worth;
-      augmentations = c.augmentations;
-    }
+    certificate_from c.set.items c.chain_flow.items c.back_flow.items c.must_flow.items c.worth c.augmentations

@@ -226,15 +226,8 @@ fn is_count_in_bound(problem: &Problem, augmentations: Option<u64>) -> bool
 }
 
 /// The first fault of a certificate, if it has one.
-///
-/// An answer of `Ok` means that no closed set costs less than the certificate's worth, and that its set is closed and
-/// costs just that: the flow shows the one (weak duality), and the cost of the set is compared.
-pub fn check(problem: &Problem, certificate: &Certificate) -> Result<(), Fault>
-    ensures answer { result ≡ or_fault (fault problem.now (certificate_of certificate.now)) }
-    ensures least { IsOk result → (has : ℕ → Bool) → is_closed problem.now has ≡ true
-        → certificate.now.worth ≤ cost problem.now has }
-    ensures closed { IsOk result → is_closed problem.now (in_set certificate.now.set.items) ≡ true }
-    ensures met { IsOk result → certificate.now.worth ≡ cost problem.now (in_set certificate.now.set.items) }
+fn first_fault(problem: &Problem, certificate: &Certificate) -> Result<(), Fault>
+    ensures { result ≡ or_fault (fault problem.now (certificate_of certificate.now)) }
 {
     if !is_ascending(&certificate.set) {
         return Err(Fault::SetNotAscending);
@@ -258,4 +251,19 @@ pub fn check(problem: &Problem, certificate: &Certificate) -> Result<(), Fault>
         return Err(Fault::TooManyAugmentations);
     }
     Ok(())
+}
+
+/// The first fault of a certificate, if it has one.
+///
+/// An answer of `Ok` means that no closed set costs less than the certificate's worth, and that its set is closed and
+/// costs just that: the flow shows the one (weak duality), and the cost of the set is compared.
+pub fn check(problem: &Problem, certificate: &Certificate) -> Result<(), Fault>
+    ensures answer { result ≡ or_fault (fault problem.now (certificate_of certificate.now)) }
+    ensures least { IsOk result → (has : ℕ → Bool) → is_closed problem.now has ≡ true
+        → certificate.now.worth ≤ cost problem.now has }
+    ensures closed { IsOk result → is_closed problem.now (in_set certificate.now.set.items) ≡ true }
+    ensures met { IsOk result → certificate.now.worth ≡ cost problem.now (in_set certificate.now.set.items) }
+{
+    let _sound = problem.updates(); // brings the invariant into the proof
+    first_fault(problem, certificate)
 }

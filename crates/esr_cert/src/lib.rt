@@ -23,7 +23,7 @@ pub use certificate::{Certificate, Fault};
 pub use checker::check;
 pub use draft::{ChainDraft, ProblemDraft};
 pub use network::Arc;
-pub use problem::{BundleFault, Chain, Problem};
+pub use problem::{BundleFault, Chain, Problem, ProblemParts};
 pub use residual::{ResidualArc, ShortArc};
 pub use rows::{Rows, Span};
 pub use shape::has_shape;

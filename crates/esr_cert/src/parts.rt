@@ -1,11 +1,11 @@
 //! The shape of parts, which is judged as that of any numbers.
 ghost use Rattle.std.specs.Prelude.{◌≡◌, map, IfOk};
 ghost use Rattle.esr_cert.specs.Problem.{has_shape};
-ghost use Rattle.esr_cert.specs.Views.{chain_of, problem_of};
+ghost use Rattle.esr_cert.specs.Views.{chain_of, posed_by};
 ghost use Rattle.esr_cert.specs.Drafts.{drafted_chain, drafted_problem};
 
 use crate::draft::{ChainDraft, ProblemDraft};
-use crate::problem::Chain;
+use crate::problem::{Chain, ProblemParts};
 use crate::shape::has_shape;
 use esr_history::TxnId;
 use std::alloc::{AllocError, Global};
@@ -59,33 +59,21 @@ fn chain_drafts(alloc: Global, chains: &[Chain]) -> Result<Vec<ChainDraft>, Allo
 }
 
 /// The numbers of parts.
-fn draft_of(
-    alloc: Global,
-    updates: &[TxnId],
-    before: &[(u32, u32)],
-    chains: &[Chain],
-    must: &[u32],
-) -> Result<ProblemDraft, AllocError>
-    ensures { IfOk result (λ d. drafted_problem d ≡ problem_of updates.now before.now chains.now must.now) }
+fn draft_of(alloc: Global, parts: &ProblemParts) -> Result<ProblemDraft, AllocError>
+    ensures { IfOk result (λ d. drafted_problem d ≡ posed_by parts.now) }
 {
     Ok(ProblemDraft {
-        updates: numbers_of(alloc, updates)?,
-        before: wide_pairs(alloc, before)?,
-        chains: chain_drafts(alloc, chains)?,
-        must: wide(alloc, must)?,
+        updates: numbers_of(alloc, &parts.updates)?,
+        before: wide_pairs(alloc, &parts.before)?,
+        chains: chain_drafts(alloc, &parts.chains)?,
+        must: wide(alloc, &parts.must)?,
     })
 }
 
 /// Whether parts break no rule of shape.
-pub fn have_shape(
-    alloc: Global,
-    updates: &[TxnId],
-    before: &[(u32, u32)],
-    chains: &[Chain],
-    must: &[u32],
-) -> Result<bool, AllocError>
-    ensures { IfOk result (λ b. b ≡ has_shape (problem_of updates.now before.now chains.now must.now)) }
+pub fn have_shape(alloc: Global, parts: &ProblemParts) -> Result<bool, AllocError>
+    ensures { IfOk result (λ b. b ≡ has_shape (posed_by parts.now)) }
 {
-    let draft = draft_of(alloc, updates, before, chains, must)?;
+    let draft = draft_of(alloc, parts)?;
     has_shape(alloc, &draft)
 }

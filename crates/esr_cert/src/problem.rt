@@ -4,8 +4,8 @@ ghost use Rattle.esr_cert.specs.Problem.{size, has_shape, is_sound};
 ghost use Rattle.esr_cert.specs.Faults.{problem_fault, bundle_fault_number};
 ghost use Rattle.esr_cert.specs.Network.{arc_at, network};
 ghost use Rattle.esr_cert.specs.Rows.{AreLaid};
-ghost use Rattle.esr_cert.specs.Starts.{starts_from};
-ghost use Rattle.esr_cert.specs.Views.{chain_of, problem_of};
+ghost use Rattle.esr_cert.specs.Starts.{starts_from, owners_from};
+ghost use Rattle.esr_cert.specs.Views.{chain_of, posed_by, problem_of};
 
 use crate::arcs::{Arcs, arc_count};
 use crate::network::Arc;
@@ -66,8 +66,17 @@ impl From<AllocError> for BundleFault {
 }
 
 /// Updates, the order that a closed set keeps among them, and the items whose versions a closed set decides.
+#[derive(Debug, Drop)]
+pub struct ProblemParts {
+    pub updates: Vec<TxnId>,
+    pub before: Vec<(u32, u32)>,
+    pub chains: Vec<Chain>,
+    pub must: Vec<u32>,
+}
+
+/// Parts of which no rule of shape or range is broken, with their network.
 ///
-/// No rule of shape or range is broken. Shape: no number occurs twice in `updates`; the pairs of `before` ascend, by
+/// Shape: no number occurs twice in `updates`; the pairs of `before` ascend, by
 /// their first and then by their second, and the first of each is below the second; the items of the chains ascend;
 /// in each chain the writers ascend, each two neighbours are a pair of `before`, and the costs are one more than the
 /// writers; `must` ascends. Range: an update's number is 1 to 65,535; an item's number is at most 4,095; the positions
@@ -75,17 +84,31 @@ impl From<AllocError> for BundleFault {
 /// most 2,000,000,000,000,000,000.
 #[derive(Debug, Drop)]
 pub struct Problem {
-    updates: Vec<TxnId>,
-    before: Vec<(u32, u32)>,
-    chains: Vec<Chain>,
-    must: Vec<u32>,
+    parts: ProblemParts,
     starts: Vec<u32>,
     owners: Vec<u16>,
     rows: Rows,
 }
 
+/// The arcs of the network of parts that break no rule.
+fn arcs_of<'a>(parts: &'a ProblemParts, starts: &'a [u32], owners: &'a [u16]) -> Arcs<'a>
+    requires sound { is_sound (posed_by parts.now) ≡ true }
+    requires starts { starts.now ≡ starts_from 0 (posed_by parts.now).chains }
+    requires owners { owners.now ≡ owners_from 0 (posed_by parts.now).chains }
+    ensures { result ≡ (network (posed_by parts.now)).arcs }
+{
+    Arcs {
+        updates: &parts.updates,
+        before: &parts.before,
+        chains: &parts.chains,
+        must: &parts.must,
+        starts,
+        owners,
+    }
+}
+
 impl Model for Problem {
-    ghost use Rattle.std.specs.Prelude.{◌≡◌, true, map};
+    ghost use Rattle.std.specs.Prelude.{◌≡◌, true};
     ghost use Rattle.esr_cert.specs.Problem as spec;
 
     ghost Value = { spec.Problem };
@@ -93,14 +116,14 @@ impl Model for Problem {
     ghost use Rattle.esr_cert.specs.Network.{network};
     ghost use Rattle.esr_cert.specs.Rows.{AreLaid};
     ghost use Rattle.esr_cert.specs.Starts.{starts_from, owners_from};
-    ghost use Rattle.esr_cert.specs.Views.{chain_of, problem_of};
+    ghost use Rattle.esr_cert.specs.Views.{posed_by};
 
-    ghost view = { λ p. problem_of p.updates.items p.before.items p.chains.items p.must.items };
+    ghost view = { λ p. posed_by p.parts };
 
-    ghost invariant = { λ p. (spec.is_sound (problem_of p.updates.items p.before.items p.chains.items p.must.items)
-        ≡ true) × (p.starts.items ≡ starts_from 0 (map chain_of p.chains.items))
-        × (p.owners.items ≡ owners_from 0 (map chain_of p.chains.items))
-        × AreLaid (network (problem_of p.updates.items p.before.items p.chains.items p.must.items)) p.rows };
+    ghost invariant = { λ p. (spec.is_sound (posed_by p.parts) ≡ true)
+        × (p.starts.items ≡ starts_from 0 (posed_by p.parts).chains)
+        × (p.owners.items ≡ owners_from 0 (posed_by p.parts).chains)
+        × AreLaid (network (posed_by p.parts)) p.rows };
 }
 
 impl Problem {
@@ -121,66 +144,48 @@ impl Problem {
         ensures err { IfErr result (λ e. e ≢ BundleFault.NoMemory
             → problem_fault (problem_of updates.items before.items chains.items must.items) ≡ Some e) }
     {
-        if !have_shape(alloc, &updates, &before, &chains, &must)? {
+        let parts = ProblemParts {
+            updates,
+            before,
+            chains,
+            must,
+        };
+        if !have_shape(alloc, &parts)? {
             return Err(BundleFault::Shape);
         }
-        Problem::of_shape(alloc, updates, before, chains, must)
+        Problem::of_shape(alloc, parts)
     }
 
     /// A problem of these parts, which break no rule of shape: it is not tried again.
     ///
     /// `Range` where a rule of range is broken, or `NoMemory` where memory was refused.
-    pub fn of_shape(
-        alloc: Global,
-        updates: Vec<TxnId>,
-        before: Vec<(u32, u32)>,
-        chains: Vec<Chain>,
-        must: Vec<u32>,
-    ) -> Result<Problem, BundleFault>
-        requires shape { has_shape (problem_of updates.items before.items chains.items must.items) ≡ true }
-        ensures ok { IfOk result (λ p. p ≡ problem_of updates.items before.items chains.items must.items) }
-        ensures sound { IsOk result → problem_fault (problem_of updates.items before.items chains.items must.items)
-            ≡ None }
-        ensures err { IfErr result (λ e. e ≢ BundleFault.NoMemory
-            → problem_fault (problem_of updates.items before.items chains.items must.items) ≡ Some e) }
+    pub fn of_shape(alloc: Global, parts: ProblemParts) -> Result<Problem, BundleFault>
+        requires shape { has_shape (posed_by parts) ≡ true }
+        ensures ok { IfOk result (λ p. p ≡ posed_by parts) }
+        ensures sound { IsOk result → problem_fault (posed_by parts) ≡ None }
+        ensures err { IfErr result (λ e. e ≢ BundleFault.NoMemory → problem_fault (posed_by parts) ≡ Some e) }
     {
-        if !is_in_range(&updates, &before, &chains, &must) {
+        if !is_in_range(&parts) {
             return Err(BundleFault::Range);
         }
-        let problem = Problem::of_sound(alloc, updates, before, chains, must)?;
+        let problem = Problem::of_sound(alloc, parts)?;
         Ok(problem)
     }
 
     /// A problem of these parts, which break no rule: they are not tried again.
-    pub fn of_sound(
-        alloc: Global,
-        updates: Vec<TxnId>,
-        before: Vec<(u32, u32)>,
-        chains: Vec<Chain>,
-        must: Vec<u32>,
-    ) -> Result<Problem, AllocError>
-        requires sound { is_sound (problem_of updates.items before.items chains.items must.items) ≡ true }
-        ensures { IfOk result (λ p. p ≡ problem_of updates.items before.items chains.items must.items) }
+    pub fn of_sound(alloc: Global, parts: ProblemParts) -> Result<Problem, AllocError>
+        requires sound { is_sound (posed_by parts) ≡ true }
+        ensures { IfOk result (λ p. p ≡ posed_by parts) }
     {
-        if arc_count(&before, &chains, &must) > MOST_ARCS as u128 {
+        if arc_count(&parts.before, &parts.chains, &parts.must) > MOST_ARCS as u128 {
             return Err(AllocError);
         }
-        let starts = starts_of(alloc, &chains)?;
-        let owners = owners_of(alloc, &chains, starts[chains.len()] as usize)?;
-        let arcs = Arcs {
-            updates: &updates,
-            before: &before,
-            chains: &chains,
-            must: &must,
-            starts: &starts,
-            owners: &owners,
-        };
-        let rows = rows_of(alloc, updates.len() + 2, &arcs)?;
+        let starts = starts_of(alloc, &parts.chains)?;
+        let owners = owners_of(alloc, &parts.chains, starts[parts.chains.len()] as usize)?;
+        let arcs = arcs_of(&parts, &starts, &owners);
+        let rows = rows_of(alloc, parts.updates.len() + 2, &arcs)?;
         Ok(Problem {
-            updates,
-            before,
-            chains,
-            must,
+            parts,
             starts,
             owners,
             rows,
@@ -193,7 +198,7 @@ impl Problem {
         ensures few { size self.now ≤ MOST_TRANSACTIONS }
         ensures sound { is_sound self.now ≡ true }
     {
-        &self.updates
+        &self.parts.updates
     }
 
     /// The pairs of updates of which the first comes before the second.
@@ -201,7 +206,7 @@ impl Problem {
         ensures list { result.now ≡ self.now.before }
         ensures sound { is_sound self.now ≡ true }
     {
-        &self.before
+        &self.parts.before
     }
 
     /// The items, ascending.
@@ -209,7 +214,7 @@ impl Problem {
         ensures list { map chain_of result.now ≡ self.now.chains }
         ensures sound { is_sound self.now ≡ true }
     {
-        &self.chains
+        &self.parts.chains
     }
 
     /// The updates that a closed set has to hold, ascending.
@@ -217,7 +222,7 @@ impl Problem {
         ensures list { result.now ≡ self.now.must }
         ensures sound { is_sound self.now ≡ true }
     {
-        &self.must
+        &self.parts.must
     }
 
     /// The number of the first arc of each chain, and of the first arc after them all.
@@ -237,15 +242,7 @@ impl Problem {
         requires { number < length (network self.now).arcs }
         ensures { result ≡ arc_at (network self.now).arcs number }
     {
-        let arcs = Arcs {
-            updates: &self.updates,
-            before: &self.before,
-            chains: &self.chains,
-            must: &self.must,
-            starts: &self.starts,
-            owners: &self.owners,
-        };
-        arcs.at(number)
+        arcs_of(&self.parts, &self.starts, &self.owners).at(number)
     }
 
     /// For each node of the network the steps that start there.

@@ -2,10 +2,10 @@
 ghost use Rattle.std.specs.Prelude.{◌≡◌, ◌+◌, ◌-◌, ◌*◌, ◌<◌, ◌&&◌, map, nat_lt, nat_le, true};
 ghost use Rattle.std.specs.List.{list_all, sum_by};
 ghost use Rattle.esr_cert.specs.Problem.{greatest, chain_is_in_range, is_in_range};
-ghost use Rattle.esr_cert.specs.Views.{chain_of, problem_of};
+ghost use Rattle.esr_cert.specs.Views.{chain_of, posed_by};
 
 use crate::lists::are_below;
-use crate::problem::Chain;
+use crate::problem::{Chain, ProblemParts};
 use esr_history::{MOST_READS, MOST_TRANSACTIONS, TxnId};
 use esr_items::{LARGEST_VALUE, LARGEST_WEIGHT, MOST_ITEMS};
 
@@ -81,21 +81,21 @@ fn greatest_costs(chains: &[Chain]) -> u128
 }
 
 /// Whether no rule of range is broken.
-pub fn is_in_range(updates: &[TxnId], before: &[(u32, u32)], chains: &[Chain], must: &[u32]) -> bool
-    ensures { result ≡ is_in_range (problem_of updates.now before.now chains.now must.now) }
+pub fn is_in_range(parts: &ProblemParts) -> bool
+    ensures { result ≡ is_in_range (posed_by parts.now) }
 {
-    let n = updates.len();
-    if !are_updates_in_range(updates) {
+    let n = parts.updates.len();
+    if !are_updates_in_range(&parts.updates) {
         return false;
     }
-    if !are_chains_in_range(chains, n) {
+    if !are_chains_in_range(&parts.chains, n) {
         return false;
     }
-    if !are_pairs_in_range(before, n) {
+    if !are_pairs_in_range(&parts.before, n) {
         return false;
     }
-    if !are_below(must, n) {
+    if !are_below(&parts.must, n) {
         return false;
     }
-    greatest_costs(chains) <= MAX_COST
+    greatest_costs(&parts.chains) <= MAX_COST
 }

@@ -1,6 +1,7 @@
-use Rattle.std.proofs.Common.{◌≡◌, ◌≢◌, Bool, true, false, Some, Result, IfErr, map, sym, ap, ◌∙◌}
+use Rattle.std.proofs.Common.{◌≡◌, ◌≢◌, List, Bool, true, false, Some, Result, IfErr, map, sym, ap, ◌∙◌}
 use Rattle.std.specs.List.{list_all}
 use Rattle.std.specs.Result.{IsErrAnd}
+use Rattle.std.proofs.lemmas.List.{map-id}
 use Rattle.esr_cert.specs.Problem.{Problem, has_shape}
 use Rattle.esr_cert.specs.Faults.{problem_fault}
 use Rattle.esr_cert.specs.Views.{problem_of}
@@ -16,8 +17,11 @@ pub of_shape-requires : goal.of_shape-requires
 of_shape-requires c =
     let shape : has_shape (drafted_problem c.args.draft.now) ≡ true = sym c.in_ok-has_shape.ensures ∙ c.if-not-branch.false in
     let same : problem_of c.in_ok-updates.updates.items c.in_ok-before.before.items c.in_ok-chains.chains.items c.in_ok-must.must.items ≡ drafted_problem c.args.draft.now =
-    cc (c.in_ok-updates.ensures.ok, c.in_ok-before.ensures.ok, c.in_ok-chains.ensures.ok, c.in_ok-must.ensures.ok) in
+    cc (c.in_ok-updates.ensures.ok ∙ map-id _, sym (map-id _) ∙ c.in_ok-before.ensures.ok ∙ map-id _, c.in_ok-chains.ensures.ok, c.in_ok-must.ensures.ok) in
     record { shape = ap has_shape same ∙ shape }
+
+unmapped : {X : Type 0} (p : X → Bool) (xs : List X) → list_all p (map (λ x. x) xs) ≡ false → list_all p xs ≡ false
+unmapped p xs h = ap (list_all p) (sym (map-id xs)) ∙ h
 
 -- a fault of a part that is handed on is the fault of the whole
 handed : {T : Type 0} (p : Problem) (fits : Bool) (r : Result T BundleFault) (x : BundleFault) → (has_shape p ≡ true → fits ≡ false → problem_fault p ≡ Some Range) → has_shape p ≡ true
@@ -27,12 +31,12 @@ handed p fits r x wide shape is err = passes (λ e. e ≢ NoMemory → problem_f
 pub returns-in_err-updates-clause-err : goal.returns-in_err-updates-clause-err
 returns-in_err-updates-clause-err c =
     let p = drafted_problem c.args.draft.now in
-    handed p (list_all is_position c.args.draft.now.updates.items) _ _ (wide p _ (λ are. are.updates)) (sym c.in_ok-has_shape.ensures ∙ c.if-not-branch.false) c.from_residual-in_err-updates.ensures.1 (λ n. let k = c.in_err-updates.ensures.err n in (k.0, cc (k.1)))
+    handed p (list_all is_position c.args.draft.now.updates.items) _ _ (wide p _ (λ are. are.updates)) (sym c.in_ok-has_shape.ensures ∙ c.if-not-branch.false) c.from_residual-in_err-updates.ensures.1 (λ n. let k = c.in_err-updates.ensures.err n in (k.0, cc (unmapped is_position c.deref.result.now k.1)))
 
 pub returns-in_err-before-clause-err : goal.returns-in_err-before-clause-err
 returns-in_err-before-clause-err c =
     let p = drafted_problem c.args.draft.now in
-    handed p (list_all is_pair_of_positions c.args.draft.now.before.items) _ _ (wide p _ (λ are. are.before)) (sym c.in_ok-has_shape.ensures ∙ c.if-not-branch.false) c.from_residual-in_err-before.ensures.1 (λ n. let k = c.in_err-before.ensures.err n in (k.0, cc (k.1)))
+    handed p (list_all is_pair_of_positions c.args.draft.now.before.items) _ _ (wide p _ (λ are. are.before)) (sym c.in_ok-has_shape.ensures ∙ c.if-not-branch.false) c.from_residual-in_err-before.ensures.1 (λ n. let k = c.in_err-before.ensures.err n in (k.0, cc (unmapped is_pair_of_positions c.deref-2.result.now k.1)))
 
 pub returns-in_err-chains-clause-err : goal.returns-in_err-chains-clause-err
 returns-in_err-chains-clause-err c =

@@ -17,4 +17,4 @@ returns c =
     let set : view c.in_ok-list-3.field-0 ≡ numbers_data q.set.items = c.in_ok-list-3.ensures ∙ ap numbers_data c.deref-4.ensures.value in
     let worth : view c.from.result ≡ number_data q.worth = c.from.ensures in
     view-Object c.put-4.new.map
-    ∙ ap object (certificate_put q.augmentations none c.in_ok-put_number.ensures c.in_ok-put.ensures.ok back c.in_ok-put-2.ensures.ok rows c.in_ok-put_numbers.ensures c.deref-3.ensures.value c.in_ok-put-3.ensures.ok set c.in_ok-put-4.ensures.ok worth)
+    ∙ ap object (certificate_put q.augmentations none c.in_ok-put_number.ensures c.in_ok-put.ensures.ok back c.in_ok-put-2.ensures.ok rows c.in_ok-put_list.ensures c.deref-3.ensures.value c.in_ok-put-3.ensures.ok set c.in_ok-put-4.ensures.ok worth)

@@ -1,22 +1,19 @@
-use Rattle.std.proofs.Common.{◌≡◌, ◌∙◌, nat_lt, sym, ap, length}
-use Rattle.std.specs.List.{list_all}
-use Rattle.std.proofs.lemmas.List.{length-map}
-use Rattle.esr_cert.specs.Problem.{size, in_set, is_ascending, is_closed}
+use Rattle.std.proofs.Common.{◌≡◌, Option, Some, None, IsOk, refl, subst}
+use Rattle.esr_cert.specs.Certificate.{or_fault}
 use Rattle.esr_cert.specs.Views.{certificate_of}
-use Rattle.esr_cert.proofs.Certified.{certifies_from, worth_least}
+use Rattle.esr_cert.specs.declared.certificate.Fault.{Fault}
+use Rattle.esr_cert.proofs.Certified.{cost_is, faultless, worth_least}
 use Rattle.esr_cert.proofs.checker.check.Goals as goal
 
+none : (fault : Option Fault) → IsOk (or_fault fault) → fault ≡ None
+none None ok = refl
+none (Some fault) ok = absurd (cc)
+
 pub returns-clause-least : goal.returns-clause-least
-returns-clause-least c = λ _ has closed.
-    let p = c.args.problem.now in
-    let q = certificate_of c.args.certificate.now in
-    let count : size p ≡ length c.updates.result.now = ap length (sym c.updates.ensures.list) ∙ length-map c.updates.result.now (λ t. t.0) in
-    worth_least p q c.updates.ensures.sound (certifies_from p q (record {
-      ascending = ap is_ascending (sym c.deref.ensures.value) ∙ sym c.is_ascending.ensures ∙ c.if-not-is_ascending.false;
-      known = ap (λ n. list_all (λ u. nat_lt u n) q.set) count ∙ ap (list_all (λ u. nat_lt u (length c.updates.result.now))) (sym c.deref-2.ensures.value) ∙ sym c.are_below.ensures ∙ c.if-not-are_below.false;
-      closed = ap (λ set. is_closed p (in_set set)) (sym c.deref-3.ensures.value) ∙ sym c.is_closed.ensures ∙ c.if-not-is_closed.false;
-      within = sym c.is_within.ensures ∙ c.if-not-is_within.false;
-      conserved = sym c.is_conserved.ensures ∙ c.if-not-is_conserved.false;
-      tight = sym c.worth_matches.ensures ∙ c.if-not-worth_matches.false;
-      short = sym c.is_count_in_bound.ensures ∙ c.if-not-is_count_in_bound.false;
-    })) has closed
+returns-clause-least c = λ ok. worth_least c.args.problem.now (certificate_of c.args.certificate.now) c.updates-sound.ensures.sound (none _ (subst IsOk c.first_fault.ensures ok))
+
+pub returns-clause-closed : goal.returns-clause-closed
+returns-clause-closed c = λ ok. (faultless c.args.problem.now (certificate_of c.args.certificate.now) (none _ (subst IsOk c.first_fault.ensures ok))).closed
+
+pub returns-clause-met : goal.returns-clause-met
+returns-clause-met c = λ ok. let p = c.args.problem.now in let q = certificate_of c.args.certificate.now in cost_is p q (faultless p q (none _ (subst IsOk c.first_fault.ensures ok)))

@@ -1,0 +1,6 @@
+use Rattle.std.proofs.Common.{rules}
+use Rattle.std.proofs.lemmas.List.{map-id}
+use Rattle.esr_bundle.proofs.sound.positions.Goals as goal
+
+pub returns : goal.returns
+returns c = search (rules, map-id)
