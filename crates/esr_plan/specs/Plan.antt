@@ -7,7 +7,7 @@ use Rattle.esr_items.specs.Values.{is_value}
 use Rattle.esr_items.specs.Weights.{is_weight}
 use Rattle.esr_report.specs.Names.{is_bound}
 use Rattle.esr_line.specs.Lines.{lines}
-use Rattle.esr_line.specs.Command.{Command, item, weighted_item, begin_update, begin_query, begin_strict_query, audit, totals, is_skipped, reading}
+use Rattle.esr_line.specs.Command.{Command, item, weighted_item, begin_update, begin_query, begin_strict_query, read, write, commit, abort, is_skipped, reading}
 use Rattle.esr_line.specs.declared.limits.TheConstants.{MAX_LINES, MAX_LINE_BYTES}
 use Rattle.esr_plan.specs.declared.draft.TheConstants.{MAX_BLOCKS}
 use Rattle.esr_plan.specs.declared.fault.DriveFault.{DriveFault}
@@ -85,9 +85,11 @@ with_command p (weighted_item name value weight) = with_item p name value (Some 
 with_command p (begin_update name limit) = with_begin p name (begin_update name limit)
 with_command p (begin_query name limit) = with_begin p name (begin_query name limit)
 with_command p (begin_strict_query name limit) = with_begin p name (begin_strict_query name limit)
-with_command p (audit txn) = Err 1
-with_command p totals = Err 1
-with_command p command = with_operation p command
+with_command p (read txn x) = with_operation p (read txn x)
+with_command p (write txn x value) = with_operation p (write txn x value)
+with_command p (commit txn) = with_operation p (commit txn)
+with_command p (abort txn) = with_operation p (abort txn)
+with_command p other = Err 1
 
 abbrev pub with_line : Plan → List ℕ → Result Plan ℕ
 with_line p line =

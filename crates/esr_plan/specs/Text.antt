@@ -10,7 +10,7 @@ use Rattle.esr_order.specs.Least.{least_set, least_cost}
 use Rattle.esr_audit.specs.Findings.{committed_queries}
 use Rattle.esr_report.specs.Names.{name_of_transaction}
 use Rattle.esr_report.specs.Lines.{Named, item_line, weighted_item_line, session_line, reply_line, audit_line, totals_line}
-use Rattle.esr_line.specs.Command.{Command, item, weighted_item, begin_update, begin_query, begin_strict_query, read, write, commit, abort, audit, totals}
+use Rattle.esr_line.specs.Command.{Command, begin_update, begin_query, begin_strict_query, read, write, commit, abort}
 use Rattle.esr_plan.specs.Plan.{Plan, new_name}
 use Rattle.esr_plan.specs.Blocks.{Answered, number_in}
 
@@ -26,10 +26,8 @@ name_begun answers number = unwrap_or (option_and_then (λ a. new_name a.command
 abbrev pub names_of : Schedule → List (List Answered) → List (List ℕ)
 names_of h blocks = map (name_begun (flat_map (λ b. b) blocks)) (numbers (done h))
 
--- what a command names
+-- what a command of a block names
 abbrev pub subject_of : Command → Named
-subject_of (item name value) = record { txn = []; item = name; value = value }
-subject_of (weighted_item name value weight) = record { txn = []; item = name; value = value }
 subject_of (begin_update name limit) = record { txn = name; item = []; value = pos 0 }
 subject_of (begin_query name limit) = record { txn = name; item = []; value = pos 0 }
 subject_of (begin_strict_query name limit) = record { txn = name; item = []; value = pos 0 }
@@ -37,8 +35,7 @@ subject_of (read txn x) = record { txn = txn; item = x; value = pos 0 }
 subject_of (write txn x value) = record { txn = txn; item = x; value = value }
 subject_of (commit txn) = record { txn = txn; item = []; value = pos 0 }
 subject_of (abort txn) = record { txn = txn; item = []; value = pos 0 }
-subject_of (audit txn) = record { txn = txn; item = []; value = pos 0 }
-subject_of totals = record { txn = []; item = []; value = pos 0 }
+subject_of other = record { txn = []; item = []; value = pos 0 }
 
 -- the line of an item, with its weight where one was given
 abbrev pub item_text : List ℕ → ℤ → Option ℕ → List ℕ

@@ -253,8 +253,7 @@ impl<'a> Draft<'a> {
                 let txn = self.caller(txn);
                 self.add_operation(Call::Abort { txn })
             }
-            Line::Audit { txn: _ } => Err(Wrong::Line(1)),
-            Line::Totals => Err(Wrong::Line(1)),
+            _ => Err(Wrong::Line(1)),
         }
     }
 
