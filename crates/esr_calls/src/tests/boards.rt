@@ -4,7 +4,6 @@ ghost use Rattle.esr_board.specs.Boards.{IsSeatOf};
 use esr_board::{Board, BoardError, BoardSeat, ClaimsMissing};
 use std::alloc::Global;
 use std::process::Abort;
-use std::test::Fail;
 
 /// A board of three jobs, and its two seats.
 fn three_jobs(rt: &impl Abort, alloc: Global) -> (Board, BoardSeat, BoardSeat)
@@ -24,48 +23,67 @@ fn three_jobs(rt: &impl Abort, alloc: Global) -> (Board, BoardSeat, BoardSeat)
     (board, first, second)
 }
 
-#[test]
-fn every_claim_closes_the_board(rt: HostRuntime) -> Result<(), Fail> {
-    let (board, mut first, mut second) = three_jobs(&rt, rt.alloc());
-    assert!(rt; board.claim(&mut first) == Some(0));
-    assert!(rt; board.claim(&mut first) == Some(1));
-    assert!(rt; board.claim(&mut second) == Some(2));
-    assert!(rt; board.claim(&mut second).is_none());
-    assert!(rt; board.claim(&mut first).is_none());
-    let mut given = Vec::new(rt.alloc());
-    given.push(first)?;
-    given.push(second)?;
-    assert!(rt; board.close(given) == Ok(()));
-    Ok(())
+/// The next claim of a seat.
+fn claims(rt: &impl Abort, board: &Board, seat: &mut BoardSeat, job: Option<u64>)
+    requires { IsSeatOf board.now seat.old }
+    ensures { IsSeatOf board.now seat.new }
+{
+    assert!(rt; board.claim(seat) == job);
+}
+
+/// The first seat claims two jobs, and the second the third.
+fn claimed(rt: &impl Abort, alloc: Global) -> (Board, BoardSeat, BoardSeat)
+    ensures { IsSeatOf result.0 result.1 × IsSeatOf result.0 result.2 }
+{
+    let (board, mut first, mut second) = three_jobs(rt, alloc);
+    claims(rt, &board, &mut first, Some(0));
+    claims(rt, &board, &mut first, Some(1));
+    claims(rt, &board, &mut second, Some(2));
+    claims(rt, &board, &mut second, None);
+    (board, first, second)
+}
+
+/// Closes a board with one of its seats.
+fn close_with(
+    rt: &impl Abort,
+    alloc: Global,
+    board: Board,
+    seat: BoardSeat,
+) -> Result<(), ClaimsMissing>
+    requires { IsSeatOf board seat }
+{
+    let mut given = Vec::new(alloc);
+    given.push(seat).expect(rt, "memory");
+    board.close(given)
 }
 
 #[test]
-fn a_seat_that_drew_is_missing(rt: HostRuntime) -> Result<(), Fail> {
-    let (board, mut first, mut second) = three_jobs(&rt, rt.alloc());
-    assert!(rt; board.claim(&mut first) == Some(0));
-    assert!(rt; board.claim(&mut first) == Some(1));
-    assert!(rt; board.claim(&mut second) == Some(2));
-    assert!(rt; board.claim(&mut second).is_none());
+fn every_claim_closes_the_board(rt: HostRuntime) {
+    let (board, mut first, second) = claimed(&rt, rt.alloc());
+    claims(&rt, &board, &mut first, None);
+    let mut given = Vec::new(rt.alloc());
+    given.push(first).expect(&rt, "memory");
+    given.push(second).expect(&rt, "memory");
+    assert!(rt; board.close(given) == Ok(()));
+}
+
+#[test]
+fn a_seat_that_drew_is_missing(rt: HostRuntime) {
+    let (board, first, second) = claimed(&rt, rt.alloc());
     drop(first);
-    let mut given = Vec::new(rt.alloc());
-    given.push(second)?;
-    assert!(rt; board.close(given) == Err(ClaimsMissing));
-    Ok(())
+    assert!(rt; close_with(&rt, rt.alloc(), board, second) == Err(ClaimsMissing));
 }
 
 #[test]
-fn a_seat_that_drew_nothing_is_not_missed(rt: HostRuntime) -> Result<(), Fail> {
+fn a_seat_that_drew_nothing_is_not_missed(rt: HostRuntime) {
     let (board, mut first, second) = three_jobs(&rt, rt.alloc());
-    assert!(rt; board.claim(&mut first) == Some(0));
-    assert!(rt; board.claim(&mut first) == Some(1));
-    assert!(rt; board.claim(&mut first) == Some(2));
-    assert!(rt; board.claim(&mut first).is_none());
-    assert!(rt; board.claim(&mut first).is_none());
+    claims(&rt, &board, &mut first, Some(0));
+    claims(&rt, &board, &mut first, Some(1));
+    claims(&rt, &board, &mut first, Some(2));
+    claims(&rt, &board, &mut first, None);
+    claims(&rt, &board, &mut first, None);
     drop(second);
-    let mut given = Vec::new(rt.alloc());
-    given.push(first)?;
-    assert!(rt; board.close(given) == Ok(()));
-    Ok(())
+    assert!(rt; close_with(&rt, rt.alloc(), board, first) == Ok(()));
 }
 
 #[test]
@@ -76,13 +94,27 @@ fn an_unused_board_closes_with_no_seat(rt: HostRuntime) {
     assert!(rt; board.close(Vec::new(rt.alloc())) == Ok(()));
 }
 
+/// Why there is no board of so many jobs and seats.
+fn refused(alloc: Global, jobs: u64, seats: u64) -> Option<BoardError> {
+    Board::new(alloc, jobs, seats).err()
+}
+
 #[test]
 fn a_board_has_few_jobs_and_seats(rt: HostRuntime) {
     let alloc = rt.alloc();
-    assert!(rt; Board::new(alloc, 65_536, 0).is_err_and(|e| e == BoardError::TooManyJobs));
-    assert!(rt; Board::new(alloc, 65_536, 1).is_err_and(|e| e == BoardError::TooManyJobs));
-    assert!(rt; Board::new(alloc, 65_535, 0).is_err_and(|e| e == BoardError::SeatsOutOfRange));
-    assert!(rt; Board::new(alloc, 0, 65).is_err_and(|e| e == BoardError::SeatsOutOfRange));
-    assert!(rt; Board::new(alloc, 65_535, 64).is_ok());
-    assert!(rt; Board::new(alloc, 0, 1).is_ok());
+    for (jobs, seats, error) in &[
+        (65_536, 0, Some(BoardError::TooManyJobs)),
+        (65_536, 1, Some(BoardError::TooManyJobs)),
+        (65_535, 0, Some(BoardError::SeatsOutOfRange)),
+        (0, 65, Some(BoardError::SeatsOutOfRange)),
+        (65_535, 64, None),
+        (0, 1, None),
+    ] {
+        assert!(rt;
+            refused(alloc, *jobs, *seats) == *error,
+            "{} jobs, {} seats",
+            jobs,
+            seats
+        );
+    }
 }

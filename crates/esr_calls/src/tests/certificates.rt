@@ -1,59 +1,59 @@
+use Change::{Backs, Count, FirstChain, Musts, Nothing, Set, Worth};
 use esr_cert::{BundleFault, Certificate, Chain, Fault, Problem, check};
 use esr_history::TxnId;
 use esr_items::ItemId;
 use std::alloc::{AllocError, Global};
-use std::test::Fail;
+use std::process::Abort;
 
-fn numbers(alloc: Global, numbers: &[u32]) -> Result<Vec<TxnId>, AllocError> {
-    let mut list = Vec::new(alloc);
-    for number in numbers {
-        list.push(TxnId(*number))?;
-    }
-    Ok(list)
-}
+/// An item with its writers, and what each version costs.
+type Item<'a> = (u32, &'a [u32], &'a [u64]);
 
-/// Items with their writers, and what each version costs.
-fn chains(alloc: Global, items: &[(u32, &[u32], &[u64])]) -> Result<Vec<Chain>, AllocError> {
-    let mut chains = Vec::new(alloc);
-    for (item, writers, costs) in items {
-        chains.push(Chain {
-            item: ItemId(*item),
-            writers: writers.to_vec(alloc)?,
-            costs: costs.to_vec(alloc)?,
-        })?;
-    }
-    Ok(chains)
-}
-
-fn problem(
-    alloc: Global,
-    updates: &[u32],
-    before: &[(u32, u32)],
-    items: &[(u32, &[u32], &[u64])],
-    must: &[u32],
-) -> Result<Problem, BundleFault> {
-    let chains = chains(alloc, items)?;
-    let updates = numbers(alloc, updates)?;
-    let before = before.to_vec(alloc)?;
-    let must = must.to_vec(alloc)?;
-    Problem::new(alloc, updates, before, chains, must)
+/// The parts of a problem.
+#[derive(Clone, Copy)]
+struct Asked<'a> {
+    updates: &'a [u32],
+    before: &'a [(u32, u32)],
+    items: &'a [Item<'a>],
+    must: &'a [u32],
 }
 
 /// Two updates in a row, and two items: the second wrote both, the first one of them.
-fn report(
-    alloc: Global,
-    updates: &[u32],
-    before: &[(u32, u32)],
-    cost: u64,
-) -> Result<Problem, BundleFault> {
-    problem(
-        alloc,
-        updates,
-        before,
-        &[(0, &[0, 1], &[0, 10, 1]), (1, &[1], &[cost, 0])],
-        &[],
-    )
-}
+const REPORT: Asked<'static> = Asked {
+    updates: &[2, 3],
+    before: &[(0, 1)],
+    items: &[(0, &[0, 1], &[0, 10, 1]), (1, &[1], &[8, 0])],
+    must: &[],
+};
+
+const TOO_DEAR: &[Item<'static>] = &[
+    (0, &[0, 1], &[0, 10, 1]),
+    (1, &[1], &[2_000_000_000_000_000_001, 0]),
+];
+
+/// Two updates in a row, each of an item of its own.
+const THIRD_ITEM: Asked<'static> = Asked {
+    items: &[(0, &[0], &[0, 6]), (1, &[1], &[2, 0])],
+    ..REPORT
+};
+
+const NOTHING: Asked<'static> = Asked {
+    updates: &[],
+    before: &[],
+    items: &[],
+    must: &[],
+};
+
+const ONE_ITEM: Asked<'static> = Asked {
+    items: &[(0, &[], &[4])],
+    ..NOTHING
+};
+
+const STRICT: Asked<'static> = Asked {
+    updates: &[1],
+    before: &[],
+    items: &[(0, &[0], &[0, 5])],
+    must: &[0],
+};
 
 /// The parts of a certificate.
 #[derive(Clone, Copy)]
@@ -65,6 +65,171 @@ struct Parts<'a> {
     worth: u64,
 }
 
+/// That both updates of the report are in the set.
+const BOTH: Parts<'static> = Parts {
+    set: &[0, 1],
+    chains: &[&[0, 0, 1], &[1, 0]],
+    backs: &[0],
+    musts: &[],
+    worth: 1,
+};
+
+/// That no update is, where each wrote an item of its own.
+const NEITHER: Parts<'static> = Parts {
+    set: &[],
+    chains: &[&[0, 2], &[2, 0]],
+    backs: &[2],
+    musts: &[],
+    worth: 2,
+};
+
+const FREE: Parts<'static> = Parts {
+    set: &[],
+    chains: &[],
+    backs: &[],
+    musts: &[],
+    worth: 0,
+};
+
+const PAID: Parts<'static> = Parts {
+    chains: &[&[4]],
+    worth: 4,
+    ..FREE
+};
+
+/// That the update which the query must have seen is in the set.
+const SEEN: Parts<'static> = Parts {
+    set: &[0],
+    chains: &[&[0, 5]],
+    backs: &[],
+    musts: &[5],
+    worth: 5,
+};
+
+/// What is put in the place of one part of a certificate.
+#[derive(Clone, Copy)]
+enum Change<'a> {
+    Nothing,
+    Set(&'a [u32]),
+    FirstChain(&'a [u64]),
+    Backs(&'a [u64]),
+    Musts(&'a [u64]),
+    Worth(u64),
+    Count(u64),
+}
+
+type Case = (Change<'static>, Option<Fault>);
+
+/// Changes of a certificate of the report, and the first fault of each.
+const OF_BOTH: [Case; 10] = [
+    (Nothing, None),
+    (Set(&[1, 0]), Some(Fault::SetNotAscending)),
+    (Set(&[0, 2]), Some(Fault::UnknownUpdate)),
+    (Set(&[1]), Some(Fault::SetNotClosed)),
+    (Set(&[]), Some(Fault::WorthNotCost)),
+    (Worth(0), Some(Fault::WorthNotCost)),
+    (Backs(&[]), Some(Fault::OverCapacity)),
+    (Backs(&[1]), Some(Fault::NotConserved)),
+    (FirstChain(&[0, 0, 2]), Some(Fault::OverCapacity)),
+    (FirstChain(&[0, 0, 0]), Some(Fault::NotConserved)),
+];
+
+/// A count of augmentations is at most nodes times arcs.
+const OF_NEITHER: [Case; 3] = [
+    (Count(19), None),
+    (Count(20), None),
+    (Count(21), Some(Fault::TooManyAugmentations)),
+];
+
+const OF_FREE: [Case; 2] = [
+    (Count(0), None),
+    (Count(1), Some(Fault::TooManyAugmentations)),
+];
+
+/// A set has to hold what the query must have seen.
+const OF_SEEN: [Case; 5] = [
+    (Nothing, None),
+    (Worth(4), Some(Fault::WorthNotCost)),
+    (Musts(&[4]), Some(Fault::NotConserved)),
+    (Musts(&[]), Some(Fault::OverCapacity)),
+    (Set(&[]), Some(Fault::SetNotClosed)),
+];
+
+/// Parts that are no problem, and the rule that each breaks.
+const REFUSED: [(Asked<'static>, BundleFault); 5] = [
+    (
+        Asked {
+            before: &[],
+            ..REPORT
+        },
+        BundleFault::Shape,
+    ),
+    (
+        Asked {
+            updates: &[2, 0],
+            ..REPORT
+        },
+        BundleFault::Range,
+    ),
+    (
+        Asked {
+            items: TOO_DEAR,
+            ..REPORT
+        },
+        BundleFault::Range,
+    ),
+    (
+        Asked {
+            updates: &[2, 2],
+            items: TOO_DEAR,
+            ..REPORT
+        },
+        BundleFault::Shape,
+    ),
+    (
+        Asked {
+            items: &[],
+            must: &[1],
+            ..STRICT
+        },
+        BundleFault::Range,
+    ),
+];
+
+fn numbers(alloc: Global, numbers: &[u32]) -> Result<Vec<TxnId>, AllocError> {
+    let mut list = Vec::new(alloc);
+    for number in numbers {
+        list.push(TxnId(*number))?;
+    }
+    Ok(list)
+}
+
+fn chain(alloc: Global, item: Item) -> Result<Chain, AllocError> {
+    let writers = item.1.to_vec(alloc)?;
+    let costs = item.2.to_vec(alloc)?;
+    Ok(Chain {
+        item: ItemId(item.0),
+        writers,
+        costs,
+    })
+}
+
+fn chains(alloc: Global, items: &[Item]) -> Result<Vec<Chain>, AllocError> {
+    let mut chains = Vec::new(alloc);
+    for item in items {
+        chains.push(chain(alloc, *item)?)?;
+    }
+    Ok(chains)
+}
+
+fn problem(alloc: Global, asked: Asked) -> Result<Problem, BundleFault> {
+    let chains = chains(alloc, asked.items)?;
+    let updates = numbers(alloc, asked.updates)?;
+    let before = asked.before.to_vec(alloc)?;
+    let must = asked.must.to_vec(alloc)?;
+    Problem::new(alloc, updates, before, chains, must)
+}
+
 fn rows(alloc: Global, chains: &[&[u64]]) -> Result<Vec<Vec<u64>>, AllocError> {
     let mut rows = Vec::new(alloc);
     for amounts in chains {
@@ -73,11 +238,7 @@ fn rows(alloc: Global, chains: &[&[u64]]) -> Result<Vec<Vec<u64>>, AllocError> {
     Ok(rows)
 }
 
-fn certificate(
-    alloc: Global,
-    parts: Parts,
-    augmentations: Option<u64>,
-) -> Result<Certificate, AllocError> {
+fn certificate(alloc: Global, parts: Parts) -> Result<Certificate, AllocError> {
     let chain_flow = rows(alloc, parts.chains)?;
     let set = parts.set.to_vec(alloc)?;
     let back_flow = parts.backs.to_vec(alloc)?;
@@ -88,177 +249,84 @@ fn certificate(
         back_flow,
         must_flow,
         worth: parts.worth,
-        augmentations,
+        augmentations: None,
     })
 }
 
-/// The first fault of a certificate of these parts.
-fn fault_of(alloc: Global, problem: &Problem, parts: Parts) -> Result<Option<Fault>, AllocError> {
-    let certificate = certificate(alloc, parts, None)?;
-    Ok(check(problem, &certificate).err())
-}
-
-#[test]
-fn each_fault_of_a_certificate(rt: HostRuntime) -> Result<(), Fail> {
-    let alloc = rt.alloc();
-    let problem = report(alloc, &[2, 3], &[(0, 1)], 8)?;
-    let both = Parts {
-        set: &[0, 1],
-        chains: &[&[0, 0, 1], &[1, 0]],
-        backs: &[0],
-        musts: &[],
-        worth: 1,
-    };
-    let cases = [
-        (both, None),
-        (
-            Parts {
-                set: &[1, 0],
-                ..both
-            },
-            Some(Fault::SetNotAscending),
-        ),
-        (
-            Parts {
-                set: &[0, 2],
-                ..both
-            },
-            Some(Fault::UnknownUpdate),
-        ),
-        (Parts { set: &[1], ..both }, Some(Fault::SetNotClosed)),
-        (Parts { set: &[], ..both }, Some(Fault::WorthNotCost)),
-        (Parts { worth: 0, ..both }, Some(Fault::WorthNotCost)),
-        (Parts { backs: &[], ..both }, Some(Fault::OverCapacity)),
-        (
-            Parts {
-                backs: &[1],
-                ..both
-            },
-            Some(Fault::NotConserved),
-        ),
-        (
-            Parts {
-                chains: &[&[0, 0, 2], &[1, 0]],
-                ..both
-            },
-            Some(Fault::OverCapacity),
-        ),
-        (
-            Parts {
-                chains: &[&[0, 0, 0], &[1, 0]],
-                ..both
-            },
-            Some(Fault::NotConserved),
-        ),
-    ];
-    for (i, (parts, fault)) in cases.iter().enumerate() {
-        assert_eq!(rt; fault_of(alloc, &problem, *parts)?, *fault, "at {i}");
+/// The certificate with its change.
+fn changed(alloc: Global, parts: Parts, change: Change) -> Result<Certificate, AllocError> {
+    let mut certificate = certificate(alloc, parts)?;
+    match change {
+        Nothing => {}
+        Set(set) => certificate.set = set.to_vec(alloc)?,
+        FirstChain(amounts) => {
+            if !certificate.chain_flow.is_empty() {
+                certificate.chain_flow[0] = amounts.to_vec(alloc)?;
+            }
+        }
+        Backs(amounts) => certificate.back_flow = amounts.to_vec(alloc)?,
+        Musts(amounts) => certificate.must_flow = amounts.to_vec(alloc)?,
+        Worth(worth) => certificate.worth = worth,
+        Count(count) => certificate.augmentations = Some(count),
     }
-    assert_eq!(rt; Fault::NotConserved.number(), 5);
-    assert_eq!(rt; Fault::TooManyAugmentations.number(), 7);
-    Ok(())
+    Ok(certificate)
 }
 
-#[test]
-fn a_problem_keeps_its_rules(rt: HostRuntime) -> Result<(), Fail> {
-    let alloc = rt.alloc();
-    let problem = report(alloc, &[2, 3], &[(0, 1)], 8)?;
-    assert_eq!(rt; problem.updates().len(), 2);
-    assert_eq!(rt; problem.before().len(), 1);
-    assert_eq!(rt; problem.chains().len(), 2);
-    assert_eq!(rt; problem.must().len(), 0);
-    let faults = [
-        report(alloc, &[2, 3], &[], 8).err(),
-        report(alloc, &[2, 0], &[(0, 1)], 8).err(),
-        report(alloc, &[2, 3], &[(0, 1)], 2_000_000_000_000_000_001).err(),
-        report(alloc, &[2, 2], &[(0, 1)], 2_000_000_000_000_000_001).err(),
-    ];
-    assert_eq!(rt; faults[0], Some(BundleFault::Shape));
-    assert_eq!(rt; faults[1], Some(BundleFault::Range));
-    assert_eq!(rt; faults[2], Some(BundleFault::Range));
-    assert_eq!(rt; faults[3], Some(BundleFault::Shape));
-    assert_eq!(rt; BundleFault::Range.number(), 3);
-    Ok(())
-}
-
-#[test]
-fn a_count_of_augmentations_is_at_most_nodes_times_arcs(rt: HostRuntime) -> Result<(), Fail> {
-    let alloc = rt.alloc();
-    let problem = problem(
-        alloc,
-        &[2, 3],
-        &[(0, 1)],
-        &[(0, &[0], &[0, 6]), (1, &[1], &[2, 0])],
-        &[],
-    )?;
-    let parts = Parts {
-        set: &[],
-        chains: &[&[0, 2], &[2, 0]],
-        backs: &[2],
-        musts: &[],
-        worth: 2,
+/// Compares the first fault of a certificate with each of these changes.
+fn check_all(rt: &impl Abort, alloc: Global, asked: Asked, parts: Parts, cases: &[Case]) {
+    let Ok(problem) = problem(alloc, asked) else {
+        panic!(rt; "a problem")
     };
-    let above = Some(Fault::TooManyAugmentations);
-    for (count, fault) in [(19, None), (20, None), (21, above)] {
-        let certificate = certificate(alloc, parts, Some(count))?;
-        assert_eq!(rt; check(&problem, &certificate).err(), fault, "at {count}");
+    for (change, fault) in cases {
+        let Ok(certificate) = changed(alloc, parts, *change) else {
+            panic!(rt; "memory")
+        };
+        assert!(rt;
+            check(&problem, &certificate).err() == *fault,
+            "{:?}",
+            fault
+        );
     }
-    Ok(())
 }
 
 #[test]
-fn a_problem_with_no_update(rt: HostRuntime) -> Result<(), Fail> {
-    let alloc = rt.alloc();
-    let nothing = problem(alloc, &[], &[], &[], &[])?;
-    let parts = Parts {
-        set: &[],
-        chains: &[],
-        backs: &[],
-        musts: &[],
-        worth: 0,
-    };
-    for (count, fault) in [(0, None), (1, Some(Fault::TooManyAugmentations))] {
-        let certificate = certificate(alloc, parts, Some(count))?;
-        assert_eq!(rt; check(&nothing, &certificate).err(), fault, "at {count}");
-    }
-    let one_item = problem(alloc, &[], &[], &[(0, &[], &[4])], &[])?;
-    let paid = Parts {
-        chains: &[&[4]],
-        worth: 4,
-        ..parts
-    };
-    assert_eq!(rt; fault_of(alloc, &one_item, paid)?, None);
-    Ok(())
+fn each_fault_of_a_certificate(rt: HostRuntime) {
+    check_all(&rt, rt.alloc(), REPORT, BOTH, &OF_BOTH);
+    assert!(rt; Fault::NotConserved.number() == 5);
+    assert!(rt; Fault::TooManyAugmentations.number() == 7);
 }
 
 #[test]
-fn a_set_has_to_hold_must(rt: HostRuntime) -> Result<(), Fail> {
-    let alloc = rt.alloc();
-    let strict = problem(alloc, &[1], &[], &[(0, &[0], &[0, 5])], &[0])?;
-    let seen = Parts {
-        set: &[0],
-        chains: &[&[0, 5]],
-        backs: &[],
-        musts: &[5],
-        worth: 5,
+fn a_count_of_augmentations_is_at_most_nodes_times_arcs(rt: HostRuntime) {
+    check_all(&rt, rt.alloc(), THIRD_ITEM, NEITHER, &OF_NEITHER);
+}
+
+#[test]
+fn a_problem_with_no_update(rt: HostRuntime) {
+    check_all(&rt, rt.alloc(), NOTHING, FREE, &OF_FREE);
+    check_all(&rt, rt.alloc(), ONE_ITEM, PAID, &[(Nothing, None)]);
+}
+
+#[test]
+fn a_set_has_to_hold_must(rt: HostRuntime) {
+    check_all(&rt, rt.alloc(), STRICT, SEEN, &OF_SEEN);
+}
+
+#[test]
+fn a_problem_keeps_its_parts(rt: HostRuntime) {
+    let Ok(problem) = problem(rt.alloc(), REPORT) else {
+        panic!(rt; "a problem")
     };
-    let cases = [
-        (seen, None),
-        (Parts { worth: 4, ..seen }, Some(Fault::WorthNotCost)),
-        (
-            Parts {
-                musts: &[4],
-                ..seen
-            },
-            Some(Fault::NotConserved),
-        ),
-        (Parts { musts: &[], ..seen }, Some(Fault::OverCapacity)),
-        (Parts { set: &[], ..seen }, Some(Fault::SetNotClosed)),
-    ];
-    for (i, (parts, fault)) in cases.iter().enumerate() {
-        assert_eq!(rt; fault_of(alloc, &strict, *parts)?, *fault, "at {i}");
+    assert!(rt; problem.updates().len() == 2);
+    assert!(rt; problem.before().len() == 1);
+    assert!(rt; problem.chains().len() == 2);
+    assert!(rt; problem.must().len() == 0);
+}
+
+#[test]
+fn a_problem_keeps_its_rules(rt: HostRuntime) {
+    for (i, (asked, fault)) in REFUSED.iter().enumerate() {
+        assert!(rt; problem(rt.alloc(), *asked).err() == Some(*fault), "at {i}");
     }
-    let outside = problem(alloc, &[1], &[], &[], &[1]);
-    assert_eq!(rt; outside.err(), Some(BundleFault::Range));
-    Ok(())
+    assert!(rt; BundleFault::Range.number() == 3);
 }

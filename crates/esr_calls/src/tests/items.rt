@@ -1,69 +1,93 @@
-use esr_items::{ItemId, ItemsError, Metric, Plain, Store, Weighted};
-use std::test::Fail;
+ghost use Rattle.std.specs.Prelude.{◌≡◌, length};
 
-#[test]
-fn a_store_keeps_two_values_of_each_item(rt: HostRuntime) -> Result<(), Fail> {
-    let alloc = rt.alloc();
-    let values = vec![in alloc; 7i64, -1_000_000_000_000i64]?;
-    let mut store = Store::new(alloc, values)?;
-    let a = ItemId(0);
-    let b = ItemId(1);
-    assert_eq!(rt; store.len(), 2);
-    store.write(a, 9);
-    store.write(b, 1_000_000_000_000);
-    assert_eq!(rt; store.read(a), 9);
-    assert_eq!(rt; store.committed(a), 7);
-    store.keep(a);
-    store.undo(b);
-    assert_eq!(rt; store.committed(a), 9);
-    assert_eq!(rt; store.read(b), -1_000_000_000_000);
-    Ok(())
+use esr_items::{ItemId, ItemsError, Metric, Plain, Store, Weighted};
+use std::alloc::Global;
+use std::process::Abort;
+
+const LARGEST: i64 = 1_000_000_000_000;
+
+/// A store of these values.
+fn stored(rt: &impl Abort, alloc: Global, values: &[i64]) -> Store
+    ensures { length result ≡ length values.now }
+{
+    let Ok(values) = values.to_vec(alloc) else {
+        panic!(rt; "memory")
+    };
+    let Ok(store) = Store::new(alloc, values) else {
+        panic!(rt; "a store")
+    };
+    store
 }
 
 #[test]
-fn a_store_names_what_it_refuses(rt: HostRuntime) -> Result<(), Fail> {
-    let alloc = rt.alloc();
-    let values = vec![in alloc; 0i64, 1_000_000_000_001i64]?;
-    assert!(rt; matches!(Store::new(alloc, values), Err(ItemsError::ValueOutOfRange)));
-    let mut many = Vec::new(alloc);
-    for _ in 0..4097 {
-        many.push(1_000_000_000_001i64)?;
+fn a_store_keeps_two_values_of_each_item(rt: HostRuntime) {
+    let mut store = stored(&rt, rt.alloc(), &[7, -LARGEST]);
+    let a = ItemId(0);
+    let b = ItemId(1);
+    assert!(rt; store.len() == 2);
+    store.write(a, 9);
+    store.write(b, LARGEST);
+    assert!(rt; store.read(a) == 9);
+    assert!(rt; store.committed(a) == 7);
+    store.keep(a);
+    store.undo(b);
+    assert!(rt; store.committed(a) == 9);
+    assert!(rt; store.read(b) == -LARGEST);
+}
+
+/// Whether a store of these values is refused so.
+fn refuses(alloc: Global, values: &[i64], wanted: ItemsError) -> bool {
+    match values.to_vec(alloc) {
+        Ok(values) => Store::new(alloc, values).is_err_and(|e| e == wanted),
+        Err(_) => false,
     }
-    assert!(rt; matches!(Store::new(alloc, many), Err(ItemsError::TooManyItems)));
-    Ok(())
+}
+
+#[test]
+fn a_store_names_what_it_refuses(rt: HostRuntime) {
+    let alloc = rt.alloc();
+    assert!(rt; refuses(alloc, &[0, LARGEST + 1], ItemsError::ValueOutOfRange));
+    assert!(rt; refuses(alloc, &[LARGEST + 1; 4097], ItemsError::TooManyItems));
 }
 
 #[test]
 fn plain_distances_are_differences(rt: HostRuntime) {
     let x = ItemId(0);
-    assert_eq!(rt;
-        Plain.distance(x, -1_000_000_000_000, 1_000_000_000_000),
-        2_000_000_000_000
-    );
-    assert_eq!(rt; Plain.distance(x, 3, 3), 0);
+    assert!(rt; Plain.distance(x, -LARGEST, LARGEST) == 2_000_000_000_000);
+    assert!(rt; Plain.distance(x, 3, 3) == 0);
+}
+
+/// A metric of these weights.
+fn weighted(rt: &impl Abort, alloc: Global, weights: &[u32]) -> Weighted {
+    let Ok(weights) = weights.to_vec(alloc) else {
+        panic!(rt; "memory")
+    };
+    let Ok(metric) = Weighted::new(weights) else {
+        panic!(rt; "a metric")
+    };
+    metric
 }
 
 #[test]
-fn weighted_distances_are_differences_times_weights(rt: HostRuntime) -> Result<(), Fail> {
-    let alloc = rt.alloc();
-    let metric = Weighted::new(vec![in alloc; 3u32, 1000u32]?)?;
-    assert_eq!(rt; metric.distance(ItemId(0), 107, 100), 21);
-    assert_eq!(rt;
-        metric.distance(ItemId(1), -1_000_000_000_000, 1_000_000_000_000),
-        2_000_000_000_000_000
-    );
-    assert_eq!(rt; metric.distance(ItemId(2), 3, 5), 2);
-    Ok(())
+fn weighted_distances_are_differences_times_weights(rt: HostRuntime) {
+    let metric = weighted(&rt, rt.alloc(), &[3, 1000]);
+    assert!(rt; metric.distance(ItemId(0), 107, 100) == 21);
+    assert!(rt; metric.distance(ItemId(1), -LARGEST, LARGEST) == 2_000_000_000_000_000);
+    assert!(rt; metric.distance(ItemId(2), 3, 5) == 2);
+}
+
+/// Whether these weights are refused so.
+fn refuses_weights(alloc: Global, weights: &[u32], wanted: ItemsError) -> bool {
+    match weights.to_vec(alloc) {
+        Ok(weights) => Weighted::new(weights).is_err_and(|e| e == wanted),
+        Err(_) => false,
+    }
 }
 
 #[test]
-fn a_weighted_metric_names_what_it_refuses(rt: HostRuntime) -> Result<(), Fail> {
+fn a_weighted_metric_names_what_it_refuses(rt: HostRuntime) {
     let alloc = rt.alloc();
-    let none = Weighted::new(vec![in alloc; 1u32, 0u32]?);
-    assert!(rt; matches!(none, Err(ItemsError::WeightOutOfRange)));
-    let large = Weighted::new(vec![in alloc; 1001u32]?);
-    assert!(rt; matches!(large, Err(ItemsError::WeightOutOfRange)));
-    let many = Weighted::new(Vec::from_elem(alloc, 0u32, 4097)?);
-    assert!(rt; matches!(many, Err(ItemsError::TooManyItems)));
-    Ok(())
+    assert!(rt; refuses_weights(alloc, &[1, 0], ItemsError::WeightOutOfRange));
+    assert!(rt; refuses_weights(alloc, &[1001], ItemsError::WeightOutOfRange));
+    assert!(rt; refuses_weights(alloc, &[0; 4097], ItemsError::TooManyItems));
 }

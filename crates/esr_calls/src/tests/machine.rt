@@ -1,52 +1,47 @@
+use Asked::{Commit, Query, Read, Update, Write};
 use esr_core::{Machine, RenewError, StepError, Totals};
+use esr_history::Reply::{Aborted, Begun, Committed, Refused, Value, Wrote};
 use esr_history::{Event, NoMemory, Refusal, Reply, TxnId};
 use esr_items::{ItemId, Plain, Store};
 use std::alloc::Global;
 use std::process::Abort;
 
-const A: ItemId = ItemId(0);
-
-fn txn(number: u32) -> TxnId {
-    TxnId(number)
+/// An event on the one item of a machine: the limit of a begin, the transaction of all others.
+#[derive(Clone, Copy)]
+enum Asked {
+    Update(u64),
+    Query(u64),
+    Read(u32),
+    Write(u32, i64),
+    Commit(u32),
+    Abort(u32),
 }
 
-fn update(limit: u64) -> Event {
-    Event::BeginUpdate { limit }
-}
-
-fn query(limit: u64) -> Event {
-    Event::BeginQuery {
-        limit,
-        strict: false,
+fn event(asked: Asked) -> Event {
+    let item = ItemId(0);
+    match asked {
+        Update(limit) => Event::BeginUpdate { limit },
+        Query(limit) => Event::BeginQuery {
+            limit,
+            strict: false,
+        },
+        Read(t) => Event::Read {
+            txn: TxnId(t),
+            item,
+        },
+        Write(t, value) => Event::Write {
+            txn: TxnId(t),
+            item,
+            value,
+        },
+        Commit(t) => Event::Commit { txn: TxnId(t) },
+        Asked::Abort(t) => Event::Abort { txn: TxnId(t) },
     }
-}
-
-fn read(t: u32) -> Event {
-    Event::Read {
-        txn: txn(t),
-        item: A,
-    }
-}
-
-fn write(t: u32, value: i64) -> Event {
-    Event::Write {
-        txn: txn(t),
-        item: A,
-        value,
-    }
-}
-
-fn commit(t: u32) -> Event {
-    Event::Commit { txn: txn(t) }
-}
-
-fn begun(t: u32) -> Reply {
-    Reply::Begun(txn(t))
 }
 
 /// A machine over one item.
 fn opened(alloc: Global, value: i64) -> Result<Machine<Plain>, NoMemory> {
-    let Ok(values) = vec![in alloc; value] else {
+    let Ok(values) = [value].to_vec(alloc) else {
         return Err(NoMemory);
     };
     match Store::new(alloc, values) {
@@ -65,7 +60,7 @@ fn opened_at_last(rt: &impl Abort, alloc: Global, value: i64) -> Machine<Plain> 
 
 /// Gives an event. Where memory is refused, nothing has changed, and the event given again is
 /// answered as if nothing had happened.
-fn play(rt: &impl Abort, machine: &mut Machine<Plain>, event: Event, reply: Reply) {
+fn step(rt: &impl Abort, machine: &mut Machine<Plain>, event: Event, reply: Reply) {
     let totals = machine.totals();
     let entries = machine.log().len();
     let answer = match machine.step(event) {
@@ -81,83 +76,85 @@ fn play(rt: &impl Abort, machine: &mut Machine<Plain>, event: Event, reply: Repl
     assert!(rt; machine.log().len() == entries + 1);
 }
 
+/// Gives events, each of which is answered so.
+fn play(rt: &impl Abort, machine: &mut Machine<Plain>, rows: &[(Asked, Reply)]) {
+    for (asked, reply) in rows {
+        step(rt, machine, event(*asked), *reply);
+    }
+}
+
+/// Opens a machine over one item, which answers the events so, and imports and exports so much.
+fn plays(rt: &impl Abort, alloc: Global, value: i64, rows: &[(Asked, Reply)], import: u128) {
+    let mut machine = opened_at_last(rt, alloc, value);
+    play(rt, &mut machine, rows);
+    let totals = Totals {
+        import,
+        export: import,
+        entries: rows.len() as u64,
+    };
+    assert!(rt; machine.totals() == totals);
+}
+
+const BESIDE_A_WRITER: [(Asked, Reply); 6] = [
+    (Update(50), Begun(TxnId(1))),
+    (Query(10), Begun(TxnId(2))),
+    (Write(1, 107), Wrote),
+    (Read(2), Value(107)),
+    (Commit(1), Committed),
+    (Commit(2), Committed),
+];
+
 #[test]
 fn report_beside_a_writer(rt: HostRuntime) {
-    let mut machine = opened_at_last(&rt, rt.alloc(), 100);
-    let m = &mut machine;
-    play(&rt, m, update(50), begun(1));
-    play(&rt, m, query(10), begun(2));
-    play(&rt, m, write(1, 107), Reply::Wrote);
-    play(&rt, m, read(2), Reply::Value(107));
-    play(&rt, m, commit(1), Reply::Committed);
-    play(&rt, m, commit(2), Reply::Committed);
-    assert!(rt;
-        m.totals()
-            == Totals {
-                import: 7,
-                export: 7,
-                entries: 6
-            }
-    );
+    plays(&rt, rt.alloc(), 100, &BESIDE_A_WRITER, 7);
 }
+
+const OVER_QUERIES: [(Asked, Reply); 9] = [
+    (Query(10), Begun(TxnId(1))),
+    (Query(5), Begun(TxnId(2))),
+    (Update(14), Begun(TxnId(3))),
+    (Update(15), Begun(TxnId(4))),
+    (Read(1), Value(0)),
+    (Read(1), Value(0)),
+    (Read(2), Value(0)),
+    (Write(3, 5), Refused(Refusal::BlockedByExport(TxnId(3)))),
+    (Write(4, 5), Wrote),
+];
 
 #[test]
 fn export_limit_over_queries(rt: HostRuntime) {
-    let mut machine = opened_at_last(&rt, rt.alloc(), 0);
-    let m = &mut machine;
-    play(&rt, m, query(10), begun(1));
-    play(&rt, m, query(5), begun(2));
-    play(&rt, m, update(14), begun(3));
-    play(&rt, m, update(15), begun(4));
-    play(&rt, m, read(1), Reply::Value(0));
-    play(&rt, m, read(1), Reply::Value(0));
-    play(&rt, m, read(2), Reply::Value(0));
-    play(
-        &rt,
-        m,
-        write(3, 5),
-        Reply::Refused(Refusal::BlockedByExport(txn(3))),
-    );
-    play(&rt, m, write(4, 5), Reply::Wrote);
-    assert!(rt;
-        m.totals()
-            == Totals {
-                import: 15,
-                export: 15,
-                entries: 9
-            }
-    );
+    plays(&rt, rt.alloc(), 0, &OVER_QUERIES, 15);
 }
+
+const UPGRADE: [(Asked, Reply); 8] = [
+    (Update(0), Begun(TxnId(1))),
+    (Update(0), Begun(TxnId(2))),
+    (Read(1), Value(0)),
+    (Read(2), Value(0)),
+    (Write(1, 1), Refused(Refusal::BlockedByLock(TxnId(2)))),
+    (Commit(2), Committed),
+    (Write(1, 1), Wrote),
+    (Commit(1), Committed),
+];
 
 #[test]
 fn upgrade_waits_for_a_reader(rt: HostRuntime) {
-    let mut machine = opened_at_last(&rt, rt.alloc(), 0);
-    let m = &mut machine;
-    play(&rt, m, update(0), begun(1));
-    play(&rt, m, update(0), begun(2));
-    play(&rt, m, read(1), Reply::Value(0));
-    play(&rt, m, read(2), Reply::Value(0));
-    play(
-        &rt,
-        m,
-        write(1, 1),
-        Reply::Refused(Refusal::BlockedByLock(txn(2))),
-    );
-    play(&rt, m, commit(2), Reply::Committed);
-    play(&rt, m, write(1, 1), Reply::Wrote);
-    play(&rt, m, commit(1), Reply::Committed);
+    plays(&rt, rt.alloc(), 0, &UPGRADE, 0);
 }
+
+const ABORTED: [(Asked, Reply); 5] = [
+    (Update(0), Begun(TxnId(1))),
+    (Write(1, 5), Wrote),
+    (Asked::Abort(1), Aborted),
+    (Update(0), Begun(TxnId(2))),
+    (Read(2), Value(1)),
+];
 
 #[test]
 fn abort_puts_back(rt: HostRuntime) {
     let mut machine = opened_at_last(&rt, rt.alloc(), 1);
-    let m = &mut machine;
-    play(&rt, m, update(0), begun(1));
-    play(&rt, m, write(1, 5), Reply::Wrote);
-    play(&rt, m, Event::Abort { txn: txn(1) }, Reply::Aborted);
-    play(&rt, m, update(0), begun(2));
-    play(&rt, m, read(2), Reply::Value(1));
-    assert!(rt; m.history().items() == 1);
+    play(&rt, &mut machine, &ABORTED);
+    assert!(rt; machine.history().items() == 1);
     assert!(rt; machine.close().log().len() == 5);
 }
 
@@ -173,13 +170,15 @@ fn renew_at_last(m: &mut Machine<Plain>, alloc: Global) -> Result<(), RenewError
 fn renewed_over_committed_values(rt: HostRuntime) {
     let mut machine = opened_at_last(&rt, rt.alloc(), 1);
     let m = &mut machine;
-    play(&rt, m, update(0), begun(1));
-    play(&rt, m, write(1, 5), Reply::Wrote);
+    play(
+        &rt,
+        m,
+        &[(Update(0), Begun(TxnId(1))), (Write(1, 5), Wrote)],
+    );
     assert!(rt; m.has_active());
     assert!(rt; renew_at_last(m, rt.alloc()) == Err(RenewError::TransactionActive));
-    play(&rt, m, commit(1), Reply::Committed);
+    play(&rt, m, &[(Commit(1), Committed)]);
     assert!(rt; renew_at_last(m, rt.alloc()) == Ok(()));
     assert!(rt; m.log().len() == 0);
-    play(&rt, m, update(0), begun(1));
-    play(&rt, m, read(1), Reply::Value(5));
+    play(&rt, m, &[(Update(0), Begun(TxnId(1))), (Read(1), Value(5))]);
 }

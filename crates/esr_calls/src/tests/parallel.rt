@@ -1,14 +1,15 @@
 //! Audits by several workers.
+ghost use Rattle.std.specs.Prelude.{◌≡◌};
+ghost use Rattle.esr_board.specs.Boards.{IsSeatOf, jobs_of};
 
 use crate::tests::meeting::Meeting;
 use esr_audit::{AuditError, Book, Finding};
-use esr_board::{Board, Gate, NoGate, audit_parallel, work};
+use esr_board::{Board, BoardSeat, Gate, NoGate, audit_parallel, work};
 use esr_core::Machine;
 use esr_history::{Event, History, Reply, TxnId};
 use esr_items::{ItemId, Plain, Store};
 use std::alloc::Global;
 use std::process::Abort;
-use std::test::Fail;
 use std::thread::Threads;
 
 /// A report reads a and b, and between its reads two updates commit.
@@ -79,7 +80,7 @@ fn play(rt: &impl Abort, machine: &mut Machine<Plain>, events: &[Event]) {
     for event in events {
         let reply = machine.step(*event);
         assert!(rt;
-            reply.is_ok_and(|r| !matches!(r, Reply::Refused(_))),
+            !matches!(reply, Err(_) | Ok(Reply::Refused(_))),
             "an event is accepted"
         );
     }
@@ -107,24 +108,35 @@ fn is_of_the_first_report(found: &Finding) -> bool {
         && found.before.as_slice() == [TxnId(2), TxnId(3)].as_slice()
 }
 
+/// A machine that played the two updates over a report.
+fn played(rt: &impl Abort, alloc: Global) -> Machine<Plain> {
+    let mut machine = machine(rt, alloc);
+    play(rt, &mut machine, &TWO_UPDATES_OVER_A_REPORT);
+    machine
+}
+
+/// Whether an audit finds the order of the updates, and this of the first report.
+fn is_of_two_updates(book: &Book) -> bool {
+    book.order.as_slice() == [TxnId(2), TxnId(3)].as_slice()
+        && book.findings.len() == 1
+        && is_of_the_first_report(&book.findings[0])
+}
+
 #[test]
 fn each_number_of_workers_finds_the_same(rt: HostRuntime) {
-    let mut m = machine(&rt, rt.alloc());
-    play(&rt, &mut m, &TWO_UPDATES_OVER_A_REPORT);
+    let m = played(&rt, rt.alloc());
     for workers in [1, 2, 64] {
         let book = audited(&rt, rt.alloc(), m.history(), workers, &NoGate);
-        assert!(rt; book.order.as_slice() == [TxnId(2), TxnId(3)].as_slice());
-        assert!(rt; book.findings.len() == 1 && is_of_the_first_report(&book.findings[0]));
+        assert!(rt; is_of_two_updates(&book));
     }
 }
 
 #[test]
 fn an_audit_has_1_to_64_workers(rt: HostRuntime) {
-    let mut m = machine(&rt, rt.alloc());
-    play(&rt, &mut m, &TWO_UPDATES_OVER_A_REPORT);
+    let m = played(&rt, rt.alloc());
     for workers in [0, 65] {
         let refused = audit_parallel(&rt, rt.alloc(), m.history(), workers, &NoGate);
-        assert!(rt; refused.is_err_and(|e| e == AuditError::WorkersOutOfRange));
+        assert!(rt; refused.err() == Some(AuditError::WorkersOutOfRange));
     }
 }
 
@@ -137,29 +149,36 @@ fn an_empty_history_has_no_findings(rt: HostRuntime) {
 
 #[test]
 fn two_workers_at_once(rt: HostRuntime) {
-    let mut m = machine(&rt, rt.alloc());
-    play(&rt, &mut m, &TWO_UPDATES_OVER_A_REPORT);
+    let mut m = played(&rt, rt.alloc());
     play(&rt, &mut m, &A_SECOND_REPORT);
     let gate = Meeting::new();
     let book = audited(&rt, rt.alloc(), m.history(), 2, &gate);
-    assert!(rt; book.findings.len() == 2 && is_of_the_first_report(&book.findings[0]));
-    assert!(rt; book.findings.len() == 2 && book.findings[1].query == TxnId(4));
+    assert!(rt; book.findings.len() == 2);
+    assert!(rt; is_of_the_first_report(&book.findings[0]) && book.findings[1].query == TxnId(4));
     gate.check(&rt);
 }
 
-#[test]
-fn a_worker_refuses_what_is_no_committed_query(rt: HostRuntime) -> Result<(), Fail> {
-    let mut m = machine(&rt, rt.alloc());
-    play(&rt, &mut m, &TWO_UPDATES_OVER_A_REPORT);
-    let Ok((board, mut seats)) = Board::new(rt.alloc(), 2, 1) else {
-        panic!(rt; "a board of two jobs")
+/// A board of so many jobs, and its one seat.
+fn one_seat(rt: &impl Abort, alloc: Global, jobs: u64) -> (Board, BoardSeat)
+    ensures jobs { jobs_of result.0 ≡ jobs }
+    ensures seat { IsSeatOf result.0 result.1 }
+{
+    let Ok((board, mut seats)) = Board::new(alloc, jobs, 1) else {
+        panic!(rt; "a board")
     };
-    let Some(mut seat) = seats.pop() else {
+    let Some(seat) = seats.pop() else {
         panic!(rt; "one seat")
     };
+    (board, seat)
+}
+
+#[test]
+fn a_worker_refuses_what_is_no_committed_query(rt: HostRuntime) {
+    let m = played(&rt, rt.alloc());
+    let (board, mut seat) = one_seat(&rt, rt.alloc(), 2);
     let jobs = [TxnId(1), TxnId(2)];
     let share = work(rt.alloc(), m.history(), &jobs, &board, &mut seat, &NoGate);
-    assert!(rt; share.is_err_and(|e| e == AuditError::NotACommittedQuery));
+    assert!(rt; share.err() == Some(AuditError::NotACommittedQuery));
 
     // The seat has drawn both jobs, and a second call finds nothing more to do.
     let Ok(rest) = work(rt.alloc(), m.history(), &jobs, &board, &mut seat, &NoGate) else {
@@ -167,32 +186,18 @@ fn a_worker_refuses_what_is_no_committed_query(rt: HostRuntime) -> Result<(), Fa
     };
     assert!(rt; rest.found.is_empty());
     let mut given = Vec::new(rt.alloc());
-    given.push(seat)?;
+    given.push(seat).expect(&rt, "memory");
     assert!(rt; board.close(given) == Ok(()));
-    Ok(())
 }
 
 #[test]
 fn a_worker_alone_does_all_jobs(rt: HostRuntime) {
-    let mut m = machine(&rt, rt.alloc());
-    play(&rt, &mut m, &TWO_UPDATES_OVER_A_REPORT);
-    let Ok((board, mut seats)) = Board::new(rt.alloc(), 1, 1) else {
-        panic!(rt; "a board of one job")
-    };
-    let Some(mut seat) = seats.pop() else {
-        panic!(rt; "one seat")
-    };
-    let Ok(share) = work(
-        rt.alloc(),
-        m.history(),
-        &[TxnId(1)],
-        &board,
-        &mut seat,
-        &NoGate,
-    ) else {
+    let m = played(&rt, rt.alloc());
+    let (board, mut seat) = one_seat(&rt, rt.alloc(), 1);
+    let jobs = [TxnId(1)];
+    let Ok(share) = work(rt.alloc(), m.history(), &jobs, &board, &mut seat, &NoGate) else {
         panic!(rt; "the report is audited")
     };
-    assert!(rt;
-        share.found.len() == 1 && share.found[0].0 == 0 && is_of_the_first_report(&share.found[0].1)
-    );
+    assert!(rt; share.found.len() == 1);
+    assert!(rt; share.found[0].0 == 0 && is_of_the_first_report(&share.found[0].1));
 }

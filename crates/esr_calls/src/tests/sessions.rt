@@ -14,54 +14,62 @@ use std::marker::Brand;
 use std::process::Abort;
 use std::sync::Wait;
 use std::sync::ledger::Blank;
-use std::test::Fail;
 use std::thread;
 use std::thread::{JoinHandle, Threads};
 
 /// Opening values of so many items, all zero.
-fn zeros(alloc: Global, count: usize) -> Result<Store, Fail> {
-    Ok(Store::new(alloc, Vec::from_elem(alloc, 0, count)?)?)
+fn zeros(rt: &impl Abort, alloc: Global, count: usize) -> Store {
+    let Ok(values) = Vec::from_elem(alloc, 0, count) else {
+        panic!(rt; "memory")
+    };
+    let Ok(items) = Store::new(alloc, values) else {
+        panic!(rt; "items")
+    };
+    items
 }
 
 #[test]
-fn four_sessions(rt: HostRuntime) -> Result<(), Fail> {
+fn four_sessions(rt: HostRuntime) {
     let alloc = rt.alloc();
-    let closed = begin_and_commit::<Brand, _>(
-        rt,
-        alloc,
-        Blank::new(LEDGER_PARTS),
-        zeros(alloc, 0)?,
-        0,
-    )?;
-    let other = begin_and_commit::<Brand, _>(
-        rt,
-        alloc,
-        Blank::new(LEDGER_PARTS),
-        zeros(alloc, 0)?,
-        1,
-    )?;
-    assert_eq!(rt; closed.history.log().len(), 800);
-    for list in &closed.receipts {
-        assert_eq!(rt; list.len(), 200);
-        check_places(&rt, closed.history.log(), list)?;
-    }
-    let mut lists = closed.receipts;
-    let mut theirs = other.receipts;
-    lists.pop().ok_or("four lists")?;
-    lists.push(theirs.pop().ok_or("four lists")?)?;
-    let answer = match_receipts(alloc, &closed.history, lists.as_slice());
-    assert!(rt; matches!(answer, Err(CloseError::ForeignReceipt(_))));
-    Ok(())
+    let items = zeros(&rt, alloc, 0);
+    let closed = begin_and_commit::<Brand, _>(rt, alloc, Blank::new(LEDGER_PARTS), items, 0);
+    let items = zeros(&rt, alloc, 0);
+    let other = begin_and_commit::<Brand, _>(rt, alloc, Blank::new(LEDGER_PARTS), items, 1);
+    check_closed(&rt, &closed);
+    check_foreign(&rt, alloc, closed, other);
 }
 
-/// Each receipt has the event and the reply of the entry at its place.
-fn check_places(rt: &impl Abort, log: &Log, list: &[Receipt]) -> Result<(), Fail> {
-    for receipt in list {
-        let entry = log.get(receipt.at as usize).ok_or("an entry")?;
-        assert_eq!(rt; entry.event, receipt.event);
-        assert_eq!(rt; entry.reply, receipt.reply);
+/// Each session called 200 times, and each receipt has the event and the reply of the entry at its place.
+fn check_closed(rt: &impl Abort, closed: &Closed<Plain>) {
+    let log = closed.history.log();
+    assert!(rt; log.len() == 800);
+    for list in &closed.receipts {
+        assert!(rt; list.len() == 200 && are_placed(log, list));
     }
-    Ok(())
+}
+
+fn are_placed(log: &Log, list: &[Receipt]) -> bool {
+    for receipt in list {
+        let Some(entry) = log.get(receipt.at as usize) else {
+            return false;
+        };
+        if entry.event != receipt.event || entry.reply != receipt.reply {
+            return false;
+        }
+    }
+    true
+}
+
+/// The receipts of another engine's session do not match.
+fn check_foreign(rt: &impl Abort, alloc: Global, closed: Closed<Plain>, other: Closed<Plain>) {
+    let mut lists = closed.receipts;
+    let mut theirs = other.receipts;
+    let (Some(_), Some(foreign)) = (lists.pop(), theirs.pop()) else {
+        panic!(rt; "four lists of each")
+    };
+    lists.push(foreign).expect(rt, "memory");
+    let answer = match_receipts(alloc, &closed.history, lists.as_slice());
+    assert!(rt; matches!(answer, Err(CloseError::ForeignReceipt(_))));
 }
 
 /// Four sessions begin and commit 100 updates each, on threads of their own. With one session
@@ -72,7 +80,7 @@ fn begin_and_commit<N, R>(
     blank: Blank,
     items: Store,
     limit: u64,
-) -> Result<Closed<Plain>, Fail>
+) -> Closed<Plain>
 where
     N: Naming + Send + Sync + 'static,
     R: Threads + Wait + Abort + Copy + Send + 'static,
@@ -81,9 +89,13 @@ where
     requires opening { map (λ w. w.committed) items ≡ N.opening }
     requires weights { [] ≡ N.weights }
 {
-    let mut engine = Engine::<Plain, N>::new(alloc, blank, items, Plain)?;
-    let sessions = engine.open_sessions(4)?;
-    let back = run_all(rt, alloc, sessions, limit)?;
+    let Ok(mut engine) = Engine::<Plain, N>::new(alloc, blank, items, Plain) else {
+        panic!(rt; "an engine")
+    };
+    let Ok(sessions) = engine.open_sessions(4) else {
+        panic!(rt; "four sessions")
+    };
+    let back = run_all(rt, alloc, sessions, limit);
     close_twice(&rt, engine, back)
 }
 
@@ -93,20 +105,21 @@ fn run_all<N, R>(
     alloc: Global,
     sessions: Vec<Session<Plain, N>>,
     limit: u64,
-) -> Result<Vec<Session<Plain, N>>, AllocError>
+) -> Vec<Session<Plain, N>>
 where
     N: Naming + Send + Sync + 'static,
-    R: Threads + Wait + Copy + Send + 'static,
+    R: Threads + Wait + Abort + Copy + Send + 'static,
 {
     let mut running = Vec::new(alloc);
     for session in sessions {
-        running.push(start(rt, session, limit)?)?;
+        let thread = start(rt, session, limit);
+        running.push(thread).expect(&rt, "memory");
     }
     let mut back = Vec::new(alloc);
     for thread in running {
-        back.push(thread.join(&rt))?;
+        back.push(thread.join(&rt)).expect(&rt, "memory");
     }
-    Ok(back)
+    back
 }
 
 /// Closes the engine with one session kept back, which is refused, and then with all.
@@ -114,42 +127,50 @@ fn close_twice<N: Naming, R: Wait + Abort>(
     rt: &R,
     engine: Engine<Plain, N>,
     sessions: Vec<Session<Plain, N>>,
-) -> Result<Closed<Plain>, Fail> {
+) -> Closed<Plain> {
     let mut sessions = sessions;
-    let kept = sessions.pop().ok_or("four sessions")?;
+    let Some(kept) = sessions.pop() else {
+        panic!(rt; "four sessions")
+    };
     let Err(refused) = engine.close(rt, sessions) else {
-        return Err(Fail::from("closed"));
+        panic!(rt; "closed")
     };
     let CloseRefused {
         engine,
         mut sessions,
         error,
     } = refused;
-    assert_eq!(rt;
-        error,
-        CloseError::SessionMissing {
-            gathered: 600,
-            total: 800
-        }
-    );
-    sessions.push(kept)?;
-    match engine.close(rt, sessions) {
-        Ok(closed) => Ok(closed),
-        Err(_) => Err(Fail::from("refused")),
-    }
+    let missing = CloseError::SessionMissing {
+        gathered: 600,
+        total: 800,
+    };
+    assert!(rt; error == missing);
+    sessions.push(kept).expect(rt, "memory");
+    closed(rt, engine, sessions)
 }
 
-fn start<N, R>(
-    rt: R,
-    session: Session<Plain, N>,
-    limit: u64,
-) -> Result<JoinHandle<Session<Plain, N>>, AllocError>
+/// Closes the engine with all its sessions.
+fn closed<N: Naming, R: Wait + Abort>(
+    rt: &R,
+    engine: Engine<Plain, N>,
+    sessions: Vec<Session<Plain, N>>,
+) -> Closed<Plain> {
+    let Ok(closed) = engine.close(rt, sessions) else {
+        panic!(rt; "refused")
+    };
+    closed
+}
+
+fn start<N, R>(rt: R, session: Session<Plain, N>, limit: u64) -> JoinHandle<Session<Plain, N>>
 where
     N: Naming + Send + Sync + 'static,
-    R: Threads + Wait + Copy + Send + 'static,
+    R: Threads + Wait + Abort + Copy + Send + 'static,
 {
     let job = move || begin_often(&rt, session, limit);
-    Ok(thread::spawn(&rt, job)?)
+    let Ok(thread) = thread::spawn(&rt, job) else {
+        panic!(rt; "a thread")
+    };
+    thread
 }
 
 /// Begins an update and commits it, 100 times.
@@ -159,27 +180,31 @@ fn begin_often<N: Naming, R: Wait>(
     limit: u64,
 ) -> Session<Plain, N> {
     let mut session = session;
-    for _i in 0..100 {
-        let Ok(begun) = session.call(rt, Event::BeginUpdate { limit }) else {
-            return session;
-        };
-        if let Reply::Begun(txn) = begun.reply {
-            let Ok(_) = session.call(rt, Event::Commit { txn }) else {
-                return session;
-            };
-        }
+    for _ in 0..100 {
+        begin_once(rt, &mut session, limit);
     }
     session
 }
 
+/// Begins an update and commits it.
+fn begin_once<N: Naming, R: Wait>(rt: &R, session: &mut Session<Plain, N>, limit: u64) {
+    let Some(begun) = call(rt, session, Event::BeginUpdate { limit }) else {
+        return;
+    };
+    if let Reply::Begun(txn) = begun.reply {
+        let _committed = call(rt, session, Event::Commit { txn });
+    }
+}
+
 #[test]
-fn a_read_finds_what_another_session_wrote(rt: HostRuntime) -> Result<(), Fail> {
+fn a_read_finds_what_another_session_wrote(rt: HostRuntime) {
     let alloc = rt.alloc();
-    read_back::<Brand, _>(rt, alloc, Blank::new(LEDGER_PARTS), zeros(alloc, 1)?)
+    let items = zeros(&rt, alloc, 1);
+    read_back::<Brand, _>(rt, alloc, Blank::new(LEDGER_PARTS), items);
 }
 
 /// One session writes on a thread of its own, then the other reads.
-fn read_back<N, R>(rt: R, alloc: Global, blank: Blank, items: Store) -> Result<(), Fail>
+fn read_back<N, R>(rt: R, alloc: Global, blank: Blank, items: Store)
 where
     N: Naming + Send + Sync + 'static,
     R: Threads + Wait + Abort + Copy + Send + 'static,
@@ -188,33 +213,54 @@ where
     requires opening { map (λ w. w.committed) items ≡ N.opening }
     requires weights { [] ≡ N.weights }
 {
-    let mut engine = Engine::<Plain, N>::new(alloc, blank, items, Plain)?;
-    let sessions = engine.open_sessions(2)?;
-    let sessions = write_then_read(rt, sessions)?;
-    let Ok(closed) = engine.close(&rt, sessions) else {
-        return Err(Fail::from("refused"));
+    let Ok(mut engine) = Engine::<Plain, N>::new(alloc, blank, items, Plain) else {
+        panic!(rt; "an engine")
     };
-    assert_eq!(rt; closed.history.log().len(), 6);
-    check_list_given_twice(&rt, alloc, closed)
+    let Ok(mut sessions) = engine.open_sessions(2) else {
+        panic!(rt; "two sessions")
+    };
+    let (first, mut second) = last_two(&rt, &mut sessions);
+    let first = write_apart(rt, first);
+    read_five(&rt, &mut second);
+    give_back(&rt, &mut sessions, first, second);
+    let closed = closed(&rt, engine, sessions);
+    assert!(rt; closed.history.log().len() == 6);
+    check_list_given_twice(&rt, alloc, closed);
 }
 
-fn write_then_read<N, R>(
-    rt: R,
-    sessions: Vec<Session<Plain, N>>,
-) -> Result<Vec<Session<Plain, N>>, Fail>
+/// Takes the last two sessions.
+fn last_two<N: Naming>(
+    rt: &impl Abort,
+    sessions: &mut Vec<Session<Plain, N>>,
+) -> (Session<Plain, N>, Session<Plain, N>) {
+    let (Some(second), Some(first)) = (sessions.pop(), sessions.pop()) else {
+        panic!(rt; "two sessions")
+    };
+    (first, second)
+}
+
+/// Puts two sessions back.
+fn give_back<N: Naming>(
+    rt: &impl Abort,
+    sessions: &mut Vec<Session<Plain, N>>,
+    first: Session<Plain, N>,
+    second: Session<Plain, N>,
+) {
+    sessions.push(first).expect(rt, "memory");
+    sessions.push(second).expect(rt, "memory");
+}
+
+/// The session writes on a thread of its own.
+fn write_apart<N, R>(rt: R, session: Session<Plain, N>) -> Session<Plain, N>
 where
     N: Naming + Send + Sync + 'static,
     R: Threads + Wait + Abort + Copy + Send + 'static,
 {
-    let mut sessions = sessions;
-    let mut second = sessions.pop().ok_or("two sessions")?;
-    let first = sessions.pop().ok_or("two sessions")?;
-    let writer = move || write_five(&rt, first);
-    let first = thread::spawn(&rt, writer)?.join(&rt);
-    read_five(&rt, &mut second)?;
-    sessions.push(first)?;
-    sessions.push(second)?;
-    Ok(sessions)
+    let writer = move || write_five(&rt, session);
+    let Ok(thread) = thread::spawn(&rt, writer) else {
+        panic!(rt; "a thread")
+    };
+    thread.join(&rt)
 }
 
 /// A call, of which nothing is known afterwards but its receipt.
@@ -227,38 +273,34 @@ fn call<N: Naming, R: Wait>(
 }
 
 /// The second transaction reads item 0, as the fifth entry.
-fn read_five<N: Naming, R: Wait + Abort>(
-    rt: &R,
-    session: &mut Session<Plain, N>,
-) -> Result<(), Fail> {
+fn read_five<N: Naming, R: Wait + Abort>(rt: &R, session: &mut Session<Plain, N>) {
     let _begun = call(rt, session, Event::BeginUpdate { limit: 0 });
-    let read = call(rt, session, reading(2)).ok_or("a read")?;
+    let Some(read) = call(rt, session, reading(2)) else {
+        panic!(rt; "a read")
+    };
     let _committed = call(rt, session, Event::Commit { txn: TxnId(2) });
-    assert_eq!(rt; read.reply, Reply::Value(5));
-    assert_eq!(rt; read.at, 4);
-    Ok(())
+    assert!(rt; read.reply == Reply::Value(5));
+    assert!(rt; read.at == 4);
 }
 
 /// One of two lists of as many receipts, given in the place of both.
-fn check_list_given_twice(
-    rt: &impl Abort,
-    alloc: Global,
-    closed: Closed<Plain>,
-) -> Result<(), Fail> {
+fn check_list_given_twice(rt: &impl Abort, alloc: Global, closed: Closed<Plain>) {
     let mut lists = closed.receipts;
-    let list = lists.pop().ok_or("two lists")?;
-    let twice = vec![in alloc; list.as_slice().to_vec(alloc)?, list]?;
-    let answer = match_receipts(alloc, &closed.history, twice.as_slice());
+    let Some(list) = lists.pop() else {
+        panic!(rt; "two lists")
+    };
+    let same = list.as_slice().to_vec(alloc).expect(rt, "memory");
+    let twice = [same, list];
+    let answer = match_receipts(alloc, &closed.history, &twice);
     assert!(rt; matches!(answer, Err(CloseError::ForeignReceipt(_))));
-    Ok(())
 }
 
 /// The first transaction writes 5 to item 0 and commits.
 fn write_five<N: Naming, R: Wait>(rt: &R, session: Session<Plain, N>) -> Session<Plain, N> {
     let mut session = session;
-    let _ = call(rt, &mut session, Event::BeginUpdate { limit: 0 });
-    let _ = call(rt, &mut session, writing(1));
-    let _ = call(rt, &mut session, Event::Commit { txn: TxnId(1) });
+    let _begun = call(rt, &mut session, Event::BeginUpdate { limit: 0 });
+    let _wrote = call(rt, &mut session, writing(1));
+    let _committed = call(rt, &mut session, Event::Commit { txn: TxnId(1) });
     session
 }
 
@@ -278,14 +320,15 @@ fn writing(txn: u32) -> Event {
 }
 
 #[test]
-fn a_patient_call_takes_its_turns(rt: HostRuntime) -> Result<(), Fail> {
+fn a_patient_call_takes_its_turns(rt: HostRuntime) {
     let alloc = rt.alloc();
-    wait_for_a_lock::<Brand, _>(rt, alloc, Blank::new(LEDGER_PARTS), zeros(alloc, 1)?)
+    let items = zeros(&rt, alloc, 1);
+    wait_for_a_lock::<Brand, _>(rt, alloc, Blank::new(LEDGER_PARTS), items);
 }
 
 /// The second update reads, in three turns, what the first has written and not committed. A third
 /// session is kept back without a call, and answers after the close that the engine is closed.
-fn wait_for_a_lock<N, R>(rt: R, alloc: Global, blank: Blank, items: Store) -> Result<(), Fail>
+fn wait_for_a_lock<N, R>(rt: R, alloc: Global, blank: Blank, items: Store)
 where
     N: Naming,
     R: Wait + Abort + Copy,
@@ -294,40 +337,38 @@ where
     requires opening { map (λ w. w.committed) items ≡ N.opening }
     requires weights { [] ≡ N.weights }
 {
-    let mut engine = Engine::<Plain, N>::new(alloc, blank, items, Plain)?;
-    let mut sessions = engine.open_sessions(3)?;
-    let mut idle = sessions.pop().ok_or("three sessions")?;
-    let sessions = block_on_a_write(&rt, sessions)?;
-    let Ok(closed) = engine.close(&rt, sessions) else {
-        return Err(Fail::from("refused"));
+    let Ok(mut engine) = Engine::<Plain, N>::new(alloc, blank, items, Plain) else {
+        panic!(rt; "an engine")
     };
-    assert_eq!(rt; closed.history.log().len(), 6);
-    check_turns(&rt, &closed.receipts)?;
+    let Ok(mut sessions) = engine.open_sessions(3) else {
+        panic!(rt; "three sessions")
+    };
+    let Some(mut idle) = sessions.pop() else {
+        panic!(rt; "three sessions")
+    };
+    let (mut first, mut second) = last_two(&rt, &mut sessions);
+    block_on_a_write(&rt, &mut first, &mut second);
+    give_back(&rt, &mut sessions, first, second);
+    let closed = closed(&rt, engine, sessions);
+    check_turns(&rt, &closed);
     let late = idle.call(&rt, Event::BeginUpdate { limit: 0 });
-    assert_eq!(rt; late, Err(StepError::EngineClosed));
-    Ok(())
+    assert!(rt; late == Err(StepError::EngineClosed));
 }
 
 /// The second session's transaction reads in three turns what the first session's has written.
 fn block_on_a_write<N: Naming, R: Wait + Abort>(
     rt: &R,
-    sessions: Vec<Session<Plain, N>>,
-) -> Result<Vec<Session<Plain, N>>, Fail> {
-    let mut sessions = sessions;
-    let mut second = sessions.pop().ok_or("two sessions")?;
-    let mut first = sessions.pop().ok_or("two sessions")?;
-    let _begun = call(rt, &mut first, Event::BeginUpdate { limit: 0 });
-    let _wrote = call(rt, &mut first, writing(1));
-    let _begun = call(rt, &mut second, Event::BeginUpdate { limit: 0 });
-    let blocked = call_in_three_turns(rt, &mut second, reading(2)).ok_or("a reply")?;
-    assert_eq!(rt;
-        blocked.reply,
-        Reply::Refused(Refusal::BlockedByLock(TxnId(1)))
-    );
-    assert_eq!(rt; blocked.at, 5);
-    sessions.push(first)?;
-    sessions.push(second)?;
-    Ok(sessions)
+    first: &mut Session<Plain, N>,
+    second: &mut Session<Plain, N>,
+) {
+    let _begun = call(rt, first, Event::BeginUpdate { limit: 0 });
+    let _wrote = call(rt, first, writing(1));
+    let _begun = call(rt, second, Event::BeginUpdate { limit: 0 });
+    let Some(blocked) = call_in_three_turns(rt, second, reading(2)) else {
+        panic!(rt; "a reply")
+    };
+    assert!(rt; blocked.reply == Reply::Refused(Refusal::BlockedByLock(TxnId(1))));
+    assert!(rt; blocked.at == 5);
 }
 
 /// A patient call with three turns.
@@ -340,11 +381,10 @@ fn call_in_three_turns<N: Naming, R: Wait>(
 }
 
 /// Two calls of the first session; a begin and three turns of the second.
-fn check_turns(rt: &impl Abort, receipts: &[Vec<Receipt>]) -> Result<(), Fail> {
-    let first = receipts.first().ok_or("two lists")?;
-    let second = receipts.last().ok_or("two lists")?;
-    assert_eq!(rt; receipts.len(), 2);
-    assert_eq!(rt; first.len(), 2);
-    assert_eq!(rt; second.len(), 4);
-    Ok(())
+fn check_turns(rt: &impl Abort, closed: &Closed<Plain>) {
+    assert!(rt; closed.history.log().len() == 6);
+    let receipts = &closed.receipts;
+    assert!(rt; receipts.len() == 2);
+    assert!(rt; receipts[0].len() == 2);
+    assert!(rt; receipts[1].len() == 4);
 }

@@ -2,121 +2,164 @@ use esr_cert::{Certificate, Chain, Problem};
 use esr_flow::{Network, Solved, solve};
 use esr_history::{NoMemory, TxnId};
 use esr_items::ItemId;
-use std::alloc::Global;
+use std::alloc::{AllocError, Global};
 use std::process::Abort;
-use std::test::Fail;
+
+/// An item with its writers, and what each version costs.
+type Item = (u32, &'static [u32], &'static [u64]);
+
+/// A problem, and what is found of it.
+struct Row {
+    name: &'static str,
+    updates: &'static [TxnId],
+    before: &'static [(u32, u32)],
+    items: &'static [Item],
+    must: &'static [u32],
+    set: &'static [u32],
+    worth: u64,
+    augmentations: Option<u64>,
+    flow: Option<Flow>,
+}
+
+/// The amounts of a certificate.
+#[derive(Clone, Copy)]
+struct Flow {
+    chains: &'static [&'static [u64]],
+    backs: &'static [u64],
+    musts: &'static [u64],
+}
+
+const ROWS: [Row; 4] = [
+    Row {
+        name: "an order through a third item",
+        updates: &[TxnId(2), TxnId(3)],
+        before: &[(0, 1)],
+        items: &[(0, &[0], &[0, 6]), (1, &[1], &[2, 0])],
+        must: &[],
+        set: &[],
+        worth: 2,
+        augmentations: Some(1),
+        flow: Some(Flow {
+            chains: &[&[0, 2], &[2, 0]],
+            backs: &[2],
+            musts: &[],
+        }),
+    },
+    Row {
+        name: "two updates over a report",
+        updates: &[TxnId(2), TxnId(3)],
+        before: &[(0, 1)],
+        items: &[(0, &[0, 1], &[0, 10, 1]), (1, &[1], &[8, 0])],
+        must: &[],
+        set: &[0, 1],
+        worth: 1,
+        augmentations: Some(1),
+        flow: None,
+    },
+    Row {
+        name: "a query that reads nothing",
+        updates: &[],
+        before: &[],
+        items: &[],
+        must: &[],
+        set: &[],
+        worth: 0,
+        augmentations: Some(0),
+        flow: None,
+    },
+    Row {
+        name: "a strict report",
+        updates: &[TxnId(1)],
+        before: &[],
+        items: &[(0, &[0], &[0, 5])],
+        must: &[0],
+        set: &[0],
+        worth: 5,
+        augmentations: None,
+        flow: Some(Flow {
+            chains: &[&[0, 5]],
+            backs: &[],
+            musts: &[5],
+        }),
+    },
+];
 
 /// The answer to a problem. Where memory is refused once, a second try gives it.
 fn answer(alloc: Global, problem: &Problem) -> Result<Solved, NoMemory> {
-    let first = match Network::build(alloc, problem) {
-        Ok(network) => solve(alloc, &network),
-        Err(NoMemory) => Err(NoMemory),
-    };
-    match first {
-        Ok(solved) => Ok(solved),
-        Err(NoMemory) => {
-            let network = Network::build(alloc, problem)?;
-            solve(alloc, &network)
-        }
+    match answer_once(alloc, problem) {
+        Err(NoMemory) => answer_once(alloc, problem),
+        solved => solved,
     }
 }
 
-fn chain(alloc: Global, item: u32, writers: &[u32], costs: &[u64]) -> Result<Chain, NoMemory> {
+fn answer_once(alloc: Global, problem: &Problem) -> Result<Solved, NoMemory> {
+    let network = Network::build(alloc, problem)?;
+    solve(alloc, &network)
+}
+
+fn chain(alloc: Global, item: Item) -> Result<Chain, AllocError> {
+    let writers = item.1.to_vec(alloc)?;
+    let costs = item.2.to_vec(alloc)?;
     Ok(Chain {
-        item: ItemId(item),
-        writers: writers.to_vec(alloc)?,
-        costs: costs.to_vec(alloc)?,
+        item: ItemId(item.0),
+        writers,
+        costs,
     })
 }
 
-fn check_flow(
-    rt: &impl Abort,
-    certificate: &Certificate,
-    chain_flow: &[&[u64]],
-    back_flow: &[u64],
-    must_flow: &[u64],
-) {
-    assert!(rt; certificate.chain_flow.len() == chain_flow.len());
-    for (row, want) in certificate.chain_flow.iter().zip(chain_flow.iter()) {
-        assert!(rt; row.as_slice() == *want);
+fn chains(alloc: Global, items: &[Item]) -> Result<Vec<Chain>, AllocError> {
+    let mut chains = Vec::new(alloc);
+    for item in items {
+        chains.push(chain(alloc, *item)?)?;
     }
-    assert!(rt; certificate.back_flow.as_slice() == back_flow);
-    assert!(rt; certificate.must_flow.as_slice() == must_flow);
+    Ok(chains)
 }
 
-/// The problem of a query with two updates, of which one comes after the other.
-fn one_after_the_other(alloc: Global, chains: Vec<Chain>) -> Result<Problem, Fail> {
-    Ok(Problem::new(
-        alloc,
-        vec![in alloc; TxnId(2), TxnId(3)]?,
-        vec![in alloc; (0, 1)]?,
-        chains,
-        Vec::new(alloc),
-    )?)
+fn problem(alloc: Global, row: &Row) -> Option<Problem> {
+    let chains = chains(alloc, row.items).ok()?;
+    let updates = row.updates.to_vec(alloc).ok()?;
+    let before = row.before.to_vec(alloc).ok()?;
+    let must = row.must.to_vec(alloc).ok()?;
+    Problem::new(alloc, updates, before, chains, must).ok()
 }
 
-#[test]
-fn order_through_a_third_item(rt: HostRuntime) -> Result<(), Fail> {
-    let alloc = rt.alloc();
-    let chains = vec![in alloc;
-        chain(alloc, 0, &[0], &[0, 6])?,
-        chain(alloc, 1, &[1], &[2, 0])?,
-    ]?;
-    let problem = one_after_the_other(alloc, chains)?;
-    let solved = answer(alloc, &problem)?;
-    assert!(rt; solved.certificate.set.is_empty());
-    check_flow(&rt, &solved.certificate, &[&[0, 2], &[2, 0]], &[2], &[]);
-    assert!(rt; solved.certificate.worth == 2);
-    assert!(rt; solved.augmentations == 1);
-    Ok(())
+/// Whether a certificate has these amounts.
+fn has_flow(certificate: &Certificate, flow: Flow) -> bool {
+    for (row, amounts) in certificate.chain_flow.iter().zip(flow.chains.iter()) {
+        if row.as_slice() != *amounts {
+            return false;
+        }
+    }
+    certificate.chain_flow.len() == flow.chains.len()
+        && certificate.back_flow.as_slice() == flow.backs
+        && certificate.must_flow.as_slice() == flow.musts
 }
 
-#[test]
-fn two_updates_over_a_report(rt: HostRuntime) -> Result<(), Fail> {
-    let alloc = rt.alloc();
-    let chains = vec![in alloc;
-        chain(alloc, 0, &[0, 1], &[0, 10, 1])?,
-        chain(alloc, 1, &[1], &[8, 0])?,
-    ]?;
-    let problem = one_after_the_other(alloc, chains)?;
-    let solved = answer(alloc, &problem)?;
-    assert!(rt; solved.certificate.set.as_slice() == [0, 1].as_slice());
-    assert!(rt; solved.certificate.worth == 1);
-    assert!(rt; solved.augmentations == 1);
-    Ok(())
+/// Whether this is found of a row's problem.
+fn is_found(solved: &Solved, row: &Row) -> bool {
+    solved.certificate.set.as_slice() == row.set
+        && solved.certificate.worth == row.worth
+        && row
+            .augmentations
+            .is_none_or(|count| solved.augmentations == count)
+        && row
+            .flow
+            .is_none_or(|flow| has_flow(&solved.certificate, flow))
 }
 
-#[test]
-fn a_query_that_reads_nothing(rt: HostRuntime) -> Result<(), Fail> {
-    let alloc = rt.alloc();
-    let problem = Problem::new(
-        alloc,
-        Vec::new(alloc),
-        Vec::new(alloc),
-        Vec::new(alloc),
-        Vec::new(alloc),
-    )?;
-    let solved = answer(alloc, &problem)?;
-    assert!(rt; solved.certificate.set.is_empty());
-    assert!(rt; solved.certificate.worth == 0);
-    assert!(rt; solved.augmentations == 0);
-    Ok(())
+fn check_row(rt: &impl Abort, alloc: Global, row: &Row) {
+    let Some(problem) = problem(alloc, row) else {
+        panic!(rt; "a problem")
+    };
+    let Ok(solved) = answer(alloc, &problem) else {
+        panic!(rt; "memory")
+    };
+    assert!(rt; is_found(&solved, row), "{}", row.name);
 }
 
 #[test]
-fn strict_report(rt: HostRuntime) -> Result<(), Fail> {
-    let alloc = rt.alloc();
-    let chains = vec![in alloc; chain(alloc, 0, &[0], &[0, 5])?]?;
-    let problem = Problem::new(
-        alloc,
-        vec![in alloc; TxnId(1)]?,
-        Vec::new(alloc),
-        chains,
-        vec![in alloc; 0]?,
-    )?;
-    let solved = answer(alloc, &problem)?;
-    assert!(rt; solved.certificate.set.as_slice() == [0].as_slice());
-    check_flow(&rt, &solved.certificate, &[&[0, 5]], &[], &[5]);
-    assert!(rt; solved.certificate.worth == 5);
-    Ok(())
+fn problems_are_solved(rt: HostRuntime) {
+    for row in &ROWS {
+        check_row(&rt, rt.alloc(), row);
+    }
 }
