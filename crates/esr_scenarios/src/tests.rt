@@ -2,22 +2,29 @@ mod audits;
 mod placements;
 mod plain;
 
+use Asked::{Commit, Query, Read, Strict, Update, Write};
 use audits::played;
 use esr_core::{Machine, StepError};
 use esr_history::{Event, Reply, TxnId};
 use esr_items::{ItemId, Plain, Store};
 use esr_order::{Order, OrderError};
 use std::alloc::Global;
+use std::process::Abort;
 
-fn query(limit: u64) -> Event {
-    Event::BeginQuery {
-        limit,
-        strict: false,
-    }
+/// An event: the limit of a begin; the transaction, item and value of all others.
+#[derive(Clone, Copy)]
+enum Asked {
+    Update(u64),
+    Query(u64),
+    Strict(u64),
+    Read(u32, u32),
+    Write(u32, u32, i64),
+    Commit(u32),
+    Abort(u32),
 }
 
-fn update(limit: u64) -> Event {
-    Event::BeginUpdate { limit }
+fn query(limit: u64, strict: bool) -> Event {
+    Event::BeginQuery { limit, strict }
 }
 
 fn read(t: u32, x: u32) -> Event {
@@ -35,19 +42,21 @@ fn write(t: u32, x: u32, value: i64) -> Event {
     }
 }
 
-fn commit(t: u32) -> Event {
-    Event::Commit { txn: TxnId(t) }
-}
-
-/// A machine over items that open with 0, or None where memory is refused.
-fn opened(alloc: Global, items: usize) -> Option<Machine<Plain>> {
-    let values = vec![in alloc; 0i64; items].ok()?;
-    let store = Store::new(alloc, values).ok()?;
-    Machine::new(alloc, store, Plain).ok()
+fn event(asked: Asked) -> Event {
+    match asked {
+        Update(limit) => Event::BeginUpdate { limit },
+        Query(limit) => query(limit, false),
+        Strict(limit) => query(limit, true),
+        Read(t, x) => read(t, x),
+        Write(t, x, value) => write(t, x, value),
+        Commit(t) => Event::Commit { txn: TxnId(t) },
+        Asked::Abort(t) => Event::Abort { txn: TxnId(t) },
+    }
 }
 
 /// The answer to an event, which is given once more where memory is refused.
-fn answer(m: &mut Machine<Plain>, event: Event) -> Result<Reply, StepError> {
+fn answer(m: &mut Machine<Plain>, asked: Asked) -> Result<Reply, StepError> {
+    let event = event(asked);
     match m.step(event) {
         Err(StepError::NoMemory) => m.step(event),
         answered => answered,
@@ -55,17 +64,18 @@ fn answer(m: &mut Machine<Plain>, event: Event) -> Result<Reply, StepError> {
 }
 
 /// Steps the machine, and tells whether the event was accepted.
-fn accepts(m: &mut Machine<Plain>, event: Event) -> bool {
-    match answer(m, event) {
-        Ok(Reply::Refused(_)) => false,
-        Ok(_) => true,
-        Err(_) => false,
-    }
+fn accepts(m: &mut Machine<Plain>, asked: Asked) -> bool {
+    !matches!(answer(m, asked), Err(_) | Ok(Reply::Refused(_)))
 }
 
 /// Plays the events, and tells whether each was accepted.
-fn play(m: &mut Machine<Plain>, events: &[Event]) -> bool {
-    events.iter().all(|event| accepts(m, *event))
+fn play(m: &mut Machine<Plain>, events: &[Asked]) -> bool {
+    for asked in events {
+        if !accepts(m, *asked) {
+            return false;
+        }
+    }
+    true
 }
 
 /// The order of a query, asked for once more where memory is refused.
@@ -85,13 +95,18 @@ fn has_chain(order: &Order, x: u32, writers: &[u32], values: &[i64]) -> bool {
 }
 
 /// The order of a query in the history of these events, all of which are accepted.
-fn order_in(alloc: Global, opening: &[i64], events: &[Event], q: u32) -> Option<Order> {
-    let m = played(alloc, opening, events)?;
-    order_of(alloc, &m, q).ok()
+fn order_in(rt: &impl Abort, alloc: Global, opening: &[i64], events: &[Asked], q: u32) -> Order {
+    let Some(m) = played(alloc, opening, events) else {
+        panic!(rt; "a history")
+    };
+    let Ok(order) = order_of(alloc, &m, q) else {
+        panic!(rt; "an order")
+    };
+    order
 }
 
 /// Whether the events are accepted, and a transaction has no order then.
-fn refuses_in(alloc: Global, opening: &[i64], events: &[Event], t: u32) -> bool {
+fn has_none(alloc: Global, opening: &[i64], events: &[Asked], t: u32) -> bool {
     match played(alloc, opening, events) {
         Some(m) => matches!(order_of(alloc, &m, t), Err(OrderError::NotACommittedQuery)),
         None => false,
@@ -99,102 +114,109 @@ fn refuses_in(alloc: Global, opening: &[i64], events: &[Event], t: u32) -> bool 
 }
 
 /// A query reads one item before an update and another behind the next, which read a third that the first wrote.
-fn through_a_third_item() -> [Event; 12] {
-    [
-        query(9),
-        update(9),
-        update(9),
-        read(1, 0),
-        write(2, 0, 6),
-        write(2, 2, 1),
-        commit(2),
-        read(3, 2),
-        write(3, 1, 2),
-        commit(3),
-        read(1, 1),
-        commit(1),
-    ]
-}
+const THROUGH_A_THIRD_ITEM: [Asked; 12] = [
+    Query(9),
+    Update(9),
+    Update(9),
+    Read(1, 0),
+    Write(2, 0, 6),
+    Write(2, 2, 1),
+    Commit(2),
+    Read(3, 2),
+    Write(3, 1, 2),
+    Commit(3),
+    Read(1, 1),
+    Commit(1),
+];
 
 /// Two updates write over what a report read, before it reads again.
-fn over_a_report() -> [Event; 11] {
-    [
-        query(100),
-        update(100),
-        update(100),
-        read(1, 0),
-        write(2, 0, 10),
-        commit(2),
-        write(3, 0, 1),
-        write(3, 1, 8),
-        commit(3),
-        read(1, 1),
-        commit(1),
-    ]
-}
+const OVER_A_REPORT: [Asked; 11] = [
+    Query(100),
+    Update(100),
+    Update(100),
+    Read(1, 0),
+    Write(2, 0, 10),
+    Commit(2),
+    Write(3, 0, 1),
+    Write(3, 1, 8),
+    Commit(3),
+    Read(1, 1),
+    Commit(1),
+];
 
 #[test]
 fn order_through_a_third_item(rt: HostRuntime) {
     let alloc = rt.alloc();
-    let events = through_a_third_item();
-    let order = order_in(alloc, &[0, 0, 0], &events, 1).expect(&rt, "an order");
+    let events = &THROUGH_A_THIRD_ITEM;
+    let order = order_in(&rt, alloc, &[0, 0, 0], events, 1);
     assert!(rt; order.commits() == &[TxnId(2), TxnId(3)][..]);
     assert!(rt; order.before() == &[(0, 1)][..]);
     assert!(rt; order.must().is_empty());
-    for (x, writer, value) in [(0, 0, 6), (1, 1, 2), (2, 0, 1)] {
-        assert!(rt; has_chain(&order, x, &[writer], &[value]), "at {x}");
-    }
+    assert!(rt; has_chain(&order, 0, &[0], &[6]));
+    assert!(rt; has_chain(&order, 1, &[1], &[2]));
+    assert!(rt; has_chain(&order, 2, &[0], &[1]));
     assert!(rt; order.chain(ItemId(3)).is_none());
-    for t in [2, 0] {
-        assert!(rt; refuses_in(alloc, &[0, 0, 0], &events, t), "for {t}");
-    }
+    assert!(rt; has_none(alloc, &[0, 0, 0], events, 2));
+    assert!(rt; has_none(alloc, &[0, 0, 0], events, 0));
 }
 
 #[test]
 fn two_updates_over_a_report(rt: HostRuntime) {
     let alloc = rt.alloc();
-    let events = over_a_report();
-    assert!(rt; refuses_in(alloc, &[0, 0], &events[..10], 1));
-    let order = order_in(alloc, &[0, 0], &events, 1).expect(&rt, "an order");
+    let events = &OVER_A_REPORT;
+    assert!(rt; has_none(alloc, &[0, 0], &events[..10], 1));
+    let order = order_in(&rt, alloc, &[0, 0], events, 1);
     assert!(rt; order.commits() == &[TxnId(2), TxnId(3)][..]);
     assert!(rt; has_chain(&order, 0, &[0, 1], &[10, 1]));
 }
 
 /// A query begins when an update has committed, and reads what another has written, which aborts.
-fn behind_an_update(strict: bool) -> [Event; 9] {
-    [
-        update(9),
-        write(1, 0, 5),
-        commit(1),
-        Event::BeginQuery { limit: 9, strict },
-        update(9),
-        write(3, 0, 0),
-        read(2, 0),
-        Event::Abort { txn: TxnId(3) },
-        commit(2),
-    ]
+const BEHIND_AN_UPDATE: [Asked; 9] = [
+    Update(9),
+    Write(1, 0, 5),
+    Commit(1),
+    Query(9),
+    Update(9),
+    Write(3, 0, 0),
+    Read(2, 0),
+    Asked::Abort(3),
+    Commit(2),
+];
+
+/// The same of a strict query.
+const STRICTLY_BEHIND_AN_UPDATE: [Asked; 9] = [
+    Update(9),
+    Write(1, 0, 5),
+    Commit(1),
+    Strict(9),
+    Update(9),
+    Write(3, 0, 0),
+    Read(2, 0),
+    Asked::Abort(3),
+    Commit(2),
+];
+
+/// Whether one update comes before a query, which must have seen so many.
+fn has_must(rt: &impl Abort, alloc: Global, events: &[Asked], must: usize) -> bool {
+    let order = order_in(rt, alloc, &[0], events, 2);
+    order.commits() == &[TxnId(1)][..] && order.must().len() == must
 }
 
 #[test]
 fn strict_report(rt: HostRuntime) {
-    let alloc = rt.alloc();
-    for (strict, must) in [(true, 1), (false, 0)] {
-        let events = behind_an_update(strict);
-        let order = order_in(alloc, &[0], &events, 2).expect(&rt, "an order");
-        assert!(rt; order.commits() == &[TxnId(1)][..]);
-        assert!(rt; order.must().len() == must);
-    }
+    assert!(rt; has_must(&rt, rt.alloc(), &STRICTLY_BEHIND_AN_UPDATE, 1));
+    assert!(rt; has_must(&rt, rt.alloc(), &BEHIND_AN_UPDATE, 0));
 }
 
 /// A query, and ten updates of one item, each after the one before it.
 fn one_after_another(alloc: Global) -> Option<Machine<Plain>> {
-    let mut m = played(alloc, &[0], &[query(9)])?;
+    let mut m = played(alloc, &[0], &[Query(9)])?;
     for u in 2..12u32 {
-        if !play(&mut m, &[update(9), write(u, 0, 1), commit(u)]) {
+        if !play(&mut m, &[Update(9), Write(u, 0, 1), Commit(u)]) {
             return None;
         }
     }
-    if play(&mut m, &[commit(1)]) {
+    if accepts(&mut m, Commit(1)) {
         Some(m)
     } else {
         None
@@ -203,9 +225,12 @@ fn one_after_another(alloc: Global) -> Option<Machine<Plain>> {
 
 #[test]
 fn ten_updates_of_one_item(rt: HostRuntime) {
-    let alloc = rt.alloc();
-    let m = one_after_another(alloc).expect(&rt, "a history");
-    let order = order_of(alloc, &m, 1).expect(&rt, "an order");
+    let Some(m) = one_after_another(rt.alloc()) else {
+        panic!(rt; "a history")
+    };
+    let Ok(order) = order_of(rt.alloc(), &m, 1) else {
+        panic!(rt; "an order")
+    };
     assert!(rt; order.before().len() == 9);
     assert!(rt; order.before()[0] == (0, 1));
     assert!(rt; order.before()[8] == (8, 9));

@@ -6,7 +6,7 @@ use std::alloc::{AllocError, Global};
 use std::process::Abort;
 
 /// An item with its writers, and what each version costs.
-type Item<'a> = (u32, &'a [u32], &'a [u64]);
+pub(super) type Item<'a> = (u32, &'a [u32], &'a [u64]);
 
 /// The parts of a problem.
 #[derive(Clone, Copy)]
@@ -214,7 +214,7 @@ fn chain(alloc: Global, item: Item) -> Result<Chain, AllocError> {
     })
 }
 
-fn chains(alloc: Global, items: &[Item]) -> Result<Vec<Chain>, AllocError> {
+pub(super) fn chains(alloc: Global, items: &[Item]) -> Result<Vec<Chain>, AllocError> {
     let mut chains = Vec::new(alloc);
     for item in items {
         chains.push(chain(alloc, *item)?)?;

@@ -1,19 +1,16 @@
-use esr_cert::{Certificate, Chain, Problem};
+use super::certificates::{Item, chains};
+use esr_cert::{Certificate, Problem};
 use esr_flow::{Network, Solved, solve};
 use esr_history::{NoMemory, TxnId};
-use esr_items::ItemId;
-use std::alloc::{AllocError, Global};
+use std::alloc::Global;
 use std::process::Abort;
-
-/// An item with its writers, and what each version costs.
-type Item = (u32, &'static [u32], &'static [u64]);
 
 /// A problem, and what is found of it.
 struct Row {
     name: &'static str,
     updates: &'static [TxnId],
     before: &'static [(u32, u32)],
-    items: &'static [Item],
+    items: &'static [Item<'static>],
     must: &'static [u32],
     set: &'static [u32],
     worth: u64,
@@ -95,24 +92,6 @@ fn answer(alloc: Global, problem: &Problem) -> Result<Solved, NoMemory> {
 fn answer_once(alloc: Global, problem: &Problem) -> Result<Solved, NoMemory> {
     let network = Network::build(alloc, problem)?;
     solve(alloc, &network)
-}
-
-fn chain(alloc: Global, item: Item) -> Result<Chain, AllocError> {
-    let writers = item.1.to_vec(alloc)?;
-    let costs = item.2.to_vec(alloc)?;
-    Ok(Chain {
-        item: ItemId(item.0),
-        writers,
-        costs,
-    })
-}
-
-fn chains(alloc: Global, items: &[Item]) -> Result<Vec<Chain>, AllocError> {
-    let mut chains = Vec::new(alloc);
-    for item in items {
-        chains.push(chain(alloc, *item)?)?;
-    }
-    Ok(chains)
 }
 
 fn problem(alloc: Global, row: &Row) -> Option<Problem> {

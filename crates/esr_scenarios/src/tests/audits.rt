@@ -1,28 +1,38 @@
 //! Audits of the worked histories.
 
+use super::Asked::{Commit, Query, Read, Update, Write};
 use super::placements::listed;
 use super::plain::agrees;
 use super::{
-    answer, behind_an_update, commit, over_a_report, play, query, read, through_a_third_item,
-    update, write,
+    Asked, BEHIND_AN_UPDATE, OVER_A_REPORT, STRICTLY_BEHIND_AN_UPDATE, THROUGH_A_THIRD_ITEM,
+    answer, play,
 };
 use esr_audit::{AuditError, Book, Finding, audit_history, audit_query};
 use esr_cert::check;
 use esr_core::{Machine, Totals};
-use esr_history::{Event, Refusal, Reply, TxnId};
+use esr_history::{Refusal, Reply, TxnId};
 use esr_items::{Plain, Store};
 use std::alloc::Global;
+use std::process::Abort;
 
 /// A machine over items that open with these values, or None where memory is refused.
-fn opened_with(alloc: Global, opening: &[i64]) -> Option<Machine<Plain>> {
+fn opened_once(alloc: Global, opening: &[i64]) -> Option<Machine<Plain>> {
     let values = opening.to_vec(alloc).ok()?;
     let store = Store::new(alloc, values).ok()?;
     Machine::new(alloc, store, Plain).ok()
 }
 
+/// The same, once more where memory is refused.
+pub(super) fn opened(alloc: Global, opening: &[i64]) -> Option<Machine<Plain>> {
+    match opened_once(alloc, opening) {
+        None => opened_once(alloc, opening),
+        opened => opened,
+    }
+}
+
 /// A machine that accepted all the events.
-pub(super) fn played(alloc: Global, opening: &[i64], events: &[Event]) -> Option<Machine<Plain>> {
-    let mut m = opened_with(alloc, opening).or_else(|| opened_with(alloc, opening))?;
+pub(super) fn played(alloc: Global, opening: &[i64], events: &[Asked]) -> Option<Machine<Plain>> {
+    let mut m = opened(alloc, opening)?;
     if play(&mut m, events) { Some(m) } else { None }
 }
 
@@ -74,7 +84,7 @@ fn finds(alloc: Global, m: &Machine<Plain>, row: Row) -> bool {
 }
 
 /// The same, of the history of these events, all of which are accepted.
-fn finds_in(alloc: Global, opening: &[i64], events: &[Event], row: Row) -> bool {
+fn finds_in(alloc: Global, opening: &[i64], events: &[Asked], row: Row) -> bool {
     match played(alloc, opening, events) {
         Some(m) => finds(alloc, &m, row),
         None => false,
@@ -82,7 +92,7 @@ fn finds_in(alloc: Global, opening: &[i64], events: &[Event], row: Row) -> bool 
 }
 
 /// Whether the events are accepted, and the audit of a transaction is refused then.
-fn refuses_in(alloc: Global, opening: &[i64], events: &[Event], t: u32) -> bool {
+fn refuses_in(alloc: Global, opening: &[i64], events: &[Asked], t: u32) -> bool {
     match played(alloc, opening, events) {
         Some(m) => matches!(audit_of(alloc, &m, t), Err(AuditError::NotACommittedQuery)),
         None => false,
@@ -90,180 +100,211 @@ fn refuses_in(alloc: Global, opening: &[i64], events: &[Event], t: u32) -> bool 
 }
 
 /// The audit of the whole history of these events, all of which are accepted.
-fn book_in(alloc: Global, opening: &[i64], events: &[Event]) -> Option<Book> {
-    let m = played(alloc, opening, events)?;
-    book_of(alloc, &m).ok()
+fn book_in(rt: &impl Abort, alloc: Global, opening: &[i64], events: &[Asked]) -> Book {
+    let Some(m) = played(alloc, opening, events) else {
+        panic!(rt; "a history")
+    };
+    let Ok(book) = book_of(alloc, &m) else {
+        panic!(rt; "a book")
+    };
+    book
 }
 
-/// An update writes beside a report that reads what it wrote, and ends.
-fn beside_a_report(end: Event) -> [Event; 6] {
-    [
-        update(50),
-        query(10),
-        write(1, 0, 107),
-        read(2, 0),
-        end,
-        commit(2),
-    ]
+/// A history, and what is found of a query.
+struct Case {
+    name: &'static str,
+    opening: &'static [i64],
+    events: &'static [Asked],
+    found: Row<'static>,
 }
+
+const CASES: [Case; 9] = [
+    Case {
+        name: "an update writes beside a report that reads what it wrote",
+        opening: &[100],
+        events: &[
+            Update(50),
+            Query(10),
+            Write(1, 0, 107),
+            Read(2, 0),
+            Commit(1),
+            Commit(2),
+        ],
+        found: Row {
+            query: 2,
+            distance: 0,
+            import: 7,
+            before: &[TxnId(1)],
+        },
+    },
+    Case {
+        name: "the same, where the update aborts",
+        opening: &[100],
+        events: &[
+            Update(50),
+            Query(10),
+            Write(1, 0, 107),
+            Read(2, 0),
+            Asked::Abort(1),
+            Commit(2),
+        ],
+        found: Row {
+            query: 2,
+            distance: 7,
+            import: 7,
+            before: &[],
+        },
+    },
+    Case {
+        name: "nearer before the update",
+        opening: &[0, 0],
+        events: &[
+            Query(5),
+            Update(5),
+            Read(1, 1),
+            Write(2, 0, 3),
+            Write(2, 1, 5),
+            Commit(2),
+            Read(1, 0),
+            Commit(1),
+        ],
+        found: Row {
+            query: 1,
+            distance: 3,
+            import: 5,
+            before: &[],
+        },
+    },
+    Case {
+        name: "the smaller of two sets",
+        opening: &[0],
+        events: &[
+            Query(9),
+            Update(4),
+            Read(1, 0),
+            Write(2, 0, 4),
+            Commit(2),
+            Read(1, 0),
+            Commit(1),
+        ],
+        found: Row {
+            query: 1,
+            distance: 4,
+            import: 4,
+            before: &[],
+        },
+    },
+    Case {
+        name: "an order through a third item",
+        opening: &[0, 0, 0],
+        events: &THROUGH_A_THIRD_ITEM,
+        found: Row {
+            query: 1,
+            distance: 2,
+            import: 6,
+            before: &[],
+        },
+    },
+    Case {
+        name: "a strict report",
+        opening: &[0],
+        events: &STRICTLY_BEHIND_AN_UPDATE,
+        found: Row {
+            query: 2,
+            distance: 5,
+            import: 5,
+            before: &[TxnId(1)],
+        },
+    },
+    Case {
+        name: "the same, not strict",
+        opening: &[0],
+        events: &BEHIND_AN_UPDATE,
+        found: Row {
+            query: 2,
+            distance: 0,
+            import: 5,
+            before: &[],
+        },
+    },
+    Case {
+        name: "a query that reads nothing",
+        opening: &[7],
+        events: &[Query(0), Commit(1), Query(0), Read(2, 0), Commit(2)],
+        found: Row {
+            query: 1,
+            distance: 0,
+            import: 0,
+            before: &[],
+        },
+    },
+    Case {
+        name: "a query that reads an item which no update wrote",
+        opening: &[7],
+        events: &[Query(0), Commit(1), Query(0), Read(2, 0), Commit(2)],
+        found: Row {
+            query: 2,
+            distance: 0,
+            import: 0,
+            before: &[],
+        },
+    },
+];
 
 #[test]
-fn report_beside_a_writer(rt: HostRuntime) {
-    let events = beside_a_report(commit(1));
-    let row = Row {
-        query: 2,
-        distance: 0,
-        import: 7,
-        before: &[TxnId(1)],
-    };
-    assert!(rt; finds_in(rt.alloc(), &[100], &events, row));
-}
-
-#[test]
-fn aborted_write_was_read(rt: HostRuntime) {
-    let events = beside_a_report(Event::Abort { txn: TxnId(1) });
-    let row = Row {
-        query: 2,
-        distance: 7,
-        import: 7,
-        before: &[],
-    };
-    assert!(rt; finds_in(rt.alloc(), &[100], &events, row));
-}
-
-#[test]
-fn nearer_before_the_update(rt: HostRuntime) {
-    let events = [
-        query(5),
-        update(5),
-        read(1, 1),
-        write(2, 0, 3),
-        write(2, 1, 5),
-        commit(2),
-        read(1, 0),
-        commit(1),
-    ];
-    let row = Row {
-        query: 1,
-        distance: 3,
-        import: 5,
-        before: &[],
-    };
-    assert!(rt; finds_in(rt.alloc(), &[0, 0], &events, row));
-}
-
-#[test]
-fn smaller_of_two_sets(rt: HostRuntime) {
-    let events = [
-        query(9),
-        update(4),
-        read(1, 0),
-        write(2, 0, 4),
-        commit(2),
-        read(1, 0),
-        commit(1),
-    ];
-    let row = Row {
-        query: 1,
-        distance: 4,
-        import: 4,
-        before: &[],
-    };
-    assert!(rt; finds_in(rt.alloc(), &[0], &events, row));
+fn queries_are_audited(rt: HostRuntime) {
+    for case in &CASES {
+        let found = finds_in(rt.alloc(), case.opening, case.events, case.found);
+        assert!(rt; found, "{}", case.name);
+    }
 }
 
 #[test]
 fn two_updates_over_a_report(rt: HostRuntime) {
     let alloc = rt.alloc();
-    let events = over_a_report();
+    let events = &OVER_A_REPORT;
     let row = Row {
         query: 1,
         distance: 1,
         import: 19,
         before: &[TxnId(2), TxnId(3)],
     };
-    assert!(rt;
-        refuses_in(alloc, &[0, 0], &events[..10], 1),
-        "while it is active"
-    );
-    assert!(rt; finds_in(alloc, &[0, 0], &events, row));
-    for t in [0, 2, 4] {
-        assert!(rt; refuses_in(alloc, &[0, 0], &events, t), "for {t}");
+    // While the report is active, it has no audit.
+    assert!(rt; refuses_in(alloc, &[0, 0], &events[..10], 1));
+    assert!(rt; finds_in(alloc, &[0, 0], events, row));
+    for t in &[0, 2, 4] {
+        assert!(rt; refuses_in(alloc, &[0, 0], events, *t), "for {t}");
     }
-    let book = book_in(alloc, &[0, 0], &events).expect(&rt, "a book");
+    let book = book_in(&rt, alloc, &[0, 0], events);
     assert!(rt; book.order.as_slice() == row.before);
     assert!(rt; book.findings.len() == 1);
     assert!(rt; has(&book.findings[0], row));
 }
 
-#[test]
-fn order_through_a_third_item(rt: HostRuntime) {
-    let events = through_a_third_item();
-    let row = Row {
-        query: 1,
-        distance: 2,
-        import: 6,
-        before: &[],
-    };
-    assert!(rt; finds_in(rt.alloc(), &[0, 0, 0], &events, row));
-}
+const EDGE: i64 = 1_000_000_000_000;
+
+const LIMIT: u64 = 2_000_000_000_000;
 
 #[test]
 fn values_at_the_edge(rt: HostRuntime) {
     let alloc = rt.alloc();
-    let edge = 1_000_000_000_000;
+    let Some(mut m) = played(alloc, &[-EDGE], &[Query(LIMIT), Update(LIMIT), Read(1, 0)]) else {
+        panic!(rt; "a history")
+    };
+    let past = answer(&mut m, Write(2, 0, EDGE + 1));
+    assert!(rt; past == Ok(Reply::Refused(Refusal::ValueOutOfRange)));
+    assert!(rt; play(&mut m, &[Write(2, 0, EDGE), Commit(2), Commit(1)]));
     let row = Row {
         query: 1,
         distance: 0,
-        import: 2_000_000_000_000,
+        import: LIMIT,
         before: &[],
     };
-    let begins = [
-        query(2_000_000_000_000),
-        update(2_000_000_000_000),
-        read(1, 0),
-    ];
-    let mut m = played(alloc, &[-edge], &begins).expect(&rt, "a history");
-    let past = answer(&mut m, write(2, 0, 1_000_000_000_001));
-    assert!(rt; past == Ok(Reply::Refused(Refusal::ValueOutOfRange)));
-    assert!(rt; play(&mut m, &[write(2, 0, edge), commit(2), commit(1)]));
     assert!(rt; finds(alloc, &m, row));
-    assert!(rt;
-        m.totals()
-            == Totals {
-                import: 2_000_000_000_000,
-                export: 2_000_000_000_000,
-                entries: 7
-            }
-    );
-}
-
-#[test]
-fn strict_report(rt: HostRuntime) {
-    let alloc = rt.alloc();
-    let seen: &[TxnId] = &[TxnId(1)];
-    for (strict, distance, before) in [(true, 5, seen), (false, 0, &[])] {
-        let events = behind_an_update(strict);
-        let row = Row {
-            query: 2,
-            distance,
-            import: 5,
-            before,
-        };
-        assert!(rt; finds_in(alloc, &[0], &events, row));
-    }
-}
-
-#[test]
-fn queries_that_read_little(rt: HostRuntime) {
-    let events = [query(0), commit(1), query(0), read(2, 0), commit(2)];
-    for query in [1, 2] {
-        let row = Row {
-            query,
-            distance: 0,
-            import: 0,
-            before: &[],
-        };
-        assert!(rt; finds_in(rt.alloc(), &[7], &events, row), "for {query}");
-    }
+    let totals = Totals {
+        import: u128::from(LIMIT),
+        export: u128::from(LIMIT),
+        entries: 7,
+    };
+    assert!(rt; m.totals() == totals);
 }

@@ -1,13 +1,13 @@
 //! A plain program beside the audit: it lists all placements of small histories.
 ghost use Rattle.std.specs.Prelude.{◌<◌};
 
+use super::Asked::{Commit, Query, Read, Strict, Update, Write};
 use super::audits::{audit_of, played};
-use super::{accepts, commit, query, read, update, write};
+use super::{Asked, accepts};
 use esr_core::Machine;
-use esr_history::{Entry, Event, Log, Reply, TxnId};
+use esr_history::{Entry, Event, Log, Reply};
 use esr_items::{ItemId, Plain};
 use std::alloc::{AllocError, Global};
-use std::test::Fail;
 
 /// Numbers generated from a fixed seed.
 #[derive(Drop)]
@@ -29,38 +29,41 @@ impl Draws {
     }
 
     /// An event of this query or of one of three updates, of which this is the first.
-    fn event(&mut self, query: u32, first: u32) -> Event {
+    fn event(&mut self, query: u32, first: u32) -> Asked {
         let kind = self.next(8);
         let item = self.next(2);
         let value = i64::from(self.next(9));
         let update = self.next(3).saturating_add(first);
         match kind {
-            0 => commit(update),
-            1 | 2 => read(query, item),
-            3 => read(update, item),
-            _ => write(update, item, value),
+            0 => Commit(update),
+            1 | 2 => Read(query, item),
+            3 => Read(update, item),
+            _ => Write(update, item, value),
         }
     }
 }
 
-/// An accepted read, with the value read, or write.
+/// An accepted read, with the value read, or write, by its place in the log.
 #[derive(Clone, Copy)]
 struct Operation {
+    at: usize,
     txn: u32,
     item: u32,
     value: i64,
     write: bool,
 }
 
-fn operation_in(entry: Entry) -> Option<Operation> {
+fn operation_in(at: usize, entry: Entry) -> Option<Operation> {
     match (entry.event, entry.reply) {
         (Event::Read { txn, item }, Reply::Value(value)) => Some(Operation {
+            at,
             txn: txn.0,
             item: item.0,
             value,
             write: false,
         }),
         (Event::Write { txn, item, value }, Reply::Wrote) => Some(Operation {
+            at,
             txn: txn.0,
             item: item.0,
             value,
@@ -78,28 +81,56 @@ fn commit_in(entry: Entry) -> Option<u32> {
 }
 
 fn operations_in(alloc: Global, log: &Log) -> Result<Vec<Operation>, AllocError> {
-    (0..log.len())
-        .filter_map(|i| log.get(i))
-        .filter_map(operation_in)
-        .collect(alloc)
+    let mut operations = Vec::new(alloc);
+    for at in 0..log.len() {
+        if let Some(entry) = log.get(at) {
+            if let Some(operation) = operation_in(at, entry) {
+                operations.push(operation)?;
+            }
+        }
+    }
+    Ok(operations)
+}
+
+/// Whether an operation of v comes before this one and conflicts with it.
+fn is_behind(operations: &[Operation], v: u32, late: Operation) -> bool {
+    for early in operations {
+        let conflicts = early.item == late.item && (early.write || late.write);
+        if early.txn == v && early.at < late.at && conflicts {
+            return true;
+        }
+    }
+    false
 }
 
 /// Whether an operation comes before one of u that it conflicts with, and is v's.
 fn is_after(operations: &[Operation], u: u32, v: u32) -> bool {
-    operations.iter().enumerate().any(|(i, late)| {
-        late.txn == u
-            && operations.iter().take(i).any(|early| {
-                early.txn == v && early.item == late.item && (early.write || late.write)
-            })
-    })
+    for late in operations {
+        if late.txn == u && is_behind(operations, v, *late) {
+            return true;
+        }
+    }
+    false
+}
+
+/// Whether none of these updates has to come behind another one.
+fn may_precede(operations: &[Operation], before: &[u32], late: u32) -> bool {
+    for early in before {
+        if is_after(operations, *early, late) {
+            return false;
+        }
+    }
+    true
 }
 
 /// Whether no update of the order has an update behind it that has to come before it.
 fn keeps_conflicts(operations: &[Operation], order: &[u32]) -> bool {
-    order.iter().enumerate().all(|(i, late)| order
-        .iter()
-        .take(i)
-        .all(|early| !is_after(operations, *early, *late)))
+    for i in 0..order.len() {
+        if !may_precede(operations, &order[..i], order[i]) {
+            return false;
+        }
+    }
+    true
 }
 
 /// What a transaction leaves in an item, if it wrote it.
@@ -131,35 +162,66 @@ fn begins_strictly(entry: Entry, q: u32) -> bool {
 
 /// Whether a transaction is an update.
 fn is_update(log: &Log, t: u32) -> bool {
-    (0..log.len())
-        .filter_map(|i| log.get(i))
-        .any(|entry| update_in(entry) == Some(t))
+    for i in 0..log.len() {
+        if let Some(entry) = log.get(i) {
+            if update_in(entry) == Some(t) {
+                return true;
+            }
+        }
+    }
+    false
+}
+
+/// The update that commits in the entry at a place, if one does.
+fn committed_update(log: &Log, i: usize) -> Option<u32> {
+    let t = commit_in(log.get(i)?)?;
+    if is_update(log, t) { Some(t) } else { None }
 }
 
 /// The updates that committed in so many first entries.
 fn updates_in(alloc: Global, log: &Log, first: usize) -> Result<Vec<u32>, AllocError> {
-    (0..first)
-        .filter_map(|i| log.get(i))
-        .filter_map(commit_in)
-        .filter(|t| is_update(log, *t))
-        .collect(alloc)
+    let mut updates = Vec::new(alloc);
+    for i in 0..first {
+        if let Some(t) = committed_update(log, i) {
+            updates.push(t)?;
+        }
+    }
+    Ok(updates)
 }
 
-/// The updates that committed before a query did.
-fn updates_before(alloc: Global, log: &Log, q: u32) -> Result<Vec<u32>, AllocError> {
-    let end = (0..log.len())
-        .filter(|i| log.get(*i).and_then(commit_in) == Some(q))
-        .next();
-    updates_in(alloc, log, end.unwrap_or(log.len()))
+/// How many entries come before the commit of a query.
+fn count_before(log: &Log, q: u32) -> usize {
+    for i in 0..log.len() {
+        if let Some(entry) = log.get(i) {
+            if commit_in(entry) == Some(q) {
+                return i;
+            }
+        }
+    }
+    log.len()
 }
 
-/// Those that committed before a strict query began; of another, none.
-fn seen_at_begin(alloc: Global, log: &Log, q: u32) -> Result<Vec<u32>, AllocError> {
-    let begin = (0..log.len())
-        .filter(|i| log.get(*i).is_some_and(|entry| begins_strictly(entry, q)))
-        .next();
-    updates_in(alloc, log, begin.unwrap_or(0))
+/// How many entries come before the begin of a strict query; of another, none.
+fn count_seen(log: &Log, q: u32) -> usize {
+    for i in 0..log.len() {
+        if let Some(entry) = log.get(i) {
+            if begins_strictly(entry, q) {
+                return i;
+            }
+        }
+    }
+    0
 }
+
+/// All orders of three.
+const ORDERS: [[usize; 3]; 6] = [
+    [0, 1, 2],
+    [0, 2, 1],
+    [1, 0, 2],
+    [1, 2, 0],
+    [2, 0, 1],
+    [2, 1, 0],
+];
 
 /// What the plain program looks at: the opening values and the accepted operations of a
 /// history, a query, the updates that committed before it, and those that it must have seen.
@@ -179,8 +241,8 @@ impl Small {
         for x in 0..history.items() {
             opening.push(history.opening(ItemId(x)))?;
         }
-        let updates = updates_before(alloc, m.log(), q)?;
-        let must = seen_at_begin(alloc, m.log(), q)?;
+        let updates = updates_in(alloc, m.log(), count_before(m.log(), q))?;
+        let must = updates_in(alloc, m.log(), count_seen(m.log(), q))?;
         Ok(Small {
             opening,
             operations: operations_in(alloc, m.log())?,
@@ -210,6 +272,16 @@ impl Small {
         sum
     }
 
+    /// Whether these have what the query must have seen.
+    fn are_enough(&self, before: &[u32]) -> bool {
+        for u in &self.must {
+            if !before.contains(u) {
+                return false;
+            }
+        }
+        true
+    }
+
     /// The least distance of the positions in an order that have what the query must have seen
     /// before them, with the first such.
     fn least_in(&self, order: &[u32]) -> (u64, usize) {
@@ -217,7 +289,7 @@ impl Small {
         for n in 0..=order.len() {
             let before = &order[..n];
             let distance = self.distance_after(before);
-            if distance < least.0 && self.must.iter().all(|u| before.contains(u)) {
+            if distance < least.0 && self.are_enough(before) {
                 least = (distance, n);
             }
         }
@@ -226,25 +298,21 @@ impl Small {
 
     /// The updates at these positions, where there are so many.
     fn ordered(&self, alloc: Global, positions: &[usize]) -> Result<Vec<u32>, AllocError> {
-        positions
-            .iter()
-            .filter_map(|i| self.updates.get(*i).copied())
-            .collect(alloc)
+        let mut order = Vec::new(alloc);
+        for i in positions {
+            if *i < self.updates.len() {
+                order.push(self.updates[*i])?;
+            }
+        }
+        Ok(order)
     }
 
     /// The same of all orders of up to three updates, and how many updates are before the
     /// position in those that have the fewest.
     fn least(&self, alloc: Global) -> Result<(u64, usize), AllocError> {
         let mut least = (u64::MAX, 0);
-        for list in [
-            [0usize, 1, 2],
-            [0, 2, 1],
-            [1, 0, 2],
-            [1, 2, 0],
-            [2, 0, 1],
-            [2, 1, 0],
-        ] {
-            let order = self.ordered(alloc, &list)?;
+        for positions in &ORDERS {
+            let order = self.ordered(alloc, positions)?;
             let (distance, n) = self.least_in(&order);
             let is_less = distance < least.0 || distance == least.0 && n < least.1;
             if keeps_conflicts(&self.operations, &order) && is_less {
@@ -276,14 +344,19 @@ fn draw(m: &mut Machine<Plain>, draws: &mut Draws, query: u32, first: u32) {
     }
 }
 
+/// Commits those of four transactions that are active.
+fn commit_all(m: &mut Machine<Plain>) {
+    for t in 1..5u32 {
+        let _ = accepts(m, Commit(t));
+    }
+}
+
 /// A history of query 1 and the updates 2, 3 and 4, which begin at once.
 fn small_history(alloc: Global, seed: u64) -> Option<Machine<Plain>> {
-    let begins = [query(1000), update(1000), update(1000), update(1000)];
+    let begins = [Query(1000), Update(1000), Update(1000), Update(1000)];
     let mut m = played(alloc, &[0, 0], &begins)?;
     draw(&mut m, &mut Draws { state: seed }, 1, 2);
-    for t in 1..5u32 {
-        let _ = accepts(&mut m, commit(t));
-    }
+    commit_all(&mut m);
     Some(m)
 }
 
@@ -291,19 +364,13 @@ fn small_history(alloc: Global, seed: u64) -> Option<Machine<Plain>> {
 /// committed. One that has not committed aborts, at most.
 fn strict_history(alloc: Global, seed: u64) -> Option<Machine<Plain>> {
     let mut draws = Draws { state: seed };
-    let mut m = played(alloc, &[0, 0], &[update(1000), update(1000), update(1000)])?;
+    let mut m = played(alloc, &[0, 0], &[Update(1000), Update(1000), Update(1000)])?;
     draw(&mut m, &mut draws, 4, 1);
-    let begin = Event::BeginQuery {
-        limit: 1000,
-        strict: true,
-    };
-    let _ = accepts(&mut m, begin);
+    let _begun = accepts(&mut m, Strict(1000));
     draw(&mut m, &mut draws, 4, 1);
-    let aborted = TxnId(draws.next(3).saturating_add(1));
-    let _ = accepts(&mut m, Event::Abort { txn: aborted });
-    for t in 1..5u32 {
-        let _ = accepts(&mut m, commit(t));
-    }
+    let aborted = draws.next(3).saturating_add(1);
+    let _aborted = accepts(&mut m, Asked::Abort(aborted));
+    commit_all(&mut m);
     Some(m)
 }
 
@@ -322,20 +389,19 @@ fn small_row(alloc: Global, seed: u64) -> Option<((u64, usize), Option<(u64, usi
 }
 
 #[test]
-fn least_of_all_placements(rt: HostRuntime) -> Result<(), Fail> {
+fn least_of_all_placements(rt: HostRuntime) {
     let mut far = [0u32; 4];
     for seed in 0..300u64 {
-        let (found, plain) = small_row(rt.alloc(), seed).ok_or("a finding")?;
-        assert_eq!(rt; Some(found), plain, "history {seed}");
+        let Some((found, plain)) = small_row(rt.alloc(), seed) else {
+            panic!(rt; "a finding")
+        };
+        assert!(rt; plain == Some(found), "history {seed}");
         if found.0 > 0 && found.1 < 4 {
             far[found.1] = far[found.1].saturating_add(1);
         }
     }
-    assert!(rt;
-        far.iter().all(|n| *n > 0),
-        "some count of updates before is never far"
-    );
-    Ok(())
+    // Each count of updates before is far at times.
+    assert!(rt; !far.contains(&0));
 }
 
 /// The least distance of the placements of a query as if it were not strict.
@@ -346,8 +412,8 @@ fn least_if_free(alloc: Global, m: &Machine<Plain>, q: u32) -> Option<u64> {
     Some(distance)
 }
 
-/// What the audit finds of the strict query of a history, what the plain program does, and the least distance if it were
-/// not strict.
+/// What the audit finds of the strict query of a history, what the plain program does, and the least distance if it
+/// were not strict.
 fn strict_row(alloc: Global, seed: u64) -> Option<((u64, usize), Option<(u64, usize)>, u64)> {
     let m = strict_history(alloc, seed)?;
     let found = audited(alloc, &m, 4)?;
@@ -356,11 +422,13 @@ fn strict_row(alloc: Global, seed: u64) -> Option<((u64, usize), Option<(u64, us
 }
 
 #[test]
-fn least_of_all_strict_placements(rt: HostRuntime) -> Result<(), Fail> {
+fn least_of_all_strict_placements(rt: HostRuntime) {
     let mut farther = 0u32;
     for seed in 0..300u64 {
-        let (found, plain, free) = strict_row(rt.alloc(), seed).ok_or("a finding")?;
-        assert_eq!(rt; Some(found), plain, "history {seed}");
+        let Some((found, plain, free)) = strict_row(rt.alloc(), seed) else {
+            panic!(rt; "a finding")
+        };
+        assert!(rt; plain == Some(found), "history {seed}");
         if free < found.0 {
             farther = farther.saturating_add(1);
         }
@@ -369,5 +437,4 @@ fn least_of_all_strict_placements(rt: HostRuntime) -> Result<(), Fail> {
         farther > 4,
         "{farther} are farther than if they were not strict"
     );
-    Ok(())
 }

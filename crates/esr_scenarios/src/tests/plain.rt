@@ -1,7 +1,9 @@
 //! Plain forms beside the fast ones: scans of the log, a plain list of locks, and all pairs of updates that conflict.
 
+use super::Asked::{Commit, Query, Read, Strict, Update, Write};
+use super::audits::opened;
 use super::placements::Draws;
-use super::{accepts, commit, opened, order_of, read, update, write};
+use super::{Asked, accepts, order_of};
 use esr_core::Machine;
 use esr_history::{Entry, Event, Facts, History, Log, Refusal, Reply, TxnId};
 use esr_items::{ItemId, Plain};
@@ -10,7 +12,10 @@ use std::alloc::{AllocError, Global};
 
 /// The entry at a place, if there is one and it is accepted.
 fn accepted(log: &Log, i: usize) -> Option<Entry> {
-    log.get(i).filter(|entry| !entry.is_refused())
+    match log.get(i) {
+        Some(entry) if !entry.is_refused() => Some(entry),
+        _ => None,
+    }
 }
 
 /// The item of a read or a write.
@@ -24,7 +29,18 @@ fn item_in(entry: Entry) -> Option<u32> {
 
 /// The entry at a place, if it is an accepted operation on an item.
 fn accepted_on(log: &Log, i: usize, x: u32) -> Option<Entry> {
-    accepted(log, i).filter(|entry| item_in(*entry) == Some(x))
+    match accepted(log, i) {
+        Some(entry) if item_in(entry) == Some(x) => Some(entry),
+        _ => None,
+    }
+}
+
+/// The entry at a place, if it is accepted and a transaction's.
+fn accepted_of(log: &Log, i: usize, t: u32) -> Option<Entry> {
+    match accepted(log, i) {
+        Some(entry) if txn_in(entry) == Some(t) => Some(entry),
+        _ => None,
+    }
 }
 
 /// The transaction that begins in an entry.
@@ -61,53 +77,57 @@ fn is_end(entry: Entry) -> bool {
 
 /// The last of the first places with an accepted operation on an item.
 fn last_on_item(log: &Log, first: usize, x: u32) -> Option<u64> {
-    (0..first)
-        .rev()
-        .filter(|i| accepted_on(log, *i, x).is_some())
-        .map(|i| i as u64)
-        .next()
+    for i in (0..first).rev() {
+        if accepted_on(log, i, x).is_some() {
+            return Some(i as u64);
+        }
+    }
+    None
 }
 
 /// The last of the first places with an accepted entry of a transaction.
 fn last_of_txn(log: &Log, first: usize, t: u32) -> Option<u64> {
-    (0..first)
-        .rev()
-        .filter(|i| accepted(log, *i).and_then(txn_in) == Some(t))
-        .map(|i| i as u64)
-        .next()
+    for i in (0..first).rev() {
+        if accepted_of(log, i, t).is_some() {
+            return Some(i as u64);
+        }
+    }
+    None
 }
 
 /// The place at which a transaction ended.
 fn end_of(log: &Log, t: u32) -> Option<u64> {
-    (0..log.len())
-        .filter(|i| accepted(log, *i)
-            .filter(|entry| is_end(*entry))
-            .and_then(txn_in)
-            == Some(t))
-        .map(|i| i as u64)
-        .next()
+    for i in 0..log.len() {
+        match accepted_of(log, i, t) {
+            Some(entry) if is_end(entry) => return Some(i as u64),
+            _ => {}
+        }
+    }
+    None
 }
 
 /// The place at which a transaction began.
 fn begin_of(log: &Log, t: u32) -> Option<usize> {
-    (0..log.len())
-        .filter(|i| log
-            .get(*i)
-            .is_some_and(|entry| begun_in(entry.reply) == Some(t)))
-        .next()
+    for i in 0..log.len() {
+        match log.get(i) {
+            Some(entry) if begun_in(entry.reply) == Some(t) => return Some(i),
+            _ => {}
+        }
+    }
+    None
 }
 
 /// What is known of a transaction.
 fn facts_of(log: &Log, t: u32) -> Option<Facts> {
     let end = end_of(log, t);
-    let begin = begin_of(log, t).and_then(|i| log.get(i));
-    match begin.map(|entry| entry.event) {
-        Some(Event::BeginQuery { limit, .. }) => Some(Facts {
+    let begin = log.get(begin_of(log, t)?)?;
+    match begin.event {
+        Event::BeginQuery { limit, .. } => Some(Facts {
             query: true,
             limit,
             end,
         }),
-        Some(Event::BeginUpdate { limit }) => Some(Facts {
+        Event::BeginUpdate { limit } => Some(Facts {
             query: false,
             limit,
             end,
@@ -116,65 +136,93 @@ fn facts_of(log: &Log, t: u32) -> Option<Facts> {
     }
 }
 
-/// Whether the links of an entry are those that scans give.
-fn entry_agrees(history: &History<Plain>, i: usize) -> bool {
-    let log = history.log();
-    let item = log.get(i).and_then(item_in);
-    let txn = log.get(i).and_then(txn_in);
-    history.earlier_on_item(i as u64) == item.and_then(|x| last_on_item(log, i, x))
-        && history.earlier_of_txn(i as u64) == txn.and_then(|t| last_of_txn(log, i, t))
+/// The last accepted operation before a place on the item of the entry there.
+fn earlier_on_item(log: &Log, i: usize) -> Option<u64> {
+    last_on_item(log, i, item_in(log.get(i)?)?)
 }
 
-fn item_agrees(history: &History<Plain>, x: u32) -> bool {
-    let log = history.log();
-    history.last_on_item(ItemId(x)) == last_on_item(log, log.len(), x)
+/// The last accepted entry before a place of the transaction of the entry there.
+fn earlier_of_txn(log: &Log, i: usize) -> Option<u64> {
+    last_of_txn(log, i, txn_in(log.get(i)?)?)
 }
 
-fn txn_agrees(history: &History<Plain>, t: u32) -> bool {
+/// Whether the links of each entry are those that scans give.
+fn entries_agree(history: &History<Plain>) -> bool {
     let log = history.log();
-    history.last_of_txn(TxnId(t)) == last_of_txn(log, log.len(), t)
-        && history.facts(TxnId(t)) == facts_of(log, t)
+    for i in 0..log.len().saturating_add(2) {
+        if history.earlier_on_item(i as u64) != earlier_on_item(log, i)
+            || history.earlier_of_txn(i as u64) != earlier_of_txn(log, i)
+        {
+            return false;
+        }
+    }
+    true
+}
+
+fn items_agree(history: &History<Plain>) -> bool {
+    let log = history.log();
+    for x in 0..history.items().saturating_add(2) {
+        if history.last_on_item(ItemId(x)) != last_on_item(log, log.len(), x) {
+            return false;
+        }
+    }
+    true
+}
+
+fn txns_agree(history: &History<Plain>) -> bool {
+    let log = history.log();
+    for t in 0..count_begun(log).saturating_add(3) {
+        if history.last_of_txn(TxnId(t)) != last_of_txn(log, log.len(), t)
+            || history.facts(TxnId(t)) != facts_of(log, t)
+        {
+            return false;
+        }
+    }
+    true
 }
 
 /// How many transactions began.
 fn count_begun(log: &Log) -> u32 {
-    (0..log.len())
-        .filter_map(|i| log.get(i))
-        .filter_map(|entry| begun_in(entry.reply))
-        .last()
-        .unwrap_or(0)
-}
-
-/// Whether the read calls of a history give what scans of its log give.
-fn links_agree(history: &History<Plain>) -> bool {
-    let entries = history.log().len().saturating_add(2);
-    let items = history.items().saturating_add(2);
-    let transactions = count_begun(history.log()).saturating_add(3);
-    (0..entries).all(|i| entry_agrees(history, i))
-        && (0..items).all(|x| item_agrees(history, x))
-        && (0..transactions).all(|t| txn_agrees(history, t))
+    let mut count = 0;
+    for i in 0..log.len() {
+        if let Some(entry) = log.get(i) {
+            count = begun_in(entry.reply).unwrap_or(count);
+        }
+    }
+    count
 }
 
 /// What each transaction is: a query or not, and where it ended, if it did.
 fn facts_in(alloc: Global, log: &Log) -> Result<Vec<Option<Facts>>, AllocError> {
-    (0..count_begun(log).saturating_add(1))
-        .map(|t| facts_of(log, t))
-        .collect(alloc)
+    let mut facts = Vec::new(alloc);
+    for t in 0..count_begun(log).saturating_add(1) {
+        facts.push(facts_of(log, t))?;
+    }
+    Ok(facts)
 }
 
 fn facts_at(facts: &[Option<Facts>], t: u32) -> Option<Facts> {
-    facts.get(t as usize).copied().unwrap_or(None)
+    match facts.get(t as usize) {
+        Some(known) => *known,
+        None => None,
+    }
 }
 
 fn is_query(facts: &[Option<Facts>], t: u32) -> bool {
-    facts_at(facts, t).is_some_and(|f| f.query)
+    match facts_at(facts, t) {
+        Some(known) => known.query,
+        None => false,
+    }
 }
 
 /// Whether a transaction that has begun has not ended before a place.
 fn is_active(facts: &[Option<Facts>], t: u32, i: usize) -> bool {
-    match facts_at(facts, t) {
-        None => false,
-        Some(f) => f.end.is_none_or(|end| end >= i as u64),
+    let Some(known) = facts_at(facts, t) else {
+        return false;
+    };
+    match known.end {
+        Some(end) => end >= i as u64,
+        None => true,
     }
 }
 
@@ -232,17 +280,33 @@ fn blocker(log: &Log, facts: &[Option<Facts>], i: usize, entry: Entry) -> Option
     holder_beside(log, facts, t, x, i, written_in(entry).is_some())
 }
 
+/// Whether an entry is a read by a query.
+fn is_query_read(facts: &[Option<Facts>], entry: Entry) -> bool {
+    match (entry.event, txn_in(entry)) {
+        (Event::Write { .. }, _) | (_, None) => false,
+        (_, Some(t)) => is_query(facts, t),
+    }
+}
+
 /// Whether the entry at a place was blocked exactly where the list of locks says so.
 fn lock_agrees(log: &Log, facts: &[Option<Facts>], i: usize) -> bool {
     let Some(entry) = log.get(i) else {
         return true;
     };
-    let reads = written_in(entry).is_none() && txn_in(entry).is_some_and(|t| is_query(facts, t));
     match entry.reply {
         Reply::Refused(Refusal::BlockedByLock(u)) => blocker(log, facts, i, entry) == Some(u.0),
         Reply::Refused(_) => true,
-        _ => reads || blocker(log, facts, i, entry).is_none(),
+        _ => is_query_read(facts, entry) || blocker(log, facts, i, entry).is_none(),
     }
+}
+
+fn locks_agree(log: &Log, facts: &[Option<Facts>]) -> bool {
+    for i in 0..log.len() {
+        if !lock_agrees(log, facts, i) {
+            return false;
+        }
+    }
+    true
 }
 
 /// The entry in which a transaction ended before the place i.
@@ -290,24 +354,28 @@ fn value_at(
     i: usize,
     committed: bool,
 ) -> i64 {
-    let log = history.log();
-    let left = (0..i)
-        .rev()
-        .filter_map(|at| left_by(log, facts, at, x, i, committed))
-        .next();
-    match left {
-        Some(value) => value,
-        None if x < history.items() => history.opening(ItemId(x)),
-        None => 0,
+    for at in (0..i).rev() {
+        if let Some(value) = left_by(history.log(), facts, at, x, i, committed) {
+            return value;
+        }
+    }
+    if x < history.items() {
+        history.opening(ItemId(x))
+    } else {
+        0
     }
 }
 
 /// How often a query has read an item from one place to another.
 fn count_reads(log: &Log, q: u32, x: u32, begin: usize, end: usize) -> u64 {
-    (begin..end)
-        .filter_map(|i| accepted(log, i))
-        .filter(|entry| txn_in(*entry) == Some(q) && item_in(*entry) == Some(x))
-        .count() as u64
+    let mut count = 0u64;
+    for i in begin..end {
+        match accepted_on(log, i, x) {
+            Some(entry) if txn_in(entry) == Some(q) => count = count.saturating_add(1),
+            _ => {}
+        }
+    }
+    count
 }
 
 /// What a query that began at a place is charged for the entry at the place i, while it is active.
@@ -335,15 +403,22 @@ fn charge_at(
     }
 }
 
+/// The place at which a transaction ended, or the end of the log.
+fn end_or_last(log: &Log, facts: &[Option<Facts>], q: u32) -> usize {
+    match facts_at(facts, q) {
+        Some(Facts { end: Some(end), .. }) => end as usize,
+        _ => log.len(),
+    }
+}
+
 /// What a transaction imported, summed over the entries from its begin to its end.
 fn import_of(history: &History<Plain>, facts: &[Option<Facts>], q: u32) -> u64 {
-    let log = history.log();
-    let begin = begin_of(log, q).unwrap_or(0);
-    let end = facts_at(facts, q).and_then(|f| f.end);
-    let end = end.map_or(log.len(), |end| end as usize);
-    (begin..end)
-        .map(|i| charge_at(history, facts, q, begin, i))
-        .fold(0u64, |sum, charge| sum.saturating_add(charge))
+    let begin = begin_of(history.log(), q).unwrap_or(0);
+    let mut sum = 0u64;
+    for i in begin..end_or_last(history.log(), facts, q) {
+        sum = sum.saturating_add(charge_at(history, facts, q, begin, i));
+    }
+    sum
 }
 
 fn import_agrees(history: &History<Plain>, facts: &[Option<Facts>], t: u32) -> bool {
@@ -355,31 +430,49 @@ fn import_agrees(history: &History<Plain>, facts: &[Option<Facts>], t: u32) -> b
     history.import(TxnId(t)) == plain
 }
 
-/// Whether locks and imports are those of the plain lists.
-fn lists_agree(alloc: Global, history: &History<Plain>) -> Option<bool> {
-    let log = history.log();
-    let facts = facts_in(alloc, log).ok()?;
-    let transactions = count_begun(log).saturating_add(3);
-    let locks = (0..log.len()).all(|i| lock_agrees(log, &facts, i));
-    Some(locks && (0..transactions).all(|t| import_agrees(history, &facts, t)))
+fn imports_agree(history: &History<Plain>, facts: &[Option<Facts>]) -> bool {
+    for t in 0..count_begun(history.log()).saturating_add(3) {
+        if !import_agrees(history, facts, t) {
+            return false;
+        }
+    }
+    true
 }
 
-/// An accepted read or write of an update, by its position in commit order.
+/// Whether locks and imports are those of the plain lists.
+fn lists_agree(alloc: Global, history: &History<Plain>) -> bool {
+    match facts_in(alloc, history.log()) {
+        Ok(facts) => locks_agree(history.log(), &facts) && imports_agree(history, &facts),
+        Err(_) => false,
+    }
+}
+
+/// An accepted read or write of an update, by its place in the log and the update's position in commit order.
 #[derive(Clone, Copy)]
 struct Operation {
+    at: usize,
     position: usize,
     item: u32,
     write: bool,
 }
 
+fn position_of(commits: &[TxnId], t: u32) -> Option<usize> {
+    for i in 0..commits.len() {
+        if commits[i].0 == t {
+            return Some(i);
+        }
+    }
+    None
+}
+
 /// The operation in the entry at a place, if it is one of these updates.
-fn operation_at(log: &Log, i: usize, commits: &[TxnId]) -> Option<Operation> {
-    let entry = accepted(log, i)?;
+fn operation_at(log: &Log, at: usize, commits: &[TxnId]) -> Option<Operation> {
+    let entry = accepted(log, at)?;
     let item = item_in(entry)?;
-    let txn = txn_in(entry)?;
-    let position = commits.iter().position(|u| u.0 == txn)?;
+    let position = position_of(commits, txn_in(entry)?)?;
     let write = written_in(entry).is_some();
     Some(Operation {
+        at,
         position,
         item,
         write,
@@ -391,20 +484,45 @@ fn operations_in(
     log: &Log,
     commits: &[TxnId],
 ) -> Result<Vec<Operation>, AllocError> {
-    (0..log.len())
-        .filter_map(|i| operation_at(log, i, commits))
-        .collect(alloc)
+    let mut operations = Vec::new(alloc);
+    for at in 0..log.len() {
+        if let Some(operation) = operation_at(log, at, commits) {
+            operations.push(operation)?;
+        }
+    }
+    Ok(operations)
 }
 
-/// Whether an operation of the first update comes before one of the second that it conflicts with.
-fn conflict(operations: &[Operation], i: usize, j: usize) -> bool {
-    i != j
-        && operations.iter().enumerate().any(|(k, late)| {
-            late.position == j
-                && operations.iter().take(k).any(|early| {
-                    early.position == i && early.item == late.item && (early.write || late.write)
-                })
-        })
+/// The operations of the update at a position.
+fn own(alloc: Global, operations: &[Operation], i: usize) -> Result<Vec<Operation>, AllocError> {
+    let mut own = Vec::new(alloc);
+    for o in operations {
+        if o.position == i {
+            own.push(*o)?;
+        }
+    }
+    Ok(own)
+}
+
+/// Whether an operation is behind one of these that it conflicts with.
+fn is_behind(own: &[Operation], late: Operation) -> bool {
+    for early in own {
+        let conflicts = early.item == late.item && (early.write || late.write);
+        if early.at < late.at && conflicts {
+            return true;
+        }
+    }
+    false
+}
+
+/// Whether an operation of an update is behind one of these that it conflicts with.
+fn conflict(operations: &[Operation], own: &[Operation], j: usize) -> bool {
+    for late in operations {
+        if late.position == j && is_behind(own, *late) {
+            return true;
+        }
+    }
+    false
 }
 
 fn is_marked(marks: &[bool], i: usize) -> bool {
@@ -430,31 +548,14 @@ fn reached(alloc: Global, order: &Order, i: usize) -> Result<Vec<bool>, AllocErr
     Ok(marks)
 }
 
-/// The operations of an update, with their places among all.
-fn own(
-    alloc: Global,
-    operations: &[Operation],
-    i: usize,
-) -> Result<Vec<(usize, Operation)>, AllocError> {
-    operations
-        .iter()
-        .enumerate()
-        .filter(|(_, o)| o.position == i)
-        .map(|(k, o)| (k, *o))
-        .collect(alloc)
-}
-
-/// Whether an operation is behind one of these that it conflicts with.
-fn is_behind(own: &[(usize, Operation)], k: usize, late: Operation) -> bool {
-    own.iter().any(|(at, early)| {
-        *at < k && early.item == late.item && (early.write || late.write)
-    })
-}
-
 /// Whether all operations that are behind one of these, and conflict with it, are of marked updates.
-fn all_marked(operations: &[Operation], own: &[(usize, Operation)], marks: &[bool]) -> bool {
-    operations.iter().enumerate().all(|(k, late)| is_marked(marks, late.position)
-        || !is_behind(own, k, *late))
+fn all_marked(operations: &[Operation], own: &[Operation], marks: &[bool]) -> bool {
+    for late in operations {
+        if !is_marked(marks, late.position) && is_behind(own, *late) {
+            return false;
+        }
+    }
+    true
 }
 
 /// Whether rows of an order's pairs lead from an update to all that conflict with it and come after
@@ -465,18 +566,71 @@ fn row_agrees(alloc: Global, order: &Order, operations: &[Operation], i: usize) 
     Some(all_marked(operations, &own, &marks))
 }
 
+fn rows_agree(alloc: Global, order: &Order, operations: &[Operation]) -> Option<bool> {
+    for i in 0..order.commits().len() {
+        if !row_agrees(alloc, order, operations, i)? {
+            return Some(false);
+        }
+    }
+    Some(true)
+}
+
+/// Whether the updates of each pair of an order are two that conflict.
+fn pairs_conflict(alloc: Global, order: &Order, operations: &[Operation]) -> Option<bool> {
+    for (i, j) in order.before() {
+        let own = own(alloc, operations, *i as usize).ok()?;
+        if i == j || !conflict(operations, &own, *j as usize) {
+            return Some(false);
+        }
+    }
+    Some(true)
+}
+
 /// Whether an order's pairs tie its updates as all pairs of updates that conflict do, and are few.
 fn pairs_agree(alloc: Global, log: &Log, order: &Order) -> Option<bool> {
     let operations = operations_in(alloc, log, order.commits()).ok()?;
-    let mut same = order.before().len() <= operations.len().saturating_mul(2)
-        && order
-            .before()
-            .iter()
-            .all(|(i, j)| conflict(&operations, *i as usize, *j as usize));
-    for i in 0..order.commits().len() {
-        same = same && row_agrees(alloc, order, &operations, i)?;
+    let few = order.before().len() <= operations.len().saturating_mul(2);
+    let conflict = pairs_conflict(alloc, order, &operations)?;
+    Some(few && conflict && rows_agree(alloc, order, &operations)?)
+}
+
+/// Whether an update wrote an item.
+fn has_written(operations: &[Operation], i: usize, x: u32) -> bool {
+    for o in operations {
+        if o.position == i && o.item == x && o.write {
+            return true;
+        }
     }
-    Some(same)
+    false
+}
+
+fn is_listed(writers: &[u32], position: usize) -> bool {
+    for writer in writers {
+        if *writer as usize == position {
+            return true;
+        }
+    }
+    false
+}
+
+/// Whether each update that wrote an item is among these.
+fn all_writers(operations: &[Operation], x: u32, writers: &[u32]) -> bool {
+    for o in operations {
+        if o.item == x && o.write && !is_listed(writers, o.position) {
+            return false;
+        }
+    }
+    true
+}
+
+/// Whether each of these updates wrote an item.
+fn each_wrote(operations: &[Operation], x: u32, writers: &[u32]) -> bool {
+    for writer in writers {
+        if !has_written(operations, *writer as usize, x) {
+            return false;
+        }
+    }
+    true
 }
 
 /// Whether a chain of an order has the updates that wrote the item.
@@ -485,12 +639,7 @@ fn chain_agrees(order: &Order, operations: &[Operation], x: u32) -> bool {
         None => &[],
         Some(links) => &links.writers,
     };
-    (0..order.commits().len()).all(|i| {
-        operations
-            .iter()
-            .any(|o| o.position == i && o.item == x && o.write)
-            == writers.iter().any(|w| *w as usize == i)
-    })
+    all_writers(operations, x, writers) && each_wrote(operations, x, writers)
 }
 
 /// Whether a query read an item.
@@ -526,19 +675,25 @@ fn mark_back(order: &Order, marks: &mut [bool]) {
 fn near_of(alloc: Global, log: &Log, order: &Order, q: u32) -> Result<Vec<TxnId>, AllocError> {
     let mut marks = seeds_of(alloc, log, order, q)?;
     mark_back(order, &mut marks);
-    order
-        .commits()
-        .iter()
-        .enumerate()
-        .filter(|(i, _)| is_marked(&marks, *i))
-        .map(|(_, u)| *u)
-        .collect(alloc)
+    let commits = order.commits();
+    let mut near = Vec::new(alloc);
+    for i in 0..commits.len() {
+        if is_marked(&marks, i) {
+            near.push(commits[i])?;
+        }
+    }
+    Ok(near)
 }
 
 /// Whether the chains of an order have the writers of each item.
 fn chains_agree(alloc: Global, history: &History<Plain>, order: &Order) -> Option<bool> {
     let operations = operations_in(alloc, history.log(), order.commits()).ok()?;
-    Some((0..history.items()).all(|x| chain_agrees(order, &operations, x)))
+    for x in 0..history.items() {
+        if !chain_agrees(order, &operations, x) {
+            return Some(false);
+        }
+    }
+    Some(true)
 }
 
 /// The order of a query among its near updates, or None where memory is refused.
@@ -591,8 +746,11 @@ fn orders_agree(alloc: Global, m: &Machine<Plain>, each: u32) -> Option<bool> {
 /// Whether the fast forms of a history agree with the plain ones; the orders of one transaction in
 /// so many.
 fn is_same(alloc: Global, m: &Machine<Plain>, each: u32) -> bool {
-    links_agree(m.history())
-        && lists_agree(alloc, m.history()) == Some(true)
+    let history = m.history();
+    entries_agree(history)
+        && items_agree(history)
+        && txns_agree(history)
+        && lists_agree(alloc, history)
         && orders_agree(alloc, m, each) == Some(true)
 }
 
@@ -602,36 +760,33 @@ pub(super) fn agrees(alloc: Global, m: &Machine<Plain>, each: u32) -> bool {
 }
 
 /// An event of one of the last eight transactions, or of one that has not begun.
-fn any_event(draws: &mut Draws, begun: u32) -> Event {
+fn any_event(draws: &mut Draws, begun: u32) -> Asked {
     let t = begun.saturating_add(1).saturating_sub(draws.next(9));
     let item = draws.next(66);
     let value = i64::from(draws.next(900));
     if draws.next(2) == 0 {
-        read(t, item)
+        Read(t, item)
     } else {
-        write(t, item, value)
+        Write(t, item, value)
     }
 }
 
 /// The begin of an update, a query or a strict query.
-fn any_begin(draws: &mut Draws) -> Event {
+fn any_begin(draws: &mut Draws) -> Asked {
     let limit = u64::from(draws.next(4000));
-    let kind = draws.next(4);
-    if kind > 1 {
-        return update(limit.saturating_mul(4));
-    }
-    Event::BeginQuery {
-        limit,
-        strict: kind == 1,
+    match draws.next(4) {
+        0 => Query(limit),
+        1 => Strict(limit),
+        _ => Update(limit.saturating_mul(4)),
     }
 }
 
 /// The end of a transaction.
-fn any_end(draws: &mut Draws, t: u32) -> Event {
+fn any_end(draws: &mut Draws, t: u32) -> Asked {
     if draws.next(6) == 0 {
-        Event::Abort { txn: TxnId(t) }
+        Asked::Abort(t)
     } else {
-        commit(t)
+        Commit(t)
     }
 }
 
@@ -646,7 +801,7 @@ fn round(m: &mut Machine<Plain>, draws: &mut Draws, begun: u32) {
 
 /// A history of 64 items and 500 transactions, of which eight run at a time.
 fn generated(alloc: Global, seed: u64) -> Option<Machine<Plain>> {
-    let mut m = opened(alloc, 64).or_else(|| opened(alloc, 64))?;
+    let mut m = opened(alloc, &[0; 64])?;
     let mut draws = Draws { state: seed };
     for begun in 1..501u32 {
         round(&mut m, &mut draws, begun);
@@ -655,25 +810,43 @@ fn generated(alloc: Global, seed: u64) -> Option<Machine<Plain>> {
 }
 
 /// How many entries are refused by a lock, are aborts, and are begins of strict queries.
-fn counts(log: &Log) -> (usize, usize, usize) {
-    let entries = || (0..log.len()).filter_map(|i| log.get(i));
-    (
-        entries()
-            .filter(|entry| matches!(entry.reply, Reply::Refused(Refusal::BlockedByLock(_))))
-            .count(),
-        entries()
-            .filter(|entry| entry.reply == Reply::Aborted)
-            .count(),
-        entries()
-            .filter(|entry| matches!(entry.event, Event::BeginQuery { strict: true, .. }))
-            .count(),
-    )
+fn counts(log: &Log) -> (u32, u32, u32) {
+    let (mut blocked, mut aborts, mut strict) = (0u32, 0u32, 0u32);
+    for i in 0..log.len() {
+        match log.get(i) {
+            Some(
+                Entry {
+                    reply: Reply::Refused(Refusal::BlockedByLock(_)),
+                    ..
+                },
+            ) => blocked = blocked.saturating_add(1),
+            Some(
+                Entry {
+                    reply: Reply::Aborted,
+                    ..
+                },
+            ) => aborts = aborts.saturating_add(1),
+            _ => {}
+        }
+        match log.get(i) {
+            Some(
+                Entry {
+                    event: Event::BeginQuery { strict: true, .. },
+                    ..
+                },
+            ) => strict = strict.saturating_add(1),
+            _ => {}
+        }
+    }
+    (blocked, aborts, strict)
 }
 
 #[test]
 fn fast_forms_are_the_plain_ones(rt: HostRuntime) {
     let alloc = rt.alloc();
-    let m = generated(alloc, 11).expect(&rt, "a history");
+    let Some(m) = generated(alloc, 11) else {
+        panic!(rt; "a history")
+    };
     let (blocked, aborts, strict) = counts(m.log());
     assert!(rt;
         blocked > 50 && aborts > 30 && strict > 50,
