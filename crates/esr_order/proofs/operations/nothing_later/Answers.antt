@@ -22,8 +22,8 @@ loop-x-preserved c =
       ap length c.in_ok-push.ensures.items ∙ length-append c.loop-x.chains.items (c.in_ok-links.links ∷ []) ∙ ap (λ n. n + 1) c.loop-x.invariant.0,
       ap length c.in_ok-push-2.ensures.items ∙ length-append c.loop-x.readers.items (c.new.result ∷ []) ∙ ap (λ n. n + 1) c.loop-x.invariant.1,
       subst (λ ks. AreLater ks (map (λ r. r.items) c.push-in-loop-x.new.self.items) []) (sym chains) (
-      subst (λ rs. AreLater (links ++ nobody ∷ []) rs []) (sym readers) (record {
-        chains = same_more links nobody c.loop-x.invariant.2.chains;
-        readers = same_more rows [] c.loop-x.invariant.2.readers;
-      })),
+          subst (λ rs. AreLater (links ++ nobody ∷ []) rs []) (sym readers) (record {
+            chains = same_more links nobody c.loop-x.invariant.2.chains;
+            readers = same_more rows [] c.loop-x.invariant.2.readers;
+          })),
     )

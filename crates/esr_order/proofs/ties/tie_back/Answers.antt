@@ -17,6 +17,6 @@ loop-k-preserved c =
     let here : drop k others ≡ j ∷ drop c.loop-k.k others = drop_more others k 0 (omega (arith, c.loop-k-test.true, c.loop-k.auto.k)) ∙ ap (λ n. j ∷ drop n others) next in
     c.in_ok-tie.ensures ∙ ap (λ l. l ++ pair_of i j) c.loop-k.invariant ∙ append_assoc c.args.pairs.now.items (reverse (pairs_from i (drop c.loop-k.k others))) (pair_of i j)
     ∙ ap (λ l. c.args.pairs.now.items ++ l) (
-        ap (λ l. reverse (pairs_from i (drop c.loop-k.k others)) ++ l) (sym (at_most_one (eqb i j) (i, j)))
-        ∙ sym (reverse-append (pair_of i j) (pairs_from i (drop c.loop-k.k others)))
-        ∙ ap (λ l. reverse (pairs_from i l)) (sym here))
+    ap (λ l. reverse (pairs_from i (drop c.loop-k.k others)) ++ l) (sym (at_most_one (eqb i j) (i, j)))
+    ∙ sym (reverse-append (pair_of i j) (pairs_from i (drop c.loop-k.k others)))
+    ∙ ap (λ l. reverse (pairs_from i l)) (sym here))
