@@ -3,6 +3,7 @@
 #![tactic(auto)]
 
 mod checked;
+mod draws;
 mod sessions;
 mod solved;
 

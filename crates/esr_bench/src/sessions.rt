@@ -4,9 +4,10 @@
 ghost use Rattle.std.specs.Prelude.{◌≡◌, ◌<◌, [], map};
 ghost use Rattle.esr_session.specs.declared.naming.TheConstants.{LEDGER_PARTS};
 
+use crate::draws::Draws;
 use anyhow::{Result, anyhow};
 use esr_core::Machine;
-use esr_history::{Event, Reply, TxnId};
+use esr_history::{Event, Reply};
 use esr_items::{ItemId, Plain, Store};
 use esr_session::{Engine, LEDGER_PARTS, MOST_SESSIONS, Naming, Session};
 use std::alloc::Global;
@@ -86,20 +87,9 @@ impl<N: Naming, R: Wait> Steps for Shared<'_, N, R> {
     }
 }
 
-/// Numbers below 4,096 that follow from a seed.
-#[derive(Drop)]
-struct Draws {
-    state: u64,
-}
-
-impl Draws {
-    fn item(&mut self) -> ItemId {
-        self.state = self
-            .state
-            .wrapping_mul(6364136223846793005)
-            .wrapping_add(1442695040888963407);
-        ItemId((self.state >> 33) as u32 % ITEMS)
-    }
+/// One of the items.
+fn item(draws: &mut Draws) -> ItemId {
+    ItemId(draws.next(ITEMS))
 }
 
 /// One transaction: a begin, four reads, four writes and a commit.
@@ -110,13 +100,13 @@ fn transaction(caller: &mut impl Steps, draws: &mut Draws) {
     for _ in 0..4 {
         let _ = caller.step(Event::Read {
             txn,
-            item: draws.item(),
+            item: item(draws),
         });
     }
     for value in 0..4 {
         let _ = caller.step(Event::Write {
             txn,
-            item: draws.item(),
+            item: item(draws),
             value,
         });
     }

@@ -1,30 +1,9 @@
-ghost use Rattle.std.specs.Prelude.{◌<◌};
-
+use crate::draws::Draws;
 use anyhow::Result;
-use esr_cert::{BundleFault, Chain, Problem};
+use esr_cert::{Chain, Problem};
 use esr_history::TxnId;
 use esr_items::ItemId;
 use std::alloc::Global;
-
-/// Numbers that follow from one another from a fixed seed.
-#[derive(Drop)]
-struct Draws {
-    state: u64,
-}
-
-impl Draws {
-    /// The next number, below the bound where that is above 0.
-    fn next(&mut self, below: u32) -> u32
-        ensures { 0 < below → result < below }
-    {
-        self.state = self
-            .state
-            .wrapping_mul(6364136223846793005)
-            .wrapping_add(1442695040888963407);
-        let high = (self.state >> 33) as u32;
-        if below == 0 { 0 } else { high % below }
-    }
-}
 
 /// The cost of each version of an item that was read `reads` times.
 fn costs(
