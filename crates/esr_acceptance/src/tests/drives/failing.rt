@@ -1,0 +1,81 @@
+//! Readers and writers that fail, and readers that do not end.
+
+use crate::tests::devices::{Cut, Narrow, Way};
+use esr_drive::{DriveFault, NoGate, drive};
+use esr_history::Watched;
+use std::alloc::Global;
+use std::io;
+use std::io::Read;
+use std::test::Fail;
+
+const FILE: &str = "item a 0\nsession\nbegin u update 0\nwrite u a 5\ncommit u\n";
+
+const TEXT: &str = "item a 0\n\
+        session 0\n\
+        begun u 1\n\
+        wrote u a 5\n\
+        committed u\n\
+        totals import 0 export 0 entries 3\n";
+
+/// Gives one byte again and again.
+#[derive(Clone, Copy)]
+struct Endless {
+    byte: u8,
+}
+
+impl Read for Endless {
+    fn read(&mut self, buf: &mut [u8]) -> io::Result<usize> {
+        buf.fill(self.byte);
+        Ok(buf.len())
+    }
+}
+
+#[test]
+fn a_failed_read_leaves_nothing_written(rt: HostRuntime) {
+    let alloc = rt.alloc();
+    for left in 0..7 {
+        let mut reader = Watched::new(Cut {
+            rest: FILE.as_bytes(),
+            most: 10,
+            left,
+        });
+        let mut writer = Watched::new(Vec::new(alloc));
+        let ended = drive(&rt, alloc, &mut reader, &mut writer, 1, &NoGate);
+        assert!(rt; ended == Err(DriveFault::Read) && reader.failed() && !writer.failed());
+        assert!(rt; writer.inner().is_empty());
+    }
+}
+
+#[test]
+fn a_failed_write_ends_the_text(rt: HostRuntime) {
+    let alloc = rt.alloc();
+    for left in 0..7 {
+        let mut reader = Watched::new(FILE.as_bytes());
+        let mut writer = Watched::new(Narrow {
+            taken: Vec::new(alloc),
+            most: 20,
+            left,
+            way: Way::TakesNone,
+        });
+        let ended = drive(&rt, alloc, &mut reader, &mut writer, 1, &NoGate);
+        let fine = left == 6;
+        assert!(rt; (ended == Ok(())) == fine && writer.failed() != fine && !reader.failed());
+        assert!(rt; fine || ended == Err(DriveFault::Write));
+        let text = writer.inner().taken.as_slice();
+        assert!(rt; text.len() == TEXT.len().min(left * 20) && TEXT.as_bytes().starts_with(text));
+    }
+}
+
+#[test]
+fn a_stream_without_end_is_not_read_to_its_end(rt: HostRuntime) {
+    let streams = [
+        (b'#', DriveFault::LineTooLong),
+        (b'\n', DriveFault::TooManyLines),
+    ];
+    for (byte, fault) in streams {
+        let mut reader = Watched::new(Endless { byte });
+        let mut writer = Watched::new(Vec::new(rt.alloc()));
+        let ended = drive(&rt, rt.alloc(), &mut reader, &mut writer, 1, &NoGate);
+        assert!(rt; ended == Err(fault) && writer.inner().is_empty());
+    }
+}
