@@ -1,5 +1,5 @@
 //! What an engine's lock holds, and one call under it.
-ghost use Rattle.std.specs.Prelude.{◌≡◌, ◌+◌, ◌<◌, ◌≤◌, ◌↔◌, [], ◌∷◌, ◌++◌, length, Some, None, IfOk, OnOk, OnErr, IsErrOf, IsSomeAnd};
+ghost use Rattle.std.specs.Prelude.{◌≡◌, ◌+◌, ◌↔◌, [], ◌∷◌, ◌++◌, length, Some, None, IfOk, OnOk, OnErr, IsErrOf, IsSomeAnd};
 ghost use Rattle.esr_history.specs.Machine.{IsLegal, reply_to, extended};
 ghost use Rattle.esr_session.specs.Receipts.{IsReceipt, receipt};
 
