@@ -1,5 +1,5 @@
 //! The name of an engine, which only contracts see.
-ghost use Rattle.std.specs.Prelude.{◌≡◌, ℕ, ℤ, List};
+ghost use Rattle.std.specs.Prelude.{◌≡◌, ℕ, ℤ, List, []};
 ghost use Rattle.esr_session.specs.declared.naming.TheConstants.{LEDGER_PARTS};
 
 use std::marker::{Brand, PhantomData};
