@@ -1,8 +1,7 @@
 //! Places of earlier entries: of the same item, and of the same transaction.
 ghost use Rattle.esr_items.specs.declared.TheConstants.{MOST_ITEMS};
-ghost use Rattle.std.specs.Prelude.{◌≡◌, ◌+◌, ◌^◌, ◌<◌, ◌≤◌, ◌++◌, ◌∷◌, [], ℕ, List, Some, None, length, slice_index_or, slice_set, IfOk, OnOk, vec_capacity};
+ghost use Rattle.std.specs.Prelude.{◌≡◌, ◌+◌, ◌^◌, ◌<◌, ◌≤◌, ◌++◌, ◌∷◌, [], ℕ, List, length, slice_index_or, slice_set, IfOk, OnOk, vec_capacity};
 ghost use Rattle.esr_history.specs.declared.event.Entry.{Entry};
-ghost use Rattle.esr_history.specs.declared.event.Reply.TheVariants.{Begun};
 ghost use Rattle.esr_history.specs.BackLinks.{with_key, txns_after, ends_after, begins_after, IsNumbered, item_of, begun_by, txn_of, key_at, decoded, AreLinks, IsFit, HasRoom, HasRoomToBegin, last_place, earlier, facts_of, accepted_item, accepted_txn, item_in, txn_in};
 
 use crate::event::{Entry, Event, Reply};
@@ -43,8 +42,8 @@ fn item_of(event: Event) -> Option<u32>
     ensures { result ≡ item_of event }
 {
     match event {
-        Event::Read { txn: _, item } => Some(item.0),
-        Event::Write {
+        Event::Read { txn: _, item }
+        | Event::Write {
             txn: _,
             item,
             value: _,
@@ -66,19 +65,18 @@ fn txn_of(event: Event, reply: Reply) -> Option<u32>
     ensures { result ≡ txn_of event reply }
 {
     match event {
-        Event::BeginUpdate { limit: _ } => begun_by(reply),
-        Event::BeginQuery {
+        Event::BeginUpdate { limit: _ }
+        | Event::BeginQuery {
             limit: _,
             strict: _,
         } => begun_by(reply),
-        Event::Read { txn, item: _ } => Some(txn.0),
-        Event::Write {
+        Event::Read { txn, item: _ }
+        | Event::Write {
             txn,
             item: _,
             value: _,
         } => Some(txn.0),
-        Event::Commit { txn } => Some(txn.0),
-        Event::Abort { txn } => Some(txn.0),
+        Event::Commit { txn } | Event::Abort { txn } => Some(txn.0),
     }
 }
 
@@ -216,11 +214,8 @@ impl BackLinks {
         match event {
             Event::BeginUpdate { limit } => self.add_begin(false, limit, code),
             Event::BeginQuery { limit, strict: _ } => self.add_begin(true, limit, code),
-            Event::Read { txn, item } => {
-                set_key(&mut self.items, item.0, code);
-                set_key(&mut self.txns, txn.0, code);
-            }
-            Event::Write {
+            Event::Read { txn, item }
+            | Event::Write {
                 txn,
                 item,
                 value: _,
@@ -228,11 +223,7 @@ impl BackLinks {
                 set_key(&mut self.items, item.0, code);
                 set_key(&mut self.txns, txn.0, code);
             }
-            Event::Commit { txn } => {
-                set_key(&mut self.txns, txn.0, code);
-                set_key(&mut self.ends, txn.0, code);
-            }
-            Event::Abort { txn } => {
+            Event::Commit { txn } | Event::Abort { txn } => {
                 set_key(&mut self.txns, txn.0, code);
                 set_key(&mut self.ends, txn.0, code);
             }

@@ -1,6 +1,5 @@
 //! What each transaction has imported, summed as charges come.
 ghost use Rattle.std.specs.Prelude.{◌≡◌, ◌+◌, ◌<◌, ◌≤◌, ◌^◌, ◌∷◌, [], ℕ, false, length, slice_index_or, vec_capacity, IfOk};
-ghost use Rattle.esr_history.specs.declared.event.Entry.{Entry};
 ghost use Rattle.esr_history.specs.Events.{is_refusal};
 ghost use Rattle.esr_history.specs.Imports.{imported, with_number, AreImports, AreDue};
 ghost use Rattle.esr_history.specs.Machine.{Distance, Schedule, IsLegal, extended, reply_to};
@@ -25,8 +24,8 @@ fn open(imports: &mut Vec<u64>, event: Event)
         → length imports.new.items + k ≤ vec_capacity imports.new }
 {
     match event {
-        Event::BeginUpdate { limit: _ } => imports.push_reserved(0),
-        Event::BeginQuery {
+        Event::BeginUpdate { limit: _ }
+        | Event::BeginQuery {
             limit: _,
             strict: _,
         } => imports.push_reserved(0),

@@ -1,5 +1,5 @@
 //! Writes all of some bytes.
-ghost use Rattle.std.specs.Prelude.{◌≡◌, ℕ, List, OnOk, OnErr, ◌≤◌, ◌||◌, is_err, take, length};
+ghost use Rattle.std.specs.Prelude.{◌≡◌, ℕ, List, OnOk, OnErr, ◌||◌, is_err};
 ghost use Rattle.std.specs.Io.KnownBytes.{Appends};
 ghost use Rattle.esr_history.specs.Watch.{inner, failed, BeginsWith};
 
@@ -12,21 +12,21 @@ use thiserror::Error;
 #[error("write failed")]
 pub struct WriteFailed;
 
-/// Writes the bytes, and gives how many were taken: all of them, or those before a failure.
-fn send<W: Write>(bytes: &[u8], writer: &mut Watched<W>) -> (usize, Result<(), WriteFailed>)
-    ensures bound { result.0 ≤ length bytes.now }
-    ensures taken { Appends (W.contents (inner writer.old)) (W.contents (inner writer.new)) (take result.0 bytes.now) }
-    ensures ok { OnOk result.1 (result.0 ≡ length bytes.now) }
-    ensures failed { failed writer.new ≡ (failed writer.old || is_err result.1) }
+/// Writes all of the bytes, or those before a failure.
+fn send<W: Write>(bytes: &[u8], writer: &mut Watched<W>) -> Result<(), WriteFailed>
+    ensures ok { OnOk result (Appends (W.contents (inner writer.old)) (W.contents (inner writer.new)) bytes.now) }
+    ensures err { OnErr result ((sent : List ℕ) × BeginsWith bytes.now sent
+        × Appends (W.contents (inner writer.old)) (W.contents (inner writer.new)) sent) }
+    ensures failed { failed writer.new ≡ (failed writer.old || is_err result) }
 {
     let mut sent = 0;
     while sent < bytes.len() {
         match writer.write(&bytes[sent..]) {
-            Ok(0) | Err(_) => return (sent, Err(WriteFailed)),
+            Ok(0) | Err(_) => return Err(WriteFailed),
             Ok(count) => sent += count,
         }
     }
-    (sent, Ok(()))
+    Ok(())
 }
 
 impl<W: Write> Watched<W> {
@@ -40,10 +40,7 @@ impl<W: Write> Watched<W> {
             × Appends (W.contents (inner self.old)) (W.contents (inner self.new)) sent) }
         ensures failed { failed self.new ≡ (failed self.old || is_err result) }
     {
-        let (_, result) = send(bytes, self);
-        if let Err(failed) = result {
-            return Err(failed);
-        }
+        send(bytes, self)?;
         if self.flush().is_err() {
             return Err(WriteFailed);
         }

@@ -1,4 +1,4 @@
-ghost use Rattle.std.specs.Prelude.{◌≡◌, ◌||◌, false, is_err, ◌<◌, length, ◌&&◌, Result};
+ghost use Rattle.std.specs.Prelude.{◌≡◌, ◌||◌, false, is_err, length};
 ghost use Rattle.std.specs.Io.{ReadsAtMost, WritesAtMost};
 ghost use Rattle.std.specs.Io.KnownBytes.{ReadConsumes, WriteAppends, Keeps};
 ghost use Rattle.esr_history.specs.Watch.{inner, failed, took_none};

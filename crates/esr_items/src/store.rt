@@ -1,4 +1,4 @@
-ghost use Rattle.std.specs.Prelude.{◌≡◌, ◌<◌, ◌≤◌, length, map, IfOk, IsErrOf, Any, IsTrue, ◌↔◌};
+ghost use Rattle.std.specs.Prelude.{◌≡◌, ◌<◌, ◌≤◌, ◌⊎◌, length, map, IfOk, OnOk, IfErr, IsErrOf, All, Any, IsTrue, ◌↔◌};
 ghost use Rattle.esr_items.specs.Values.{IsValue, both_versions, committed_at, current_at, current_set, kept, undone};
 
 use crate::metric::ItemId;
@@ -57,6 +57,22 @@ fn is_value(v: i64) -> bool
     v.unsigned_abs() <= LARGEST_VALUE
 }
 
+/// Whether a store may have the values, and else why not.
+fn check(values: &[i64]) -> Result<(), ItemsError>
+    ensures ok { OnOk result ((length values.now ≤ MOST_ITEMS) × All IsValue values.now) }
+    ensures err { IfErr result (λ e. ((e ≡ ItemsError.TooManyItems) × (MOST_ITEMS < length values.now))
+        ⊎ ((e ≡ ItemsError.ValueOutOfRange) × (length values.now ≤ MOST_ITEMS)
+        × Any (λ v. ¬ IsValue v) values.now)) }
+{
+    if values.len() > MOST_ITEMS {
+        return Err(ItemsError::TooManyItems);
+    }
+    if !values.iter().all(|v| is_value(*v)) {
+        return Err(ItemsError::ValueOutOfRange);
+    }
+    Ok(())
+}
+
 impl Store {
     /// A store in which each item has the value given, as its committed and its current value.
     pub fn new(alloc: Global, values: Vec<i64>) -> Result<Store, ItemsError>
@@ -66,12 +82,7 @@ impl Store {
             ↔ ((length values.items ≤ MOST_ITEMS) × Any (λ v. ¬ IsValue v) values.items) }
         ensures weights { ¬ IsErrOf result ItemsError.WeightOutOfRange }
     {
-        if values.len() > MOST_ITEMS {
-            return Err(ItemsError::TooManyItems);
-        }
-        if !values.iter().all(|v| is_value(*v)) {
-            return Err(ItemsError::ValueOutOfRange);
-        }
+        check(&values)?;
         let versions = values.iter().map(|v| Versions {
             committed: *v,
             current: *v,

@@ -1,5 +1,4 @@
 ghost use Rattle.std.specs.Prelude.{◌≡◌, ◌<◌, [], ◌∷◌, ◌++◌, OnOk, OnErr};
-ghost use Rattle.esr_locks.specs.Rows.{LockedItemsOf};
 
 use crate::lists::reserve_one;
 use esr_items::ItemId;

@@ -2,7 +2,7 @@ ghost use Rattle.std.specs.Prelude.{◌≡◌, ℕ, ◌<◌, ◌≤◌, ◌==◌
 ghost use Rattle.std.specs.Option.{option_map};
 ghost use Rattle.esr_history.specs.declared.limits.TheConstants.{MOST_READS};
 ghost use Rattle.esr_history.specs.Ascending.{IsAscendingBy, IsSmallest};
-ghost use Rattle.esr_locks.specs.Rows.{RowOf, query_and_count, with_lock, has_such};
+ghost use Rattle.esr_locks.specs.Rows.{query_and_count, with_lock, has_such};
 ghost use Rattle.esr_locks.specs.Tables.{no_locks, has_update_lock, has_query_lock, keeps_from_reading, keeps_from_writing, with_reader, with_writer, with_query_read, released};
 
 use crate::lists::{

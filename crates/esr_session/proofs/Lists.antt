@@ -1,7 +1,7 @@
 -- Lists of lists.
 use Rattle.std.proofs.Common.{◌≡◌, ℕ, zero, suc, ◌+◌, ◌<◌, ◌≤◌, List, [], ◌∷◌, ◌++◌, length, take, get_or, map, refl, ap, sym, ◌∙◌, arith}
 use Rattle.std.proofs.lemmas.List.Sums.{sum_by-append, sum_by_more_le}
-use Rattle.std.proofs.lemmas.List.{take_more}
+use Rattle.std.proofs.lemmas.List.{take_more, length-map}
 use Rattle.esr_session.specs.declared.receipt.Receipt.{Receipt}
 use Rattle.esr_session.specs.Receipts.{count_in}
 
@@ -9,10 +9,6 @@ pub get_or-mapped : {X Y : Type 0} (f : X → Y) (xs : List X) (i : ℕ) (d : X)
 get_or-mapped f [] i d = refl
 get_or-mapped f (x ∷ xs) zero d = refl
 get_or-mapped f (x ∷ xs) (suc i) d = get_or-mapped f xs i d
-
-pub length-mapped : {X Y : Type 0} (f : X → Y) (xs : List X) → length (map f xs) ≡ length xs
-length-mapped f [] = refl
-length-mapped f (x ∷ xs) = ap suc (length-mapped f xs)
 
 -- the element of a mapped list
 pub mapped_at : {X Y : Type 0} (f : X → Y) (xs : List X) (i : ℕ) (x : X) → x ≡ get_or xs i x → get_or (map f xs) i (f x) ≡ f x
@@ -23,7 +19,7 @@ pub count_more : {X : Type 0} (f : X → List Receipt) (xs : List X) (i : ℕ) (
     → (count_in (take (i + 1) (map f xs)) ≡ count_in (take i (map f xs)) + length (f x)) × (count_in (take i (map f xs)) + length (f x) ≤ count_in (map f xs))
 count_more f xs i x lt is =
     let m = map f xs in
-    let within : i < length m = omega (arith, length-mapped f xs, lt) in
+    let within : i < length m = omega (arith, length-map xs f, lt) in
     let t : count_in (take (i + 1) m) ≡ count_in (take i m ++ get_or m i (f x) ∷ []) = ap count_in (take_more m i (f x) within) in
     let s = sum_by-append length (take i m) (get_or m i (f x) ∷ []) in
     let e : length (get_or m i (f x)) ≡ length (f x) = ap length (mapped_at f xs i x is) in

@@ -1,12 +1,12 @@
 //! What an engine's lock holds, and one call under it.
-ghost use Rattle.std.specs.Prelude.{◌≡◌, ◌+◌, ◌<◌, ◌≤◌, ◌↔◌, [], ◌∷◌, ◌++◌, length, Some, None, IfOk, OnOk, OnErr, IsErrOf, IsSomeAnd};
+ghost use Rattle.std.specs.Prelude.{◌≡◌, ◌+◌, ◌↔◌, [], ◌∷◌, ◌++◌, length, Some, None, IfOk, OnOk, OnErr, IsErrOf, IsSomeAnd};
 ghost use Rattle.esr_history.specs.Machine.{IsLegal, reply_to, extended};
 ghost use Rattle.esr_session.specs.Receipts.{IsReceipt, receipt};
 
 use crate::naming::Naming;
 use crate::receipt::Receipt;
 use esr_core::{Machine, StepError};
-use esr_history::{Event, MOST_ENTRIES};
+use esr_history::{Event, MOST_ENTRIES, Reply};
 use esr_items::Metric;
 use std::marker::Model;
 use std::sync::ledger::{Book, Share};
@@ -52,6 +52,17 @@ impl<N: Naming> Model for Pocket<N> {
     ghost view = { λ p. p.receipts.items };
 
     ghost invariant = { λ p. (p.share.parts ≡ 1) × (p.share.amount ≡ length p.receipts.items) };
+}
+
+/// The receipt of the entry at a place.
+fn receipt(place: usize, event: Event, reply: Reply) -> Receipt
+    ensures { result ≡ receipt place event reply }
+{
+    Receipt {
+        at: place as u64,
+        event,
+        reply,
+    }
 }
 
 /// One call under the lock: one step of the machine, whose receipt is added to the pocket.
@@ -107,11 +118,7 @@ fn step_in<M: Metric, N: Naming>(
     }
     let reply = machine.step(event)?;
     let _legal = machine.log(); // brings the history's legality into the proof
-    let receipt = Receipt {
-        at: place as u64,
-        event,
-        reply,
-    };
+    let receipt = receipt(place, event, reply);
     pocket.receipts.push_reserved(receipt);
     total.add(&mut pocket.share, 1);
     Ok(receipt)

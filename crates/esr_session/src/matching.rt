@@ -1,5 +1,5 @@
 //! Receipts against a history.
-ghost use Rattle.std.specs.Prelude.{◌≡◌, List, ◌+◌, ◌<◌, ◌≤◌, ◌↔◌, ◌++◌, [], true, false, IsTrue, length, map, slice_index_or, vec_len, MatchOption, OnOk, IfOk, IfErr, IfSome, IfNone};
+ghost use Rattle.std.specs.Prelude.{◌≡◌, List, ◌+◌, ◌<◌, ◌≤◌, ◌↔◌, ◌++◌, [], false, IsTrue, length, map, slice_index_or, vec_len, MatchOption, OnOk, IfOk, IfErr, IfSome, IfNone};
 ghost use Rattle.esr_session.specs.Receipts.{IsVerdict, count_in, receipts_in, GoodFrom, IsForeignIn, Matches, Names};
 ghost use Rattle.esr_session.specs.declared.receipt.Receipt.{Receipt};
 ghost use Rattle.esr_session.specs.Marks.{AreMarked};

@@ -9,7 +9,7 @@ use esr_items::{ItemId, Metric};
 
 impl<M: Metric> Machine<M> {
     /// The update that has written an item and has not ended, if there is one.
-    #[tactic(auto, using(crate::proofs::Locks::locks_here, crate::proofs::Locks::locks_len))]
+    #[tactic(auto, using(crate::proofs::Locks::locks_len))]
     pub fn writer(&self, x: ItemId) -> Option<TxnId>
         requires { x.0 < length self.now.opening }
         ensures { option_map (λ u. u.0) result ≡ writer (done self.now) x.0 }

@@ -1,6 +1,8 @@
-use Rattle.std.proofs.Common.{◌≡◌, ◌+◌, ◌-◌, ◌++◌, take, drop, length, sym, ap, ◌∙◌, rules, length-drop}
+use Rattle.std.proofs.Common.{◌≡◌, ℕ, List, ◌+◌, ◌-◌, ◌++◌, take, drop, length, sym, ap, ◌∙◌, rules, length-drop, take-append-drop}
 use Rattle.std.proofs.Math.Seq.{take-add, take-length}
+use Rattle.std.proofs.lemmas.List.{take_all}
 use Rattle.std.proofs.KnownBytes.{Appends-trans}
+use Rattle.esr_history.specs.Watch.{BeginsWith}
 use Rattle.esr_history.proofs.sending.send.Goals as goal
 
 pub loop-sent-preserved : goal.loop-sent-preserved
@@ -18,3 +20,16 @@ loop-sent-preserved g c =
       taken = rw joined at all;
       failed = search rules;
     }
+
+pub returns-clause-ok : goal.returns-clause-ok
+returns-clause-ok g c = rw (take_all c.loop-sent.sent c.args.bytes.now c.loop-sent-test.false) at c.loop-sent.invariant.taken
+
+-- the bytes before a failure
+front : (n : ℕ) (bytes : List ℕ) → BeginsWith bytes (take n bytes)
+front n bytes = (drop n bytes, sym (take-append-drop n bytes))
+
+pub returns-in-Ok-eq0-clause-err : goal.returns-in-Ok-eq0-clause-err
+returns-in-Ok-eq0-clause-err g c = (take c.loop-sent.sent c.args.bytes.now, front _ _, search rules)
+
+pub returns-in-Ok-eq0-2-clause-err : goal.returns-in-Ok-eq0-2-clause-err
+returns-in-Ok-eq0-2-clause-err g c = (take c.loop-sent.sent c.args.bytes.now, front _ _, search rules)

@@ -1,10 +1,10 @@
 use Rattle.std.proofs.Common.{◌≡◌, ◌+◌, ◌≤◌, ◌<◌, ◌++◌, ◌∷◌, [], List, length, map, take, drop, suc, sym, subst, ap, ◌∙◌, arith, rules}
-use Rattle.std.proofs.lemmas.List.{take_more, take_all, take-map}
+use Rattle.std.proofs.lemmas.List.{take_more, take_all, take-map, length-map}
 use Rattle.esr_session.specs.declared.receipt.Receipt.{Receipt}
 use Rattle.esr_session.specs.Receipts.{GoodFrom, AllGood, IsForeignIn, count_in, receipts_in}
 use Rattle.esr_session.specs.Marks.{AreMarked}
 use Rattle.esr_session.proofs.Good.{good_matches, foreign_unmatched, matches_count, all_good-snoc, receipts_in-snoc, cut_at}
-use Rattle.esr_session.proofs.Lists.{mapped_at, length-mapped}
+use Rattle.esr_session.proofs.Lists.{mapped_at}
 use Rattle.esr_session.proofs.matching.match_all.Goals as goal
 
 pub match_list-requires-clause-marked : goal.match_list-requires-clause-marked
@@ -18,7 +18,7 @@ returns-in-Some-match_list-clause-verdict g c =
     let i = c.loop-i.i in
     let v = c.index-lists-i.result in
     let r = c.in-Some-match_list.foreign in
-    let within : i < length m = omega (arith, length-mapped g.L.HasReceipts.receipts lists, c.loop-i-test.true) in
+    let within : i < length m = omega (arith, length-map lists g.L.HasReceipts.receipts, c.loop-i-test.true) in
     let foreign : IsForeignIn es (receipts_in (map g.L.HasReceipts.receipts (take i lists))) c.receipts.result.now r = search rules in
     let here : IsForeignIn es (receipts_in (take i m)) (g.L.HasReceipts.receipts v) r =
     subst (λ (l : List Receipt). IsForeignIn es (receipts_in (take i m)) l r) c.receipts.ensures (subst (λ (l : List (List Receipt)). IsForeignIn es (receipts_in l) c.receipts.result.now r) (sym (take-map g.L.HasReceipts.receipts i lists)) foreign) in (
@@ -48,7 +48,7 @@ loop-i-preserved g c =
     let i = c.loop-i.i in
     let v = c.index-lists-i.result in
     let inv = c.loop-i.invariant in
-    let within : i < length m = omega (arith, length-mapped g.L.HasReceipts.receipts lists, c.loop-i-test.true) in
+    let within : i < length m = omega (arith, length-map lists g.L.HasReceipts.receipts, c.loop-i-test.true) in
     let more : take (i + 1) m ≡ take i m ++ (g.L.HasReceipts.receipts v) ∷ [] =
     take_more m i (g.L.HasReceipts.receipts v) within ∙ ap (λ l. take i m ++ l ∷ []) (mapped_at g.L.HasReceipts.receipts lists i v c.index-lists-i.is) in
     let before : receipts_in (map g.L.HasReceipts.receipts (take i lists)) ≡ receipts_in (take i m) =
@@ -67,14 +67,14 @@ loop-i-preserved g c =
 
 pub returns-clause-verdict : goal.returns-clause-verdict
 returns-clause-verdict g c =
-    grind (arith, map g.L.HasReceipts.receipts c.args.lists.now, take_all, length-mapped g.L.HasReceipts.receipts c.args.lists.now, good_matches)
+    grind (arith, map g.L.HasReceipts.receipts c.args.lists.now, take_all, length-map c.args.lists.now g.L.HasReceipts.receipts, good_matches)
 
 pub returns-clause-every_entry : goal.returns-clause-every_entry
 returns-clause-every_entry g c =
     let es = c.args.history.now.schedule.entries in
     let m = map g.L.HasReceipts.receipts c.args.lists.now in
     let i = c.loop-i.i in
-    let all : take i m ≡ m = take_all i m (omega (arith, length-mapped g.L.HasReceipts.receipts c.args.lists.now, c.loop-i-test.false)) in
+    let all : take i m ≡ m = take_all i m (omega (arith, length-map c.args.lists.now g.L.HasReceipts.receipts, c.loop-i-test.false)) in
     let enough : length es ≤ count_in m = search rules in
     matches_count es m (good_matches es m (subst (λ (l : List (List Receipt)). AllGood es [] l) all c.loop-i.invariant.good) enough)
 

@@ -1,4 +1,4 @@
-use Rattle.std.proofs.Common.{length, ◌∙◌, ap}
+use Rattle.std.proofs.Common.{◌∙◌, ap}
 use Rattle.esr_history.specs.Machine.{HistoryView}
 use Rattle.esr_history.specs.BackLinks.{facts_of}
 use Rattle.esr_history.proofs.Fitting.{legal_fit}
@@ -6,7 +6,5 @@ use Rattle.esr_history.proofs.history.History.facts.Goals as goal
 
 pub returns : goal.returns
 returns g c =
-    let h = c.self.inside in
-    c.facts.ensures (length h.initial.items) h.list.entries c.self.invariant.3
-    (legal_fit g.M.Metric.distance_by (record { opening = h.initial.items; weights = g.M.Metric.weights h.by; entries = h.list.entries }) c.self.invariant.2)
+    c.facts.ensures _ _ c.self.invariant.3 (legal_fit g.M.Metric.distance_by (record { opening = _; weights = g.M.Metric.weights c.self.inside.by; entries = _ }) c.self.invariant.2)
     ∙ ap (λ (v : HistoryView). facts_of v.schedule.entries c.args.t.0) c.self.view_is

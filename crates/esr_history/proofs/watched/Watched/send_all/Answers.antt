@@ -1,8 +1,16 @@
-use Rattle.std.proofs.Common.{take, drop, sym, take-append-drop}
+use Rattle.std.proofs.Common.{ℕ, List, [], ◌++◌, Option, None, Some, sym, ◌∙◌, append-nil}
+use Rattle.std.specs.Io.KnownBytes.{Appends, Keeps}
 use Rattle.esr_history.proofs.watched.Watched.send_all.Goals as goal
 
-pub returns-in-Err-clause-err : goal.returns-in-Err-clause-err
-returns-in-Err-clause-err g c =
-    let bytes = c.args.bytes.now in
-    let n = c.send-result.result.0 in
-    (take n bytes, (drop n bytes, sym (take-append-drop n bytes)), c.send-result.ensures.taken)
+-- a flush after the bytes keeps them
+kept : (a b c : Option (List ℕ)) (bs : List ℕ) → Appends a b bs → Keeps b c → Appends a c bs
+kept None b c bs p q = tt
+kept (Some x) None c bs p q = absurd p
+kept (Some x) (Some y) None bs p q = absurd q
+kept (Some x) (Some y) (Some z) bs p q = q ∙ p
+
+pub returns-then-is_err-clause-err : goal.returns-then-is_err-clause-err
+returns-then-is_err-clause-err g c = (c.args.bytes.now, ([], sym (append-nil c.args.bytes.now)), kept _ _ _ _ c.in_ok-send.ensures.ok c.flush.ensures.bytes)
+
+pub returns-clause-ok : goal.returns-clause-ok
+returns-clause-ok g c = kept _ _ _ _ c.in_ok-send.ensures.ok c.flush.ensures.bytes

@@ -1,0 +1,6 @@
+use Rattle.std.proofs.Common.{arith}
+use Rattle.esr_core.proofs.Locks.{locks_here}
+use Rattle.esr_core.proofs.machine.Machine.writer.Goals as goal
+
+pub returns : goal.returns
+returns g c = grind (arith, locks_here)
