@@ -1,6 +1,6 @@
 //! The check of a certificate. It goes over each arc a fixed number of times, and allocates nothing. Members of the set
 //! are found by binary search.
-ghost use Rattle.std.specs.Prelude.{◌≡◌, ℕ, ◌+◌, ◌*◌, ◌<◌, ◌≤◌, ◌||◌, not, length, get_or, map, Bool, true, IsOk};
+ghost use Rattle.std.specs.Prelude.{◌≡◌, ℕ, ◌*◌, ◌<◌, ◌≤◌, ◌||◌, not, length, get_or, map, Bool, true, IsOk};
 ghost use Rattle.std.specs.List.{list_all, sum, sum_by};
 ghost use Rattle.esr_cert.specs.Problem.{size, in_set, is_ascending, is_closed, version, chain_cost, cost};
 ghost use Rattle.esr_cert.specs.Network.{network};

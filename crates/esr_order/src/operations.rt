@@ -1,5 +1,5 @@
 //! What updates did, gone through from the last update to the first.
-ghost use Rattle.std.specs.Prelude.{◌≡◌, ◌<◌, ◌≤◌, ◌++◌, [], ℕ, List, IfOk, OnOk, All, AllPairs, if◌then◌else◌, filter, length, map};
+ghost use Rattle.std.specs.Prelude.{◌≡◌, ◌<◌, ◌≤◌, ◌++◌, [], ℕ, List, IfOk, OnOk, All, AllPairs, filter, length, map};
 ghost use Rattle.std.specs.List.{range_with_len};
 ghost use Rattle.esr_history.specs.declared.limits.TheConstants.{MOST_TRANSACTIONS};
 ghost use Rattle.esr_order.specs.UpdateOperations.{UpdateOperation};

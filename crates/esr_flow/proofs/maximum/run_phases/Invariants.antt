@@ -2,10 +2,10 @@ use Rattle.std.proofs.Common.{◌≡◌, ◌-◌, ◌*◌, ◌≤◌, length}
 use Rattle.esr_flow.specs.Augmentation.{Takes}
 use Rattle.esr_cert.specs.Flow.{worth}
 use Rattle.esr_flow.specs.Graph.{arcs_of, net_of, AreEntries}
-use Rattle.esr_flow.proofs.maximum.find_maximum.Given as goal
+use Rattle.esr_flow.proofs.maximum.run_phases.Given as goal
 
 abbrev pub invariant-loop-entries : goal.invariant-loop-entries
-invariant-loop-entries l = Takes (net_of l.graph) l.progress.augmentations l.flow.items × (l.progress.worth ≡ worth (net_of l.graph) l.flow.items) × (l.progress.phases ≤ l.progress.augmentations) × AreEntries l.graph l.flow.items l.entries.items
+invariant-loop-entries l = Takes (net_of l.graph) l.progress.augmentations l.flow × (l.progress.worth ≡ worth (net_of l.graph) l.flow) × (l.progress.phases ≤ l.progress.augmentations) × AreEntries l.graph l.flow l.entries
 
 abbrev pub decreases-loop-entries : goal.decreases-loop-entries
 decreases-loop-entries l = l.graph.nodes * length (arcs_of l.graph) - l.progress.augmentations
