@@ -1,5 +1,6 @@
 use Rattle.std.proofs.Common.{◌≡◌, true, false, set, replicate, [], ◌∷◌, subst, sym, ◌∙◌, ap, ◌++◌}
 use Rattle.esr_cert.specs.declared.residual.ResidualArc.TheVariants.{Forward}
+use Rattle.esr_flow.specs.declared.search.Visit.{Visit}
 use Rattle.esr_flow.specs.Graph.{net_of}
 use Rattle.esr_flow.specs.Search.{is_marked, Searched}
 use Rattle.esr_flow.proofs.PathLaws.{begin, sink_unmarked}
@@ -8,7 +9,7 @@ use Rattle.esr_flow.proofs.search.search.Goals as goal
 pub visit_nodes-requires-clause-begun : goal.visit_nodes-requires-clause-begun
 visit_nodes-requires-clause-begun c =
     let net = net_of c.args.graph.now in
-    let first = record { node = c.args.graph.now.source; level = 0; step = Forward 0; parent = 0 } in
+    let first : Visit = record { node = c.args.graph.now.source; level = 0; step = Forward 0; parent = 0 } in
     let marks : c.in_ok-marks.marks.items ≡ replicate c.args.graph.now.nodes false = c.in_ok-marks.ensures.items_if_clones_equal (λ y e. e) in
     let visits : c.push.new.self.items ≡ first ∷ [] = c.in_ok-push.ensures.items ∙ ap (λ vs. vs ++ first ∷ []) c.in_ok-visits.ensures.items in
     subst (λ vs. Searched net c.args.flow.now vs (set c.in_ok-marks.marks.items c.args.graph.now.source true) 0) (sym visits)
