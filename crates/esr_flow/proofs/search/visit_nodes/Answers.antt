@@ -9,6 +9,9 @@ use Rattle.esr_flow.proofs.EntriesLaws.{lists_read}
 use Rattle.esr_flow.proofs.SearchLaws.{all_reached}
 use Rattle.esr_flow.proofs.search.visit_nodes.Goals as goal
 
+pub loop-head-init : goal.loop-head-init
+loop-head-init c = (c.requires.begun, c.requires.sink, omega arith)
+
 pub scan-requires-clause-row : goal.scan-requires-clause-row
 scan-requires-clause-row c =
     let g : Graph = c.args.graph.now in
