@@ -22,32 +22,32 @@ pub struct CommitLists {
     pub queries: Vec<TxnId>,
 }
 
-/// The updates among transactions: those that are no queries.
-fn updates_among<M: Metric>(
+/// The transactions that are queries, and the others.
+fn lists_among<M: Metric>(
     alloc: Global,
     history: &History<M>,
-    txns: &[TxnId],
-) -> Result<Vec<TxnId>, AllocError>
-    ensures { IfOk result (λ v. v.items ≡ filter (λ t. not (is_query (done history.now.schedule) t.0)) txns.now) }
+    txns: Vec<TxnId>,
+) -> Result<CommitLists, AllocError>
+    ensures all { IfOk result (λ lists. lists.all.items ≡ txns.items) }
+    ensures updates { IfOk result (λ lists. lists.updates.items
+        ≡ filter (λ t. not (is_query (done history.now.schedule) t.0)) txns.items) }
+    ensures queries { IfOk result (λ lists. lists.queries.items
+        ≡ filter (λ t. is_query (done history.now.schedule) t.0) txns.items) }
 {
-    txns.iter()
-        .filter(|t| !is_query(history, **t))
-        .copied()
-        .collect(alloc)
-}
-
-/// The queries among transactions.
-fn queries_among<M: Metric>(
-    alloc: Global,
-    history: &History<M>,
-    txns: &[TxnId],
-) -> Result<Vec<TxnId>, AllocError>
-    ensures { IfOk result (λ v. v.items ≡ filter (λ t. is_query (done history.now.schedule) t.0) txns.now) }
-{
-    txns.iter()
-        .filter(|t| is_query(history, **t))
-        .copied()
-        .collect(alloc)
+    let mut updates = Vec::new(alloc);
+    let mut queries = Vec::new(alloc);
+    for t in &txns {
+        if is_query(history, *t) {
+            queries.push(*t)?;
+        } else {
+            updates.push(*t)?;
+        }
+    }
+    Ok(CommitLists {
+        all: txns,
+        updates,
+        queries,
+    })
 }
 
 /// The transactions that committed in a history, its committed updates and its committed queries,
@@ -63,12 +63,7 @@ pub fn commit_lists<M: Metric>(alloc: Global, history: &History<M>) -> Result<Co
     ensures few { IfOk result (λ lists. vec_len lists.queries ≤ MOST_TRANSACTIONS) }
 {
     let _legal = history.log(); // brings the invariant into the proof
-    let all = committed(alloc, history)?;
-    let updates = updates_among(alloc, history, &all)?;
-    let queries = queries_among(alloc, history, &all)?;
-    Ok(CommitLists {
-        all,
-        updates,
-        queries,
-    })
+    let txns = committed(alloc, history)?;
+    let lists = lists_among(alloc, history, txns)?;
+    Ok(lists)
 }

@@ -7,8 +7,8 @@ use Rattle.esr_history.specs.Queries.{is_committed_query}
 use Rattle.esr_audit.proofs.Stays as answer
 use Rattle.esr_audit.proofs.audit.audit_query.Goals as goal
 
-pub returns-in_ok-find-clause-stays : goal.returns-in_ok-find-clause-stays
-returns-in_ok-find-clause-stays g c =
+pub returns-clause-stays : goal.returns-clause-stays
+returns-clause-stays g c =
     let h = c.args.history.now.schedule in
     let f = c.in_ok-find.field-0 in
     let both : is_committed_query h c.args.q.0 ≡ true = elim (cases_Bool (is_committed_query h c.args.q.0)) [
