@@ -120,7 +120,11 @@ fn network_of(alloc: Global, parts: &ProblemParts) -> Result<(Vec<u32>, Vec<u16>
     }
     let starts = starts_of(alloc, &parts.chains)?;
     let owners = owners_of(alloc, &parts.chains, starts[parts.chains.len()] as usize)?;
-    let rows = rows_of(alloc, parts.updates.len() + 2, &arcs_of(parts, &starts, &owners))?;
+    let rows = rows_of(
+        alloc,
+        parts.updates.len() + 2,
+        &arcs_of(parts, &starts, &owners),
+    )?;
     Ok((starts, owners, rows))
 }
 

@@ -170,7 +170,14 @@ pub fn gather<M: Metric>(
     let (mut chains, mut readers) = nothing_later(alloc, history.items(), writers)?;
     // a write is mostly tied to the next of its item alone
     let mut pairs = Vec::with_capacity(alloc, total_of(writers))?;
-    gather_into(alloc, history, updates, &mut chains, &mut readers, &mut pairs)?;
+    gather_into(
+        alloc,
+        history,
+        updates,
+        &mut chains,
+        &mut readers,
+        &mut pairs,
+    )?;
     pairs.shrink_to_fit();
     Ok(PairsAndChains { pairs, chains })
 }

@@ -66,9 +66,9 @@ returns-in_err-part-clause-err g c =
     let done = map g.T.Part.shown c.loop-item.found.items in
     let here : drop i items ≡ v ∷ drop (i + 1) items = drop_more items i v (omega arith) ∙ ap (λ x. x ∷ drop (i + 1) items) (sym c.item-item.is) in
     let none : g.T.Part.part_of (view v) ≡ None → list_of g.T.Part.part_of (view c.args.value.now) ≡ None = λ h.
-        listed g.T.Part.part_of (view c.args.value.now) c.in-Some.items.now.items items c.in-Some.ensures c.deref-item-items.ensures.value
-        ∙ sym c.loop-item.invariant
-        ∙ ap (λ vs. option_map (λ rest. done ++ rest) (each g.T.Part.part_of (items_view vs))) here
-        ∙ each_none g.T.Part.part_of done v (drop (i + 1) items) h in
+    listed g.T.Part.part_of (view c.args.value.now) c.in-Some.items.now.items items c.in-Some.ensures c.deref-item-items.ensures.value
+    ∙ sym c.loop-item.invariant
+    ∙ ap (λ vs. option_map (λ rest. done ++ rest) (each g.T.Part.part_of (items_view vs))) here
+    ∙ each_none g.T.Part.part_of done v (drop (i + 1) items) h in
     passes (λ (e : BundleFault). e ≢ NoMemory → (e ≡ Shape) × (list_of g.T.Part.part_of (view c.args.value.now) ≡ None)) c.from_residual.result c.in_err-part.field-0.0 c.from_residual.ensures.1
     (λ n. let k = c.in_err-part.ensures.err n in (k.0, none k.1))
