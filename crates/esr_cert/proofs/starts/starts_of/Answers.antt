@@ -1,4 +1,4 @@
-use Rattle.std.proofs.Common.{arith, ◌≡◌, ◌+◌, ◌∙◌, [], ◌∷◌, ◌++◌, ap, sym, drop, take, map, length, sum_by}
+use Rattle.std.proofs.Common.{arith, ◌≡◌, ◌+◌, ◌∙◌, [], ◌∷◌, ◌++◌, ap, sym, drop, map, length}
 use Rattle.std.proofs.lemmas.List.{append_assoc, drop_more, drop_all}
 use Rattle.std.proofs.lemmas.List.Sums.{sum_by_more}
 use Rattle.esr_cert.specs.Starts.{starts_from}

@@ -1,4 +1,4 @@
-use Rattle.std.proofs.Common.{arith, ◌≡◌, ◌*◌, ◌≤◌, length, sym, ◌∙◌, ap}
+use Rattle.std.proofs.Common.{arith, ◌*◌, ◌≤◌, length, sym, ◌∙◌, ap}
 use Rattle.esr_cert.specs.Flow.{worth}
 use Rattle.esr_flow.specs.Graph.{arcs_of, net_of}
 use Rattle.esr_flow.proofs.FlowLaws.{zero_worth}
