@@ -36,8 +36,8 @@ loop-i-init c =
       refl,
       refl,
       λ steps are. (
-          subst (λ l. AreLater (map seen_links c.args.chains.now) (map (λ r. r.items) c.args.readers.now) (map (operation_at c.args.place) l ++ steps)) (sym none) are,
-          subst (λ l. c.args.ties.now.items ≡ c.args.ties.now.items ++ turn_ties (map (operation_at c.args.place) l) steps) (sym none) (sym (append-nil c.args.ties.now.items)),
+        subst (λ l. AreLater (map seen_links c.args.chains.now) (map (λ r. r.items) c.args.readers.now) (map (operation_at c.args.place) l ++ steps)) (sym none) are,
+        subst (λ l. c.args.ties.now.items ≡ c.args.ties.now.items ++ turn_ties (map (operation_at c.args.place) l) steps) (sym none) (sym (append-nil c.args.ties.now.items)),
       ),
     )
 
