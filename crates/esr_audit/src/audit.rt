@@ -57,13 +57,12 @@ fn find<M: Metric>(
     history: &History<M>,
     order: Order,
     q: TxnId,
-) -> Result<Finding, AuditError>
+) -> Result<Finding, NoMemory>
     requires order { IsOrderAmong history.now.schedule q.0 (map (λ t. t.0) order.commits) order }
     requires near { AreNear history.now.schedule q.0 (map (λ t. t.0) order.commits) }
     requires committed { IsTrue (is_committed_query history.now.schedule q.0) }
     ensures query { IfOk result (λ f. f.query ≡ q) }
     ensures finding { IfOk result (IsFindingOf M.distance_by history.now.schedule q.0) }
-    ensures err { IfErr result (λ e. e ≡ AuditError.NoMemory) }
 {
     let _legal = history.log(); // brings the invariant into the proof
     let import = history.import(q);
@@ -104,7 +103,7 @@ pub fn audit_query<M: Metric>(
 {
     let _legal = history.log(); // brings the invariant into the proof
     let order = Order::near(alloc, history, q)?;
-    find(alloc, history, order, q)
+    Ok(find(alloc, history, order, q)?)
 }
 
 /// What is found of a committed query, beside the list of all transactions that committed.
@@ -121,7 +120,7 @@ fn find_committed<M: Metric>(
     ensures err { IfErr result (λ e. e ≡ AuditError.NoMemory) }
 {
     let near = Order::near_in(alloc, history, committed, q)?;
-    find(alloc, history, near, q)
+    Ok(find(alloc, history, near, q)?)
 }
 
 /// What is found of each of these committed queries, beside the list of all transactions that

@@ -3,7 +3,6 @@
 use esr_cert::{Certificate, Problem};
 use esr_history::{NoMemory, TxnId};
 use esr_order::OrderError;
-use std::alloc::AllocError;
 use thiserror::Error;
 
 /// What an audit finds of a committed query.
@@ -48,17 +47,6 @@ pub enum AuditError {
     /// An audit has 1 to 64 workers.
     #[error("workers out of range")]
     WorkersOutOfRange = 3,
-}
-
-impl From<AllocError> for AuditError {
-    ghost use Rattle.std.specs.Prelude.{◌≡◌};
-    ghost use Rattle.esr_audit.specs.declared.finding.AuditError.TheVariants.{NoMemory};
-
-    ghost from_gives = { λ _ e. e ≡ NoMemory };
-
-    fn from(_: AllocError) -> AuditError {
-        AuditError::NoMemory
-    }
 }
 
 impl From<NoMemory> for AuditError {

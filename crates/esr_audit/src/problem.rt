@@ -1,5 +1,5 @@
 //! The problem that stands for a committed query.
-ghost use Rattle.std.specs.Prelude.{◌≡◌, map, IfOk, IfErr, IsTrue};
+ghost use Rattle.std.specs.Prelude.{map, IfOk, IsTrue};
 ghost use Rattle.esr_history.specs.Events.{is_query};
 ghost use Rattle.esr_history.specs.Machine.{done};
 ghost use Rattle.esr_order.specs.Orders.{IsOrderAmong};
@@ -7,10 +7,9 @@ ghost use Rattle.esr_order.specs.Near.{AreNear};
 ghost use Rattle.esr_audit.specs.Problems.{StandsFor};
 
 use crate::chains::chains_of;
-use crate::finding::AuditError;
 use crate::reads::item_reads;
 use esr_cert::{Problem, ProblemParts};
-use esr_history::{History, TxnId};
+use esr_history::{History, NoMemory, TxnId};
 use esr_items::Metric;
 use esr_order::Order;
 use std::alloc::{AllocError, Global};
@@ -21,13 +20,12 @@ pub fn problem_of<M: Metric>(
     history: &History<M>,
     mut order: Order,
     q: TxnId,
-) -> Result<Problem, AuditError>
+) -> Result<Problem, NoMemory>
     requires order { IsOrderAmong history.now.schedule q.0 (map (λ t. t.0) order.commits) order }
     requires near { AreNear history.now.schedule q.0 (map (λ t. t.0) order.commits) }
     requires query { IsTrue (is_query (done history.now.schedule) q.0) }
     ensures stands { IfOk result (λ p. StandsFor M.distance_by history.now.schedule q.0 p) }
     ensures near { IfOk result (λ p. AreNear history.now.schedule q.0 p.updates) }
-    ensures err { IfErr result (λ e. e ≡ AuditError.NoMemory) }
 {
     let _legal = history.log(); // brings the invariant into the proof
     let reads = item_reads(alloc, history, q)?;

@@ -1,5 +1,5 @@
 //! The audit of a whole history by several workers.
-ghost use Rattle.std.specs.Prelude.{◌≡◌, ℕ, ◌+◌, ◌<◌, ◌≤◌, ◌↔◌, ◌⊎◌, [], length, map, All, IfOk, IfErr, vec_len, slice_index_or, slice_set, Some, None};
+ghost use Rattle.std.specs.Prelude.{◌≡◌, ℕ, ◌<◌, ◌≤◌, ◌↔◌, ◌⊎◌, [], length, map, All, IfOk, IfErr, vec_len, slice_index_or, slice_set, Some, None};
 ghost use Rattle.esr_audit.specs.Findings.{IsFinding, IsBook};
 ghost use Rattle.esr_board.specs.declared.board.TheConstants.{MOST_JOBS};
 ghost use Rattle.esr_board.specs.Claims.{times, count_past};

@@ -1,7 +1,7 @@
 //! The numbers of a certificate as they were read.
 
 /// A certificate as it was read.
-#[derive(Debug, Drop)]
+#[derive(Drop)]
 pub struct CertificateDraft {
     pub set: Vec<u64>,
     pub chain_flow: Vec<Vec<u64>>,

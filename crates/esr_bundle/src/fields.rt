@@ -138,30 +138,13 @@ pub fn at<'a>(value: &'a Value, key: &str) -> Result<&'a Value, BundleFault>
     }
 }
 
-/// The number at a key.
-pub fn number_at(value: &Value, key: &str) -> Result<u64, BundleFault>
-    ensures ok { IfOk result (λ n. field natural_in key.now (view value.now) ≡ Some n) }
-    ensures err { IfErr result (λ e. (e ≡ BundleFault.Shape) × (field natural_in key.now (view value.now) ≡ None)) }
-{
-    let Some(found) = value.get(key) else {
-        return Err(BundleFault::Shape);
-    };
-    match found.as_u64() {
-        Some(number) => Ok(number),
-        None => Err(BundleFault::Shape),
-    }
-}
-
-/// The list of numbers at a key.
-pub fn numbers_at(alloc: Global, value: &Value, key: &str) -> Result<Vec<u64>, BundleFault>
-    ensures ok { IfOk result (λ v. field naturals_in key.now (view value.now) ≡ Some v.items) }
+/// What is read from the value at a key.
+pub fn part_at<T: Part>(alloc: Global, value: &Value, key: &str) -> Result<T, BundleFault>
+    ensures ok { IfOk result (λ v. field T.part_of key.now (view value.now) ≡ Some (T.shown v)) }
     ensures err { IfErr result (λ e. e ≢ BundleFault.NoMemory → (e ≡ BundleFault.Shape)
-        × (field naturals_in key.now (view value.now) ≡ None)) }
+        × (field T.part_of key.now (view value.now) ≡ None)) }
 {
-    let Some(found) = value.get(key) else {
-        return Err(BundleFault::Shape);
-    };
-    numbers(alloc, found)
+    T::read(alloc, at(value, key)?)
 }
 
 /// The list of numbers at a key, and no numbers where there is no such key.

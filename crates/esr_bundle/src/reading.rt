@@ -2,15 +2,14 @@
 ghost use Rattle.std.specs.Prelude.{◌≡◌, ◌≢◌, Some, None, IfOk, IfErr};
 ghost use Rattle.serde_json.specs.View.{view};
 ghost use Rattle.esr_bundle.specs.Bundle.{chain_of, problem_of, certificate_of, parts_of};
-ghost use Rattle.esr_cert.specs.Problem.{Chain};
+ghost use Rattle.esr_cert.specs.Problem.{Chain, Problem};
+ghost use Rattle.esr_cert.specs.Certificate.{Certificate};
 ghost use Rattle.esr_cert.specs.Drafts.{drafted_chain, drafted_problem};
 ghost use Rattle.esr_bundle.specs.Drafts.{drafted_certificate};
 ghost use Rattle.esr_bundle.specs.Reading.{IsTree, HasNoTree, IsReadingOf};
 
 use crate::draft::CertificateDraft;
-use crate::fields::{
-    Part, at, has_keys, list, number_at, number_if, numbers_at, numbers_if, one_if, pairs,
-};
+use crate::fields::{Part, at, has_keys, list, number_if, numbers_if, one_if, pairs, part_at};
 use crate::sound::finished;
 use esr_cert::{BundleFault, Certificate, ChainDraft, Problem, ProblemDraft};
 use serde_json::Value;
@@ -27,9 +26,9 @@ impl Part for ChainDraft {
         if !has_keys(value, 3) {
             return Err(BundleFault::Shape);
         }
-        let costs = numbers_at(alloc, value, "costs")?;
-        let item = number_at(value, "item")?;
-        let writers = numbers_at(alloc, value, "writers")?;
+        let costs = part_at(alloc, value, "costs")?;
+        let item = part_at(alloc, value, "item")?;
+        let writers = part_at(alloc, value, "writers")?;
         Ok(ChainDraft {
             item,
             writers,
@@ -38,51 +37,59 @@ impl Part for ChainDraft {
     }
 }
 
-fn problem(alloc: Global, value: &Value) -> Result<ProblemDraft, BundleFault>
-    ensures ok { IfOk result (λ p. problem_of (view value.now) ≡ Some (drafted_problem p)) }
-    ensures err { IfErr result (λ e. e ≢ BundleFault.NoMemory → (e ≡ BundleFault.Shape)
-        × (problem_of (view value.now) ≡ None)) }
-{
-    if !has_keys(value, 3 + one_if(value, "must")) {
-        return Err(BundleFault::Shape);
+impl Part for ProblemDraft {
+    ghost Kind = { Problem };
+
+    ghost shown = { drafted_problem };
+
+    ghost part_of = { problem_of };
+
+    fn read(alloc: Global, value: &Value) -> Result<ProblemDraft, BundleFault> {
+        if !has_keys(value, 3 + one_if(value, "must")) {
+            return Err(BundleFault::Shape);
+        }
+        let before = pairs(alloc, at(value, "before")?)?;
+        let chains = list(alloc, at(value, "chains")?)?;
+        let must = numbers_if(alloc, value, "must")?;
+        let updates = part_at(alloc, value, "updates")?;
+        Ok(ProblemDraft {
+            updates,
+            before,
+            chains,
+            must,
+        })
     }
-    let before = pairs(alloc, at(value, "before")?)?;
-    let chains = list(alloc, at(value, "chains")?)?;
-    let must = numbers_if(alloc, value, "must")?;
-    let updates = numbers_at(alloc, value, "updates")?;
-    Ok(ProblemDraft {
-        updates,
-        before,
-        chains,
-        must,
-    })
 }
 
-fn certificate(alloc: Global, value: &Value) -> Result<CertificateDraft, BundleFault>
-    ensures ok { IfOk result (λ c. certificate_of (view value.now) ≡ Some (drafted_certificate c)) }
-    ensures err { IfErr result (λ e. e ≢ BundleFault.NoMemory → (e ≡ BundleFault.Shape)
-        × (certificate_of (view value.now) ≡ None)) }
-{
-    if !has_keys(
-        value,
-        4 + one_if(value, "augmentations") + one_if(value, "must_flow"),
-    ) {
-        return Err(BundleFault::Shape);
+impl Part for CertificateDraft {
+    ghost Kind = { Certificate };
+
+    ghost shown = { drafted_certificate };
+
+    ghost part_of = { certificate_of };
+
+    fn read(alloc: Global, value: &Value) -> Result<CertificateDraft, BundleFault> {
+        if !has_keys(
+            value,
+            4 + one_if(value, "augmentations") + one_if(value, "must_flow"),
+        ) {
+            return Err(BundleFault::Shape);
+        }
+        let augmentations = number_if(value, "augmentations")?;
+        let back_flow = part_at(alloc, value, "back_flow")?;
+        let chain_flow = list(alloc, at(value, "chain_flow")?)?;
+        let must_flow = numbers_if(alloc, value, "must_flow")?;
+        let set = part_at(alloc, value, "set")?;
+        let worth = part_at(alloc, value, "worth")?;
+        Ok(CertificateDraft {
+            set,
+            chain_flow,
+            back_flow,
+            must_flow,
+            worth,
+            augmentations,
+        })
     }
-    let augmentations = number_if(value, "augmentations")?;
-    let back_flow = numbers_at(alloc, value, "back_flow")?;
-    let chain_flow = list(alloc, at(value, "chain_flow")?)?;
-    let must_flow = numbers_if(alloc, value, "must_flow")?;
-    let set = numbers_at(alloc, value, "set")?;
-    let worth = number_at(value, "worth")?;
-    Ok(CertificateDraft {
-        set,
-        chain_flow,
-        back_flow,
-        must_flow,
-        worth,
-        augmentations,
-    })
 }
 
 /// The numbers of a bundle.
@@ -94,8 +101,8 @@ fn parts(alloc: Global, value: &Value) -> Result<(ProblemDraft, CertificateDraft
     if !has_keys(value, 2) {
         return Err(BundleFault::Shape);
     }
-    let certificate = certificate(alloc, at(value, "certificate")?)?;
-    let problem = problem(alloc, at(value, "problem")?)?;
+    let certificate = part_at(alloc, value, "certificate")?;
+    let problem = part_at(alloc, value, "problem")?;
     Ok((problem, certificate))
 }
 

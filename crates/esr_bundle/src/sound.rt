@@ -146,8 +146,26 @@ fn positions(alloc: Global, numbers: &[u64]) -> Result<Vec<u32>, BundleFault>
     list(alloc, numbers)
 }
 
-/// The problem of a draft. A number that does not fit its type is out of its range, since a problem in range has at
-/// most 65,535 updates.
+/// The parts of a problem, of a draft that breaks no rule of shape. A number that does not fit its type is out of its
+/// range, since a problem in range has at most 65,535 updates.
+fn parts_of(alloc: Global, draft: &ProblemDraft) -> Result<ProblemParts, BundleFault>
+    requires { spec.has_shape (drafted_problem draft.now) ≡ true }
+    ensures ok { IfOk result (λ parts. views.posed_by parts ≡ drafted_problem draft.now) }
+    ensures err { IfErr result (λ e. e ≢ BundleFault.NoMemory → problem_fault (drafted_problem draft.now) ≡ Some e) }
+{
+    let updates = list(alloc, &draft.updates)?;
+    let before = list(alloc, &draft.before)?;
+    let chains = list(alloc, &draft.chains)?;
+    let must = positions(alloc, &draft.must)?;
+    Ok(ProblemParts {
+        updates,
+        before,
+        chains,
+        must,
+    })
+}
+
+/// The problem of a draft.
 fn problem(alloc: Global, draft: &ProblemDraft) -> Result<Problem, BundleFault>
     ensures ok { IfOk result (λ p. p ≡ drafted_problem draft.now) }
     ensures sound { IsOk result → problem_fault (drafted_problem draft.now) ≡ None }
@@ -156,16 +174,7 @@ fn problem(alloc: Global, draft: &ProblemDraft) -> Result<Problem, BundleFault>
     if !has_shape(alloc, draft)? {
         return Err(BundleFault::Shape);
     }
-    let updates = list(alloc, &draft.updates)?;
-    let before = list(alloc, &draft.before)?;
-    let chains = list(alloc, &draft.chains)?;
-    let must = positions(alloc, &draft.must)?;
-    let parts = ProblemParts {
-        updates,
-        before,
-        chains,
-        must,
-    };
+    let parts = parts_of(alloc, draft)?;
     Problem::of_shape(alloc, parts)
 }
 

@@ -1,11 +1,11 @@
 //! The check of a certificate. It goes over each arc a fixed number of times, and allocates nothing. Members of the set
 //! are found by binary search.
-ghost use Rattle.std.specs.Prelude.{◌≡◌, ℕ, ◌+◌, ◌*◌, ◌<◌, ◌≤◌, ◌||◌, not, length, get_or, map, Bool, true, IsOk};
+ghost use Rattle.std.specs.Prelude.{◌≡◌, ℕ, ◌*◌, ◌<◌, ◌≤◌, ◌||◌, not, length, get_or, map, Bool, true, IsOk};
 ghost use Rattle.std.specs.List.{list_all, sum, sum_by};
 ghost use Rattle.esr_cert.specs.Problem.{size, in_set, is_ascending, is_closed, version, chain_cost, cost};
 ghost use Rattle.esr_cert.specs.Network.{network};
 ghost use Rattle.esr_cert.specs.Flow.{amount_at, is_conserved_at, is_conserved};
-ghost use Rattle.esr_cert.specs.Certificate.{amounts, is_within, worth_matches, is_count_in_bound, fault, or_fault};
+ghost use Rattle.esr_cert.specs.Certificate.{amounts, is_known, is_within, worth_matches, is_count_in_bound, fault, or_fault};
 ghost use Rattle.esr_cert.specs.Balance.{is_balanced};
 ghost use Rattle.esr_cert.specs.Starts.{AreStarts};
 ghost use Rattle.esr_cert.specs.Parts.{is_row_within, are_rows_within};
@@ -17,6 +17,13 @@ use crate::lists::{are_below, contains, is_ascending};
 use crate::problem::{Chain, Problem};
 use crate::residual::{ResidualArc, ShortArc};
 use crate::starts::row_at;
+
+/// Whether there is an update at each position of a set.
+fn is_known(problem: &Problem, set: &[u32]) -> bool
+    ensures { result ≡ is_known problem.now set.now }
+{
+    are_below(set, problem.updates().len())
+}
 
 fn keeps_before(before: &[(u32, u32)], set: &[u32]) -> bool
     requires { is_ascending set.now ≡ true }
@@ -232,7 +239,7 @@ fn first_fault(problem: &Problem, certificate: &Certificate) -> Result<(), Fault
     if !is_ascending(&certificate.set) {
         return Err(Fault::SetNotAscending);
     }
-    if !are_below(&certificate.set, problem.updates().len()) {
+    if !is_known(problem, &certificate.set) {
         return Err(Fault::UnknownUpdate);
     }
     if !is_closed(problem, &certificate.set) {

@@ -1,5 +1,5 @@
 //! Tests of lists of positions.
-ghost use Rattle.std.specs.Prelude.{◌≡◌, ◌-◌, ◌<◌, nat_lt, true};
+ghost use Rattle.std.specs.Prelude.{◌≡◌, nat_lt, true};
 ghost use Rattle.std.specs.List.{list_all};
 ghost use Rattle.esr_cert.specs.Problem.{in_set, is_ascending};
 

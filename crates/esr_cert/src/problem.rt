@@ -107,6 +107,27 @@ fn arcs_of<'a>(parts: &'a ProblemParts, starts: &'a [u32], owners: &'a [u16]) ->
     }
 }
 
+/// Where the arcs of each chain begin, the chain of each of them, and the steps of each node, of parts that break no
+/// rule.
+fn network_of(alloc: Global, parts: &ProblemParts) -> Result<(Vec<u32>, Vec<u16>, Rows), AllocError>
+    requires sound { is_sound (posed_by parts.now) ≡ true }
+    ensures starts { IfOk result (λ n. n.0.items ≡ starts_from 0 (posed_by parts.now).chains) }
+    ensures owners { IfOk result (λ n. n.1.items ≡ owners_from 0 (posed_by parts.now).chains) }
+    ensures laid { IfOk result (λ n. AreLaid (network (posed_by parts.now)) n.2) }
+{
+    if arc_count(&parts.before, &parts.chains, &parts.must) > MOST_ARCS as u128 {
+        return Err(AllocError);
+    }
+    let starts = starts_of(alloc, &parts.chains)?;
+    let owners = owners_of(alloc, &parts.chains, starts[parts.chains.len()] as usize)?;
+    let rows = rows_of(
+        alloc,
+        parts.updates.len() + 2,
+        &arcs_of(parts, &starts, &owners),
+    )?;
+    Ok((starts, owners, rows))
+}
+
 impl Model for Problem {
     ghost use Rattle.std.specs.Prelude.{◌≡◌, true};
     ghost use Rattle.esr_cert.specs.Problem as spec;
@@ -177,13 +198,7 @@ impl Problem {
         requires sound { is_sound (posed_by parts) ≡ true }
         ensures { IfOk result (λ p. p ≡ posed_by parts) }
     {
-        if arc_count(&parts.before, &parts.chains, &parts.must) > MOST_ARCS as u128 {
-            return Err(AllocError);
-        }
-        let starts = starts_of(alloc, &parts.chains)?;
-        let owners = owners_of(alloc, &parts.chains, starts[parts.chains.len()] as usize)?;
-        let arcs = arcs_of(&parts, &starts, &owners);
-        let rows = rows_of(alloc, parts.updates.len() + 2, &arcs)?;
+        let (starts, owners, rows) = network_of(alloc, &parts)?;
         Ok(Problem {
             parts,
             starts,

@@ -1,5 +1,5 @@
 //! The rules of range.
-ghost use Rattle.std.specs.Prelude.{◌≡◌, ◌+◌, ◌-◌, ◌*◌, ◌<◌, ◌&&◌, map, nat_lt, nat_le, true};
+ghost use Rattle.std.specs.Prelude.{◌≡◌, ◌&&◌, map, nat_lt, nat_le};
 ghost use Rattle.std.specs.List.{list_all, sum_by};
 ghost use Rattle.esr_cert.specs.Problem.{greatest, chain_is_in_range, is_in_range};
 ghost use Rattle.esr_cert.specs.Views.{chain_of, posed_by};

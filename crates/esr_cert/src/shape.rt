@@ -1,5 +1,5 @@
 //! The rules of shape, over the numbers of a draft.
-ghost use Rattle.std.specs.Prelude.{◌≡◌, ◌+◌, ◌-◌, ◌<◌, ◌&&◌, ◌==◌, map, nat_lt, true, IfOk};
+ghost use Rattle.std.specs.Prelude.{◌≡◌, map, nat_lt, true, IfOk};
 ghost use Rattle.std.specs.List.{list_all};
 ghost use Rattle.esr_cert.specs.Problem.{pair_lt, is_ascending, is_distinct, are_pairs_ascending, has_pair, are_linked, chain_has_shape, has_shape};
 ghost use Rattle.esr_cert.specs.Drafts.{drafted_chain, drafted_problem};

@@ -58,36 +58,31 @@ module _ (net : Network) (ok : IsNetwork net) (flow : List ℕ) (steps : List Re
   pub entry_marked : (e : AdjacencyEntry) → Scanning net flow steps row visits marks head level k → k < length row → e ≡ get_or row k none_at → e.to < length marks
   entry_marked e h l is = let q : IsEntry net.arcs flow (visit_at visits head).node (step_at steps k) e = entry_in e h l is in omega (arith, q.leads, finish_in net ok (step_at steps k) q.in_arcs, h.searched.marks_length)
 
-  -- a step without residual capacity
-  pub scan_skip : (e : AdjacencyEntry) → Scanning net flow steps row visits marks head level k → k < length row → e ≡ get_or row k none_at → e.ahead ≡ false → Scanning net flow steps row visits marks head level (k + 1)
-  scan_skip e h l is f = let q : IsEntry net.arcs flow (visit_at visits head).node (step_at steps k) e = entry_in e h l is in record {
+  -- one more step, which leads to a visit if it has residual capacity
+  scan_on : Scanning net flow steps row visits marks head level k → (IsResidual net.arcs flow (step_at steps k) → Leads net.arcs visits (visit_at visits head).level (step_at steps k)) → Scanning net flow steps row visits marks head level (k + 1)
+  scan_on h here = record {
     searched = h.searched;
     in_visits = h.in_visits;
     lists = h.lists;
     next_level = h.next_level;
     unfound = h.unfound;
-    row_done = at_k (λ t. IsResidual net.arcs flow t → Leads net.arcs visits (visit_at visits head).level t)
-        (λ r. absurd (true≢false (sym r.1 ∙ sym q.ahead ∙ f)))
-        h.row_done;
+    row_done = at_k (λ t. IsResidual net.arcs flow t → Leads net.arcs visits (visit_at visits head).level t) here h.row_done;
   }
+
+  -- a step without residual capacity
+  pub scan_skip : (e : AdjacencyEntry) → Scanning net flow steps row visits marks head level k → k < length row → e ≡ get_or row k none_at → e.ahead ≡ false → Scanning net flow steps row visits marks head level (k + 1)
+  scan_skip e h l is f =
+      let q : IsEntry net.arcs flow (visit_at visits head).node (step_at steps k) e = entry_in e h l is in
+      scan_on h (λ r. absurd (true≢false (sym r.1 ∙ sym q.ahead ∙ f)))
 
   -- a step to a node that was visited; the node is in range, so it does not matter what is past the end
   pub scan_marked : (e : AdjacencyEntry) → Scanning net flow steps row visits marks head level k → k < length row → e ≡ get_or row k none_at → get_or marks e.to true ≡ true → Scanning net flow steps row visits marks head level (k + 1)
   scan_marked e h l is m =
       let q : IsEntry net.arcs flow (visit_at visits head).node (step_at steps k) e = entry_in e h l is in
       let t : is_marked marks (finish net.arcs (step_at steps k)) ≡ true = ap (is_marked marks) (sym q.leads) ∙ get_or_default marks e.to false true (omega (arith, q.leads, finish_in net ok (step_at steps k) q.in_arcs, h.searched.marks_length)) ∙ m in
-      record {
-        searched = h.searched;
-        in_visits = h.in_visits;
-        lists = h.lists;
-        next_level = h.next_level;
-        unfound = h.unfound;
-        row_done = at_k (λ t. IsResidual net.arcs flow t → Leads net.arcs visits (visit_at visits head).level t)
-            (λ r.
-            let v : (j : ℕ) × (j < length visits) × ((visit_at visits j).node ≡ finish net.arcs (step_at steps k)) = h.searched.visited (finish net.arcs (step_at steps k)) t in
-            (v.0, v.1, v.2, h.searched.near v.0 v.1 h.in_visits))
-            h.row_done;
-      }
+      scan_on h (λ r.
+      let v : (j : ℕ) × (j < length visits) × ((visit_at visits j).node ≡ finish net.arcs (step_at steps k)) = h.searched.visited (finish net.arcs (step_at steps k)) t in
+      (v.0, v.1, v.2, h.searched.near v.0 v.1 h.in_visits))
 
   searched_more : (e : AdjacencyEntry) → Scanning net flow steps row visits marks head level k → k < length row → e ≡ get_or row k none_at → e.ahead ≡ true → is_marked marks e.to ≡ false → Searched net flow (visits ++ visit_of (step_at steps k) e level head ∷ []) (set marks e.to true) head
   searched_more e h l is r f =

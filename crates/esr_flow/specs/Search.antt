@@ -77,6 +77,16 @@ AfterScan net flow visits marks head true = FoundSink net flow visits
 AfterScan net flow visits marks head false =
     Searched net flow visits marks (head + 1) × (is_marked marks net.sink ≡ false) × (head < length visits)
 
+-- marks of all that the source reaches, which the sink is not
+abbrev pub ReachesNoSink : Network → List ℕ → List Bool → Type 0
+ReachesNoSink net flow marks =
+    IsReach net flow (is_marked marks) × (is_marked marks net.sink ≡ false) × (length marks ≡ net.nodes)
+
+-- what a search leaves
+abbrev pub AfterSearch : Network → List ℕ → List Visit → List Bool → Bool → Type 0
+AfterSearch net flow visits marks true = FoundSink net flow visits
+AfterSearch net flow visits marks false = ReachesNoSink net flow marks
+
 abbrev pub label_at : List ℕ → ℕ → ℕ
 label_at labels v = get_or labels v 0
 
@@ -95,6 +105,4 @@ pub record IsGuided (net : Network) (flow labels : List ℕ) (path : List Residu
 -- a shortest path and labels that guide to more of its length, or what the source reaches
 abbrev pub IsFound : Network → List ℕ → Found → Type 0
 IsFound net flow (Path path labels) = IsGuided net flow labels.items path.items × Guides net flow labels.items
-IsFound net flow (Reach marks) =
-    IsReach net flow (is_marked marks.items) × (is_marked marks.items net.sink ≡ false)
-    × (length marks.items ≡ net.nodes)
+IsFound net flow (Reach marks) = ReachesNoSink net flow marks.items

@@ -1,8 +1,6 @@
 //! A problem's network, the steps that start at each node, and for each step an adjacency entry: where it leads, and
 //! what has residual capacity.
-ghost use Rattle.std.specs.Prelude.{◌≡◌, ◌+◌, ◌<◌, true, length, get_or, set, IfOk, Some, Vec};
-ghost use Rattle.std.specs.declared.alloc.Global.{Global};
-ghost use Rattle.esr_cert.specs.declared.residual.ResidualArc.{ResidualArc};
+ghost use Rattle.std.specs.Prelude.{◌≡◌, ◌+◌, ◌<◌, length, get_or, set, IfOk, Some};
 ghost use Rattle.esr_cert.specs.Flow.{within};
 ghost use Rattle.esr_cert.specs.Network.{network};
 ghost use Rattle.esr_flow.specs.Residual.{left_of, residual_capacity, finish};

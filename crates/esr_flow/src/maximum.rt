@@ -1,14 +1,13 @@
 //! A maximum flow, by shortest augmenting paths.
-ghost use Rattle.std.specs.Prelude.{◌≡◌, ℕ, ◌+◌, ◌*◌, ◌^◌, ◌<◌, ◌≤◌, false, length, set, take, IfOk, List, None};
+ghost use Rattle.std.specs.Prelude.{◌≡◌, ℕ, ◌+◌, ◌*◌, ◌^◌, ◌<◌, ◌≤◌, false, length, set, take, IfOk, List};
 ghost use Rattle.esr_cert.specs.declared.range.TheConstants.{MAX_COST};
-ghost use Rattle.esr_cert.specs.declared.residual.ResidualArc.{ResidualArc};
 ghost use Rattle.esr_cert.specs.Network.{network};
 ghost use Rattle.esr_cert.specs.Steps.{arc_of};
 ghost use Rattle.esr_flow.specs.Residual.{smaller, bottleneck, shift, raise};
 ghost use Rattle.esr_cert.specs.Flow.{amount_at, IsFlow, worth};
 ghost use Rattle.esr_flow.specs.Augmentation.{IsReach, Augments, Takes};
 ghost use Rattle.esr_flow.specs.Graph.{arcs_of, net_of, IsGraph, AreEntries};
-ghost use Rattle.esr_flow.specs.Search.{IsShortestPath, Guides, IsGuided, is_marked};
+ghost use Rattle.esr_flow.specs.Search.{IsShortestPath, Guides, IsGuided, ReachesNoSink, is_marked};
 ghost use Rattle.esr_flow.specs.Maximum.{InArcs, HasLimit};
 
 use crate::entry::ShortEntry;
@@ -151,6 +150,39 @@ fn run_phase(
     }
 }
 
+/// Augments a flow of zeros along shortest paths until there is none. It answers how many augmentations that took, and
+/// marks of what the source reaches then.
+fn run_phases(
+    alloc: Global,
+    graph: &Graph,
+    flow: &mut [u64],
+    entries: &mut [ShortEntry],
+) -> Result<(FlowSoFar, Vec<bool>), AllocError>
+    requires graph { IsGraph graph.now }
+    requires small { (f : List ℕ) → IsFlow (net_of graph.now) f → worth (net_of graph.now) f ≤ MAX_COST }
+    requires limited { HasLimit (net_of graph.now) }
+    requires none { Takes (net_of graph.now) 0 flow.old }
+    requires entries { AreEntries graph.now flow.old entries.old }
+    ensures takes { IfOk result (λ r. Takes (net_of graph.now) r.0.augmentations flow.new) }
+    ensures worth { IfOk result (λ r. r.0.worth ≡ worth (net_of graph.now) flow.new) }
+    ensures phases { IfOk result (λ r. r.0.phases ≤ r.0.augmentations) }
+    ensures reach { IfOk result (λ r. ReachesNoSink (net_of graph.now) flow.new r.1.items) }
+{
+    let mut progress = FlowSoFar {
+        augmentations: 0,
+        phases: 0,
+        worth: 0,
+    };
+    loop {
+        match search(alloc, graph, flow, entries)? {
+            Found::Reach(marks) => return Ok((progress, marks)),
+            Found::Path(path, labels) => {
+                progress = run_phase(alloc, graph, &labels, path, flow, entries, progress)?;
+            }
+        }
+    }
+}
+
 /// A flow that no augmentation can raise, how many augmentations it took, and marks of what the source reaches.
 #[derive(Drop)]
 pub struct MaximumFlow {
@@ -179,31 +211,12 @@ pub fn find_maximum(alloc: Global, graph: &Graph) -> Result<MaximumFlow, AllocEr
 {
     let mut flow = vec![in alloc; 0u64; graph.rows.steps.len() / 2]?;
     let mut entries = graph.entries(alloc, &flow)?;
-    let mut progress = FlowSoFar {
-        augmentations: 0,
-        phases: 0,
-        worth: 0,
-    };
-    loop {
-        match search(alloc, graph, &flow, &entries)? {
-            Found::Reach(marks) => return Ok(MaximumFlow {
-                flow,
-                augmentations: progress.augmentations,
-                phases: progress.phases,
-                worth: progress.worth,
-                marks,
-            }),
-            Found::Path(path, labels) => {
-                progress = run_phase(
-                    alloc,
-                    graph,
-                    &labels,
-                    path,
-                    &mut flow,
-                    &mut entries,
-                    progress,
-                )?;
-            }
-        }
-    }
+    let (taken, marks) = run_phases(alloc, graph, &mut flow, &mut entries)?;
+    Ok(MaximumFlow {
+        flow,
+        augmentations: taken.augmentations,
+        phases: taken.phases,
+        worth: taken.worth,
+        marks,
+    })
 }

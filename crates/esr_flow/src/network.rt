@@ -1,5 +1,5 @@
 //! The network of a problem, ready to be solved.
-ghost use Rattle.std.specs.Prelude.{◌≡◌, ◌+◌, ◌<◌, true, IfOk};
+ghost use Rattle.std.specs.Prelude.{◌≡◌, ◌<◌, true, IfOk};
 ghost use Rattle.esr_cert.specs.Problem.{is_sound};
 ghost use Rattle.esr_cert.specs.Network as networks;
 ghost use Rattle.esr_flow.specs.Graph.{net_of, IsGraph};

@@ -1,8 +1,7 @@
 //! Breadth-first search of the residual network.
-ghost use Rattle.std.specs.Prelude.{◌≡◌, ◌+◌, ◌-◌, ◌<◌, ◌≤◌, true, false, length, IfOk};
-ghost use Rattle.esr_cert.specs.declared.residual.ResidualArc.{ResidualArc};
+ghost use Rattle.std.specs.Prelude.{◌≡◌, ◌-◌, ◌<◌, ◌≤◌, false, length, IfOk};
 ghost use Rattle.esr_flow.specs.Graph.{arcs_of, net_of, IsGraph, AreEntries, Lists};
-ghost use Rattle.esr_flow.specs.Search.{Searched, visit_at, is_marked, IsShortestPath, AfterScan, FoundSink, IsFound, Guides, label_at};
+ghost use Rattle.esr_flow.specs.Search.{Searched, visit_at, is_marked, IsShortestPath, AfterScan, AfterSearch, FoundSink, IsFound, Guides, label_at};
 
 use crate::entry::ShortEntry;
 use crate::graph::Graph;
@@ -110,6 +109,34 @@ pub enum Found {
     Reach(Vec<bool>),
 }
 
+/// Visits what the source reaches, the nearest nodes first, until the sink is visited.
+fn visit_nodes(
+    graph: &Graph,
+    flow: &[u64],
+    entries: &[ShortEntry],
+    visits: &mut Vec<Visit>,
+    marks: &mut Vec<bool>,
+) -> Result<bool, AllocError>
+    requires graph { IsGraph graph.now }
+    requires entries { AreEntries graph.now flow.now entries.now }
+    requires begun { Searched (net_of graph.now) flow.now visits.old.items marks.old.items 0 }
+    requires sink { is_marked marks.old.items graph.now.sink ≡ false }
+    ensures { IfOk result
+        (λ found. AfterSearch (net_of graph.now) flow.now visits.new.items marks.new.items found) }
+{
+    let mut head = 0;
+    while head < visits.len() {
+        let node = visits[head].node as usize;
+        let steps = graph.steps_at(node);
+        let row = graph.row(entries, node);
+        if scan(graph, flow, steps, row, visits, marks, head)? {
+            return Ok(true);
+        }
+        head += 1;
+    }
+    Ok(false)
+}
+
 /// Searches the residual network for a path from the source to the sink.
 pub fn search(
     alloc: Global,
@@ -130,17 +157,10 @@ pub fn search(
         step: ResidualArc::Forward(0),
         parent: 0,
     })?;
-    let mut head = 0;
-    while head < visits.len() {
-        let node = visits[head].node as usize;
-        let steps = graph.steps_at(node);
-        let row = graph.row(entries, node);
-        if scan(graph, flow, steps, row, &mut visits, &mut marks, head)? {
-            let path = path_to_last(alloc, graph, flow, &visits)?;
-            let labels = labels_of(alloc, graph, flow, &visits)?;
-            return Ok(Found::Path(path, labels));
-        }
-        head += 1;
+    if !visit_nodes(graph, flow, entries, &mut visits, &mut marks)? {
+        return Ok(Found::Reach(marks));
     }
-    Ok(Found::Reach(marks))
+    let path = path_to_last(alloc, graph, flow, &visits)?;
+    let labels = labels_of(alloc, graph, flow, &visits)?;
+    Ok(Found::Path(path, labels))
 }

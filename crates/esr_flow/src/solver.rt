@@ -1,5 +1,5 @@
 //! Problems solved: a certificate with the smallest least set.
-ghost use Rattle.std.specs.Prelude.{◌≡◌, ℕ, ◌+◌, ◌*◌, ◌<◌, ◌≤◌, true, false, Some, length, map, sum_by, get_or, IfOk};
+ghost use Rattle.std.specs.Prelude.{◌≡◌, ℕ, ◌+◌, ◌*◌, ◌≤◌, true, false, Some, length, map, sum_by, get_or, IfOk};
 ghost use Rattle.std.specs.List.{concat};
 ghost use Rattle.esr_history.specs.declared.limits.TheConstants.{MOST_TRANSACTIONS};
 ghost use Rattle.esr_cert.specs.Problem.{size, in_set, IsSmallestLeast};

@@ -3,6 +3,7 @@ use Rattle.std.proofs.Common.{◌≡◌, ℕ, zero, suc, ◌<◌, ◌≤◌, sli
 use Rattle.std.specs.Prelude.{⊤}
 use Rattle.std.specs.List.{list_any, filter_map, cons_option, slice_get, AllByRecursion}
 use Rattle.std.proofs.lemmas.Bool.{true≢false, or_cases, cond_both}
+use Rattle.std.proofs.lemmas.List.{drop_all, take_all}
 use Rattle.std.proofs.lemmas.Option.{same_Some}
 use Rattle.esr_history.specs.Serial.{any_pair}
 use Rattle.esr_history.proofs.Membership.{In, In-any, Pairs, each_at}
@@ -80,16 +81,8 @@ any_two {X} (x ∷ xs) = (each xs, any_two xs)
 
 -- what a part of a vector is after a write through a slice of it all
 pub written_back : {X : Type 0} (xs ys : List X) (n : ℕ) → n ≡ length ys → length xs ≡ length ys → take n (xs ++ drop (length xs) ys) ≡ xs
-written_back {X} xs ys n is len =
-    ap (λ m. take n (xs ++ drop m ys)) len ∙ (ap (λ l. take n (xs ++ l)) (none ys) ∙ (ap (take n) (append-nil xs) ∙ (ap (λ m. take m xs) (is ∙ sym len) ∙ all xs)))
-  where
-    none : (zs : List X) → drop (length zs) zs ≡ []
-    none [] = refl
-    none (z ∷ zs) = none zs
-
-    all : (zs : List X) → take (length zs) zs ≡ zs
-    all [] = refl
-    all (z ∷ zs) = ap (λ l. z ∷ l) (all zs)
+written_back xs ys n is len =
+    ap (λ l. take n (xs ++ l)) (drop_all (length xs) ys (omega arith)) ∙ (ap (take n) (append-nil xs) ∙ take_all n xs (omega arith))
 
 pub filter_shorter : {X : Type 0} (p : X → Bool) (xs : List X) → length (filter p xs) ≤ length xs
 filter_shorter p [] = omega arith

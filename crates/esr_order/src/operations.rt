@@ -1,5 +1,5 @@
 //! What updates did, gone through from the last update to the first.
-ghost use Rattle.std.specs.Prelude.{◌≡◌, ◌<◌, ◌≤◌, ◌++◌, [], ℕ, List, IfOk, OnOk, All, AllPairs, if◌then◌else◌, filter, length, map};
+ghost use Rattle.std.specs.Prelude.{◌≡◌, ◌<◌, ◌≤◌, ◌++◌, [], ℕ, List, IfOk, OnOk, All, AllPairs, filter, length, map};
 ghost use Rattle.std.specs.List.{range_with_len};
 ghost use Rattle.esr_history.specs.declared.limits.TheConstants.{MOST_TRANSACTIONS};
 ghost use Rattle.esr_order.specs.UpdateOperations.{UpdateOperation};
@@ -108,6 +108,46 @@ pub struct PairsAndChains {
     pub chains: Vec<Links>,
 }
 
+/// Goes back over updates, along their links: adds what they did to the chains and the readers of each item, in which
+/// nothing is yet, and the pairs that tie them. At the end it turns the pairs and the chains round.
+fn gather_into<M: Metric>(
+    alloc: Global,
+    history: &History<M>,
+    updates: &[TxnId],
+    chains: &mut [Links],
+    readers: &mut [Vec<u32>],
+    pairs: &mut Vec<(u32, u32)>,
+) -> Result<(), AllocError>
+    requires few { length updates.now ≤ MOST_TRANSACTIONS }
+    requires linked { length chains.old ≡ length history.now.schedule.opening }
+    requires read { length readers.old ≡ length history.now.schedule.opening }
+    requires later { AreLater (map seen_links chains.old) (map (λ r. r.items) readers.old) [] }
+    requires none { pairs.old.items ≡ [] }
+    ensures ascending { OnOk result (AllPairs IsBelow pairs.new.items) }
+    ensures tied { OnOk result (AreTies (update_operations history.now.schedule updates.now) pairs.new.items) }
+    ensures next { OnOk result ((x : ℕ) → AreNextPaired pairs.new.items
+        (filter (λ s. s.writes) (on_item x (update_operations history.now.schedule updates.now)))) }
+    ensures len { OnOk result (length chains.new ≡ length chains.old) }
+    ensures chains { OnOk result (map seen_links chains.new
+        ≡ map (λ x. chain_from (last_by_update (update_operations history.now.schedule updates.now) x)
+        (length updates.now))
+        (range_with_len 0 (length history.now.schedule.opening))) }
+{
+    let _legal = history.log(); // brings the invariant into the proof
+    let mut accesses = Vec::new(alloc);
+    let mut ties = Vec::new(alloc);
+    for i in (0..updates.len()).rev() {
+        list_accesses(history, updates[i], &mut accesses)?;
+        ties.clear();
+        put_turn(chains, readers, &accesses, i as u32, &mut ties)?;
+        put_in_order(&mut ties);
+        tie_back(pairs, i as u32, &ties)?;
+    }
+    pairs.reverse();
+    turn_all(chains);
+    Ok(())
+}
+
 /// Gathers what is needed of updates in one pass back over them. It goes along their links. For each item there may be
 /// a count of writers to make room for.
 pub fn gather<M: Metric>(
@@ -130,17 +170,14 @@ pub fn gather<M: Metric>(
     let (mut chains, mut readers) = nothing_later(alloc, history.items(), writers)?;
     // a write is mostly tied to the next of its item alone
     let mut pairs = Vec::with_capacity(alloc, total_of(writers))?;
-    let mut accesses = Vec::new(alloc);
-    let mut ties = Vec::new(alloc);
-    for i in (0..updates.len()).rev() {
-        list_accesses(history, updates[i], &mut accesses)?;
-        ties.clear();
-        put_turn(&mut chains, &mut readers, &accesses, i as u32, &mut ties)?;
-        put_in_order(&mut ties);
-        tie_back(&mut pairs, i as u32, &ties)?;
-    }
-    pairs.reverse();
+    gather_into(
+        alloc,
+        history,
+        updates,
+        &mut chains,
+        &mut readers,
+        &mut pairs,
+    )?;
     pairs.shrink_to_fit();
-    turn_all(&mut chains);
     Ok(PairsAndChains { pairs, chains })
 }

@@ -1,7 +1,6 @@
 //! The search for the near updates of a query, back from what it read.
-ghost use Rattle.std.specs.Prelude.{◌≡◌, ◌<◌, ◌&&◌, ◌||◌, ℕ, Bool, true, false, IfOk, All, length, map};
+ghost use Rattle.std.specs.Prelude.{◌≡◌, ◌<◌, ◌||◌, ℕ, true, false, IfOk, All, length, map};
 ghost use Rattle.std.specs.List.{list_any};
-ghost use Rattle.esr_history.specs.Machine.{Schedule};
 ghost use Rattle.esr_history.specs.Queries.{updates_of, must};
 ghost use Rattle.esr_order.specs.Near.{AreNear};
 ghost use Rattle.esr_order.specs.Scans.{accesses_in};

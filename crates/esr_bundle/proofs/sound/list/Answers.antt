@@ -1,10 +1,21 @@
 use Rattle.std.proofs.Common.{rules, ◌≡◌, ◌≢◌, ◌+◌, refl, ◌∷◌, [], ◌++◌, false, map, take, sym, ap, ◌∙◌, arith}
 use Rattle.std.specs.List.{list_all}
-use Rattle.std.proofs.lemmas.List.{map_push}
+use Rattle.std.proofs.lemmas.List.{length-map, map_push, take_all}
 use Rattle.esr_cert.specs.declared.problem.BundleFault.{BundleFault}
 use Rattle.esr_cert.specs.declared.problem.BundleFault.TheVariants.{Range, NoMemory}
 use Rattle.esr_bundle.proofs.Exits.{passes, no_at, take_map_more, all_push}
 use Rattle.esr_bundle.proofs.sound.list.Goals as goal
+
+pub loop-draft-init : goal.loop-draft-init
+loop-draft-init g c = record { made = ap (map g.T.Fitted.shown) c.in_ok-found.ensures.items; fits = refl }
+
+pub returns-clause-ok : goal.returns-clause-ok
+returns-clause-ok g c = c.loop-draft.invariant.made ∙ take_all c.loop-draft.draft-index (map g.T.Fitted.drafted c.args.drafts.now) (rw length-map (omega arith))
+
+pub returns-clause-fits : goal.returns-clause-fits
+returns-clause-fits g c ok =
+    ap (list_all g.T.Fitted.is_fit) (sym (take_all c.loop-draft.draft-index (map g.T.Fitted.drafted c.args.drafts.now) (rw length-map (omega arith))))
+    ∙ c.loop-draft.invariant.fits
 
 pub returns-in_err-one-clause-err : goal.returns-in_err-one-clause-err
 returns-in_err-one-clause-err g c =

@@ -1,4 +1,4 @@
-use Rattle.std.proofs.Common.{◌≡◌, ◌+◌, ◌&&◌, ◌≢◌, ◌<◌, false, true, map, drop, length, sym, ap, ◌∙◌, arith}
+use Rattle.std.proofs.Common.{◌≡◌, ◌+◌, ◌&&◌, ◌≢◌, false, true, map, drop, length, sym, ap, ◌∙◌, arith}
 use Rattle.std.proofs.lemmas.List.{length-map}
 use Rattle.esr_cert.specs.Parts.{is_row_within, are_rows_within}
 use Rattle.esr_cert.specs.Views.{chain_of, rows_of}
@@ -15,23 +15,15 @@ returns-then-not-is_row_within c =
     let ks = map chain_of c.args.chains.now in
     let fs = rows_of c.args.rows.now in
     let i = c.loop-i.i in
-    let k = c.index-chains-i.result in
-    let f = c.index-rows-i.result in
-    let in_flows : i < length c.args.rows.now = omega arith in
-    let step = rows_within_step ks fs i (chain_of k) f.items (drop_map_more chain_of c.args.chains.now i k c.loop-i-test.true c.index-chains-i.is) (drop_map_more (λ f. f.items) c.args.rows.now i f in_flows c.index-rows-i.is) in
-    let here : is_row_within k.costs.items f.items ≡ false = cc in
-    let z : are_rows_within (drop i ks) (drop i fs) ≡ false = step ∙ ap (λ b. b && are_rows_within (drop (i + 1) ks) (drop (i + 1) fs)) here in
-    sym (sym c.loop-i.invariant ∙ z)
+    let step = rows_within_step ks fs i (chain_of c.index-chains-i.result) c.index-rows-i.result.items (drop_map_more chain_of c.args.chains.now i c.index-chains-i.result c.loop-i-test.true c.index-chains-i.is) (drop_map_more (λ f. f.items) c.args.rows.now i c.index-rows-i.result (omega arith) c.index-rows-i.is) in
+    let here : is_row_within c.index-chains-i.result.costs.items c.index-rows-i.result.items ≡ false = cc in
+    sym (sym c.loop-i.invariant ∙ step ∙ ap (λ b. b && are_rows_within (drop (i + 1) ks) (drop (i + 1) fs)) here)
 
 pub loop-i-preserved : goal.loop-i-preserved
 loop-i-preserved c =
     let ks = map chain_of c.args.chains.now in
     let fs = rows_of c.args.rows.now in
     let i = c.loop-i.i in
-    let k = c.index-chains-i.result in
-    let f = c.index-rows-i.result in
-    let in_flows : i < length c.args.rows.now = omega arith in
-    let step = rows_within_step ks fs i (chain_of k) f.items (drop_map_more chain_of c.args.chains.now i k c.loop-i-test.true c.index-chains-i.is) (drop_map_more (λ f. f.items) c.args.rows.now i f in_flows c.index-rows-i.is) in
-    let here : is_row_within k.costs.items f.items ≡ true = cc in
-    let z : are_rows_within (drop i ks) (drop i fs) ≡ are_rows_within (drop (i + 1) ks) (drop (i + 1) fs) = step ∙ ap (λ b. b && are_rows_within (drop (i + 1) ks) (drop (i + 1) fs)) here in
-    sym z ∙ c.loop-i.invariant
+    let step = rows_within_step ks fs i (chain_of c.index-chains-i.result) c.index-rows-i.result.items (drop_map_more chain_of c.args.chains.now i c.index-chains-i.result c.loop-i-test.true c.index-chains-i.is) (drop_map_more (λ f. f.items) c.args.rows.now i c.index-rows-i.result (omega arith) c.index-rows-i.is) in
+    let here : is_row_within c.index-chains-i.result.costs.items c.index-rows-i.result.items ≡ true = cc in
+    sym (step ∙ ap (λ b. b && are_rows_within (drop (i + 1) ks) (drop (i + 1) fs)) here) ∙ c.loop-i.invariant

@@ -15,6 +15,12 @@ use Rattle.esr_flow.proofs.EntriesLaws.{lists_read}
 use Rattle.esr_flow.proofs.WalkLaws.{Walk, walk_push, walk_pop, walk_end, popped_in, opposite_arc, opposite_start, opposite_finish, untried, untried_less, untried_same}
 use Rattle.esr_flow.proofs.paths.next_path.Goals as goal
 
+pub offset_bounds-labels-graph : goal.offset_bounds-labels-graph
+offset_bounds-labels-graph c = omega (arith, c.requires.graph.is_network.source_is_node, c.requires.guides.count, c.requires.graph.few)
+
+pub bounds-labels-graph : goal.bounds-labels-graph
+bounds-labels-graph c = omega (arith, c.requires.graph.is_network.source_is_node, c.requires.guides.count)
+
 pub next_back-i-requires-clause-row : goal.next_back-i-requires-clause-row
 next_back-i-requires-clause-row c =
     lists_read c.args.graph.now c.requires.graph c.args.flow.now c.args.entries.now c.requires.entries c.loop-at.at c.loop-at.invariant.0.node c.steps_at-steps.result.now c.row-row.result.now c.steps_at-steps.ensures c.row-row.ensures

@@ -6,6 +6,12 @@ use Rattle.esr_flow.specs.Search.{visit_at, label_at}
 use Rattle.esr_flow.proofs.LabelLaws.{Labelled, label_more, labels_guide}
 use Rattle.esr_flow.proofs.search.labels_of.Goals as goal
 
+pub overflow_sub-last : goal.overflow_sub-last
+overflow_sub-last c = omega (arith, c.requires.in_visits)
+
+pub bounds-visits-visits : goal.bounds-visits-visits
+bounds-visits-visits c = omega (arith, c.requires.in_visits)
+
 pub loop-visit-preserved : goal.loop-visit-preserved
 loop-visit-preserved c =
     let k : ℕ = c.loop-visit.visit-index in

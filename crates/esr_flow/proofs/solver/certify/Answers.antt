@@ -11,6 +11,22 @@ use Rattle.esr_flow.specs.Certificate.{positions}
 use Rattle.esr_flow.proofs.CertificateLaws.{flow_length, costs_mapped, whole, Parts, least_set, certified}
 use Rattle.esr_flow.proofs.solver.certify.Goals as goal
 
+pub overflow_sub-chains : goal.overflow_sub-chains
+overflow_sub-chains c =
+    let p = c.args.problem.now in
+    omega (arith, flow_length p (facts p c.must-musts.ensures.sound) c.args.maximum.now.flow.items c.requires.flow, ap length c.as_slice-flow.ensures.value, ap length c.must-musts.ensures.list)
+
+pub overflow_sub-chains-2 : goal.overflow_sub-chains-2
+overflow_sub-chains-2 c =
+    let p = c.args.problem.now in
+    omega (arith, flow_length p (facts p c.must-musts.ensures.sound) c.args.maximum.now.flow.items c.requires.flow, ap length c.as_slice-flow.ensures.value, ap length c.must-musts.ensures.list, ap length c.before-backs.ensures.list)
+
+pub members-requires-clause-room : goal.members-requires-clause-room
+members-requires-clause-room c = omega (arith, c.requires.marks, length-map c.updates.result.now (λ t. t.0), ap length c.updates.ensures.list, ap length c.deref.ensures.value)
+
+pub members-requires-clause-few : goal.members-requires-clause-few
+members-requires-clause-few c = omega (arith, c.updates.ensures.few, length-map c.updates.result.now (λ t. t.0), ap length c.updates.ensures.list)
+
 pub chain_rows-requires : goal.chain_rows-requires
 chain_rows-requires c =
     let p = c.args.problem.now in

@@ -1,4 +1,4 @@
-use Rattle.std.proofs.Common.{arith, ◌≡◌, ℕ, ◌+◌, ◌-◌, ◌∷◌, [], ◌++◌, length, get_or, take, drop, map, sum_by, sym, ◌∙◌, ap}
+use Rattle.std.proofs.Common.{arith, ◌≡◌, ℕ, ◌+◌, ◌-◌, ◌∷◌, [], ◌++◌, length, get_or, take, drop, map, sum_by, refl, sym, ◌∙◌, ap}
 use Rattle.std.specs.List.{concat}
 use Rattle.std.proofs.lemmas.List.{take_more}
 use Rattle.std.proofs.lemmas.List.Sums.{sum_by_more}
@@ -7,6 +7,13 @@ use Rattle.esr_cert.specs.Certificate.{are_rows_matched}
 use Rattle.esr_cert.specs.Views.{chain_of, rows_of}
 use Rattle.esr_flow.proofs.CertificateLaws.{cut_more, matched_more, sum_take, row_long}
 use Rattle.esr_flow.proofs.solver.chain_rows.Goals as goal
+
+pub loop-chain-init : goal.loop-chain-init
+loop-chain-init c = record {
+  place = refl;
+  cut = ap (λ rs. concat (rows_of rs)) c.new-rows.ensures.items;
+  matched = ap (λ rs. are_rows_matched [] (rows_of rs)) c.new-rows.ensures.items;
+}
 
 pub loop-chain-preserved : goal.loop-chain-preserved
 loop-chain-preserved c =

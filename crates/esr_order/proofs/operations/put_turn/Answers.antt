@@ -1,6 +1,8 @@
-use Rattle.std.proofs.Common.{◌≡◌, ◌<◌, ◌-◌, suc, ◌∙◌, length, get_or, arith}
-use Rattle.std.proofs.lemmas.List.{length-set}
+use Rattle.std.proofs.Common.{◌≡◌, ◌<◌, ◌-◌, suc, ◌∙◌, [], ◌++◌, append-nil, refl, sym, subst, map, drop, length, get_or, arith}
+use Rattle.std.proofs.lemmas.List.{drop_all, length-set}
+use Rattle.esr_order.specs.Turns.{operation_at}
 use Rattle.esr_order.specs.Chains.{seen_links}
+use Rattle.esr_order.specs.Later.{turn_ties, AreLater}
 use Rattle.esr_order.proofs.Gathering.{no_access, turn_later, turn_tied}
 use Rattle.esr_order.proofs.operations.put_turn.Goals as goal
 
@@ -26,3 +28,25 @@ loop-i-preserved c =
                 c.args.ties.now.items c.loop-i.ties.items now.1 c.put_operation.new.ties.items c.in_ok-put_operation.ensures.ties,
           ),
     )
+
+pub loop-i-init : goal.loop-i-init
+loop-i-init c =
+    let accesses = c.args.accesses.now in
+    let none : drop (length accesses) accesses ≡ [] = drop_all (length accesses) accesses (omega arith) in (
+      refl,
+      refl,
+      λ steps are. (
+        subst (λ l. AreLater (map seen_links c.args.chains.now) (map (λ r. r.items) c.args.readers.now) (map (operation_at c.args.place) l ++ steps)) (sym none) are,
+        subst (λ l. c.args.ties.now.items ≡ c.args.ties.now.items ++ turn_ties (map (operation_at c.args.place) l) steps) (sym none) (sym (append-nil c.args.ties.now.items)),
+      ),
+    )
+
+pub returns-clause-later : goal.returns-clause-later
+returns-clause-later c operations are =
+    let start : c.loop-i.i ≡ 0 = omega (arith, c.loop-i-test.false) in
+    subst (λ i. AreLater (map seen_links c.loop-i.chains) (map (λ r. r.items) c.loop-i.readers) (map (operation_at c.args.place) (drop i c.args.accesses.now) ++ operations)) start (c.loop-i.invariant.2 operations are).0
+
+pub returns-clause-ties : goal.returns-clause-ties
+returns-clause-ties c operations are =
+    let start : c.loop-i.i ≡ 0 = omega (arith, c.loop-i-test.false) in
+    subst (λ i. c.loop-i.ties.items ≡ c.args.ties.now.items ++ turn_ties (map (operation_at c.args.place) (drop i c.args.accesses.now)) operations) start (c.loop-i.invariant.2 operations are).1

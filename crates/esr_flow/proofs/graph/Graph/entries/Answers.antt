@@ -4,6 +4,9 @@ use Rattle.esr_flow.specs.Graph.{arcs_of}
 use Rattle.esr_flow.proofs.FillLaws.{ArePut, along_within, along_few, against_within, against_few, put_both, all_put}
 use Rattle.esr_flow.proofs.graph.Graph.entries.Goals as goal
 
+pub of-none-requires : goal.of-none-requires
+of-none-requires c = omega arith
+
 pub overflow_cast-i : goal.overflow_cast-i
 overflow_cast-i c = omega (arith, c.loop-i-test.true, c.requires.flow, c.requires.graph.steps.few)
 

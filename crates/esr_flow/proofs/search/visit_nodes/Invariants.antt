@@ -1,7 +1,7 @@
 use Rattle.std.proofs.Common.{◌≡◌, ◌≤◌, ◌-◌, length, false}
 use Rattle.esr_flow.specs.Graph.{net_of}
 use Rattle.esr_flow.specs.Search.{Searched, is_marked}
-use Rattle.esr_flow.proofs.search.search.Given as goal
+use Rattle.esr_flow.proofs.search.visit_nodes.Given as goal
 
 abbrev pub invariant-loop-head : goal.invariant-loop-head
 invariant-loop-head l =

@@ -8,12 +8,12 @@ use Rattle.esr_cert.proofs.Sound.{facts, are_few}
 use Rattle.esr_cert.proofs.Worth.{arc_count}
 use Rattle.esr_cert.proofs.Least.{is_network}
 use Rattle.esr_cert.proofs.ArcsLaws.{costs_count, count_is}
-use Rattle.esr_cert.proofs.problem.Problem.of_sound.Goals as goal
+use Rattle.esr_cert.proofs.problem.network_of.Goals as goal
 
 pub arc_count-requires : goal.arc_count-requires
 arc_count-requires c =
-    let p : Problem = posed_by c.args.parts in
-    omega (arith, (are_few p c.requires.sound).chains, length-map c.args.parts.chains.items chain_of, ap length c.deref-2.ensures.value)
+    let p : Problem = posed_by c.args.parts.now in
+    omega (arith, (are_few p c.requires.sound).chains, length-map c.args.parts.now.chains.items chain_of, ap length c.deref-2.ensures.value)
 
 pub starts_of-requires : goal.starts_of-requires
 starts_of-requires c =
@@ -21,26 +21,26 @@ starts_of-requires c =
       arith,
       c.if-arc_count.false,
       c.arc_count.ensures.value,
-      costs_count c.args.parts.chains.items,
+      costs_count c.args.parts.now.chains.items,
       ap (λ list. sum_by (λ chain. length chain.costs.items) list) c.deref-4.ensures.value,
       ap (λ list. sum_by (λ chain. length chain.costs) (map chain_of list)) c.deref-2.ensures.value,
     )
 
 pub index-requires : goal.index-requires
 index-requires c =
-    omega (arith, count_is c.args.parts.updates.items c.args.parts.before.items c.args.parts.chains.items c.args.parts.must.items c.requires.sound c.in_ok-starts.starts.items (c.in_ok-starts.ensures ∙ ap (λ list. starts_from 0 (map chain_of list)) c.deref-4.ensures.value), c.len.ensures, c.args.parts.chains.ok.0, c.in_ok-starts.starts.ok.0)
+    omega (arith, count_is c.args.parts.now.updates.items c.args.parts.now.before.items c.args.parts.now.chains.items c.args.parts.now.must.items c.requires.sound c.in_ok-starts.starts.items (c.in_ok-starts.ensures ∙ ap (λ list. starts_from 0 (map chain_of list)) c.deref-4.ensures.value), c.len.ensures, c.args.parts.now.chains.ok.0, c.in_ok-starts.starts.ok.0)
 
 pub owners_of-requires : goal.owners_of-requires
 owners_of-requires c =
-    let p : Problem = posed_by c.args.parts in
-    omega (arith, (are_few p c.requires.sound).chains, length-map c.args.parts.chains.items chain_of, ap length c.deref-5.ensures.value)
+    let p : Problem = posed_by c.args.parts.now in
+    omega (arith, (are_few p c.requires.sound).chains, length-map c.args.parts.now.chains.items chain_of, ap length c.deref-5.ensures.value)
 
 pub rows_of-requires-clause-few : goal.rows_of-requires-clause-few
 rows_of-requires-clause-few c =
-    let p : Problem = posed_by c.args.parts in
+    let p : Problem = posed_by c.args.parts.now in
     omega (
       arith,
-      ap length c.arcs_of-arcs.ensures,
+      ap length c.arcs_of.ensures,
       arc_count p (facts p c.requires.sound),
       c.if-arc_count.false,
       c.arc_count.ensures.value,
@@ -51,7 +51,7 @@ rows_of-requires-clause-few c =
 
 pub rows_of-requires-clause-ends : goal.rows_of-requires-clause-ends
 rows_of-requires-clause-ends c =
-    let p : Problem = posed_by c.args.parts in
-    let nodes : c.len-2.result + 2 ≡ (network p).nodes = omega (arith, length-map c.args.parts.updates.items (λ t. t.0), c.len-2.ensures, c.args.parts.updates.ok.0) in
-    subst (λ arcs. HaveEnds arcs (c.len-2.result + 2)) (sym c.arcs_of-arcs.ensures)
+    let p : Problem = posed_by c.args.parts.now in
+    let nodes : c.len-2.result + 2 ≡ (network p).nodes = omega (arith, length-map c.args.parts.now.updates.items (λ t. t.0), c.len-2.ensures, c.args.parts.now.updates.ok.0) in
+    subst (λ arcs. HaveEnds arcs (c.len-2.result + 2)) (sym c.arcs_of.ensures)
     (subst (HaveEnds (network p).arcs) (sym nodes) (is_network p (facts p c.requires.sound)).ends)

@@ -1,9 +1,0 @@
-use Rattle.std.proofs.Common.{◌≡◌, length, map}
-use Rattle.esr_order.specs.Chains.{seen_links}
-use Rattle.esr_order.proofs.Gathering.{IsGathered}
-use Rattle.esr_order.proofs.operations.gather.Given as goal
-
--- what is kept of the updates from the position on
-abbrev pub invariant-loop-i : goal.invariant-loop-i
-invariant-loop-i g l = (length l.chains.items ≡ length l.history.schedule.opening) × (length l.readers.items ≡ length l.history.schedule.opening)
-    × IsGathered l.history.schedule l.updates l.i (map seen_links l.chains.items) (map (λ r. r.items) l.readers.items) l.pairs.items
