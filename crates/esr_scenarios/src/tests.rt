@@ -6,7 +6,7 @@ use Asked::{Commit, Query, Read, Strict, Update, Write};
 use audits::played;
 use esr_core::{Machine, StepError};
 use esr_history::{Event, Reply, TxnId};
-use esr_items::{ItemId, Plain, Store};
+use esr_items::{ItemId, Plain};
 use esr_order::{Order, OrderError};
 use std::alloc::Global;
 use std::process::Abort;

@@ -5,7 +5,6 @@ use esr_history::Watched;
 use esr_script::run;
 use std::io;
 use std::io::{Read, Write};
-use std::test::Fail;
 
 /// Counts its calls, and gives or takes nothing.
 #[derive(Drop)]
@@ -41,15 +40,14 @@ impl Write for Counting {
 }
 
 #[test]
-fn each_call_reaches_the_device_once(rt: HostRuntime) -> Result<(), Fail> {
+fn each_call_reaches_the_device_once(rt: HostRuntime) {
     let mut device = Watched::new(UNASKED);
     let mut buffer = [0u8; 4];
-    assert!(rt; device.read(&mut buffer)? == 0);
-    assert!(rt; device.write(b"ab")? == 2);
-    device.flush()?;
+    assert!(rt; matches!(device.read(&mut buffer), Ok(0)));
+    assert!(rt; matches!(device.write(b"ab"), Ok(2)));
+    assert!(rt; device.flush().is_ok());
     let asked = device.inner();
     assert!(rt; (asked.reads, asked.writes, asked.flushes) == (1, 1, 1));
-    Ok(())
 }
 
 /// Hands bytes on where it is flushed, and not before.

@@ -4,7 +4,7 @@ use std::alloc::Global;
 use std::process::Abort;
 
 /// Words of the command line, and the job that each line asks for.
-const JOBS: [(&'static [&'static str], Job<'static>); 14] = [
+static JOBS: [(&'static [&'static str], Job<'static>); 14] = [
     (&["esr", "run"], Job::Run),
     (&["esr", "check"], Job::Check),
     (
@@ -63,7 +63,7 @@ fn words_ask_for_their_jobs(rt: HostRuntime) {
 }
 
 /// Words that ask for no job, what is said of them, and the exit status.
-const OTHERS: [(&'static [&'static str], ErrorKind, i32); 18] = [
+static OTHERS: [(&'static [&'static str], ErrorKind, i32); 18] = [
     (&["esr"], ErrorKind::MissingSubcommand, 2),
     (&["esr", "walk"], ErrorKind::InvalidSubcommand, 2),
     (&["esr", "run", "now"], ErrorKind::UnknownArgument, 2),

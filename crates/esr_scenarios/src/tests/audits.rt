@@ -118,7 +118,7 @@ struct Case {
     found: Row<'static>,
 }
 
-const CASES: [Case; 9] = [
+static CASES: [Case; 9] = [
     Case {
         name: "an update writes beside a report that reads what it wrote",
         opening: &[100],

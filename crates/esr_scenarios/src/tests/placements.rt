@@ -214,7 +214,7 @@ fn count_seen(log: &Log, q: u32) -> usize {
 }
 
 /// All orders of three.
-const ORDERS: [[usize; 3]; 6] = [
+static ORDERS: [[usize; 3]; 6] = [
     [0, 1, 2],
     [0, 2, 1],
     [1, 0, 2],

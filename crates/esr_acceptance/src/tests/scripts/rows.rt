@@ -9,7 +9,7 @@ pub struct Row {
     pub ended: Result<(), RunFault>,
 }
 
-pub const ROWS: [Row; 39] = [
+pub static ROWS: [Row; 39] = [
     Row {
         name: "empty_input",
         script: "",
