@@ -1,6 +1,7 @@
 use crate::engine::closed;
 use crate::*;
 use std::process::Abort;
+use std::test::Fail;
 
 fn no_reply() -> EsrReply {
     EsrReply {
@@ -30,42 +31,56 @@ fn bank(rt: &impl Abort, alloc: Global, engine: &mut EsrEngine) -> EsrReply {
 }
 
 #[test]
-fn report_beside_a_writer(rt: HostRuntime) {
+fn report_beside_a_writer(rt: HostRuntime) -> Result<(), Fail> {
     let alloc = rt.alloc();
     let mut engine = closed();
     let read = bank(&rt, alloc, &mut engine);
-    assert!(rt; (read.kind, read.value) == (2, 400));
+    assert_eq!(rt; (read.kind, read.value), (2, 400));
     let mut before = [0u32, 0u32];
     let mut finding = EsrFinding {
         distance: 0,
         import: 0,
         count: 9,
     };
-    assert!(rt; esr_audit(alloc, &mut engine, 2, &mut before, &mut finding) == 0);
-    assert!(rt; (finding.distance, finding.import, finding.count) == (100, 200, 0));
-    assert!(rt; esr_audit(alloc, &mut engine, 1, &mut before, &mut finding) == 6);
+    assert_eq!(rt;
+        esr_audit(alloc, &mut engine, 2, &mut before, &mut finding),
+        0
+    );
+    assert_eq!(rt;
+        (finding.distance, finding.import, finding.count),
+        (100, 200, 0)
+    );
+    assert_eq!(rt;
+        esr_audit(alloc, &mut engine, 1, &mut before, &mut finding),
+        6
+    );
     esr_close(alloc, &mut engine);
-    assert!(rt; esr_abort(alloc, &mut engine, 1, &mut no_reply()) == 14);
+    assert_eq!(rt; esr_abort(alloc, &mut engine, 1, &mut no_reply()), 14);
+    Ok(())
 }
 
 #[test]
-fn renewed_over_committed_values(rt: HostRuntime) {
+fn renewed_over_committed_values(rt: HostRuntime) -> Result<(), Fail> {
     let alloc = rt.alloc();
     let mut engine = closed();
     let _ = bank(&rt, alloc, &mut engine);
     let mut bytes = [0u8];
     let mut count = 0;
-    assert!(rt; esr_bundle(alloc, &mut engine, 2, &mut bytes, &mut count) == 7);
+    assert_eq!(rt;
+        esr_bundle(alloc, &mut engine, 2, &mut bytes, &mut count),
+        7
+    );
     assert!(rt; count > 100);
-    assert!(rt; esr_renew(alloc, &mut engine) == 0);
+    assert_eq!(rt; esr_renew(alloc, &mut engine), 0);
     let mut values = [0i64, 0];
-    assert!(rt; esr_values(alloc, &mut engine, &mut values, &mut count) == 0);
-    assert!(rt; (values, count) == ([400, 1600], 2));
+    assert_eq!(rt; esr_values(alloc, &mut engine, &mut values, &mut count), 0);
+    assert_eq!(rt; (values, count), ([400, 1600], 2));
     let mut totals = EsrTotals {
         high: 1,
         low: 1,
         entries: 1,
     };
-    assert!(rt; esr_totals_of(alloc, &mut engine, &mut totals) == 0);
-    assert!(rt; (totals.high, totals.low, totals.entries) == (0, 0, 0));
+    assert_eq!(rt; esr_totals_of(alloc, &mut engine, &mut totals), 0);
+    assert_eq!(rt; (totals.high, totals.low, totals.entries), (0, 0, 0));
+    Ok(())
 }

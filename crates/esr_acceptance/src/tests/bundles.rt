@@ -5,9 +5,9 @@ mod hostile;
 mod rows;
 
 use crate::tests::devices::check_written;
-use esr_bundle::{JudgeFault, Verdict, from_json, judge, to_json};
+use esr_bundle::{JudgeFault, from_json, judge, to_json};
 use esr_history::Watched;
-use rows::{BACK_FLOW, EMPTY, ROWS, Row, STRICT, TWO_UPDATES};
+use rows::{BACK_FLOW, EMPTY, Row, STRICT, TWO_UPDATES, table};
 use std::alloc::{AllocError, Global};
 use std::process::Abort;
 
@@ -34,7 +34,7 @@ fn gives(rt: &impl Abort, alloc: Global, text: &str, line: &str) {
 
 #[test]
 fn bundles_give_their_verdicts(rt: HostRuntime) {
-    for row in &ROWS {
+    for row in table() {
         let text = changed(rt.alloc(), row).expect(&rt, "memory");
         gives(&rt, rt.alloc(), text.as_str(), row.line);
     }

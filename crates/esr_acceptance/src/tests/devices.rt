@@ -28,7 +28,7 @@ impl Read for Cut<'_> {
 }
 
 /// A reader of the text, which fails after so many calls.
-pub fn cut(text: &str, most: usize, left: usize) -> Watched<Cut<'_>>
+pub fn cut_after(text: &str, most: usize, left: usize) -> Watched<Cut<'_>>
     ensures { failed result ≡ false }
 {
     Watched::new(Cut {
@@ -78,7 +78,7 @@ impl Write for Narrow {
 }
 
 /// A writer that has taken nothing yet, and fails after so many calls.
-pub fn narrow(alloc: Global, most: usize, left: usize, way: Way) -> Watched<Narrow>
+pub fn narrow_until(alloc: Global, most: usize, left: usize, way: Way) -> Watched<Narrow>
     ensures { failed result ≡ false }
 {
     Watched::new(Narrow {

@@ -3,9 +3,6 @@ mod failing;
 use crate::tests::devices::check_written;
 use esr_drive::{DriveFault, NoGate, drive};
 use esr_history::Watched;
-use std::process::Abort;
-use std::sync::Wait;
-use std::thread::Threads;
 
 /// A drive file, how its drive ends, and what is written.
 struct Row {
@@ -13,6 +10,10 @@ struct Row {
     file: &'static str,
     ended: Result<(), DriveFault>,
     text: &'static str,
+}
+
+fn table() -> &'static [Row] {
+    &ROWS
 }
 
 static ROWS: [Row; 30] = [
@@ -250,7 +251,7 @@ static ROWS: [Row; 30] = [
 
 #[test]
 fn files_give_their_texts(rt: HostRuntime) {
-    for row in &ROWS {
+    for row in table() {
         let mut reader = Watched::new(row.file.as_bytes());
         let mut writer = Watched::new(Vec::new(rt.alloc()));
         let ended = drive(&rt, rt.alloc(), &mut reader, &mut writer, 1, &NoGate);

@@ -1,6 +1,6 @@
 //! Queries drawn.
 
-use crate::tests::devices::{Way, check_cut, cut, narrow};
+use crate::tests::devices::{Way, check_cut, cut_after, narrow_until};
 use esr_history::Watched;
 use esr_picture::picture;
 use esr_script::RunFault;
@@ -53,13 +53,7 @@ const TWICE: &str = "item a 7 weight 3\n\
         commit q\n";
 
 /// Draws the query of that name, and looks for texts in what is written.
-fn has(
-    rt: &impl Abort,
-    alloc: Global,
-    script: &str,
-    name: &str,
-    texts: &[&str],
-) {
+fn has(rt: &impl Abort, alloc: Global, script: &str, name: &str, texts: &[&str]) {
     let mut reader = Watched::new(script.as_bytes());
     let mut writer = Watched::new(Vec::new(alloc));
     let ended = picture(alloc, &mut reader, &mut writer, name);
@@ -132,7 +126,12 @@ fn thirty_updates_are_drawn_and_of_more_those_that_are_off(rt: HostRuntime) {
 fn has_so_often(rt: &impl Abort, alloc: Global, updates: u32, wanted: &[(&str, usize)]) {
     let script = beside(alloc, updates).expect(rt, "memory");
     for (text, times) in wanted {
-        assert!(rt; count(alloc, &script, text) == *times, "{} of {}", text, updates);
+        assert!(rt;
+            count(alloc, &script, text) == *times,
+            "{} of {}",
+            text,
+            updates
+        );
     }
 }
 
@@ -152,7 +151,7 @@ fn what_is_no_committed_query_is_not_drawn(rt: HostRuntime) {
 fn each_read_fails_in_turn(rt: HostRuntime) {
     let alloc = rt.alloc();
     for left in 0..BANK.len() + 1 {
-        let mut reader = cut(BANK, 1, left);
+        let mut reader = cut_after(BANK, 1, left);
         let mut writer = Watched::new(Vec::new(alloc));
         let ended = picture(alloc, &mut reader, &mut writer, "report");
         assert!(rt; ended == Err(RunFault::Read));
@@ -165,7 +164,7 @@ fn writes_fail(rt: HostRuntime) {
     let alloc = rt.alloc();
     for left in 0..20 {
         let mut reader = Watched::new(BANK.as_bytes());
-        let mut writer = narrow(alloc, 3, left, Way::Errs);
+        let mut writer = narrow_until(alloc, 3, left, Way::Errs);
         let ended = picture(alloc, &mut reader, &mut writer, "report");
         assert!(rt; ended == Err(RunFault::Write) && writer.failed() && !reader.failed());
         assert!(rt; writer.inner().taken.len() <= 60);

@@ -8,7 +8,7 @@ pub mod rows;
 use crate::tests::devices::check_written;
 use esr_history::Watched;
 use esr_script::{RunFault, run};
-use rows::ROWS;
+use rows::table;
 use std::alloc::Global;
 use std::process::Abort;
 
@@ -30,8 +30,15 @@ fn answers(
 
 #[test]
 fn scripts_give_their_texts(rt: HostRuntime) {
-    for row in &ROWS {
-        answers(&rt, rt.alloc(), row.name, row.script.as_bytes(), row.ended, row.text);
+    for row in table() {
+        answers(
+            &rt,
+            rt.alloc(),
+            row.name,
+            row.script.as_bytes(),
+            row.ended,
+            row.text,
+        );
     }
 }
 

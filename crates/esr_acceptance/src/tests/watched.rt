@@ -1,6 +1,6 @@
 //! That a watched device is asked, and that bytes are handed on: no clause can say either.
 
-use super::scripts::rows::ROWS;
+use super::scripts::rows::table;
 use esr_history::Watched;
 use esr_script::run;
 use std::io;
@@ -73,7 +73,7 @@ impl Write for Holding {
 #[test]
 fn a_run_hands_its_whole_output_on(rt: HostRuntime) {
     let alloc = rt.alloc();
-    for row in &ROWS {
+    for row in table() {
         let mut reader = Watched::new(row.script.as_bytes());
         let mut writer = Watched::new(Holding {
             held: Vec::new(alloc),

@@ -121,7 +121,7 @@ enum Change<'a> {
 type Case = (Change<'static>, Option<Fault>);
 
 /// Changes of a certificate of the report, and the first fault of each.
-static OF_BOTH: [Case; 10] = [
+const OF_BOTH: [Case; 10] = [
     (Nothing, None),
     (Set(&[1, 0]), Some(Fault::SetNotAscending)),
     (Set(&[0, 2]), Some(Fault::UnknownUpdate)),
@@ -135,19 +135,19 @@ static OF_BOTH: [Case; 10] = [
 ];
 
 /// A count of augmentations is at most nodes times arcs.
-static OF_NEITHER: [Case; 3] = [
+const OF_NEITHER: [Case; 3] = [
     (Count(19), None),
     (Count(20), None),
     (Count(21), Some(Fault::TooManyAugmentations)),
 ];
 
-static OF_FREE: [Case; 2] = [
+const OF_FREE: [Case; 2] = [
     (Count(0), None),
     (Count(1), Some(Fault::TooManyAugmentations)),
 ];
 
 /// A set has to hold what the query must have seen.
-static OF_SEEN: [Case; 5] = [
+const OF_SEEN: [Case; 5] = [
     (Nothing, None),
     (Worth(4), Some(Fault::WorthNotCost)),
     (Musts(&[4]), Some(Fault::NotConserved)),
@@ -156,7 +156,7 @@ static OF_SEEN: [Case; 5] = [
 ];
 
 /// Parts that are no problem, and the rule that each breaks.
-static REFUSED: [(Asked<'static>, BundleFault); 5] = [
+const REFUSED: [(Asked<'static>, BundleFault); 5] = [
     (
         Asked {
             before: &[],

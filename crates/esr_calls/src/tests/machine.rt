@@ -95,7 +95,7 @@ fn plays(rt: &impl Abort, alloc: Global, value: i64, rows: &[(Asked, Reply)], im
     assert!(rt; machine.totals() == totals);
 }
 
-static BESIDE_A_WRITER: [(Asked, Reply); 6] = [
+const BESIDE_A_WRITER: [(Asked, Reply); 6] = [
     (Update(50), Begun(TxnId(1))),
     (Query(10), Begun(TxnId(2))),
     (Write(1, 107), Wrote),
@@ -109,7 +109,7 @@ fn report_beside_a_writer(rt: HostRuntime) {
     plays(&rt, rt.alloc(), 100, &BESIDE_A_WRITER, 7);
 }
 
-static OVER_QUERIES: [(Asked, Reply); 9] = [
+const OVER_QUERIES: [(Asked, Reply); 9] = [
     (Query(10), Begun(TxnId(1))),
     (Query(5), Begun(TxnId(2))),
     (Update(14), Begun(TxnId(3))),
@@ -126,7 +126,7 @@ fn export_limit_over_queries(rt: HostRuntime) {
     plays(&rt, rt.alloc(), 0, &OVER_QUERIES, 15);
 }
 
-static UPGRADE: [(Asked, Reply); 8] = [
+const UPGRADE: [(Asked, Reply); 8] = [
     (Update(0), Begun(TxnId(1))),
     (Update(0), Begun(TxnId(2))),
     (Read(1), Value(0)),
@@ -142,7 +142,7 @@ fn upgrade_waits_for_a_reader(rt: HostRuntime) {
     plays(&rt, rt.alloc(), 0, &UPGRADE, 0);
 }
 
-static ABORTED: [(Asked, Reply); 5] = [
+const ABORTED: [(Asked, Reply); 5] = [
     (Update(0), Begun(TxnId(1))),
     (Write(1, 5), Wrote),
     (Asked::Abort(1), Aborted),

@@ -13,7 +13,7 @@ use std::process::Abort;
 use std::thread::Threads;
 
 /// A report reads a and b, and between its reads two updates commit.
-static TWO_UPDATES_OVER_A_REPORT: [Event; 11] = [
+const TWO_UPDATES_OVER_A_REPORT: [Event; 11] = [
     Event::BeginQuery {
         limit: 100,
         strict: false,
@@ -49,7 +49,7 @@ static TWO_UPDATES_OVER_A_REPORT: [Event; 11] = [
 ];
 
 /// A second report reads a.
-static A_SECOND_REPORT: [Event; 3] = [
+const A_SECOND_REPORT: [Event; 3] = [
     Event::BeginQuery {
         limit: 100,
         strict: false,

@@ -26,7 +26,7 @@ struct Flow {
     musts: &'static [u64],
 }
 
-static ROWS: [Row; 4] = [
+const ROWS: [Row; 4] = [
     Row {
         name: "an order through a third item",
         updates: &[TxnId(2), TxnId(3)],
@@ -102,11 +102,8 @@ fn problem(alloc: Global, row: &Row) -> Option<Problem> {
     Problem::new(alloc, updates, before, chains, must).ok()
 }
 
-/// Whether a certificate has these amounts, where there are any.
-fn has_flow(certificate: &Certificate, flow: Option<Flow>) -> bool {
-    let Some(flow) = flow else {
-        return true;
-    };
+/// Whether a certificate has these amounts.
+fn has_flow(certificate: &Certificate, flow: Flow) -> bool {
     for (row, amounts) in certificate.chain_flow.iter().zip(flow.chains.iter()) {
         if row.as_slice() != *amounts {
             return false;
@@ -121,8 +118,12 @@ fn has_flow(certificate: &Certificate, flow: Option<Flow>) -> bool {
 fn is_found(solved: &Solved, row: &Row) -> bool {
     solved.certificate.set.as_slice() == row.set
         && solved.certificate.worth == row.worth
-        && (row.augmentations.is_none() || row.augmentations == Some(solved.augmentations))
-        && has_flow(&solved.certificate, row.flow)
+        && row
+            .augmentations
+            .is_none_or(|count| solved.augmentations == count)
+        && row
+            .flow
+            .is_none_or(|flow| has_flow(&solved.certificate, flow))
 }
 
 fn check_row(rt: &impl Abort, alloc: Global, row: &Row) {

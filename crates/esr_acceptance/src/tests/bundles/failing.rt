@@ -1,7 +1,7 @@
 //! Readers and writers that fail.
 
 use super::rows::BACK_FLOW;
-use crate::tests::devices::{Way, check_cut, check_narrow, cut, narrow};
+use crate::tests::devices::{Way, check_cut, check_narrow, cut_after, narrow_until};
 use esr_bundle::{JudgeFault, Verdict, judge};
 use esr_history::Watched;
 use std::alloc::Global;
@@ -29,7 +29,7 @@ impl Read for Zeros {
 fn each_read_fails_in_turn(rt: HostRuntime) {
     let alloc = rt.alloc();
     for left in 0..BACK_FLOW.len() + 1 {
-        let mut reader = cut(BACK_FLOW, 1, left);
+        let mut reader = cut_after(BACK_FLOW, 1, left);
         let mut writer = Watched::new(Vec::new(alloc));
         let ended = judge(alloc, &mut reader, &mut writer);
         assert!(rt; ended == Err(JudgeFault::Read));
@@ -40,7 +40,7 @@ fn each_read_fails_in_turn(rt: HostRuntime) {
 /// Whether the verdict is written by a writer that fails at this call.
 fn is_written(rt: &impl Abort, alloc: Global, left: usize) -> bool {
     let mut reader = Watched::new(BACK_FLOW.as_bytes());
-    let mut writer = narrow(alloc, 3, left, Way::TakesNone);
+    let mut writer = narrow_until(alloc, 3, left, Way::TakesNone);
     let ended = judge(alloc, &mut reader, &mut writer);
     let written = ended == Ok(Verdict::Valid(2));
     assert!(rt; written || ended == Err(JudgeFault::Write));

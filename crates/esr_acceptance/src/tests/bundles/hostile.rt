@@ -35,6 +35,8 @@ fn two_hundred_brackets_are_no_json(rt: HostRuntime) {
 fn a_byte_that_is_no_text_is_no_json(rt: HostRuntime) {
     let alloc = rt.alloc();
     let mut bytes = Vec::from_slice(alloc, b"\xff").expect(&rt, "memory");
-    bytes.extend_from_slice(TWO_UPDATES.as_bytes()).expect(&rt, "memory");
+    bytes
+        .extend_from_slice(TWO_UPDATES.as_bytes())
+        .expect(&rt, "memory");
     assert!(rt; judged(alloc, bytes.as_slice()) == Ok(Verdict::Bad(1)));
 }

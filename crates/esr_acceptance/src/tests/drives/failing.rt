@@ -1,6 +1,6 @@
 //! Readers and writers that fail, and readers that do not end.
 
-use crate::tests::devices::{Way, check_cut, cut, narrow};
+use crate::tests::devices::{Way, check_cut, cut_after, narrow_until};
 use esr_drive::{DriveFault, NoGate, drive};
 use esr_history::Watched;
 use std::io;
@@ -32,7 +32,7 @@ impl Read for Endless {
 fn a_failed_read_leaves_nothing_written(rt: HostRuntime) {
     let alloc = rt.alloc();
     for left in 0..7 {
-        let mut reader = cut(FILE, 10, left);
+        let mut reader = cut_after(FILE, 10, left);
         let mut writer = Watched::new(Vec::new(alloc));
         let ended = drive(&rt, alloc, &mut reader, &mut writer, 1, &NoGate);
         assert!(rt; ended == Err(DriveFault::Read));
@@ -45,7 +45,7 @@ fn a_failed_write_ends_the_text(rt: HostRuntime) {
     let alloc = rt.alloc();
     for left in 0..7 {
         let mut reader = Watched::new(FILE.as_bytes());
-        let mut writer = narrow(alloc, 20, left, Way::TakesNone);
+        let mut writer = narrow_until(alloc, 20, left, Way::TakesNone);
         let ended = drive(&rt, alloc, &mut reader, &mut writer, 1, &NoGate);
         let fine = left == 6;
         assert!(rt; (ended == Ok(())) == fine && writer.failed() != fine && !reader.failed());

@@ -1,6 +1,6 @@
 //! Queries certified.
 
-use crate::tests::devices::{Way, check_cut, check_narrow, check_written, cut, narrow};
+use crate::tests::devices::{Way, check_cut, check_narrow, check_written, cut_after, narrow_until};
 use esr_history::Watched;
 use esr_script::{RunFault, certify, certify_steps};
 use std::alloc::Global;
@@ -129,7 +129,7 @@ fn nothing_is_written_after_a_fault(rt: HostRuntime) {
 fn each_read_fails_in_turn(rt: HostRuntime) {
     let alloc = rt.alloc();
     for left in 0..THIRD_ITEM.len() + 1 {
-        let mut reader = cut(THIRD_ITEM, 1, left);
+        let mut reader = cut_after(THIRD_ITEM, 1, left);
         let mut writer = Watched::new(Vec::new(alloc));
         let ended = certify(alloc, &mut reader, &mut writer, "q");
         assert!(rt; ended == Err(RunFault::Read));
@@ -140,7 +140,7 @@ fn each_read_fails_in_turn(rt: HostRuntime) {
 /// Whether the bundle is written by a writer that fails at this call.
 fn is_written(rt: &impl Abort, alloc: Global, left: usize, way: Way) -> bool {
     let mut reader = Watched::new(THIRD_ITEM.as_bytes());
-    let mut writer = narrow(alloc, 3, left, way);
+    let mut writer = narrow_until(alloc, 3, left, way);
     let ended = certify(alloc, &mut reader, &mut writer, "q");
     let written = ended == Ok(());
     assert!(rt; written || ended == Err(RunFault::Write));

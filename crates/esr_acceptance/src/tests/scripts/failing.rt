@@ -1,6 +1,6 @@
 //! Readers and writers that fail.
 
-use crate::tests::devices::{Way, check_cut, check_narrow, cut, narrow};
+use crate::tests::devices::{Way, check_cut, check_narrow, cut_after, narrow_until};
 use esr_history::Watched;
 use esr_script::{RunFault, audit, run};
 use std::alloc::Global;
@@ -19,7 +19,8 @@ static LINES: [(&str, &str); 6] = [
 
 const SCRIPT: &str = "item a 100\nbegin u update 0\nhello\nwrite u a 105\nread u a\ncommit u\n";
 
-const TEXT: &str = "item a 100\nbegun u 1\nerror 1 not a command\nwrote u a 105\nu a 105\ncommitted u\n";
+const TEXT: &str =
+    "item a 100\nbegun u 1\nerror 1 not a command\nwrote u a 105\nu a 105\ncommitted u\n";
 
 /// How much text there is of the lines that are whole in so many bytes of the script.
 fn count_written(read: usize) -> usize {
@@ -38,7 +39,7 @@ fn count_written(read: usize) -> usize {
 fn each_read_fails_in_turn(rt: HostRuntime) {
     let alloc = rt.alloc();
     for left in 0..SCRIPT.len() + 1 {
-        let mut reader = cut(SCRIPT, 1, left);
+        let mut reader = cut_after(SCRIPT, 1, left);
         let mut writer = Watched::new(Vec::new(alloc));
         let ended = run(alloc, &mut reader, &mut writer);
         assert!(rt; ended == Err(RunFault::Read) && reader.failed() && !writer.failed());
@@ -50,7 +51,7 @@ fn each_read_fails_in_turn(rt: HostRuntime) {
 /// Whether the run ends well over a writer that fails at this call.
 fn is_written(rt: &impl Abort, alloc: Global, left: usize, way: Way) -> bool {
     let mut reader = Watched::new(SCRIPT.as_bytes());
-    let mut writer = narrow(alloc, 3, left, way);
+    let mut writer = narrow_until(alloc, 3, left, way);
     let ended = run(alloc, &mut reader, &mut writer);
     let written = ended == Ok(());
     assert!(rt; written || ended == Err(RunFault::Write));
@@ -78,7 +79,7 @@ const AUDIT: &str = "order u\ntotals import 0 export 0 entries 4\n";
 fn each_read_of_an_audit_fails_in_turn(rt: HostRuntime) {
     let alloc = rt.alloc();
     for left in 0..SCRIPT.len() + 1 {
-        let mut reader = cut(SCRIPT, 1, left);
+        let mut reader = cut_after(SCRIPT, 1, left);
         let mut writer = Watched::new(Vec::new(alloc));
         let ended = audit(&rt, alloc, &mut reader, &mut writer, 2);
         assert!(rt; ended == Err(RunFault::Read));
@@ -94,7 +95,7 @@ fn audit_is_written<R: Abort + Threads + Sync>(
     way: Way,
 ) -> bool {
     let mut reader = Watched::new(SCRIPT.as_bytes());
-    let mut writer = narrow(alloc, 3, left, way);
+    let mut writer = narrow_until(alloc, 3, left, way);
     let ended = audit(rt, alloc, &mut reader, &mut writer, 2);
     let written = ended == Ok(());
     assert!(rt; written || ended == Err(RunFault::Write));

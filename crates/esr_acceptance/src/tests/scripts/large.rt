@@ -144,20 +144,54 @@ fn written_out(alloc: Global, long: Long) -> Result<String, AllocError> {
     Ok(text)
 }
 
-#[test]
-fn long_scripts_give_their_texts(rt: HostRuntime) {
-    for row in &ROWS {
-        let script = written_out(rt.alloc(), row.script).expect(&rt, "memory");
-        let text = written_out(rt.alloc(), row.text).expect(&rt, "memory");
-        answers(&rt, rt.alloc(), row.name, script.as_bytes(), row.ended, text.as_str());
+/// Runs the scripts, and compares what is written with their texts.
+fn give_their_texts(rt: &impl Abort, alloc: Global, rows: &[Row]) {
+    for row in rows {
+        let script = written_out(alloc, row.script).expect(rt, "memory");
+        let text = written_out(alloc, row.text).expect(rt, "memory");
+        answers(
+            rt,
+            alloc,
+            row.name,
+            script.as_bytes(),
+            row.ended,
+            text.as_str(),
+        );
     }
+}
+
+#[test]
+fn a_line_has_at_most_two_hundred_bytes(rt: HostRuntime) {
+    give_their_texts(&rt, rt.alloc(), &ROWS[..2]);
+}
+
+#[test]
+fn there_are_at_most_two_million_lines(rt: HostRuntime) {
+    give_their_texts(&rt, rt.alloc(), &ROWS[2..5]);
+}
+
+#[test]
+fn a_full_history_ends_at_the_next_event(rt: HostRuntime) {
+    give_their_texts(&rt, rt.alloc(), &ROWS[5..6]);
+}
+
+#[test]
+fn a_query_reads_at_most_a_thousand_times(rt: HostRuntime) {
+    give_their_texts(&rt, rt.alloc(), &ROWS[6..]);
 }
 
 #[test]
 fn bytes_that_are_no_text(rt: HostRuntime) {
     let script = b"item \xff 1\n\xc3\nitem a \x80\nitem a 1";
     let text = "error 1 not a command\nerror 1 not a command\nerror 1 not a command\nitem a 1\n";
-    answers(&rt, rt.alloc(), "bytes that are no text", script.as_slice(), Ok(()), text);
+    answers(
+        &rt,
+        rt.alloc(),
+        "bytes that are no text",
+        script.as_slice(),
+        Ok(()),
+        text,
+    );
 }
 
 /// The lines of so many numbers, and then others.
