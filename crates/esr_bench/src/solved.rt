@@ -92,9 +92,8 @@ fn problem(
     Problem::new(alloc, numbers, pairs, chains, Vec::new(alloc))
 }
 
-/// Updates in one line, each before the next, and for each hundred of them an item
-/// that every hundredth writes.
-pub fn line(alloc: Global, updates: u32) -> Result<Problem, BundleFault> {
+/// For each hundred of so many updates an item that every hundredth writes.
+fn rows_of_line(alloc: Global, updates: u32) -> Result<Vec<Vec<u32>>, AllocError> {
     let items = (updates / 100).max(1);
     let mut rows = Vec::new(alloc);
     for item in 0..items {
@@ -106,15 +105,28 @@ pub fn line(alloc: Global, updates: u32) -> Result<Problem, BundleFault> {
         }
         rows.push(writers)?;
     }
+    Ok(rows)
+}
+
+/// Each of so many updates with the next.
+fn pairs_of_line(alloc: Global, updates: u32) -> Result<Vec<(u32, u32)>, AllocError> {
     let mut pairs = Vec::new(alloc);
     for u in 1..updates {
         pairs.push((u - 1, u))?;
     }
+    Ok(pairs)
+}
+
+/// Updates in one line, each before the next, and for each hundred of them an item
+/// that every hundredth writes.
+pub fn line(alloc: Global, updates: u32) -> Result<Problem, BundleFault> {
+    let rows = rows_of_line(alloc, updates)?;
+    let pairs = pairs_of_line(alloc, updates)?;
     problem(alloc, updates, rows, pairs, 5, 1000)
 }
 
-/// Updates that write four of a thousand items each.
-pub fn scattered(alloc: Global, updates: u32) -> Result<Problem, BundleFault> {
+/// A thousand items, four of which each of so many updates writes.
+fn scattered_rows(alloc: Global, updates: u32) -> Result<Vec<Vec<u32>>, AllocError> {
     let mut draws = Draws { state: 54321 };
     let mut rows: Vec<Vec<u32>> = Vec::new(alloc);
     for _ in 0..1000 {
@@ -128,5 +140,11 @@ pub fn scattered(alloc: Global, updates: u32) -> Result<Problem, BundleFault> {
             }
         }
     }
+    Ok(rows)
+}
+
+/// Updates that write four of a thousand items each.
+pub fn scattered(alloc: Global, updates: u32) -> Result<Problem, BundleFault> {
+    let rows = scattered_rows(alloc, updates)?;
     problem(alloc, updates, rows, Vec::new(alloc), 1, 1_000_000)
 }
