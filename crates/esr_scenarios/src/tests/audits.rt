@@ -36,7 +36,7 @@ pub(super) fn played(alloc: Global, opening: &[i64], events: &[Asked]) -> Option
     if play(&mut m, events) { Some(m) } else { None }
 }
 
-/// The same, all of which it accepts.
+/// A machine that played these events, all of which it accepts.
 pub(super) fn played_in(
     rt: &impl Abort,
     alloc: Global,
@@ -123,6 +123,12 @@ fn book_now(rt: &impl Abort, alloc: Global, m: &Machine<Plain>) -> Book {
         panic!(rt; "a book")
     };
     book
+}
+
+/// The audit of the whole history of these events, all of which are accepted.
+fn book_in(rt: &impl Abort, alloc: Global, opening: &[i64], events: &[Asked]) -> Book {
+    let m = played_in(rt, alloc, opening, events);
+    book_now(rt, alloc, &m)
 }
 
 /// A history, and what is found of a query.
@@ -290,8 +296,7 @@ fn two_updates_over_a_report(rt: HostRuntime) {
     for t in &[0, 2, 4] {
         assert!(rt; refuses_in(alloc, &[0, 0], events, *t), "for {t}");
     }
-    let m = played_in(&rt, alloc, &[0, 0], events);
-    check_book(&rt, &book_now(&rt, alloc, &m), row);
+    check_book(&rt, &book_in(&rt, alloc, &[0, 0], events), row);
 }
 
 /// That this alone is found, with the order of the updates.
