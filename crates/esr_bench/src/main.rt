@@ -11,9 +11,9 @@ use crate::checked::{certificate_of, problem_of};
 use crate::solved::{line, scattered};
 use anyhow::{Result, anyhow};
 use esr_bundle::{from_json, to_json};
-use esr_cert::{Certificate, Problem, check};
-use esr_flow::{Network, solve};
-use std::alloc::Global;
+use esr_cert::{BundleFault, Certificate, Problem, check};
+use esr_flow::{Network, Solved, solve};
+use std::alloc::{AllocError, Global};
 use std::io::Read;
 use std::rt::Clock;
 use std::sync::Wait;
@@ -44,7 +44,15 @@ fn measure<R: Input + Print + Eprint + Clock + Threads + Wait + Sync>(
     for word in owned {
         words.push(word.as_str())?;
     }
-    match words.as_slice() {
+    measure_words(rt, alloc, &words)
+}
+
+fn measure_words<R: Input + Print + Eprint + Clock + Threads + Wait + Sync>(
+    rt: &R,
+    alloc: Global,
+    words: &[&str],
+) -> Result<()> {
+    match words {
         ["check", updates, rounds] => measure_check(rt, alloc, updates.parse()?, rounds.parse()?),
         ["solve", kind, updates] => measure_solve(rt, alloc, kind, updates.parse()?),
         ["bundle"] => measure_bundle(rt, alloc),
@@ -107,29 +115,52 @@ fn measure_solve(
     updates: u32,
 ) -> Result<()> {
     let problem = match kind {
-        "line" => line(alloc, updates)?,
-        "scattered" => scattered(alloc, updates)?,
+        "line" => line(alloc, updates),
+        "scattered" => scattered(alloc, updates),
         _ => return Err(anyhow!("{USAGE}")),
     };
-    solve_once(rt, alloc, &problem)
+    match problem {
+        Ok(problem) => solve_once(rt, alloc, &problem),
+        Err(BundleFault::NoMemory) => Err(anyhow!("{AllocError}")),
+        Err(fault) => Err(anyhow!("no problem: {fault:?}")),
+    }
 }
 
 /// Solves the problem, says what was found, and how long it took.
 fn solve_once(rt: &(impl Print + Eprint + Clock), alloc: Global, problem: &Problem) -> Result<()> {
     let start = Instant::now(rt)?;
-    let network = Network::build(alloc, problem).map_err(|_| anyhow!("out of memory"))?;
-    let built = start.elapsed(rt)?;
-    let solved = solve(alloc, &network).map_err(|_| anyhow!("out of memory"))?;
-    let done = start.elapsed(rt)?;
-    println!(rt;
-        "worth {} augmentations {} phases {}",
-        solved.certificate.worth, solved.augmentations, solved.phases
-    )?;
-    eprintln!(rt;
-        "build {} ms, build and solve {} ms",
-        built.as_millis(),
-        done.as_millis()
-    )?;
+    match Network::build(alloc, problem) {
+        Ok(network) => solve_network(rt, alloc, &network, start),
+        Err(_) => Err(anyhow!("out of memory")),
+    }
+}
+
+/// Solves a network that was built since that time.
+fn solve_network(
+    rt: &(impl Print + Eprint + Clock),
+    alloc: Global,
+    network: &Network,
+    start: Instant,
+) -> Result<()> {
+    let built = start.elapsed(rt)?.as_millis();
+    match solve(alloc, network) {
+        Ok(solved) => tell_solved(rt, &solved, start, built),
+        Err(_) => Err(anyhow!("out of memory")),
+    }
+}
+
+fn tell_solved(
+    rt: &(impl Print + Eprint + Clock),
+    solved: &Solved,
+    start: Instant,
+    built: u128,
+) -> Result<()> {
+    let done = start.elapsed(rt)?.as_millis();
+    let worth = solved.certificate.worth;
+    let augmentations = solved.augmentations;
+    let phases = solved.phases;
+    println!(rt; "worth {worth} augmentations {augmentations} phases {phases}")?;
+    eprintln!(rt; "build {built} ms, build and solve {done} ms")?;
     Ok(())
 }
 
@@ -139,18 +170,45 @@ fn measure_bundle(rt: &(impl Input + Print + Eprint + Clock), alloc: Global) -> 
     let mut input = Vec::new(alloc);
     rt.reader().read_to_end(&mut input)?;
     let start = Instant::now(rt)?;
-    let (problem, certificate) = from_json(alloc, &input).map_err(|fault| anyhow!(
-        "no bundle: {fault:?}"
-    ))?;
-    let read = start.elapsed(rt)?.as_millis();
+    match from_json(alloc, &input) {
+        Ok((problem, certificate)) => {
+            let read = start.elapsed(rt)?.as_millis();
+            measure_parts(rt, alloc, &input, &problem, &certificate, read)
+        }
+        Err(fault) => Err(anyhow!("no bundle: {fault:?}")),
+    }
+}
+
+/// Checks what was read of a bundle in so many milliseconds, and writes it again.
+fn measure_parts(
+    rt: &(impl Print + Eprint + Clock),
+    alloc: Global,
+    input: &[u8],
+    problem: &Problem,
+    certificate: &Certificate,
+    read: u128,
+) -> Result<()> {
     let start = Instant::now(rt)?;
-    let valid = check(&problem, &certificate).is_ok();
+    let valid = check(problem, certificate).is_ok();
     let checked = start.elapsed(rt)?.as_millis();
-    let start = Instant::now(rt)?;
-    let text = to_json(alloc, &problem, &certificate).map_err(|_| anyhow!("out of memory"))?;
-    let written = start.elapsed(rt)?.as_millis();
-    let same = text.as_slice() == input.as_slice();
+    let (same, written) = measure_writing(rt, alloc, input, problem, certificate)?;
     println!(rt; "valid {valid} same {same}")?;
     eprintln!(rt; "read {read} ms, check {checked} ms, write {written} ms")?;
     Ok(())
+}
+
+/// Whether the same bytes are written, and how many milliseconds that takes.
+fn measure_writing(
+    rt: &impl Clock,
+    alloc: Global,
+    input: &[u8],
+    problem: &Problem,
+    certificate: &Certificate,
+) -> Result<(bool, u128)> {
+    let start = Instant::now(rt)?;
+    let Ok(text) = to_json(alloc, problem, certificate) else {
+        return Err(anyhow!("out of memory"));
+    };
+    let written = start.elapsed(rt)?.as_millis();
+    Ok((text.as_slice() == input, written))
 }

@@ -1,9 +1,17 @@
 use crate::draws::Draws;
-use anyhow::Result;
-use esr_cert::{Chain, Problem};
+use esr_cert::{BundleFault, Chain, Problem};
 use esr_history::TxnId;
 use esr_items::ItemId;
-use std::alloc::Global;
+use std::alloc::{AllocError, Global};
+
+/// The distance of a value from those that were read.
+fn cost(seen: &[u32], value: u32) -> u64 {
+    let mut sum = 0u64;
+    for read in seen {
+        sum = sum.saturating_add(u64::from(read.abs_diff(value)));
+    }
+    sum
+}
 
 /// The cost of each version of an item that was read `reads` times.
 fn costs(
@@ -12,7 +20,7 @@ fn costs(
     writers: usize,
     reads: u32,
     values: u32,
-) -> Result<Vec<u64>> {
+) -> Result<Vec<u64>, AllocError> {
     let mut seen = Vec::new(alloc);
     for _ in 0..reads {
         seen.push(draws.next(values))?;
@@ -20,17 +28,13 @@ fn costs(
     let mut costs = Vec::new(alloc);
     for version in 0..=writers {
         let value = if version == 0 { 0 } else { draws.next(values) };
-        let cost = seen.iter().fold(
-            0u64,
-            |sum, read| sum.saturating_add(u64::from(read.abs_diff(value))),
-        );
-        costs.push(cost)?;
+        costs.push(cost(&seen, value))?;
     }
     Ok(costs)
 }
 
 /// The numbers of so many updates.
-fn numbers(alloc: Global, updates: u32) -> Result<Vec<TxnId>> {
+fn numbers(alloc: Global, updates: u32) -> Result<Vec<TxnId>, AllocError> {
     let mut numbers = Vec::new(alloc);
     for u in 0..updates.min(65535) {
         numbers.push(TxnId(u + 1))?;
@@ -39,7 +43,12 @@ fn numbers(alloc: Global, updates: u32) -> Result<Vec<TxnId>> {
 }
 
 /// The chains of items with these writers, of random costs.
-fn chains(alloc: Global, rows: Vec<Vec<u32>>, reads: u32, values: u32) -> Result<Vec<Chain>> {
+fn chains(
+    alloc: Global,
+    rows: Vec<Vec<u32>>,
+    reads: u32,
+    values: u32,
+) -> Result<Vec<Chain>, AllocError> {
     let mut draws = Draws { state: 12345 };
     let mut chains = Vec::new(alloc);
     let mut item = 0u32;
@@ -56,7 +65,7 @@ fn chains(alloc: Global, rows: Vec<Vec<u32>>, reads: u32, values: u32) -> Result
 }
 
 /// The pairs of neighbours among writers.
-fn add_neighbours(pairs: &mut Vec<(u32, u32)>, writers: &[u32]) -> Result<()> {
+fn add_neighbours(pairs: &mut Vec<(u32, u32)>, writers: &[u32]) -> Result<(), AllocError> {
     for (u, v) in writers.iter().zip(writers.iter().skip(1)) {
         pairs.push((*u, *v))?;
     }
@@ -72,7 +81,7 @@ fn problem(
     mut pairs: Vec<(u32, u32)>,
     reads: u32,
     values: u32,
-) -> Result<Problem> {
+) -> Result<Problem, BundleFault> {
     for writers in &rows {
         add_neighbours(&mut pairs, writers)?;
     }
@@ -80,15 +89,11 @@ fn problem(
     pairs.dedup();
     let chains = chains(alloc, rows, reads, values)?;
     let numbers = numbers(alloc, updates)?;
-    match Problem::new(alloc, numbers, pairs, chains, Vec::new(alloc)) {
-        Ok(problem) => Ok(problem),
-        Err(fault) => Err(anyhow::anyhow!("no problem: {fault:?}")),
-    }
+    Problem::new(alloc, numbers, pairs, chains, Vec::new(alloc))
 }
 
-/// Updates in one line, each before the next, and for each hundred of them an item
-/// that every hundredth writes.
-pub fn line(alloc: Global, updates: u32) -> Result<Problem> {
+/// For each hundred of so many updates an item that every hundredth writes.
+fn rows_of_line(alloc: Global, updates: u32) -> Result<Vec<Vec<u32>>, AllocError> {
     let items = (updates / 100).max(1);
     let mut rows = Vec::new(alloc);
     for item in 0..items {
@@ -100,15 +105,28 @@ pub fn line(alloc: Global, updates: u32) -> Result<Problem> {
         }
         rows.push(writers)?;
     }
+    Ok(rows)
+}
+
+/// Each of so many updates with the next.
+fn pairs_of_line(alloc: Global, updates: u32) -> Result<Vec<(u32, u32)>, AllocError> {
     let mut pairs = Vec::new(alloc);
     for u in 1..updates {
         pairs.push((u - 1, u))?;
     }
+    Ok(pairs)
+}
+
+/// Updates in one line, each before the next, and for each hundred of them an item
+/// that every hundredth writes.
+pub fn line(alloc: Global, updates: u32) -> Result<Problem, BundleFault> {
+    let rows = rows_of_line(alloc, updates)?;
+    let pairs = pairs_of_line(alloc, updates)?;
     problem(alloc, updates, rows, pairs, 5, 1000)
 }
 
-/// Updates that write four of a thousand items each.
-pub fn scattered(alloc: Global, updates: u32) -> Result<Problem> {
+/// A thousand items, four of which each of so many updates writes.
+fn scattered_rows(alloc: Global, updates: u32) -> Result<Vec<Vec<u32>>, AllocError> {
     let mut draws = Draws { state: 54321 };
     let mut rows: Vec<Vec<u32>> = Vec::new(alloc);
     for _ in 0..1000 {
@@ -122,5 +140,11 @@ pub fn scattered(alloc: Global, updates: u32) -> Result<Problem> {
             }
         }
     }
+    Ok(rows)
+}
+
+/// Updates that write four of a thousand items each.
+pub fn scattered(alloc: Global, updates: u32) -> Result<Problem, BundleFault> {
+    let rows = scattered_rows(alloc, updates)?;
     problem(alloc, updates, rows, Vec::new(alloc), 1, 1_000_000)
 }

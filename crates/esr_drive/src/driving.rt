@@ -1,7 +1,7 @@
 //! A drive, from its reader to its writer.
 
 ghost use Rattle.esr_board.specs.declared.board.TheConstants.{MOST_SEATS};
-ghost use Rattle.std.specs.Prelude.{◌≡◌, ℕ, List, ◌≤◌, ◌↔◌, false, None, map, IfOk, IfErr, IfSome, IsErrOf, IsTrue};
+ghost use Rattle.std.specs.Prelude.{◌≡◌, ℕ, List, ◌≤◌, ◌↔◌, true, false, None, map, IfOk, IfErr, IfSome, IsErrOf, IsTrue};
 ghost use Rattle.esr_line.specs.Lines.{lines};
 ghost use Rattle.std.specs.Io.KnownBytes.{Appends};
 ghost use Rattle.esr_history.specs.Watch.{inner, failed};
@@ -9,7 +9,7 @@ ghost use Rattle.esr_drive.specs.Drive.{IsDriveBy, IsDriveText};
 ghost use Rattle.esr_plan.specs.Text.{text_of};
 ghost use Rattle.esr_drive.specs.Driven.{IsDriven};
 ghost use Rattle.esr_plan.specs.Calls.{all_answers};
-ghost use Rattle.esr_drive.specs.Faults.{IsTextFault};
+ghost use Rattle.esr_drive.specs.Faults.{IsTextFault, is_engine_fault};
 ghost use Rattle.esr_plan.specs.Sheets.{plan_in, IsSound};
 ghost use Rattle.esr_plan.specs.Plan.{cut_fault, weights_of};
 
@@ -75,19 +75,37 @@ fn text_in<R: Threads + Wait + Sync, G: Gate + Sync>(
         Ok(sheet) => sheet,
         Err(fault) => return Err(fault),
     };
-    let Ok(items) = store_of(alloc, sheet.values.as_slice()) else {
-        return Err(DriveFault::NoMemory);
-    };
-    let Ok(metric) = metric_of(alloc, sheet.weights.as_slice()) else {
-        return Err(DriveFault::NoMemory);
-    };
-    let driven = match run_plan(rt, alloc, items, metric, sheet.blocks.as_slice(), gate) {
+    let driven = match run_sheet(rt, alloc, &sheet, gate) {
         Ok(driven) => driven,
         Err(fault) => return Err(fault),
     };
     match text_from(rt, alloc, workers, &sheet, &driven) {
         Ok(out) => Ok(out),
         Err(_) => Err(DriveFault::NoMemory),
+    }
+}
+
+/// Runs the blocks of a plan.
+fn run_sheet<R: Threads + Wait + Sync, G: Gate + Sync>(
+    rt: &R,
+    alloc: Global,
+    sheet: &Sheet<'_>,
+    gate: &G,
+) -> Result<Driven, DriveFault>
+    requires { IsSound sheet.now }
+    ensures ok { IfOk result (λ d. IsDriven sheet.now.values.items (weights_of sheet.now.weights.items)
+        (map (λ b. b.items) sheet.now.blocks.items) d.history.schedule (map (λ r. r.items) d.replies.items)) }
+    ensures err { IfErr result (λ e. is_engine_fault e ≡ true) }
+{
+    let Ok(items) = store_of(alloc, sheet.values.as_slice()) else {
+        return Err(DriveFault::NoMemory);
+    };
+    let Ok(metric) = metric_of(alloc, sheet.weights.as_slice()) else {
+        return Err(DriveFault::NoMemory);
+    };
+    match run_plan(rt, alloc, items, metric, sheet.blocks.as_slice(), gate) {
+        Ok(driven) => Ok(driven),
+        Err(fault) => Err(fault),
     }
 }
 

@@ -1,13 +1,16 @@
 //! Runs the blocks of a plan, each by a session on a thread of its own.
 
-ghost use Rattle.std.specs.Prelude.{◌≡◌, [], IfOk};
+ghost use Rattle.std.specs.Prelude.{◌≡◌, ◌<◌, ◌+◌, List, [], ◌∷◌, ◌++◌, true, IfOk, length};
+ghost use Rattle.esr_items.specs.Weights.{weighted};
+ghost use Rattle.esr_session.specs.declared.receipt.Receipt.{Receipt};
+ghost use Rattle.esr_session.specs.Receipts.{AreBlocked, is_blocked};
 ghost use Rattle.esr_drive.specs.Runs.{IsBlockRun};
 
 use esr_core::StepError;
-use esr_history::Reply;
+use esr_history::{Event, Reply};
 use esr_items::Weighted;
 use esr_plan::{Call, event_of};
-use esr_session::{Naming, Session};
+use esr_session::{Naming, Receipt, Session};
 use std::alloc::Global;
 use std::sync::Wait;
 
@@ -36,6 +39,20 @@ pub fn run_block<N: Naming, R: Wait>(
     Ran { session, outcome }
 }
 
+/// Gives an event until it is not blocked, at most 100 times.
+fn call_in_turns<N: Naming, R: Wait>(
+    rt: &R,
+    session: &mut Session<Weighted, N>,
+    event: Event,
+) -> Result<Receipt, StepError>
+    ensures turns { IfOk result (λ r. (blocked : List Receipt) × (session.new ≡ session.old ++ blocked ++ r ∷ [])
+        × AreBlocked weighted N.opening N.weights event blocked × (length blocked < 100)
+        × (is_blocked r.reply ≡ true → length blocked + 1 ≡ 100)) }
+    ensures event { IfOk result (λ r. r.event ≡ event) }
+{
+    session.call_patient(rt, event, TURNS)
+}
+
 /// The last replies to the calls.
 fn call_all<N: Naming, R: Wait>(
     rt: &R,
@@ -51,7 +68,7 @@ fn call_all<N: Naming, R: Wait>(
     };
     for i in 0..calls.len() {
         let event = event_of(&replies, calls[i]);
-        match session.call_patient(rt, event, TURNS) {
+        match call_in_turns(rt, session, event) {
             Ok(receipt) => replies.push_reserved(receipt.reply),
             Err(error) => return Err(error),
         }

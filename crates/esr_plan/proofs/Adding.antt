@@ -230,18 +230,22 @@ item_added d names values weights name value weight sound is free ranged few wei
     not_all n lt = grind (arith, nat_tests)
 
 -- the sheet of a draft
-pub sheet_sound : (d : Draft) (blocks : Vec (Vec Call Global) Global) → IsSound d
+pub sheet_made : (d : Draft) (blocks : Vec (Vec Call Global) Global) → IsSound d
     → (blocks_of d ≡ map (λ b. commands_in b.items) blocks.items) × All (λ b. AreResolved d.names b.items) blocks.items
-    → sheets.IsSound (record { names = d.names; values = d.values; weights = d.weights; blocks = blocks })
-sheet_sound d blocks sound is = record {
-  values = sound.values;
-  weights = sound.weights;
-  in_range = sound.in_range;
-  weighed = sound.weighed;
-  items = sound.items;
-  blocks = omega (arith, sound.blocks, ap length is.0, length-map blocks.items (λ (b : Vec Call Global). commands_in b.items));
-  resolved = is.1;
-}
+    → (sheets.plan_in (record { names = d.names; values = d.values; weights = d.weights; blocks = blocks }) ≡ plan_in d)
+    × sheets.IsSound (record { names = d.names; values = d.values; weights = d.weights; blocks = blocks })
+sheet_made d blocks sound is = (
+  ap (λ b. plan d.names d.values.items d.weights.items b) (sym is.0),
+  record {
+    values = sound.values;
+    weights = sound.weights;
+    in_range = sound.in_range;
+    weighed = sound.weighed;
+    items = sound.items;
+    blocks = omega (arith, sound.blocks, ap length is.0, length-map blocks.items (λ (b : Vec Call Global). commands_in b.items));
+    resolved = is.1;
+  },
+)
 
 -- ---- a draft whose open block was put with the others
 

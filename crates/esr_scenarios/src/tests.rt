@@ -3,10 +3,10 @@ mod placements;
 mod plain;
 
 use Asked::{Commit, Query, Read, Strict, Update, Write};
-use audits::played;
+use audits::{played, played_in};
 use esr_core::{Machine, StepError};
 use esr_history::{Event, Reply, TxnId};
-use esr_items::{ItemId, Plain, Store};
+use esr_items::{ItemId, Plain};
 use esr_order::{Order, OrderError};
 use std::alloc::Global;
 use std::process::Abort;
@@ -78,6 +78,11 @@ fn play(m: &mut Machine<Plain>, events: &[Asked]) -> bool {
     true
 }
 
+/// Plays the events, each of which is accepted.
+fn play_all(rt: &impl Abort, m: &mut Machine<Plain>, events: &[Asked]) {
+    assert!(rt; play(m, events), "a history");
+}
+
 /// The order of a query, asked for once more where memory is refused.
 fn order_of(alloc: Global, m: &Machine<Plain>, q: u32) -> Result<Order, OrderError> {
     match Order::of(alloc, m.history(), TxnId(q)) {
@@ -94,21 +99,29 @@ fn has_chain(order: &Order, x: u32, writers: &[u32], values: &[i64]) -> bool {
     }
 }
 
-/// The order of a query in the history of these events, all of which are accepted.
-fn order_in(rt: &impl Abort, alloc: Global, opening: &[i64], events: &[Asked], q: u32) -> Order {
-    let Some(m) = played(alloc, opening, events) else {
-        panic!(rt; "a history")
-    };
-    let Ok(order) = order_of(alloc, &m, q) else {
+/// The order of a query, which has one.
+fn order_now(rt: &impl Abort, alloc: Global, m: &Machine<Plain>, q: u32) -> Order {
+    let Ok(order) = order_of(alloc, m, q) else {
         panic!(rt; "an order")
     };
     order
 }
 
+/// The order of a query in the history of these events, all of which are accepted.
+fn order_in(rt: &impl Abort, alloc: Global, opening: &[i64], events: &[Asked], q: u32) -> Order {
+    let m = played_in(rt, alloc, opening, events);
+    order_now(rt, alloc, &m, q)
+}
+
+/// Whether a transaction has no order.
+fn is_without(alloc: Global, m: &Machine<Plain>, t: u32) -> bool {
+    matches!(order_of(alloc, m, t), Err(OrderError::NotACommittedQuery))
+}
+
 /// Whether the events are accepted, and a transaction has no order then.
 fn has_none(alloc: Global, opening: &[i64], events: &[Asked], t: u32) -> bool {
     match played(alloc, opening, events) {
-        Some(m) => matches!(order_of(alloc, &m, t), Err(OrderError::NotACommittedQuery)),
+        Some(m) => is_without(alloc, &m, t),
         None => false,
     }
 }
@@ -148,16 +161,19 @@ const OVER_A_REPORT: [Asked; 11] = [
 fn order_through_a_third_item(rt: HostRuntime) {
     let alloc = rt.alloc();
     let events = &THROUGH_A_THIRD_ITEM;
-    let order = order_in(&rt, alloc, &[0, 0, 0], events, 1);
+    assert!(rt; has_none(alloc, &[0, 0, 0], events, 2));
+    assert!(rt; has_none(alloc, &[0, 0, 0], events, 0));
+    check_through(&rt, &order_in(&rt, alloc, &[0, 0, 0], events, 1));
+}
+
+fn check_through(rt: &impl Abort, order: &Order) {
     assert!(rt; order.commits() == &[TxnId(2), TxnId(3)][..]);
     assert!(rt; order.before() == &[(0, 1)][..]);
     assert!(rt; order.must().is_empty());
-    assert!(rt; has_chain(&order, 0, &[0], &[6]));
-    assert!(rt; has_chain(&order, 1, &[1], &[2]));
-    assert!(rt; has_chain(&order, 2, &[0], &[1]));
+    assert!(rt; has_chain(order, 0, &[0], &[6]));
+    assert!(rt; has_chain(order, 1, &[1], &[2]));
+    assert!(rt; has_chain(order, 2, &[0], &[1]));
     assert!(rt; order.chain(ItemId(3)).is_none());
-    assert!(rt; has_none(alloc, &[0, 0, 0], events, 2));
-    assert!(rt; has_none(alloc, &[0, 0, 0], events, 0));
 }
 
 #[test]
@@ -209,29 +225,25 @@ fn strict_report(rt: HostRuntime) {
 }
 
 /// A query, and ten updates of one item, each after the one before it.
-fn one_after_another(alloc: Global) -> Option<Machine<Plain>> {
-    let mut m = played(alloc, &[0], &[Query(9)])?;
+fn one_after_another(rt: &impl Abort, alloc: Global) -> Machine<Plain> {
+    let mut m = played_in(rt, alloc, &[0], &[Query(9)]);
     for u in 2..12u32 {
-        if !play(&mut m, &[Update(9), Write(u, 0, 1), Commit(u)]) {
-            return None;
-        }
+        play_all(rt, &mut m, &[Update(9), Write(u, 0, 1), Commit(u)]);
     }
-    if accepts(&mut m, Commit(1)) {
-        Some(m)
-    } else {
-        None
-    }
+    play_all(rt, &mut m, &[Commit(1)]);
+    m
 }
 
 #[test]
 fn ten_updates_of_one_item(rt: HostRuntime) {
-    let Some(m) = one_after_another(rt.alloc()) else {
-        panic!(rt; "a history")
-    };
-    let Ok(order) = order_of(rt.alloc(), &m, 1) else {
-        panic!(rt; "an order")
-    };
-    assert!(rt; order.before().len() == 9);
-    assert!(rt; order.before()[0] == (0, 1));
-    assert!(rt; order.before()[8] == (8, 9));
+    let m = one_after_another(&rt, rt.alloc());
+    check_line(&rt, &order_now(&rt, rt.alloc(), &m, 1));
+}
+
+/// That the order ties ten updates in one line.
+fn check_line(rt: &impl Abort, order: &Order) {
+    let before = order.before();
+    assert!(rt; before.len() == 9);
+    assert!(rt; before[0] == (0, 1));
+    assert!(rt; before[8] == (8, 9));
 }

@@ -1,7 +1,12 @@
-//! Devices that fail.
+//! Devices that fail, and what is checked of them.
+ghost use Rattle.std.specs.Prelude.{◌≡◌, false};
+ghost use Rattle.esr_history.specs.Watch.{failed};
 
+use esr_history::Watched;
+use std::alloc::Global;
 use std::io;
 use std::io::{Read, Write};
+use std::process::Abort;
 
 /// Gives up to `most` bytes at a time, and fails after so many calls.
 #[derive(Drop)]
@@ -20,6 +25,17 @@ impl Read for Cut<'_> {
         let count = buf.len().min(self.most);
         self.rest.read(&mut buf[..count])
     }
+}
+
+/// A reader of the text, which fails after so many calls.
+pub fn cut_after(text: &str, most: usize, left: usize) -> Watched<Cut<'_>>
+    ensures { failed result ≡ false }
+{
+    Watched::new(Cut {
+        rest: text.as_bytes(),
+        most,
+        left,
+    })
 }
 
 /// How a writer fails.
@@ -59,4 +75,40 @@ impl Write for Narrow {
         self.left -= 1;
         Ok(())
     }
+}
+
+/// A writer that has taken nothing yet, and fails after so many calls.
+pub fn narrow_until(alloc: Global, most: usize, left: usize, way: Way) -> Watched<Narrow>
+    ensures { failed result ≡ false }
+{
+    Watched::new(Narrow {
+        taken: Vec::new(alloc),
+        most,
+        left,
+        way,
+    })
+}
+
+/// That a read has failed, no write has, and nothing was written.
+pub fn check_cut(rt: &impl Abort, reader: &Watched<Cut<'_>>, writer: &Watched<Vec<u8>>) {
+    assert!(rt; reader.failed());
+    assert!(rt; !writer.failed());
+    assert!(rt; writer.inner().is_empty());
+}
+
+/// That a run which ended well has written the whole text, and another one a part of it, since a write failed.
+pub fn check_narrow(rt: &impl Abort, writer: &Watched<Narrow>, ended_well: bool, whole: &str) {
+    let taken = writer.inner().taken.as_slice();
+    assert!(rt; writer.failed() != ended_well);
+    assert!(rt; whole.as_bytes().starts_with(taken));
+    assert!(rt; !ended_well || taken.len() == whole.len());
+}
+
+/// That this text was written.
+pub fn check_written(rt: &impl Abort, writer: &Watched<Vec<u8>>, text: &str, name: &str) {
+    assert!(rt;
+        writer.inner().as_slice() == text.as_bytes(),
+        "{} writes its text",
+        name
+    );
 }

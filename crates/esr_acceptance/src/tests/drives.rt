@@ -1,11 +1,8 @@
 mod failing;
 
+use crate::tests::devices::check_written;
 use esr_drive::{DriveFault, NoGate, drive};
 use esr_history::Watched;
-use std::process::Abort;
-use std::sync::Wait;
-use std::test::Fail;
-use std::thread::Threads;
 
 /// A drive file, how its drive ends, and what is written.
 struct Row {
@@ -15,7 +12,11 @@ struct Row {
     text: &'static str,
 }
 
-const ROWS: [Row; 30] = [
+fn table() -> &'static [Row] {
+    &ROWS
+}
+
+static ROWS: [Row; 30] = [
     Row {
         name: "one block",
         file: "item a 0\n\
@@ -250,16 +251,12 @@ const ROWS: [Row; 30] = [
 
 #[test]
 fn files_give_their_texts(rt: HostRuntime) {
-    for row in &ROWS {
+    for row in table() {
         let mut reader = Watched::new(row.file.as_bytes());
         let mut writer = Watched::new(Vec::new(rt.alloc()));
         let ended = drive(&rt, rt.alloc(), &mut reader, &mut writer, 1, &NoGate);
         assert!(rt; ended == row.ended, "{} ends so", row.name);
-        assert!(rt;
-            writer.inner().as_slice() == row.text.as_bytes(),
-            "{} writes its text",
-            row.name
-        );
+        check_written(&rt, &writer, row.text, row.name);
     }
 }
 
@@ -267,7 +264,7 @@ const TWO_BLOCKS: &str = "item a 0\nsession\nbegin u update 0\nwrite u a 5\ncomm
     session\nbegin q query 100\ncommit q\nread u a\n";
 
 /// The texts of the two blocks, by which of them begins first.
-const TWO_TEXTS: [&str; 2] = [
+static TWO_TEXTS: [&str; 2] = [
     "item a 0\nsession 0\nbegun u 1\nwrote u a 5\ncommitted u\n\
         session 1\nbegun q 2\ncommitted q\nrefused 1 no such transaction\n\
         audit q distance 0 import 0 before -\ntotals import 0 export 0 entries 6\n",
@@ -288,24 +285,25 @@ fn two_blocks_begin_in_one_of_two_orders(rt: HostRuntime) {
     }
 }
 
+/// Each fault, and how it is shown.
+static SHOWN: [(DriveFault, &str); 8] = [
+    (DriveFault::Read, "read failed"),
+    (DriveFault::Write, "write failed"),
+    (DriveFault::LineTooLong, "line too long"),
+    (DriveFault::NoMemory, "out of memory"),
+    (DriveFault::HistoryFull, "history full"),
+    (DriveFault::TooManyLines, "too many lines"),
+    (
+        DriveFault::BadScript { line: 65, error: 7 },
+        "line 65: error 7",
+    ),
+    (DriveFault::Close, "receipts do not match"),
+];
+
 #[test]
-fn faults_show_their_texts(rt: HostRuntime) -> Result<(), Fail> {
-    let shown = [
-        (DriveFault::Read, "read failed"),
-        (DriveFault::Write, "write failed"),
-        (DriveFault::LineTooLong, "line too long"),
-        (DriveFault::NoMemory, "out of memory"),
-        (DriveFault::HistoryFull, "history full"),
-        (DriveFault::TooManyLines, "too many lines"),
-        (
-            DriveFault::BadScript { line: 65, error: 7 },
-            "line 65: error 7",
-        ),
-        (DriveFault::Close, "receipts do not match"),
-    ];
-    for (fault, text) in &shown {
-        let shown = fault.to_string(rt.alloc())?;
+fn faults_show_their_texts(rt: HostRuntime) {
+    for (fault, text) in &SHOWN {
+        let shown = fault.to_string(rt.alloc()).expect(&rt, "memory");
         assert!(rt; shown.as_str() == *text);
     }
-    Ok(())
 }

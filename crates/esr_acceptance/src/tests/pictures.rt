@@ -1,13 +1,12 @@
 //! Queries drawn.
 
-use crate::tests::devices::{Cut, Narrow, Way};
+use crate::tests::devices::{Way, check_cut, cut_after, narrow_until};
 use esr_history::Watched;
 use esr_picture::picture;
 use esr_script::RunFault;
 use std::alloc::{AllocError, Global};
 use std::process::Abort;
 use std::str::from_utf8;
-use std::test::Fail;
 
 /// A report that reads one account before a transfer and the other after it.
 const BANK: &str = "item checking 500\n\
@@ -22,7 +21,7 @@ const BANK: &str = "item checking 500\n\
         commit report\n";
 
 /// What is drawn of it, without the first line, the style and the legend.
-const BANK_DRAWN: [&str; 14] = [
+static BANK_DRAWN: [&str; 14] = [
     "<title id='report-title'>Audit of report</title>\n",
     "<desc id='report-desc'>Distance 100, import 100. In order: [report], transfer. checking: read 500, as at its place. savings: read 1600, off by 100 from its place.</desc>\n",
     "<text class='h' x='20' y='28'>report: distance 100, import 100</text>\n",
@@ -54,13 +53,7 @@ const TWICE: &str = "item a 7 weight 3\n\
         commit q\n";
 
 /// Draws the query of that name, and looks for texts in what is written.
-fn has(
-    rt: &impl Abort,
-    alloc: Global,
-    script: &str,
-    name: &str,
-    texts: &[&str],
-) -> Result<(), AllocError> {
+fn has(rt: &impl Abort, alloc: Global, script: &str, name: &str, texts: &[&str]) {
     let mut reader = Watched::new(script.as_bytes());
     let mut writer = Watched::new(Vec::new(alloc));
     let ended = picture(alloc, &mut reader, &mut writer, name);
@@ -70,29 +63,26 @@ fn has(
     for text in texts {
         assert!(rt; written.contains(*text), "{} has {}", name, text);
     }
-    Ok(())
 }
 
 #[test]
-fn a_report_of_the_bank_is_drawn(rt: HostRuntime) -> Result<(), Fail> {
-    has(&rt, rt.alloc(), BANK, "report", &BANK_DRAWN)?;
-    Ok(())
+fn a_report_of_the_bank_is_drawn(rt: HostRuntime) {
+    has(&rt, rt.alloc(), BANK, "report", &BANK_DRAWN);
 }
 
 #[test]
-fn little_is_drawn(rt: HostRuntime) -> Result<(), Fail> {
+fn little_is_drawn(rt: HostRuntime) {
     let texts = [
         "It read nothing.</text>",
         "1 more update is not drawn.</text>",
     ];
-    has(&rt, rt.alloc(), NOTHING_READ, "q", &texts)?;
+    has(&rt, rt.alloc(), NOTHING_READ, "q", &texts);
     let texts = [
         "q: distance 6, import 6</text>",
         "read 7</text><text class='m g' x='20' y='180'>and 9</text>",
         ">off by 6</text>",
     ];
-    has(&rt, rt.alloc(), TWICE, "q", &texts)?;
-    Ok(())
+    has(&rt, rt.alloc(), TWICE, "q", &texts);
 }
 
 /// A report beside so many updates of one item, which reads it after the first one, and then another that is not
@@ -100,43 +90,49 @@ fn little_is_drawn(rt: HostRuntime) -> Result<(), Fail> {
 fn beside(alloc: Global, updates: u32) -> Result<String, AllocError> {
     let mut script = String::from_str(alloc, "item a 0\nitem b 0\nitem c 5\nbegin q query 999\n")?;
     for i in 0..updates {
-        write!(script, "begin u{i} update 999\nwrite u{i} a {i}\n")?;
-        if i == 1 {
-            script.push_str("read q a\n")?;
-        }
-        write!(script, "write u{i} b {i}\ncommit u{i}\n")?;
+        add_update(&mut script, i)?;
     }
     script.push_str("read q b\nread q c\ncommit q\n")?;
     Ok(script)
 }
 
+fn add_update(script: &mut String, i: u32) -> Result<(), AllocError> {
+    write!(script, "begin u{i} update 999\nwrite u{i} a {i}\n")?;
+    if i == 1 {
+        script.push_str("read q a\n")?;
+    }
+    write!(script, "write u{i} b {i}\ncommit u{i}\n")
+}
+
 /// How often a text occurs in what is drawn.
-fn count(alloc: Global, script: &str, text: &str) -> Result<usize, AllocError> {
+fn count(alloc: Global, script: &str, text: &str) -> usize {
     let mut reader = Watched::new(script.as_bytes());
     let mut writer = Watched::new(Vec::new(alloc));
     let _ = picture(alloc, &mut reader, &mut writer, "q");
     let written = from_utf8(writer.inner().as_slice()).unwrap_or("");
-    Ok(written.matches(text).count())
+    written.matches(text).count()
 }
 
 #[test]
-fn thirty_updates_are_drawn_and_of_more_those_that_are_off(rt: HostRuntime) -> Result<(), Fail> {
-    let alloc = rt.alloc();
-    let thirty = beside(alloc, 30)?;
-    assert!(rt; count(alloc, &thirty, "height='28'")? == 30);
-    assert!(rt; count(alloc, &thirty, "class='m n'")? == 3);
-    assert!(rt; count(alloc, &thirty, "not drawn")? == 0);
-    let more = beside(alloc, 31)?;
-    assert!(rt; count(alloc, &more, "class='m n'")? == 1);
-    assert!(rt; count(alloc, &more, "as read")? == 0);
-    assert!(rt;
-        count(
-            alloc,
-            &more,
-            " more updates and 2 more items are not drawn, 0 of these items off."
-        )? == 1
-    );
-    Ok(())
+fn thirty_updates_are_drawn_and_of_more_those_that_are_off(rt: HostRuntime) {
+    let not_drawn = " more updates and 2 more items are not drawn, 0 of these items off.";
+    let of_thirty = [("height='28'", 30), ("class='m n'", 3), ("not drawn", 0)];
+    let of_more = [("class='m n'", 1), ("as read", 0), (not_drawn, 1)];
+    has_so_often(&rt, rt.alloc(), 30, &of_thirty);
+    has_so_often(&rt, rt.alloc(), 31, &of_more);
+}
+
+/// Draws the query beside so many updates, and counts texts in what is written.
+fn has_so_often(rt: &impl Abort, alloc: Global, updates: u32, wanted: &[(&str, usize)]) {
+    let script = beside(alloc, updates).expect(rt, "memory");
+    for (text, times) in wanted {
+        assert!(rt;
+            count(alloc, &script, text) == *times,
+            "{} of {}",
+            text,
+            updates
+        );
+    }
 }
 
 #[test]
@@ -155,15 +151,11 @@ fn what_is_no_committed_query_is_not_drawn(rt: HostRuntime) {
 fn each_read_fails_in_turn(rt: HostRuntime) {
     let alloc = rt.alloc();
     for left in 0..BANK.len() + 1 {
-        let mut reader = Watched::new(Cut {
-            rest: BANK.as_bytes(),
-            most: 1,
-            left,
-        });
+        let mut reader = cut_after(BANK, 1, left);
         let mut writer = Watched::new(Vec::new(alloc));
         let ended = picture(alloc, &mut reader, &mut writer, "report");
-        assert!(rt; ended == Err(RunFault::Read) && reader.failed() && !writer.failed());
-        assert!(rt; writer.inner().is_empty());
+        assert!(rt; ended == Err(RunFault::Read));
+        check_cut(&rt, &reader, &writer);
     }
 }
 
@@ -172,12 +164,7 @@ fn writes_fail(rt: HostRuntime) {
     let alloc = rt.alloc();
     for left in 0..20 {
         let mut reader = Watched::new(BANK.as_bytes());
-        let mut writer = Watched::new(Narrow {
-            taken: Vec::new(alloc),
-            most: 3,
-            left,
-            way: Way::Errs,
-        });
+        let mut writer = narrow_until(alloc, 3, left, Way::Errs);
         let ended = picture(alloc, &mut reader, &mut writer, "report");
         assert!(rt; ended == Err(RunFault::Write) && writer.failed() && !reader.failed());
         assert!(rt; writer.inner().taken.len() <= 60);

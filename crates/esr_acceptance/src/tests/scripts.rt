@@ -5,47 +5,58 @@ mod failing;
 mod large;
 pub mod rows;
 
+use crate::tests::devices::check_written;
 use esr_history::Watched;
 use esr_script::{RunFault, run};
-use rows::{ROWS, Row};
+use rows::table;
 use std::alloc::Global;
 use std::process::Abort;
-use std::test::Fail;
 
-/// Runs a row's script, and compares what is written with its text.
-fn answers(rt: &impl Abort, alloc: Global, row: &Row) {
-    let mut reader = Watched::new(row.script.as_bytes());
+/// Runs a script, and compares what is written with the text.
+fn answers(
+    rt: &impl Abort,
+    alloc: Global,
+    name: &str,
+    script: &[u8],
+    ends: Result<(), RunFault>,
+    text: &str,
+) {
+    let mut reader = Watched::new(script);
     let mut writer = Watched::new(Vec::new(alloc));
     let ended = run(alloc, &mut reader, &mut writer);
-    assert!(rt; ended == row.ended, "{} ends so", row.name);
-    assert!(rt;
-        writer.inner().as_slice() == row.text.as_bytes(),
-        "{} writes its text",
-        row.name
-    );
+    assert!(rt; ended == ends, "{} ends so", name);
+    check_written(rt, &writer, text, name);
 }
 
 #[test]
 fn scripts_give_their_texts(rt: HostRuntime) {
-    for row in &ROWS {
-        answers(&rt, rt.alloc(), row);
+    for row in table() {
+        answers(
+            &rt,
+            rt.alloc(),
+            row.name,
+            row.script.as_bytes(),
+            row.ended,
+            row.text,
+        );
     }
 }
 
+/// Each fault, and how it is shown.
+static SHOWN: [(RunFault, &str); 7] = [
+    (RunFault::Read, "read failed"),
+    (RunFault::Write, "write failed"),
+    (RunFault::LineTooLong, "line too long"),
+    (RunFault::NoMemory, "out of memory"),
+    (RunFault::HistoryFull, "history full"),
+    (RunFault::TooManyLines, "too many lines"),
+    (RunFault::NotACommittedQuery, "not a committed query"),
+];
+
 #[test]
-fn faults_show_their_texts(rt: HostRuntime) -> Result<(), Fail> {
-    let shown = [
-        (RunFault::Read, "read failed"),
-        (RunFault::Write, "write failed"),
-        (RunFault::LineTooLong, "line too long"),
-        (RunFault::NoMemory, "out of memory"),
-        (RunFault::HistoryFull, "history full"),
-        (RunFault::TooManyLines, "too many lines"),
-        (RunFault::NotACommittedQuery, "not a committed query"),
-    ];
-    for (fault, text) in &shown {
-        let shown = fault.to_string(rt.alloc())?;
+fn faults_show_their_texts(rt: HostRuntime) {
+    for (fault, text) in &SHOWN {
+        let shown = fault.to_string(rt.alloc()).expect(&rt, "memory");
         assert!(rt; shown.as_str() == *text);
     }
-    Ok(())
 }

@@ -38,7 +38,7 @@ fn a_store_keeps_two_values_of_each_item(rt: HostRuntime) {
 /// Whether a store of these values is refused so.
 fn refuses(alloc: Global, values: &[i64], wanted: ItemsError) -> bool {
     match values.to_vec(alloc) {
-        Ok(values) => Store::new(alloc, values).is_err_and(|e| e == wanted),
+        Ok(values) => Store::new(alloc, values).err() == Some(wanted),
         Err(_) => false,
     }
 }
@@ -79,7 +79,7 @@ fn weighted_distances_are_differences_times_weights(rt: HostRuntime) {
 /// Whether these weights are refused so.
 fn refuses_weights(alloc: Global, weights: &[u32], wanted: ItemsError) -> bool {
     match weights.to_vec(alloc) {
-        Ok(weights) => Weighted::new(weights).is_err_and(|e| e == wanted),
+        Ok(weights) => Weighted::new(weights).err() == Some(wanted),
         Err(_) => false,
     }
 }

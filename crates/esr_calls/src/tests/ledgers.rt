@@ -1,15 +1,23 @@
+ghost use Rattle.std.specs.Prelude.{◌≡◌, []};
+
 use esr_history::TxnId;
 use esr_ledgers::{Ledgers, Quote};
+use std::process::Abort;
 
 #[test]
 fn an_export_limit_bounds_the_sum_over_queries(rt: HostRuntime) {
-    let mut ledgers = Ledgers::new(rt.alloc());
+    check_the_sum(&rt, &mut Ledgers::new(rt.alloc()));
+}
+
+fn check_the_sum(rt: &impl Abort, ledgers: &mut Ledgers)
+    requires { ledgers.old ≡ [] }
+{
     let q = TxnId(1);
     let r = TxnId(7);
     let u = TxnId(3);
-    ledgers.open_query(r, 5).expect(&rt, "memory");
-    ledgers.open_query(q, 10).expect(&rt, "memory");
-    ledgers.open_update(u, 15).expect(&rt, "memory");
+    ledgers.open_query(r, 5).expect(rt, "memory");
+    ledgers.open_query(q, 10).expect(rt, "memory");
+    ledgers.open_update(u, 15).expect(rt, "memory");
     assert!(rt; ledgers.quote(u, &[(q, 11), (r, 1)]) == Quote::Import(q));
     assert!(rt; ledgers.quote(u, &[(q, 10), (r, 6)]) == Quote::Import(r));
     assert!(rt; ledgers.quote(u, &[(q, 10), (r, 5)]) == Quote::Fits);

@@ -9,7 +9,7 @@ use esr_session::{
     CloseError, CloseRefused, Closed, Engine, LEDGER_PARTS, Naming, Receipt, Session,
     match_receipts,
 };
-use std::alloc::{AllocError, Global};
+use std::alloc::Global;
 use std::marker::Brand;
 use std::process::Abort;
 use std::sync::Wait;

@@ -3,8 +3,10 @@ use esr_cli::{Job, command};
 use std::alloc::Global;
 use std::process::Abort;
 
+type Words = &'static [&'static str];
+
 /// Words of the command line, and the job that each line asks for.
-const JOBS: [(&'static [&'static str], Job<'static>); 14] = [
+static JOBS: [(Words, Job<'static>); 14] = [
     (&["esr", "run"], Job::Run),
     (&["esr", "check"], Job::Check),
     (
@@ -54,16 +56,20 @@ const JOBS: [(&'static [&'static str], Job<'static>); 14] = [
     ),
 ];
 
+fn jobs() -> &'static [(Words, Job<'static>)] {
+    &JOBS
+}
+
 #[test]
 fn words_ask_for_their_jobs(rt: HostRuntime) {
-    for (words, wanted) in &JOBS {
+    for (words, wanted) in jobs() {
         let job = command(rt.alloc(), words).ok();
         assert!(rt; job == Some(*wanted), "{:?} is asked for", wanted);
     }
 }
 
 /// Words that ask for no job, what is said of them, and the exit status.
-const OTHERS: [(&'static [&'static str], ErrorKind, i32); 18] = [
+static OTHERS: [(Words, ErrorKind, i32); 18] = [
     (&["esr"], ErrorKind::MissingSubcommand, 2),
     (&["esr", "walk"], ErrorKind::InvalidSubcommand, 2),
     (&["esr", "run", "now"], ErrorKind::UnknownArgument, 2),
@@ -97,38 +103,41 @@ const OTHERS: [(&'static [&'static str], ErrorKind, i32); 18] = [
 ];
 
 /// Compares what is said of words with this, and the exit status.
-fn check_words(
-    rt: &impl Abort,
-    alloc: Global,
-    words: &'static [&'static str],
-    kind: ErrorKind,
-    status: i32,
-) {
+fn check_words(rt: &impl Abort, alloc: Global, words: Words, kind: ErrorKind, status: i32) {
     let Err(error) = command(alloc, words) else {
         panic!(rt; "{:?} asks for no job", words)
     };
-    assert!(rt; error.kind() == kind, "{:?} for {:?}", error.kind(), words);
-    assert!(rt; error.exit_code() == status);
+    assert!(rt;
+        error.kind() == kind && error.exit_code() == status,
+        "{:?}",
+        words
+    );
+}
+
+fn others() -> &'static [(Words, ErrorKind, i32)] {
+    &OTHERS
 }
 
 #[test]
 fn other_words_are_mistakes_or_ask_for_help(rt: HostRuntime) {
-    for (words, kind, status) in &OTHERS {
+    for (words, kind, status) in others() {
         check_words(&rt, rt.alloc(), words, *kind, *status);
     }
 }
 
 /// Whether the help that these words ask for teaches the lines of a script.
-fn teaches_lines(alloc: Global, words: &'static [&'static str]) -> bool {
+fn teaches_lines(alloc: Global, words: Words) -> bool {
     let Err(error) = command(alloc, words) else {
         return false;
     };
     match error.to_string(alloc) {
-        Ok(text) => {
-            text.as_str().contains("begin NAME query LIMIT") && text.as_str().contains("audit q")
-        }
+        Ok(text) => has_lines(text.as_str()),
         Err(_) => false,
     }
+}
+
+fn has_lines(text: &str) -> bool {
+    text.contains("begin NAME query LIMIT") && text.contains("audit q")
 }
 
 #[test]

@@ -36,6 +36,19 @@ pub(super) fn played(alloc: Global, opening: &[i64], events: &[Asked]) -> Option
     if play(&mut m, events) { Some(m) } else { None }
 }
 
+/// A machine that played these events, all of which it accepts.
+pub(super) fn played_in(
+    rt: &impl Abort,
+    alloc: Global,
+    opening: &[i64],
+    events: &[Asked],
+) -> Machine<Plain> {
+    let Some(m) = played(alloc, opening, events) else {
+        panic!(rt; "a history")
+    };
+    m
+}
+
 /// The audit of a query, asked for once more where memory is refused.
 pub(super) fn audit_of(alloc: Global, m: &Machine<Plain>, q: u32) -> Result<Finding, AuditError> {
     match audit_query(alloc, m.history(), TxnId(q)) {
@@ -94,20 +107,28 @@ fn finds_in(alloc: Global, opening: &[i64], events: &[Asked], row: Row) -> bool 
 /// Whether the events are accepted, and the audit of a transaction is refused then.
 fn refuses_in(alloc: Global, opening: &[i64], events: &[Asked], t: u32) -> bool {
     match played(alloc, opening, events) {
-        Some(m) => matches!(audit_of(alloc, &m, t), Err(AuditError::NotACommittedQuery)),
+        Some(m) => is_refused(alloc, &m, t),
         None => false,
     }
 }
 
-/// The audit of the whole history of these events, all of which are accepted.
-fn book_in(rt: &impl Abort, alloc: Global, opening: &[i64], events: &[Asked]) -> Book {
-    let Some(m) = played(alloc, opening, events) else {
-        panic!(rt; "a history")
-    };
-    let Ok(book) = book_of(alloc, &m) else {
+/// Whether the audit of a transaction is refused.
+fn is_refused(alloc: Global, m: &Machine<Plain>, t: u32) -> bool {
+    matches!(audit_of(alloc, m, t), Err(AuditError::NotACommittedQuery))
+}
+
+/// The audit of a whole history, which has one.
+fn book_now(rt: &impl Abort, alloc: Global, m: &Machine<Plain>) -> Book {
+    let Ok(book) = book_of(alloc, m) else {
         panic!(rt; "a book")
     };
     book
+}
+
+/// The audit of the whole history of these events, all of which are accepted.
+fn book_in(rt: &impl Abort, alloc: Global, opening: &[i64], events: &[Asked]) -> Book {
+    let m = played_in(rt, alloc, opening, events);
+    book_now(rt, alloc, &m)
 }
 
 /// A history, and what is found of a query.
@@ -118,7 +139,7 @@ struct Case {
     found: Row<'static>,
 }
 
-const CASES: [Case; 9] = [
+static CASES: [Case; 9] = [
     Case {
         name: "an update writes beside a report that reads what it wrote",
         opening: &[100],
@@ -275,7 +296,11 @@ fn two_updates_over_a_report(rt: HostRuntime) {
     for t in &[0, 2, 4] {
         assert!(rt; refuses_in(alloc, &[0, 0], events, *t), "for {t}");
     }
-    let book = book_in(&rt, alloc, &[0, 0], events);
+    check_book(&rt, &book_in(&rt, alloc, &[0, 0], events), row);
+}
+
+/// That this alone is found, with the order of the updates.
+fn check_book(rt: &impl Abort, book: &Book, row: Row) {
     assert!(rt; book.order.as_slice() == row.before);
     assert!(rt; book.findings.len() == 1);
     assert!(rt; has(&book.findings[0], row));
@@ -288,19 +313,27 @@ const LIMIT: u64 = 2_000_000_000_000;
 #[test]
 fn values_at_the_edge(rt: HostRuntime) {
     let alloc = rt.alloc();
-    let Some(mut m) = played(alloc, &[-EDGE], &[Query(LIMIT), Update(LIMIT), Read(1, 0)]) else {
-        panic!(rt; "a history")
-    };
-    let past = answer(&mut m, Write(2, 0, EDGE + 1));
+    let events = [Query(LIMIT), Update(LIMIT), Read(1, 0)];
+    let mut m = played_in(&rt, alloc, &[-EDGE], &events);
+    play_the_edge(&rt, &mut m);
+    check_the_edge(&rt, alloc, &m);
+}
+
+/// Writes past the edge, which is refused, and at the edge.
+fn play_the_edge(rt: &impl Abort, m: &mut Machine<Plain>) {
+    let past = answer(m, Write(2, 0, EDGE + 1));
     assert!(rt; past == Ok(Reply::Refused(Refusal::ValueOutOfRange)));
-    assert!(rt; play(&mut m, &[Write(2, 0, EDGE), Commit(2), Commit(1)]));
+    assert!(rt; play(m, &[Write(2, 0, EDGE), Commit(2), Commit(1)]));
+}
+
+fn check_the_edge(rt: &impl Abort, alloc: Global, m: &Machine<Plain>) {
     let row = Row {
         query: 1,
         distance: 0,
         import: LIMIT,
         before: &[],
     };
-    assert!(rt; finds(alloc, &m, row));
+    assert!(rt; finds(alloc, m, row));
     let totals = Totals {
         import: u128::from(LIMIT),
         export: u128::from(LIMIT),

@@ -214,7 +214,7 @@ fn count_seen(log: &Log, q: u32) -> usize {
 }
 
 /// All orders of three.
-const ORDERS: [[usize; 3]; 6] = [
+static ORDERS: [[usize; 3]; 6] = [
     [0, 1, 2],
     [0, 2, 1],
     [1, 0, 2],
@@ -384,8 +384,17 @@ fn audited(alloc: Global, m: &Machine<Plain>, q: u32) -> Option<(u64, usize)> {
 /// What the audit finds of the query of a history, and what the plain program does.
 fn small_row(alloc: Global, seed: u64) -> Option<((u64, usize), Option<(u64, usize)>)> {
     let m = small_history(alloc, seed)?;
-    let found = audited(alloc, &m, 1)?;
-    Some((found, listed(alloc, &m, 1)))
+    both_found(alloc, &m, 1)
+}
+
+/// What the audit finds of a query, and what the plain program does.
+fn both_found(
+    alloc: Global,
+    m: &Machine<Plain>,
+    q: u32,
+) -> Option<((u64, usize), Option<(u64, usize)>)> {
+    let found = audited(alloc, m, q)?;
+    Some((found, listed(alloc, m, q)))
 }
 
 #[test]
@@ -416,9 +425,18 @@ fn least_if_free(alloc: Global, m: &Machine<Plain>, q: u32) -> Option<u64> {
 /// were not strict.
 fn strict_row(alloc: Global, seed: u64) -> Option<((u64, usize), Option<(u64, usize)>, u64)> {
     let m = strict_history(alloc, seed)?;
-    let found = audited(alloc, &m, 4)?;
-    let free = least_if_free(alloc, &m, 4)?;
-    Some((found, listed(alloc, &m, 4), free))
+    all_found(alloc, &m, 4)
+}
+
+/// The same of a query.
+fn all_found(
+    alloc: Global,
+    m: &Machine<Plain>,
+    q: u32,
+) -> Option<((u64, usize), Option<(u64, usize)>, u64)> {
+    let (found, plain) = both_found(alloc, m, q)?;
+    let free = least_if_free(alloc, m, q)?;
+    Some((found, plain, free))
 }
 
 #[test]

@@ -9,6 +9,7 @@ use esr_history::{Entry, Event, Facts, History, Log, Refusal, Reply, TxnId};
 use esr_items::{ItemId, Plain};
 use esr_order::{Order, OrderError};
 use std::alloc::{AllocError, Global};
+use std::process::Abort;
 
 /// The entry at a place, if there is one and it is accepted.
 fn accepted(log: &Log, i: usize) -> Option<Entry> {
@@ -843,15 +844,15 @@ fn counts(log: &Log) -> (u32, u32, u32) {
 
 #[test]
 fn fast_forms_are_the_plain_ones(rt: HostRuntime) {
-    let alloc = rt.alloc();
-    let Some(m) = generated(alloc, 11) else {
+    let Some(m) = generated(rt.alloc(), 11) else {
         panic!(rt; "a history")
     };
+    check_generated(&rt, rt.alloc(), &m);
+}
+
+fn check_generated(rt: &impl Abort, alloc: Global, m: &Machine<Plain>) {
     let (blocked, aborts, strict) = counts(m.log());
-    assert!(rt;
-        blocked > 50 && aborts > 30 && strict > 50,
-        "{blocked} {aborts} {strict}"
-    );
+    assert!(rt; blocked > 50 && aborts > 30 && strict > 50);
     assert!(rt; m.log().len() > 4000);
-    assert!(rt; agrees(alloc, &m, 100));
+    assert!(rt; agrees(alloc, m, 100));
 }

@@ -1,14 +1,13 @@
 //! Readers and writers that fail.
 
 use super::rows::BACK_FLOW;
-use crate::tests::devices::{Cut, Narrow, Way};
+use crate::tests::devices::{Way, check_cut, check_narrow, cut_after, narrow_until};
 use esr_bundle::{JudgeFault, Verdict, judge};
 use esr_history::Watched;
-use std::alloc::{AllocError, Global};
+use std::alloc::Global;
 use std::io;
 use std::io::Read;
 use std::process::Abort;
-use std::test::Fail;
 
 const LINE: &str = "valid 2\n";
 
@@ -30,45 +29,32 @@ impl Read for Zeros {
 fn each_read_fails_in_turn(rt: HostRuntime) {
     let alloc = rt.alloc();
     for left in 0..BACK_FLOW.len() + 1 {
-        let mut reader = Watched::new(Cut {
-            rest: BACK_FLOW.as_bytes(),
-            most: 1,
-            left,
-        });
+        let mut reader = cut_after(BACK_FLOW, 1, left);
         let mut writer = Watched::new(Vec::new(alloc));
         let ended = judge(alloc, &mut reader, &mut writer);
-        assert!(rt; ended == Err(JudgeFault::Read) && reader.failed() && !writer.failed());
-        assert!(rt; writer.inner().is_empty());
+        assert!(rt; ended == Err(JudgeFault::Read));
+        check_cut(&rt, &reader, &writer);
     }
 }
 
 /// Whether the verdict is written by a writer that fails at this call.
-fn is_written(rt: &impl Abort, alloc: Global, left: usize) -> Result<bool, AllocError> {
+fn is_written(rt: &impl Abort, alloc: Global, left: usize) -> bool {
     let mut reader = Watched::new(BACK_FLOW.as_bytes());
-    let mut writer = Watched::new(Narrow {
-        taken: Vec::new(alloc),
-        most: 3,
-        left,
-        way: Way::TakesNone,
-    });
+    let mut writer = narrow_until(alloc, 3, left, Way::TakesNone);
     let ended = judge(alloc, &mut reader, &mut writer);
     let written = ended == Ok(Verdict::Valid(2));
     assert!(rt; written || ended == Err(JudgeFault::Write));
-    assert!(rt; writer.failed() != written && !reader.failed());
-    let taken = writer.inner().taken.as_slice();
-    assert!(rt; LINE.as_bytes().starts_with(taken));
-    assert!(rt; !written || taken.len() == LINE.len());
-    Ok(written)
+    assert!(rt; !reader.failed());
+    check_narrow(rt, &writer, written, LINE);
+    written
 }
 
 #[test]
-fn each_write_fails_in_turn(rt: HostRuntime) -> Result<(), Fail> {
+fn each_write_fails_in_turn(rt: HostRuntime) {
     // The line takes three writes and a flush.
     for left in 0..6 {
-        let written = is_written(&rt, rt.alloc(), left)?;
-        assert!(rt; written == (left >= 4), "{} calls", left);
+        assert!(rt; is_written(&rt, rt.alloc(), left) == (left >= 4));
     }
-    Ok(())
 }
 
 #[test]

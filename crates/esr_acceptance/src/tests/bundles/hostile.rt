@@ -4,7 +4,6 @@ use super::rows::TWO_UPDATES;
 use esr_bundle::{JudgeFault, Verdict, judge};
 use esr_history::Watched;
 use std::alloc::Global;
-use std::test::Fail;
 
 /// What is judged of the bytes.
 fn judged(alloc: Global, bytes: &[u8]) -> Result<Verdict, JudgeFault> {
@@ -23,21 +22,21 @@ fn no_proper_prefix_is_json(rt: HostRuntime) {
 }
 
 #[test]
-fn two_hundred_brackets_are_no_json(rt: HostRuntime) -> Result<(), Fail> {
+fn two_hundred_brackets_are_no_json(rt: HostRuntime) {
     let alloc = rt.alloc();
-    let mut brackets = Vec::from_elem(alloc, b'[', 200)?;
+    let mut brackets = Vec::from_elem(alloc, b'[', 200).expect(&rt, "memory");
     for _ in 0..200 {
-        brackets.push(b']')?;
+        brackets.push(b']').expect(&rt, "memory");
     }
     assert!(rt; judged(alloc, brackets.as_slice()) == Ok(Verdict::Bad(1)));
-    Ok(())
 }
 
 #[test]
-fn a_byte_that_is_no_text_is_no_json(rt: HostRuntime) -> Result<(), Fail> {
+fn a_byte_that_is_no_text_is_no_json(rt: HostRuntime) {
     let alloc = rt.alloc();
-    let mut bytes = Vec::from_slice(alloc, b"\xff")?;
-    bytes.extend_from_slice(TWO_UPDATES.as_bytes())?;
+    let mut bytes = Vec::from_slice(alloc, b"\xff").expect(&rt, "memory");
+    bytes
+        .extend_from_slice(TWO_UPDATES.as_bytes())
+        .expect(&rt, "memory");
     assert!(rt; judged(alloc, bytes.as_slice()) == Ok(Verdict::Bad(1)));
-    Ok(())
 }

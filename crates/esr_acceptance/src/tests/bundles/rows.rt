@@ -24,7 +24,11 @@ pub struct Row {
     pub line: &'static str,
 }
 
-pub static ROWS: [Row; 44] = [
+pub fn table() -> &'static [Row] {
+    &ROWS
+}
+
+static ROWS: [Row; 44] = [
     Row {
         bundle: TWO_UPDATES,
         old: "",

@@ -1,12 +1,10 @@
 //! Readers and writers that fail, and readers that do not end.
 
-use crate::tests::devices::{Cut, Narrow, Way};
+use crate::tests::devices::{Way, check_cut, cut_after, narrow_until};
 use esr_drive::{DriveFault, NoGate, drive};
 use esr_history::Watched;
-use std::alloc::Global;
 use std::io;
 use std::io::Read;
-use std::test::Fail;
 
 const FILE: &str = "item a 0\nsession\nbegin u update 0\nwrite u a 5\ncommit u\n";
 
@@ -34,15 +32,11 @@ impl Read for Endless {
 fn a_failed_read_leaves_nothing_written(rt: HostRuntime) {
     let alloc = rt.alloc();
     for left in 0..7 {
-        let mut reader = Watched::new(Cut {
-            rest: FILE.as_bytes(),
-            most: 10,
-            left,
-        });
+        let mut reader = cut_after(FILE, 10, left);
         let mut writer = Watched::new(Vec::new(alloc));
         let ended = drive(&rt, alloc, &mut reader, &mut writer, 1, &NoGate);
-        assert!(rt; ended == Err(DriveFault::Read) && reader.failed() && !writer.failed());
-        assert!(rt; writer.inner().is_empty());
+        assert!(rt; ended == Err(DriveFault::Read));
+        check_cut(&rt, &reader, &writer);
     }
 }
 
@@ -51,12 +45,7 @@ fn a_failed_write_ends_the_text(rt: HostRuntime) {
     let alloc = rt.alloc();
     for left in 0..7 {
         let mut reader = Watched::new(FILE.as_bytes());
-        let mut writer = Watched::new(Narrow {
-            taken: Vec::new(alloc),
-            most: 20,
-            left,
-            way: Way::TakesNone,
-        });
+        let mut writer = narrow_until(alloc, 20, left, Way::TakesNone);
         let ended = drive(&rt, alloc, &mut reader, &mut writer, 1, &NoGate);
         let fine = left == 6;
         assert!(rt; (ended == Ok(())) == fine && writer.failed() != fine && !reader.failed());

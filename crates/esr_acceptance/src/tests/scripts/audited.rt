@@ -1,14 +1,14 @@
 //! Whole scripts audited.
 
+use crate::tests::devices::check_written;
 use esr_history::Watched;
 use esr_script::{RunFault, audit};
 use std::alloc::Global;
 use std::process::Abort;
-use std::test::Fail;
 use std::thread::Threads;
 
 /// Scripts, and the audit of each.
-const AUDITS: [(&str, &str); 7] = [
+static AUDITS: [(&str, &str); 7] = [
     ("", "order -\ntotals import 0 export 0 entries 0\n"),
     (
         "item a 1\nitem b 2\n",
@@ -94,11 +94,7 @@ fn audits<R: Abort + Threads + Sync>(
     }
     let ended = audit(rt, alloc, &mut reader, &mut writer, workers);
     assert!(rt; ended == ends, "the audit ends so");
-    assert!(rt;
-        writer.inner().as_slice() == output.as_bytes(),
-        "{} is written",
-        output
-    );
+    check_written(rt, &writer, output, script);
 }
 
 #[test]
@@ -110,16 +106,13 @@ fn scripts_are_audited(rt: HostRuntime) {
     }
 }
 
+/// An item, and a line of 201 bytes.
+const TOO_LONG: &str =
+    "item a 1\nxxxxxxxxxxxxxxxxxxxxxxxxxxxxxxxxxxxxxxxxxxxxxxxxxxxxxxxxxxxxxxxxxxxxxxxxxxxxxxxxxxxxxxxxxx\
+    xxxxxxxxxxxxxxxxxxxxxxxxxxxxxxxxxxxxxxxxxxxxxxxxxxxxxxxxxxxxxxxxxxxxxxxxxxxxxxxxxxxxxxxxxxxxxxxxxxxxxxxxxxxxxxx";
+
 #[test]
-fn a_fault_leaves_nothing_written(rt: HostRuntime) -> Result<(), Fail> {
-    let mut script = Vec::new(rt.alloc());
-    script.extend_from_slice(b"item a 1\n")?;
-    for _ in 0..201 {
-        script.push(b'x')?;
-    }
-    let mut reader = Watched::new(script.as_slice());
-    let mut writer = Watched::new(Vec::new(rt.alloc()));
-    let ended = audit(&rt, rt.alloc(), &mut reader, &mut writer, 2);
-    assert!(rt; ended == Err(RunFault::LineTooLong) && writer.inner().is_empty());
-    Ok(())
+fn a_fault_leaves_nothing_written(rt: HostRuntime) {
+    let ends = Err(RunFault::LineTooLong);
+    audits(&rt, rt.alloc(), TOO_LONG, 2, ends, "");
 }

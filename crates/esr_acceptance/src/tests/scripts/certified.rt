@@ -1,11 +1,10 @@
 //! Queries certified.
 
-use crate::tests::devices::{Cut, Narrow, Way};
+use crate::tests::devices::{Way, check_cut, check_narrow, check_written, cut_after, narrow_until};
 use esr_history::Watched;
 use esr_script::{RunFault, certify, certify_steps};
-use std::alloc::{AllocError, Global};
+use std::alloc::Global;
 use std::process::Abort;
-use std::test::Fail;
 
 const THIRD_ITEM: &str = "item a 0\n\
         item b 0\n\
@@ -38,7 +37,7 @@ const LITTLE: &str = "item a 7\n\
         audit a\n";
 
 /// Two scripts whose queries are not certified, with the fault that ends the run.
-const CUT_SHORT: [(&str, RunFault); 2] = [
+static CUT_SHORT: [(&str, RunFault); 2] = [
     (
         "item a 0\n\
             begin q query 9\n\
@@ -69,11 +68,7 @@ fn certified(
         certify(alloc, &mut reader, &mut writer, name)
     };
     assert!(rt; ended == ends, "{} ends so", name);
-    assert!(rt;
-        writer.inner().as_slice() == text.as_bytes(),
-        "{} is certified so",
-        name
-    );
+    check_written(rt, &writer, text, name);
 }
 
 #[test]
@@ -134,49 +129,34 @@ fn nothing_is_written_after_a_fault(rt: HostRuntime) {
 fn each_read_fails_in_turn(rt: HostRuntime) {
     let alloc = rt.alloc();
     for left in 0..THIRD_ITEM.len() + 1 {
-        let mut reader = Watched::new(Cut {
-            rest: THIRD_ITEM.as_bytes(),
-            most: 1,
-            left,
-        });
+        let mut reader = cut_after(THIRD_ITEM, 1, left);
         let mut writer = Watched::new(Vec::new(alloc));
         let ended = certify(alloc, &mut reader, &mut writer, "q");
-        assert!(rt; ended == Err(RunFault::Read) && reader.failed() && !writer.failed());
-        assert!(rt; writer.inner().is_empty());
+        assert!(rt; ended == Err(RunFault::Read));
+        check_cut(&rt, &reader, &writer);
     }
 }
 
 /// Whether the bundle is written by a writer that fails at this call.
-fn is_written(rt: &impl Abort, alloc: Global, left: usize, way: Way) -> Result<bool, AllocError> {
+fn is_written(rt: &impl Abort, alloc: Global, left: usize, way: Way) -> bool {
     let mut reader = Watched::new(THIRD_ITEM.as_bytes());
-    let mut writer = Watched::new(Narrow {
-        taken: Vec::new(alloc),
-        most: 3,
-        left,
-        way,
-    });
+    let mut writer = narrow_until(alloc, 3, left, way);
     let ended = certify(alloc, &mut reader, &mut writer, "q");
-    let text = writer.inner().taken.as_slice();
-    assert!(rt; ended == Ok(()) || ended == Err(RunFault::Write));
-    assert!(rt; writer.failed() == (ended != Ok(())) && !reader.failed());
-    assert!(rt; BUNDLE.as_bytes().starts_with(text));
-    assert!(rt; ended != Ok(()) || text.len() == BUNDLE.len());
-    Ok(ended == Ok(()))
+    let written = ended == Ok(());
+    assert!(rt; written || ended == Err(RunFault::Write));
+    assert!(rt; !reader.failed());
+    check_narrow(rt, &writer, written, BUNDLE);
+    written
 }
 
 #[test]
-fn each_write_fails_in_turn(rt: HostRuntime) -> Result<(), Fail> {
+fn each_write_fails_in_turn(rt: HostRuntime) {
     let alloc = rt.alloc();
     // Three bytes a call, and a flush.
     let calls = BUNDLE.len().div_ceil(3) + 1;
     for left in 0..calls + 2 {
-        let written = is_written(&rt, alloc, left, Way::Errs)?;
-        let taken = is_written(&rt, alloc, left, Way::TakesNone)?;
-        assert!(rt;
-            written == (left >= calls) && taken == written,
-            "{} calls",
-            left
-        );
+        let written = left >= calls;
+        assert!(rt; is_written(&rt, alloc, left, Way::Errs) == written);
+        assert!(rt; is_written(&rt, alloc, left, Way::TakesNone) == written);
     }
-    Ok(())
 }

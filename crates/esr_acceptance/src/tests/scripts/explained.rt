@@ -1,5 +1,6 @@
 //! Queries explained.
 
+use crate::tests::devices::check_written;
 use esr_explain::explain;
 use esr_history::Watched;
 use esr_script::RunFault;
@@ -111,11 +112,7 @@ fn explained(
     let mut writer = Watched::new(Vec::new(alloc));
     let ended = explain(alloc, &mut reader, &mut writer, name);
     assert!(rt; ended == ends, "{} ends so", name);
-    assert!(rt;
-        writer.inner().as_slice() == text.as_bytes(),
-        "{} is explained so",
-        name
-    );
+    check_written(rt, &writer, text, name);
 }
 
 #[test]

@@ -1,15 +1,14 @@
 //! Readers and writers that fail.
 
-use crate::tests::devices::{Cut, Narrow, Way};
+use crate::tests::devices::{Way, check_cut, check_narrow, cut_after, narrow_until};
 use esr_history::Watched;
 use esr_script::{RunFault, audit, run};
-use std::alloc::{AllocError, Global};
+use std::alloc::Global;
 use std::process::Abort;
-use std::test::Fail;
 use std::thread::Threads;
 
 /// Lines, and the text of each.
-const LINES: [(&str, &str); 6] = [
+static LINES: [(&str, &str); 6] = [
     ("item a 100\n", "item a 100\n"),
     ("begin u update 0\n", "begun u 1\n"),
     ("hello\n", "error 1 not a command\n"),
@@ -20,67 +19,57 @@ const LINES: [(&str, &str); 6] = [
 
 const SCRIPT: &str = "item a 100\nbegin u update 0\nhello\nwrite u a 105\nread u a\ncommit u\n";
 
-/// The text of the lines that are whole in so many bytes of the script.
-fn text_of_whole_lines(alloc: Global, read: usize) -> Result<Vec<u8>, AllocError> {
-    let mut text = Vec::new(alloc);
+const TEXT: &str =
+    "item a 100\nbegun u 1\nerror 1 not a command\nwrote u a 105\nu a 105\ncommitted u\n";
+
+/// How much text there is of the lines that are whole in so many bytes of the script.
+fn count_written(read: usize) -> usize {
     let mut end: usize = 0;
+    let mut written: usize = 0;
     for (line, answer) in &LINES {
         end = end.saturating_add(line.len());
         if end <= read {
-            text.extend_from_slice(answer.as_bytes())?;
+            written = written.saturating_add(answer.len());
         }
     }
-    Ok(text)
+    written
 }
 
 #[test]
-fn each_read_fails_in_turn(rt: HostRuntime) -> Result<(), Fail> {
+fn each_read_fails_in_turn(rt: HostRuntime) {
     let alloc = rt.alloc();
     for left in 0..SCRIPT.len() + 1 {
-        let mut reader = Watched::new(Cut {
-            rest: SCRIPT.as_bytes(),
-            most: 1,
-            left,
-        });
+        let mut reader = cut_after(SCRIPT, 1, left);
         let mut writer = Watched::new(Vec::new(alloc));
         let ended = run(alloc, &mut reader, &mut writer);
         assert!(rt; ended == Err(RunFault::Read) && reader.failed() && !writer.failed());
-        let text = text_of_whole_lines(alloc, left)?;
-        assert!(rt; writer.inner().as_slice() == text.as_slice());
+        let written = writer.inner().as_slice();
+        assert!(rt; TEXT.as_bytes().starts_with(written) && written.len() == count_written(left));
     }
-    Ok(())
 }
 
 /// Whether the run ends well over a writer that fails at this call.
-fn is_written(rt: &impl Abort, alloc: Global, left: usize, way: Way) -> Result<bool, AllocError> {
+fn is_written(rt: &impl Abort, alloc: Global, left: usize, way: Way) -> bool {
     let mut reader = Watched::new(SCRIPT.as_bytes());
-    let mut writer = Watched::new(Narrow {
-        taken: Vec::new(alloc),
-        most: 3,
-        left,
-        way,
-    });
+    let mut writer = narrow_until(alloc, 3, left, way);
     let ended = run(alloc, &mut reader, &mut writer);
-    let whole = text_of_whole_lines(alloc, SCRIPT.len())?;
-    let text = writer.inner().taken.as_slice();
-    assert!(rt; ended == Ok(()) || ended == Err(RunFault::Write));
-    assert!(rt; writer.failed() == (ended != Ok(())) && !reader.failed());
-    assert!(rt; whole.as_slice().starts_with(text));
-    assert!(rt; ended != Ok(()) || text.len() == whole.len());
-    Ok(ended == Ok(()))
+    let written = ended == Ok(());
+    assert!(rt; written || ended == Err(RunFault::Write));
+    assert!(rt; !reader.failed());
+    check_narrow(rt, &writer, written, TEXT);
+    written
 }
 
 #[test]
-fn each_write_fails_in_turn(rt: HostRuntime) -> Result<(), Fail> {
+fn each_write_fails_in_turn(rt: HostRuntime) {
     let alloc = rt.alloc();
     let mut written = true;
     for left in 0..60 {
-        written = is_written(&rt, alloc, left, Way::Errs)?;
-        let taken = is_written(&rt, alloc, left, Way::TakesNone)?;
+        written = is_written(&rt, alloc, left, Way::Errs);
+        let taken = is_written(&rt, alloc, left, Way::TakesNone);
         assert!(rt; left > 0 || !(written || taken));
     }
     assert!(rt; written);
-    Ok(())
 }
 
 /// The audit of the script.
@@ -90,15 +79,11 @@ const AUDIT: &str = "order u\ntotals import 0 export 0 entries 4\n";
 fn each_read_of_an_audit_fails_in_turn(rt: HostRuntime) {
     let alloc = rt.alloc();
     for left in 0..SCRIPT.len() + 1 {
-        let mut reader = Watched::new(Cut {
-            rest: SCRIPT.as_bytes(),
-            most: 1,
-            left,
-        });
+        let mut reader = cut_after(SCRIPT, 1, left);
         let mut writer = Watched::new(Vec::new(alloc));
         let ended = audit(&rt, alloc, &mut reader, &mut writer, 2);
-        assert!(rt; ended == Err(RunFault::Read) && reader.failed() && !writer.failed());
-        assert!(rt; writer.inner().is_empty());
+        assert!(rt; ended == Err(RunFault::Read));
+        check_cut(&rt, &reader, &writer);
     }
 }
 
@@ -110,19 +95,13 @@ fn audit_is_written<R: Abort + Threads + Sync>(
     way: Way,
 ) -> bool {
     let mut reader = Watched::new(SCRIPT.as_bytes());
-    let mut writer = Watched::new(Narrow {
-        taken: Vec::new(alloc),
-        most: 3,
-        left,
-        way,
-    });
+    let mut writer = narrow_until(alloc, 3, left, way);
     let ended = audit(rt, alloc, &mut reader, &mut writer, 2);
-    let output = writer.inner().taken.as_slice();
-    assert!(rt; ended == Ok(()) || ended == Err(RunFault::Write));
-    assert!(rt; writer.failed() == (ended != Ok(())) && !reader.failed());
-    assert!(rt; AUDIT.as_bytes().starts_with(output));
-    assert!(rt; ended != Ok(()) || output.len() == AUDIT.len());
-    ended == Ok(())
+    let written = ended == Ok(());
+    assert!(rt; written || ended == Err(RunFault::Write));
+    assert!(rt; !reader.failed());
+    check_narrow(rt, &writer, written, AUDIT);
+    written
 }
 
 #[test]

@@ -9,7 +9,11 @@ pub struct Row {
     pub ended: Result<(), RunFault>,
 }
 
-pub const ROWS: [Row; 39] = [
+pub fn table() -> &'static [Row] {
+    &ROWS
+}
+
+static ROWS: [Row; 39] = [
     Row {
         name: "empty_input",
         script: "",

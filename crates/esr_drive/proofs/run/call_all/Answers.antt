@@ -16,14 +16,13 @@ loop-i-init g c =
 pub loop-i-preserved : goal.loop-i-preserved
 loop-i-preserved g c =
     let inv = c.loop-i.invariant in
-    let ok = c.in-Ok-call_patient.ensures.ok in
-    let at = c.in-Ok-call_patient.ensures.receipt in
-    let r = c.in-Ok-call_patient.receipt in (
+    let ok = c.in-Ok-call_in_turns.ensures.turns in
+    let r = c.in-Ok-call_in_turns.receipt in (
       search rules,
       search rules,
       λ names resolved.
-          subst (λ (l : List Reply). AreRuns names (answers_of (take (c.loop-i.i + 1) c.args.calls.now) l) c.call_patient.new.self) (sym c.push_reserved.ensures.items)
-          (block_more names weighted g.N.Naming.opening g.N.Naming.weights c.args.calls.now c.loop-i.replies.items c.deref.result.now c.loop-i.i _ c.event_of-event.result r c.loop-i.session c.call_patient.new.self ok.0 c.deref.ensures.value c.loop-i-test.true (search rules) resolved (inv.2 names resolved) c.event_of-event.ensures ok.1 ok.2 ok.3 ok.4 at.0),
+          subst (λ (l : List Reply). AreRuns names (answers_of (take (c.loop-i.i + 1) c.args.calls.now) l) c.call_in_turns.new.session) (sym c.push_reserved.ensures.items)
+          (block_more names weighted g.N.Naming.opening g.N.Naming.weights c.args.calls.now c.loop-i.replies.items c.deref.result.now c.loop-i.i _ c.event_of-event.result r c.loop-i.session c.call_in_turns.new.session ok.0 c.deref.ensures.value c.loop-i-test.true (search rules) resolved (inv.2 names resolved) c.event_of-event.ensures ok.1 ok.2 ok.3 ok.4 c.in-Ok-call_in_turns.ensures.event),
     )
 
 pub returns : goal.returns
