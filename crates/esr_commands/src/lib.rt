@@ -2,9 +2,9 @@
 #![tactic(auto)]
 
 ghost use Rattle.std.specs.Prelude.{◌≡◌, IfOk, false};
-ghost use Rattle.clap.specs.Words.{App, app_of, new_app, with_subcommand};
+ghost use Rattle.clap.specs.Words.{App, app_of, new_app, with_subcommand, rule_of};
 ghost use Rattle.clap.specs.declared.builder.command.Command.TheViews.{out-Command};
-ghost use Rattle.esr_commands.specs.Program.{certify, esr, named, parallel, program, queries, scripts};
+ghost use Rattle.esr_commands.specs.Program.{certify, esr, named, parallel, program, queries, scripts, steps_rule, workers_rule};
 
 use clap::{Arg, ArgAction, Command, value_parser};
 use std::alloc::{AllocError, Global};
@@ -54,18 +54,37 @@ fn named<'a>(alloc: Global, name: &'a str, about: &'a str) -> Result<Command<'a>
     plain(alloc, name, about).arg(query)
 }
 
+/// `--steps`
+fn steps<'a>(alloc: Global) -> Arg<'a>
+    ensures rule { rule_of result ≡ steps_rule }
+    ensures local { result.global ≡ false }
+{
+    Arg::new(alloc, "steps")
+        .long("steps")
+        .action(ArgAction::SetTrue)
+        .help("Tells how many augmentations led to the flow")
+}
+
 /// `certify [--steps] NAME`
 fn certify<'a>(alloc: Global) -> Result<Command<'a>, AllocError>
     ensures app { IfOk result (λ c. app_of c ≡ certify) }
     ensures local { IfOk result (λ c. (out-Command c).has_globals ≡ false) }
 {
     let about = "Runs a script from standard input and writes the bundle of a query";
-    let command = named(alloc, "certify", about)?;
-    let steps = Arg::new(alloc, "steps")
-        .long("steps")
-        .action(ArgAction::SetTrue)
-        .help("Tells how many augmentations led to the flow");
-    command.arg(steps)
+    named(alloc, "certify", about)?.arg(steps(alloc))
+}
+
+/// `--workers W`
+fn workers<'a>(alloc: Global) -> Arg<'a>
+    ensures rule { rule_of result ≡ workers_rule }
+    ensures local { result.global ≡ false }
+{
+    Arg::new(alloc, "workers")
+        .long("workers")
+        .value_name("W")
+        .value_parser(value_parser!(u64).range(1..=64))
+        .default_value("4")
+        .help("How many threads audit, 1 to 64")
 }
 
 /// `name [--workers W]`
@@ -73,13 +92,7 @@ fn parallel<'a>(alloc: Global, name: &'a str, about: &'a str) -> Result<Command<
     ensures app { IfOk result (λ c. app_of c ≡ parallel name.entry.now) }
     ensures local { IfOk result (λ c. (out-Command c).has_globals ≡ false) }
 {
-    let workers = Arg::new(alloc, "workers")
-        .long("workers")
-        .value_name("W")
-        .value_parser(value_parser!(u64).range(1..=64))
-        .default_value("4")
-        .help("How many threads audit, 1 to 64");
-    plain(alloc, name, about).arg(workers)
+    plain(alloc, name, about).arg(workers(alloc))
 }
 
 /// Adds a command to a program, where there was memory for it.
