@@ -1,4 +1,4 @@
-use Rattle.std.proofs.Common.{◌∙◌, rules, of_calls, true}
+use Rattle.std.proofs.Common.{true}
 use Rattle.esr_script.specs.Text.{final}
 use Rattle.esr_script.proofs.ReaderToWriter.{told_more}
 use Rattle.esr_script.proofs.Replays.{bundle_told}
@@ -7,4 +7,4 @@ use Rattle.esr_script.proofs.certifying.certify_steps.Goals as goal
 pub returns : goal.returns
 returns g c =
     let name = c.args.name.now in
-    told_more name _ _ (λ input text made. bundle_told true (final input) name made.0 made.1 text (made.4 ∙ (let learnt = made.3.1 in search (rules, of_calls, learnt)))) c.tell.ensures
+    told_more name _ _ (λ input text made. bundle_told true (final input) name made.0 made.1 text made.2) c.tell.ensures
