@@ -15,6 +15,7 @@ use std::alloc::{AllocError, Global};
 use std::io::{Read, Write};
 
 /// The bundle of a query, and a line feed.
+#[derive(Drop)]
 struct Bundling {
     /// With the count of augmentations.
     steps: bool,
@@ -36,6 +37,22 @@ impl Telling for Bundling {
     }
 }
 
+/// Certifies with the count of augmentations or without.
+fn certify_with<R: Read, W: Write>(
+    alloc: Global,
+    reader: &mut Watched<R>,
+    writer: &mut Watched<W>,
+    name: &str,
+    steps: bool,
+) -> Result<(), RunFault>
+    requires reader { failed reader.old ≡ false }
+    requires writer { failed writer.old ≡ false }
+    ensures { ReadsAndWrites R.remaining W.contents reader.old reader.new writer.old writer.new
+        (λ input. IsCertifiedBy steps input name.now) result }
+{
+    tell(alloc, reader, writer, name, &Bundling { steps })
+}
+
 /// Runs a script without writing its output, and writes the bundle of its query of that name, and a line feed.
 ///
 /// `NotACommittedQuery` exactly where the run has no fault and the name is that of no committed query. After a fault
@@ -51,7 +68,7 @@ pub fn certify<R: Read, W: Write>(
     ensures { ReadsAndWrites R.remaining W.contents reader.old reader.new writer.old writer.new
         (λ input. IsCertifiedBy false input name.now) result }
 {
-    tell(alloc, reader, writer, name, &Bundling { steps: false })
+    certify_with(alloc, reader, writer, name, false)
 }
 
 /// The same with the count of augmentations.
@@ -66,5 +83,5 @@ pub fn certify_steps<R: Read, W: Write>(
     ensures { ReadsAndWrites R.remaining W.contents reader.old reader.new writer.old writer.new
         (λ input. IsCertifiedBy true input name.now) result }
 {
-    tell(alloc, reader, writer, name, &Bundling { steps: true })
+    certify_with(alloc, reader, writer, name, true)
 }
