@@ -1,5 +1,5 @@
 -- Each end of a run whose text is dropped, and what is certified after it.
-use Rattle.std.proofs.Common.{◌≡◌, ◌≢◌, ℕ, ◌+◌, ◌<◌, ◌≤◌, List, [], ◌∷◌, ◌++◌, ◌⊎◌, inl, inr, Bool, true, false, length, take, drop, refl, sym, ◌∙◌, ap, arith, Option, None, Result, Ok, Err, OnOk, IfErr}
+use Rattle.std.proofs.Common.{◌≡◌, ◌≢◌, ℕ, ◌+◌, ◌<◌, ◌≤◌, List, ◌++◌, ◌⊎◌, inl, inr, Bool, true, false, length, take, drop, refl, sym, ◌∙◌, ap, arith, Option, None, Result, Ok, Err, OnOk, IfErr}
 use Rattle.std.specs.Io.KnownBytes.{IsAtEnd}
 use Rattle.esr_history.specs.Machine.{Schedule}
 use Rattle.esr_cert.specs.Problem.{Problem}
