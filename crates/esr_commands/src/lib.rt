@@ -2,9 +2,9 @@
 #![tactic(auto)]
 
 ghost use Rattle.std.specs.Prelude.{◌≡◌, IfOk, false};
-ghost use Rattle.clap.specs.Words.{app_of, new_app, with_subcommand};
+ghost use Rattle.clap.specs.Words.{App, app_of, new_app, with_subcommand, rule_of};
 ghost use Rattle.clap.specs.declared.builder.command.Command.TheViews.{out-Command};
-ghost use Rattle.esr_commands.specs.Program.{certify, esr, named, parallel, program, queries, scripts};
+ghost use Rattle.esr_commands.specs.Program.{certify, esr, named, parallel, program, queries, scripts, steps_rule, workers_rule};
 
 use clap::{Arg, ArgAction, Command, value_parser};
 use std::alloc::{AllocError, Global};
@@ -54,17 +54,37 @@ fn named<'a>(alloc: Global, name: &'a str, about: &'a str) -> Result<Command<'a>
     plain(alloc, name, about).arg(query)
 }
 
+/// `--steps`
+fn steps<'a>(alloc: Global) -> Arg<'a>
+    ensures rule { rule_of result ≡ steps_rule }
+    ensures local { result.global ≡ false }
+{
+    Arg::new(alloc, "steps")
+        .long("steps")
+        .action(ArgAction::SetTrue)
+        .help("Tells how many augmentations led to the flow")
+}
+
 /// `certify [--steps] NAME`
 fn certify<'a>(alloc: Global) -> Result<Command<'a>, AllocError>
     ensures app { IfOk result (λ c. app_of c ≡ certify) }
     ensures local { IfOk result (λ c. (out-Command c).has_globals ≡ false) }
 {
     let about = "Runs a script from standard input and writes the bundle of a query";
-    let steps = Arg::new(alloc, "steps")
-        .long("steps")
-        .action(ArgAction::SetTrue)
-        .help("Tells how many augmentations led to the flow");
-    named(alloc, "certify", about)?.arg(steps)
+    named(alloc, "certify", about)?.arg(steps(alloc))
+}
+
+/// `--workers W`
+fn workers<'a>(alloc: Global) -> Arg<'a>
+    ensures rule { rule_of result ≡ workers_rule }
+    ensures local { result.global ≡ false }
+{
+    Arg::new(alloc, "workers")
+        .long("workers")
+        .value_name("W")
+        .value_parser(value_parser!(u64).range(1..=64))
+        .default_value("4")
+        .help("How many threads audit, 1 to 64")
 }
 
 /// `name [--workers W]`
@@ -72,21 +92,19 @@ fn parallel<'a>(alloc: Global, name: &'a str, about: &'a str) -> Result<Command<
     ensures app { IfOk result (λ c. app_of c ≡ parallel name.entry.now) }
     ensures local { IfOk result (λ c. (out-Command c).has_globals ≡ false) }
 {
-    let workers = Arg::new(alloc, "workers")
-        .long("workers")
-        .value_name("W")
-        .value_parser(value_parser!(u64).range(1..=64))
-        .default_value("4")
-        .help("How many threads audit, 1 to 64");
-    plain(alloc, name, about).arg(workers)
+    plain(alloc, name, about).arg(workers(alloc))
 }
 
-/// Adds a command to a program.
-fn with<'a>(program: Command<'a>, command: Command<'a>) -> Result<Command<'a>, AllocError>
-    requires { (out-Command command).has_globals ≡ false }
-    ensures { IfOk result (λ c. app_of c ≡ with_subcommand (app_of program.entry) (app_of command.entry).top) }
+/// Adds a command to a program, where there was memory for it.
+fn with<'a>(
+    program: Command<'a>,
+    command: Result<Command<'a>, AllocError>,
+) -> Result<Command<'a>, AllocError>
+    requires { IfOk command (λ c. (out-Command c).has_globals ≡ false) }
+    ensures { (whole part : App) → app_of program.entry ≡ whole → IfOk command.entry (λ c. app_of c ≡ part)
+        → IfOk result (λ c. app_of c ≡ with_subcommand whole part.top) }
 {
-    program.subcommand(command)
+    program.subcommand(command?)
 }
 
 /// The program without its commands.
@@ -107,9 +125,9 @@ fn scripts<'a>(alloc: Global) -> Result<Command<'a>, AllocError>
     let run = "Runs a script from standard input to standard output";
     let check = "Judges the bundle on standard input: valid, invalid or bad";
     let run = plain(alloc, "run", run).after_help(SCRIPTS);
-    let commands = with(shell(alloc), run)?;
-    let commands = with(commands, certify(alloc)?)?;
-    with(commands, plain(alloc, "check", check))
+    let commands = with(shell(alloc), Ok(run))?;
+    let commands = with(commands, certify(alloc))?;
+    with(commands, Ok(plain(alloc, "check", check)))
 }
 
 /// The same with the jobs that show one query to a person.
@@ -118,8 +136,8 @@ fn queries<'a>(alloc: Global) -> Result<Command<'a>, AllocError>
 {
     let explain = "Runs a script from standard input and tells what a query read and was charged";
     let picture = "Runs a script from standard input and writes a picture of a query, an SVG";
-    let commands = with(scripts(alloc)?, named(alloc, "explain", explain)?)?;
-    with(commands, named(alloc, "picture", picture)?)
+    let commands = with(scripts(alloc)?, named(alloc, "explain", explain))?;
+    with(commands, named(alloc, "picture", picture))
 }
 
 /// The program `esr` with all its commands, as `clap` is told of them.
@@ -128,6 +146,6 @@ pub fn program<'a>(alloc: Global) -> Result<Command<'a>, AllocError>
 {
     let audit = "Runs a script from standard input and audits each committed query";
     let drive = "Runs the sessions of a drive file from standard input, each on a thread";
-    let commands = with(queries(alloc)?, parallel(alloc, "audit", audit)?)?;
-    with(commands, parallel(alloc, "drive", drive)?)
+    let commands = with(queries(alloc)?, parallel(alloc, "audit", audit))?;
+    with(commands, parallel(alloc, "drive", drive))
 }

@@ -214,6 +214,25 @@ fn push_charge(
     charge_line(out, items, transactions, charge)
 }
 
+/// Appends the lines of all charges to a query, by a machine that makes the history again.
+fn push_all(
+    out: &mut Vec<u8>,
+    items: &Names,
+    transactions: &Names,
+    history: &History<Weighted>,
+    machine: &mut Machine<Lent<'_>>,
+    q: TxnId,
+) -> Result<(), NoMemory>
+    requires { machine.old ≡ blank history.now.schedule }
+    ensures { OnOk result (out.new.items ≡ out.old.items
+        ++ charge_lines weighted history.now.schedule items.now transactions.now q.0) }
+{
+    for i in 0..history.log().len() {
+        push_charge(out, items, transactions, history, machine, i, q)?;
+    }
+    Ok(())
+}
+
 /// Appends the lines of all charges to a query.
 pub fn push_charges(
     alloc: Global,
@@ -227,8 +246,5 @@ pub fn push_charges(
         ++ charge_lines weighted history.now.schedule items.now transactions.now q.0) }
 {
     let mut machine = blank(alloc, history)?;
-    for i in 0..history.log().len() {
-        push_charge(out, items, transactions, history, &mut machine, i, q)?;
-    }
-    Ok(())
+    push_all(out, items, transactions, history, &mut machine, q)
 }

@@ -1,23 +1,27 @@
 //! Draws a query of a script, from a reader to a writer.
 
-ghost use Rattle.std.specs.Prelude.{◌≡◌, false, IfOk};
+ghost use Rattle.std.specs.Prelude.{◌≡◌, false};
 ghost use Rattle.esr_history.specs.Watch.{failed};
 ghost use Rattle.esr_script.specs.ReaderToWriter.{ReadsAndWrites};
 ghost use Rattle.esr_picture.specs.Picture.{IsDrawnBy, IsSvg};
 
 use esr_history::Watched;
 use esr_scene::body_of;
-use esr_script::{Asked, RunFault, tell};
+use esr_script::{Asked, RunFault, Telling, tell};
 use std::alloc::{AllocError, Global};
 use std::io::{Read, Write};
 
-/// The SVG of what a script tells of one of its queries.
-fn draw(alloc: Global, asked: &Asked) -> Result<Vec<u8>, AllocError>
-    ensures { IfOk result (λ text. IsSvg text.items) }
-{
-    let body = body_of(alloc, asked)?;
-    let text = format!(in alloc; "<svg {body}</svg>\n")?;
-    Ok(text.into_bytes())
+/// The picture of a query: an SVG.
+struct Drawing;
+
+impl Telling for Drawing {
+    ghost IsTextOf = { λ _ _ text. IsSvg text };
+
+    fn text_of(&self, alloc: Global, asked: &mut Asked) -> Result<Vec<u8>, AllocError> {
+        let body = body_of(alloc, asked)?;
+        let text = format!(in alloc; "<svg {body}</svg>\n")?;
+        Ok(text.into_bytes())
+    }
 }
 
 /// Runs a script without writing its output, and writes a picture of the audit of its query of that name: an SVG.
@@ -35,5 +39,5 @@ pub fn picture<R: Read, W: Write>(
     ensures { ReadsAndWrites R.remaining W.contents reader.old reader.new writer.old writer.new
         (λ input. IsDrawnBy input name.now) result }
 {
-    tell(alloc, reader, writer, name, |asked| draw(alloc, &asked))
+    tell(alloc, reader, writer, name, &Drawing)
 }

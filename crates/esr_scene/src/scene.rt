@@ -101,6 +101,13 @@ fn others_off(choice: &Choice) -> usize {
     all.saturating_sub(drawn)
 }
 
+/// The updates that are drawn, those before the line first.
+fn drawn_in_order(alloc: Global, choice: &Choice) -> Result<Vec<u32>, AllocError> {
+    let mut drawn = choice.before.to_vec(alloc)?;
+    drawn.extend_from_slice(&choice.after)?;
+    Ok(drawn)
+}
+
 /// What a scene is made from.
 #[derive(Drop)]
 struct SceneParts<'a> {
@@ -119,8 +126,7 @@ impl<'a> SceneParts<'a> {
         let finding = &asked.finding;
         let problem = &finding.problem;
         let choice = choose(alloc, problem, &finding.certificate.set)?;
-        let mut drawn = choice.before.to_vec(alloc)?;
-        drawn.extend_from_slice(&choice.after)?;
+        let drawn = drawn_in_order(alloc, &choice)?;
         let line = choice.before.len().min(MOST_UPDATES) as u8 + 1;
         let slots = Slots::new(alloc, problem.updates().len(), &choice, line)?;
         let history = drawn_history_of(alloc, &asked.history, finding, &choice, &slots)?;
@@ -187,15 +193,27 @@ impl<'a> SceneParts<'a> {
         })
     }
 
+    /// Adds the lane of that number, which is of the chain at a position.
+    fn push_lane(
+        &self,
+        alloc: Global,
+        lanes: &mut Vec<Lane<'a>>,
+        lane: usize,
+        at: usize,
+    ) -> Result<(), AllocError> {
+        let chain = self.asked.finding.problem.chains().get(at);
+        let (Some(chain), Some(crossing)) = (chain, self.choice.crossings.get(at)) else {
+            return Ok(());
+        };
+        lanes.push(self.lane(alloc, lane, chain, crossing.off)?)?;
+        Ok(())
+    }
+
     /// The lanes that are drawn.
     fn lanes(&self, alloc: Global) -> Result<Vec<Lane<'a>>, AllocError> {
-        let chains = self.asked.finding.problem.chains();
-        let crossings = &self.choice.crossings;
         let mut lanes = Vec::new(alloc);
         for (lane, at) in self.choice.lanes.iter().enumerate() {
-            if let (Some(chain), Some(crossing)) = (chains.get(*at), crossings.get(*at)) {
-                lanes.push(self.lane(alloc, lane, chain, crossing.off)?)?;
-            }
+            self.push_lane(alloc, &mut lanes, lane, *at)?;
         }
         Ok(lanes)
     }
@@ -227,26 +245,31 @@ impl<'a> SceneParts<'a> {
         }
         Ok(updates)
     }
+
+    /// What is drawn.
+    fn scene(&self, alloc: Global) -> Result<Scene<'a>, AllocError> {
+        let finding = &self.asked.finding;
+        let arrows = arrows(alloc, &finding.problem, &self.drawn, &self.slots)?;
+        let updates = self.updates(alloc)?;
+        let lanes = self.lanes(alloc)?;
+        let committed = self.history.committed();
+        Ok(Scene {
+            query: name_of_transaction(&self.asked.transactions, finding.query),
+            distance: finding.distance,
+            import: finding.import,
+            strict: !finding.problem.must().is_empty(),
+            arrows,
+            other_updates: committed.saturating_sub(updates.len() as u64),
+            other_items: self.choice.crossings.len().saturating_sub(lanes.len()),
+            others_off: others_off(&self.choice),
+            line: self.line,
+            updates,
+            lanes,
+        })
+    }
 }
 
 /// What is drawn of what a script tells of a query.
 pub fn scene_of(alloc: Global, asked: &Asked) -> Result<Scene<'_>, AllocError> {
-    let parts = SceneParts::new(alloc, asked)?;
-    let finding = &asked.finding;
-    let lanes = parts.lanes(alloc)?;
-    let updates = parts.updates(alloc)?;
-    let committed = parts.history.committed();
-    Ok(Scene {
-        query: name_of_transaction(&asked.transactions, finding.query),
-        distance: finding.distance,
-        import: finding.import,
-        strict: !finding.problem.must().is_empty(),
-        arrows: arrows(alloc, &finding.problem, &parts.drawn, &parts.slots)?,
-        other_updates: committed.saturating_sub(updates.len() as u64),
-        other_items: parts.choice.crossings.len().saturating_sub(lanes.len()),
-        others_off: others_off(&parts.choice),
-        line: parts.line,
-        updates,
-        lanes,
-    })
+    SceneParts::new(alloc, asked)?.scene(alloc)
 }

@@ -30,6 +30,12 @@ module _ (input : List ℕ) (left : Option (List ℕ)) where
   reached_then P N (Ok value) read whole ok err = (read, whole, ok)
   reached_then P N (Err f) read whole ok err = rw err tt
 
+  -- what is made of an answer
+  pub reached_made : {T E : Type 0} (P Q : T → Type 0) (N : Type 0) (made : Result T E) (r : Result T RunFault) → Consumes (Some input) left input → IsWhole input
+      → IfOk made P → ((value : T) → P value → Q value) → IfOk r (λ value. made ≡ Ok value) → IfErr r (λ f. f ≡ fault.NoMemory) → IsReachedBy Q N input left r
+  reached_made P Q N made (Ok value) read whole holds more ok err = (read, whole, more value (rw ok at holds))
+  reached_made P Q N made (Err f) read whole holds more ok err = rw err tt
+
   -- nothing was written
   pub written_fault : {T : Type 0} (P : T → Type 0) (Q : List ℕ → Type 0) (N : Type 0) (f : RunFault)
       → IsReachedBy P N input left (Err f) → IsWrittenBy Q N input left (Err f) []

@@ -1,5 +1,5 @@
 -- Each end of a run whose text is dropped, and what is certified after it.
-use Rattle.std.proofs.Common.{◌≡◌, ◌≢◌, ℕ, ◌+◌, ◌<◌, ◌≤◌, List, [], ◌∷◌, ◌++◌, ◌⊎◌, inl, inr, Bool, true, false, length, take, drop, refl, sym, ◌∙◌, ap, arith, Option, None, Result, Ok, Err, OnOk, IfErr}
+use Rattle.std.proofs.Common.{◌≡◌, ◌≢◌, ℕ, ◌+◌, ◌<◌, ◌≤◌, List, ◌++◌, ◌⊎◌, inl, inr, Bool, true, false, length, take, drop, refl, sym, ◌∙◌, ap, arith, Option, None, Result, Ok, Err, OnOk, IfErr}
 use Rattle.std.specs.Io.KnownBytes.{IsAtEnd}
 use Rattle.esr_history.specs.Machine.{Schedule}
 use Rattle.esr_cert.specs.Problem.{Problem}
@@ -16,7 +16,7 @@ use Rattle.esr_script.specs.declared.asked.Asked.{Asked}
 use Rattle.esr_script.specs.Ask.{IsAnswered}
 use Rattle.esr_script.specs.Certify.{IsFound, IsBundleOf, IsBundleLine}
 use Rattle.esr_script.specs.Ends.{EndsBy}
-use Rattle.esr_script.specs.Replays.{IsReplay, with_count}
+use Rattle.esr_script.specs.Replays.{IsReplay, with_count, bundle_line}
 use Rattle.esr_line.specs.Lines.{line_len, IsNext}
 use Rattle.esr_script.specs.Parts.{Standing}
 use Rattle.esr_script.proofs.Steps.{all_read, step_line, at_long, at_many, at_last, at_fault_line, at_fault_last, state_at_last}
@@ -62,7 +62,7 @@ bundled false h q p c f = record { problem = p; certificate = record c { augment
 
 -- the bundle of what was asked for, with a line feed
 pub bundle_told : (steps : Bool) (s : ScriptState) (name : List ℕ) (a : Asked) → IsAnswered s name a → (line : List ℕ)
-    → line ≡ bundle a.finding.problem (with_count steps (certificate_of a.finding.certificate)) ++ 10 ∷ [] → IsBundleLine steps s.history (transaction_called s name).0 line
+    → line ≡ bundle_line steps a.finding → IsBundleLine steps s.history (transaction_called s name).0 line
 bundle_told steps s name a h line is =
     let p = a.finding.problem in let c = certificate_of a.finding.certificate in
     (bundle p (with_count steps c), bundled steps s.history (transaction_called s name).0 p c h.finding.found, is)

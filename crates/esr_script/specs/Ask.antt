@@ -1,6 +1,5 @@
 -- What a script tells of one of its queries.
-use Rattle.std.specs.Prelude.{◌≡◌, ℕ, List, true, Option, Result, Ok, Vec}
-use Rattle.std.specs.declared.alloc.Global.{Global}
+use Rattle.std.specs.Prelude.{◌≡◌, ℕ, List, true, Option, Result}
 use Rattle.esr_items.specs.Weights.{weighted}
 use Rattle.esr_history.specs.Queries.{is_committed_query}
 use Rattle.esr_cert.specs.Views.{certificate_of}
@@ -30,7 +29,6 @@ pub record IsAnswered (s : ScriptState) (name : List ℕ) (a : Asked) : Type 0 w
 abbrev pub IsAsked : List ℕ → List ℕ → Option (List ℕ) → Result Asked RunFault → Type 0
 IsAsked input name left r = IsReachedBy (IsAnswered (final input) name) (IsNoQuery input name) input left r
 
--- such a text is made of the answer to that name
-abbrev pub IsMadeBy : {E : Type 0} → (Asked → Result (Vec ℕ Global) E → Type 0) → ScriptState → List ℕ → List ℕ → Type 0
-IsMadeBy Makes s name text =
-    (a : Asked) × IsAnswered s name a × (bytes : Vec ℕ Global) × Makes a (Ok bytes) × (text ≡ bytes.items)
+-- the text is such a one of the answer to that name
+abbrev pub IsMadeBy : (Asked → List ℕ → Type 0) → ScriptState → List ℕ → List ℕ → Type 0
+IsMadeBy IsTextOf s name text = (a : Asked) × IsAnswered s name a × IsTextOf a text

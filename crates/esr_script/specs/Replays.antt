@@ -1,6 +1,9 @@
 -- What the private parts of certifying and of auditing speak of.
-use Rattle.std.specs.Prelude.{◌≡◌, List, ℕ, Bool, true, false, Option, None, Result}
+use Rattle.std.specs.Prelude.{◌≡◌, List, [], ◌∷◌, ◌++◌, ℕ, Bool, true, false, Option, None, Result}
 use Rattle.esr_cert.specs.Certificate.{Certificate}
+use Rattle.esr_cert.specs.Views.{certificate_of}
+use Rattle.esr_audit.specs.declared.finding.Finding.{Finding}
+use Rattle.esr_bundle.specs.Bundle.{bundle}
 use Rattle.esr_script.specs.declared.fault.RunFault.{RunFault}
 use Rattle.esr_script.specs.Text.{ScriptState, final}
 use Rattle.esr_script.specs.Ends.{IsReachedBy}
@@ -13,3 +16,7 @@ IsReplay input left r s = IsReachedBy (λ done. final input ≡ s) ⊥ input lef
 abbrev pub with_count : Bool → Certificate → Certificate
 with_count true c = c
 with_count false c = record c { augmentations = None }
+
+-- the bundle of a finding, and a line feed
+abbrev pub bundle_line : Bool → Finding → List ℕ
+bundle_line steps f = bundle f.problem (with_count steps (certificate_of f.certificate)) ++ 10 ∷ []

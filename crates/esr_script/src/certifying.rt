@@ -1,46 +1,56 @@
 //! Certifies a query of a script: the whole script is run without its output, and the query's bundle is written.
 
-ghost use Rattle.std.specs.Prelude.{◌≡◌, [], ◌∷◌, ◌++◌, true, false, IfOk};
+ghost use Rattle.std.specs.Prelude.{◌≡◌, true, false};
 ghost use Rattle.esr_history.specs.Watch.{failed};
-ghost use Rattle.esr_cert.specs.Views.{certificate_of};
-ghost use Rattle.esr_bundle.specs.Bundle.{bundle};
 ghost use Rattle.esr_script.specs.Certify.{IsCertifiedBy};
-ghost use Rattle.esr_script.specs.Replays.{with_count};
+ghost use Rattle.esr_script.specs.Replays.{bundle_line};
 ghost use Rattle.esr_script.specs.ReaderToWriter.{ReadsAndWrites};
 
+use crate::asked::Asked;
 use crate::fault::RunFault;
-use crate::telling::tell;
-use esr_audit::Finding;
+use crate::telling::{Telling, tell};
 use esr_bundle::to_json;
-use esr_cert::Certificate;
 use esr_history::Watched;
 use std::alloc::{AllocError, Global};
 use std::io::{Read, Write};
 
-/// The certificate, with the count of its augmentations or without.
-fn with_count(certificate: Certificate, steps: bool) -> Certificate
-    ensures { certificate_of result ≡ with_count steps (certificate_of certificate) }
-{
-    if steps {
-        return certificate;
-    }
-    Certificate {
-        augmentations: None,
-        ..certificate
+/// The bundle of a query, and a line feed.
+#[derive(Drop)]
+struct Bundling {
+    /// With the count of augmentations.
+    steps: bool,
+}
+
+impl Telling for Bundling {
+    ghost IsTextOf = { λ b a text. text ≡ bundle_line b.steps a.finding };
+
+    fn text_of(&self, alloc: Global, asked: &mut Asked) -> Result<Vec<u8>, AllocError> {
+        let finding = &mut asked.finding;
+        if !self.steps {
+            finding.certificate.augmentations = None;
+        }
+        let Ok(mut text) = to_json(alloc, &finding.problem, &finding.certificate) else {
+            return Err(AllocError);
+        };
+        text.push(b'\n')?;
+        Ok(text)
     }
 }
 
-/// The bundle of a finding, and a line feed.
-fn bundle_line(alloc: Global, finding: Finding, steps: bool) -> Result<Vec<u8>, AllocError>
-    ensures { IfOk result (λ v. v.items
-        ≡ bundle finding.problem (with_count steps (certificate_of finding.certificate)) ++ 10 ∷ []) }
+/// Certifies with the count of augmentations or without.
+fn certify_with<R: Read, W: Write>(
+    alloc: Global,
+    reader: &mut Watched<R>,
+    writer: &mut Watched<W>,
+    name: &str,
+    steps: bool,
+) -> Result<(), RunFault>
+    requires reader { failed reader.old ≡ false }
+    requires writer { failed writer.old ≡ false }
+    ensures { ReadsAndWrites R.remaining W.contents reader.old reader.new writer.old writer.new
+        (λ input. IsCertifiedBy steps input name.now) result }
 {
-    let certificate = with_count(finding.certificate, steps);
-    let Ok(mut text) = to_json(alloc, &finding.problem, &certificate) else {
-        return Err(AllocError);
-    };
-    text.push(b'\n')?;
-    Ok(text)
+    tell(alloc, reader, writer, name, &Bundling { steps })
 }
 
 /// Runs a script without writing its output, and writes the bundle of its query of that name, and a line feed.
@@ -58,13 +68,7 @@ pub fn certify<R: Read, W: Write>(
     ensures { ReadsAndWrites R.remaining W.contents reader.old reader.new writer.old writer.new
         (λ input. IsCertifiedBy false input name.now) result }
 {
-    tell(
-        alloc,
-        reader,
-        writer,
-        name,
-        |asked| bundle_line(alloc, asked.finding, false),
-    )
+    certify_with(alloc, reader, writer, name, false)
 }
 
 /// The same with the count of augmentations.
@@ -79,11 +83,5 @@ pub fn certify_steps<R: Read, W: Write>(
     ensures { ReadsAndWrites R.remaining W.contents reader.old reader.new writer.old writer.new
         (λ input. IsCertifiedBy true input name.now) result }
 {
-    tell(
-        alloc,
-        reader,
-        writer,
-        name,
-        |asked| bundle_line(alloc, asked.finding, true),
-    )
+    certify_with(alloc, reader, writer, name, true)
 }

@@ -22,4 +22,4 @@ pub use esr_line::{INPUT_ROOM, Line, MAX_LINE_BYTES, MAX_LINES, Parsed, parse_li
 pub use fault::RunFault;
 pub use runs::run;
 pub use sending::send_all;
-pub use telling::tell;
+pub use telling::{Telling, tell};

@@ -1,7 +1,7 @@
 //! A run over a script, from its reader to its writer.
 
 ghost use Rattle.esr_line.specs.declared.limits.TheConstants.{MAX_LINE_BYTES};
-ghost use Rattle.std.specs.Prelude.{◌≡◌, ℕ, List, [], ◌++◌, Option, Some, Ok, Err, IfSome, IsErrOf, IfErr, IfOk, IsTrue, ◌↔◌, false, ◌≤◌, ◌⊎◌, length, ◌||◌};
+ghost use Rattle.std.specs.Prelude.{◌≡◌, ℕ, List, [], ◌++◌, Option, Some, Ok, Err, IsErrOf, IfErr, IfOk, false, ◌≤◌, ◌⊎◌, length, ◌||◌};
 ghost use Rattle.std.specs.Io.KnownBytes.{Appends, Consumes, IsAtEnd, Keeps};
 ghost use Rattle.esr_history.specs.Watch.{inner, failed, BeginsWith};
 ghost use Rattle.esr_script.specs.Text.{start};

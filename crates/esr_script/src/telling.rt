@@ -1,9 +1,10 @@
 //! Tells of a query of a script: the whole script is run without its output, and a text of the query is written.
 
-ghost use Rattle.std.specs.Prelude.{◌≡◌, false};
-ghost use Rattle.esr_history.specs.Watch.{failed};
+ghost use Rattle.std.specs.Prelude.{◌≡◌, ℕ, List, IfOk, IfErr, Ok, true, false, Some};
+ghost use Rattle.esr_history.specs.Watch.{inner, failed};
 ghost use Rattle.esr_script.specs.Ask.{IsMadeBy};
-ghost use Rattle.esr_script.specs.Ends.{IsToldBy};
+ghost use Rattle.esr_script.specs.Ends.{IsReachedBy, IsNoQuery, IsToldBy, is_query};
+ghost use Rattle.esr_script.specs.Parts.{is_read_fault, is_write_fault};
 ghost use Rattle.esr_script.specs.ReaderToWriter.{ReadsAndWrites};
 ghost use Rattle.esr_script.specs.Text.{final};
 
@@ -11,34 +12,75 @@ use crate::asked::{Asked, ask};
 use crate::fault::RunFault;
 use crate::sending::send_all;
 use esr_history::Watched;
-use std::alloc::Global;
+use std::alloc::{AllocError, Global};
 use std::io::{Read, Write};
 
-/// Runs a script without writing its output, and writes the text that is made of what it tells of its query of that
-/// name.
+/// A text of what a script tells of one of its queries.
+pub trait Telling {
+    ghost use Rattle.esr_script.specs.declared.asked.Asked.{Asked};
+
+    /// Whether it is the text of such an answer.
+    ghost IsTextOf: { Self → Asked → List ℕ → Type 0 };
+
+    /// The text. The answer may be used up for it.
+    fn text_of(&self, alloc: Global, asked: &mut Asked) -> Result<Vec<u8>, AllocError>
+        ensures { IfOk result (λ text. IsTextOf self.now asked.old text.items) };
+}
+
+/// What was made, with the fault of the run where it was not.
+fn made(text: Result<Vec<u8>, AllocError>) -> Result<Vec<u8>, RunFault>
+    ensures ok { IfOk result (λ made. text ≡ Ok made) }
+    ensures faults { IfErr result (λ e. e ≡ RunFault.NoMemory) }
+    ensures read { is_read_fault result ≡ false }
+    ensures write { is_write_fault result ≡ false }
+{
+    match text {
+        Ok(text) => Ok(text),
+        Err(_) => Err(RunFault::NoMemory),
+    }
+}
+
+/// The text of what a script tells of its query of that name.
+fn told<R: Read, T: Telling>(
+    alloc: Global,
+    reader: &mut Watched<R>,
+    name: &str,
+    telling: &T,
+) -> Result<Vec<u8>, RunFault>
+    requires reader { failed reader.old ≡ false }
+    ensures told { (input : List ℕ) → R.remaining (inner reader.old) ≡ Some input
+        → IsReachedBy (λ text. (is_query input name.now ≡ true)
+        × IsMadeBy (T.IsTextOf telling.now) (final input) name.now text.items)
+        (IsNoQuery input name.now) input (R.remaining (inner reader.new)) result }
+    ensures reader { failed reader.new ≡ is_read_fault result }
+    ensures write { is_write_fault result ≡ false }
+{
+    match ask(alloc, reader, name) {
+        Ok(mut asked) => made(telling.text_of(alloc, &mut asked)),
+        Err(fault) => Err(fault),
+    }
+}
+
+/// Runs a script without writing its output, and writes the text of what it tells of its query of that name.
 ///
 /// # Errors
 /// As `ask` has them; `NoMemory` also where no text is made. After a fault other than `Write` nothing was written,
 /// after `Write` a prefix of the text.
-pub fn tell<R: Read, W: Write, E: Drop, F: FnOnce(Asked) -> Result<Vec<u8>, E> + Drop>(
+pub fn tell<R: Read, W: Write, T: Telling>(
     alloc: Global,
     reader: &mut Watched<R>,
     writer: &mut Watched<W>,
     name: &str,
-    text_of: F,
+    telling: &T,
 ) -> Result<(), RunFault>
-    requires callable { F.IsAlwaysCallable text_of }
     requires reader { failed reader.old ≡ false }
     requires writer { failed writer.old ≡ false }
     ensures { ReadsAndWrites R.remaining W.contents reader.old reader.new writer.old writer.new
-        (λ input. IsToldBy (IsMadeBy (F.post text_of) (final input) name.now) input name.now) result }
+        (λ input. IsToldBy (IsMadeBy (T.IsTextOf telling.now) (final input) name.now) input name.now) result }
 {
-    let asked = match ask(alloc, reader, name) {
-        Ok(asked) => asked,
+    let mut text = match told(alloc, reader, name, telling) {
+        Ok(text) => text,
         Err(fault) => return Err(fault),
-    };
-    let Ok(mut text) = text_of(asked) else {
-        return Err(RunFault::NoMemory);
     };
     send_all(&mut text, writer)
 }

@@ -3,7 +3,7 @@ use Rattle.std.specs.Prelude.{slice_get}
 use Rattle.std.specs.List.{range_with_len}
 use Rattle.esr_items.specs.Weights.{weighted}
 use Rattle.esr_explain.specs.Explain.{charge_at, until}
-use Rattle.esr_explain.proofs.charges.push_charges.Given as goal
+use Rattle.esr_explain.proofs.charges.push_all.Given as goal
 
 abbrev pub invariant-loop-i : goal.invariant-loop-i
 invariant-loop-i l =

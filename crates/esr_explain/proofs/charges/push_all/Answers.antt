@@ -4,7 +4,7 @@ use Rattle.std.specs.List.{range_with_len}
 use Rattle.esr_items.specs.Weights.{weighted}
 use Rattle.esr_explain.specs.Explain.{charge_at}
 use Rattle.esr_explain.proofs.Replaying.{text_more}
-use Rattle.esr_explain.proofs.charges.push_charges.Goals as goal
+use Rattle.esr_explain.proofs.charges.push_all.Goals as goal
 
 pub loop-i-preserved : goal.loop-i-preserved
 loop-i-preserved c = grind (arith, append_assoc, flat_map, text_more)

@@ -1,0 +1,13 @@
+use Rattle.std.proofs.Common.{arith}
+use Rattle.esr_history.specs.Watch.{inner}
+use Rattle.esr_script.proofs.Ends.{reached_fault, reached_made}
+use Rattle.esr_script.proofs.telling.told.Goals as goal
+
+pub returns-in-Err-clause-told : goal.returns-in-Err-clause-told
+returns-in-Err-clause-told g c input known = grind (arith, reached_fault)
+
+pub returns-in-Ok-clause-told : goal.returns-in-Ok-clause-told
+returns-in-Ok-clause-told g c input known =
+    let asked = c.in-Ok.ensures.asked input known in
+    reached_made input (g.R.Read.remaining (inner c.ask.new.reader)) _ _ _ c.text_of.result c.made.result asked.0 asked.1
+    c.text_of.ensures (λ text is. (asked.2.finding.committed, (c.in-Ok.asked, asked.2, is))) c.made.ensures.ok c.made.ensures.faults
