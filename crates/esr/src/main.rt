@@ -8,10 +8,10 @@ ghost use Rattle.esr_cli.specs.Job.{request_of, HasWorkers};
 use esr_bundle::{Verdict, judge};
 use esr_cli::{Job, command};
 use esr_drive::{NoGate, drive};
-use esr_explain::explain;
+use esr_explain::Explaining;
 use esr_history::Watched;
-use esr_picture::picture;
-use esr_script::{audit, certify, certify_steps, run};
+use esr_picture::Drawing;
+use esr_script::{audit, certify, certify_steps, run, tell};
 use std::alloc::AllocError;
 use std::fmt::Display;
 use std::io;
@@ -19,7 +19,7 @@ use std::process::ExitCode;
 use std::sync::Wait;
 use std::thread::Threads;
 
-fn main(rt: HostRuntime) -> io::Result<ExitCode> {
+fn main(rt: HostRuntime) -> ExitCode {
     let alloc = rt.alloc();
     let arguments = match std::env::args(&rt) {
         Ok(arguments) => arguments,
@@ -39,10 +39,10 @@ fn main(rt: HostRuntime) -> io::Result<ExitCode> {
     }
     match command(alloc, words.as_slice()) {
         Ok(job) => do_job(&rt, job),
-        Err(error) => {
-            error.print(&rt)?;
-            Ok(ExitCode::from(error.exit_code() as u8))
-        }
+        Err(error) => match error.print(&rt) {
+            Err(_) if error.exit_code() == 0 => fail(&rt, &"write failed", 1),
+            _ => ExitCode::from(error.exit_code() as u8),
+        },
     }
 }
 
@@ -50,7 +50,7 @@ fn main(rt: HostRuntime) -> io::Result<ExitCode> {
 fn do_job<R: Input + Print + Eprint + AllocGlobal + Threads + Wait + Sync>(
     rt: &R,
     job: Job<'_>,
-) -> io::Result<ExitCode>
+) -> ExitCode
     requires { HasWorkers (request_of job) }
 {
     let alloc = rt.alloc();
@@ -67,12 +67,15 @@ fn do_job<R: Input + Print + Eprint + AllocGlobal + Threads + Wait + Sync>(
             certify_steps(alloc, &mut reader, &mut writer, name),
         ),
         Job::Check => match judge(alloc, &mut reader, &mut writer) {
-            Ok(Verdict::Valid(_)) => Ok(ExitCode::SUCCESS),
-            Ok(_) => Ok(ExitCode::from(1)),
+            Ok(Verdict::Valid(_)) => ExitCode::SUCCESS,
+            Ok(_) => ExitCode::from(1),
             Err(fault) => fail(rt, &fault, 1),
         },
-        Job::Explain { name } => ended(rt, explain(alloc, &mut reader, &mut writer, name)),
-        Job::Picture { name } => ended(rt, picture(alloc, &mut reader, &mut writer, name)),
+        Job::Explain { name } => ended(
+            rt,
+            tell(alloc, &mut reader, &mut writer, name, &Explaining),
+        ),
+        Job::Picture { name } => ended(rt, tell(alloc, &mut reader, &mut writer, name, &Drawing)),
         Job::Audit { workers } => ended(rt, audit(rt, alloc, &mut reader, &mut writer, workers)),
         Job::Drive { workers } => ended(
             rt,
@@ -82,15 +85,15 @@ fn do_job<R: Input + Print + Eprint + AllocGlobal + Threads + Wait + Sync>(
 }
 
 /// The status of a job that ended so, after a line on standard error if by a fault.
-fn ended<F: Display + Drop>(rt: &impl Eprint, job: Result<(), F>) -> io::Result<ExitCode> {
+fn ended<F: Display + Drop>(rt: &impl Eprint, job: Result<(), F>) -> ExitCode {
     match job {
-        Ok(()) => Ok(ExitCode::SUCCESS),
+        Ok(()) => ExitCode::SUCCESS,
         Err(fault) => fail(rt, &fault, 1),
     }
 }
 
-/// One line on standard error, and the status.
-fn fail(rt: &impl Eprint, text: &impl Display, status: u8) -> io::Result<ExitCode> {
-    eprintln!(rt; "esr: {text}")?;
-    Ok(ExitCode::from(status))
+/// One line on standard error, and the status, which stays where standard error takes nothing.
+fn fail(rt: &impl Eprint, text: &impl Display, status: u8) -> ExitCode {
+    let _ = eprintln!(rt; "esr: {text}");
+    ExitCode::from(status)
 }

@@ -7,7 +7,7 @@ use Rattle.esr_script.specs.declared.asked.Asked.{Asked}
 use Rattle.esr_script.specs.Ask.{IsAnswered}
 use Rattle.esr_script.specs.Text.{ScriptState, transaction_called}
 use Rattle.esr_explain.specs.Explain.{explanation}
-use Rattle.esr_explain.specs.Written.{IsExplanationOf}
+use Rattle.esr_explain.specs.Written.{explained}
 use Rattle.std.proofs.lemmas.Grind.{common_steps}
 
 -- the parts of an explanation, one after another
@@ -19,15 +19,14 @@ joined r c b a s after_r after_c after_b after_a after_s is_r is_c is_b is_a is_
 query_is : (s : ScriptState) (name : List ℕ) (a : Asked) → IsAnswered s name a → a.finding.query.0 ≡ (transaction_called s name).0
 query_is s name a h = ap (λ (t : ℕ × ℕ × ℕ × List ℕ). t.0) h.finding.told
 
-told_so : (s : ScriptState) (name : List ℕ) (a : Asked) → IsAnswered s name a → summary a.finding ≡ summary_of weighted a.history.schedule a.finding.query.0
+pub told_so : (s : ScriptState) (name : List ℕ) (a : Asked) → IsAnswered s name a → summary a.finding ≡ summary_of weighted a.history.schedule a.finding.query.0
 told_so s name a h = grind (arith, query_is s name a h)
 
 -- the explanation of what was asked for
 pub explained_told : (s : ScriptState) (name : List ℕ) (a : Asked) → IsAnswered s name a → (text : List ℕ)
-    → IsExplanationOf a text
-    → text ≡ explanation weighted s.history s.items s.transactions (transaction_called s name).0
+    → text ≡ explanation weighted a.history.schedule a.items a.transactions a.finding.query.0 → text ≡ explained s name
 explained_told s name a h text is =
-    is (told_so s name a h)
+    is
     ∙ (ap (λ (k : Schedule). explanation weighted k a.items a.transactions a.finding.query.0) h.history
     ∙ (ap (λ names. explanation weighted s.history names a.transactions a.finding.query.0) h.items
     ∙ (ap (λ names. explanation weighted s.history s.items names a.finding.query.0) h.transactions

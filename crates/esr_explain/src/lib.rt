@@ -9,4 +9,4 @@ mod others;
 mod reads;
 mod text;
 
-pub use explaining::explain;
+pub use explaining::Explaining;

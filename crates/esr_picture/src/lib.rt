@@ -3,4 +3,4 @@
 
 mod drawing;
 
-pub use drawing::picture;
+pub use drawing::Drawing;

@@ -9,7 +9,7 @@ use Rattle.esr_script.specs.declared.fault.RunFault.{RunFault}
 use Rattle.esr_script.specs.declared.fault.RunFault.TheVariants as fault
 use Rattle.esr_script.specs.Text.{ScriptState, transaction_called, final}
 use Rattle.esr_script.specs.Ask.{IsAnswered, IsAsked}
-use Rattle.esr_script.specs.Ends.{IsWhole, IsReachedBy, IsWrittenBy, IsToldBy}
+use Rattle.esr_script.specs.Ends.{IsWhole, IsReachedBy, IsWrittenBy}
 use Rattle.std.proofs.lemmas.Grind.{common_steps}
 
 module _ (input : List ℕ) (left : Option (List ℕ)) where
@@ -54,22 +54,6 @@ module _ (input : List ℕ) (left : Option (List ℕ)) where
       → (written : List ℕ) × Appends old new written × IsWrittenBy Q N input left r written
   written_sent Q N text read whole is (Ok u) old new out ok err = (text, ok.1, (read, whole, is))
   written_sent Q N text read whole is (Err e) old new out ok err = grind (arith, common_steps)
-
-  -- a text of which more is known
-  pub written_of : (P Q : List ℕ → Type 0) (N : Type 0) → ((text : List ℕ) → P text → Q text) → (r : Result (Unit {0}) RunFault) (written : List ℕ)
-      → IsWrittenBy P N input left r written → IsWrittenBy Q N input left r written
-  written_of P Q N more (Ok u) written h = (h.0, h.1, more written h.2)
-  written_of P Q N more (Err fault.Read) written h = h
-  written_of P Q N more (Err fault.Write) written h = (h.0, h.1, more h.1 h.2, h.3)
-  written_of P Q N more (Err fault.NoMemory) written h = h
-  written_of P Q N more (Err fault.LineTooLong) written h = h
-  written_of P Q N more (Err fault.HistoryFull) written h = h
-  written_of P Q N more (Err fault.TooManyLines) written h = h
-  written_of P Q N more (Err fault.NotACommittedQuery) written h = h
-
-pub told_of : (input name : List ℕ) (left : Option (List ℕ)) (P Q : List ℕ → Type 0) → ((text : List ℕ) → P text → Q text) → (r : Result (Unit {0}) RunFault) (written : List ℕ)
-    → IsToldBy P input name left r written → IsToldBy Q input name left r written
-told_of input name left P Q more r written h = written_of input left _ _ _ (λ text k. (k.0, more text k.1)) r written h
 
 -- what is asked after a replay
 pub asked_after : (input name : List ℕ) (left : Option (List ℕ)) (s : ScriptState) (r : Result Asked RunFault) → Consumes (Some input) left input → IsWhole input → final input ≡ s

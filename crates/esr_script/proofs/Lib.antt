@@ -1,6 +1,5 @@
 pub mod Steps
 pub mod Held
-pub mod ReaderToWriter
 pub mod Replays
 pub mod Ends
 pub mod Asks

@@ -28,7 +28,3 @@ pub record IsAnswered (s : ScriptState) (name : List ℕ) (a : Asked) : Type 0 w
 -- Asking for the query of that name, given the input, left these bytes of it and ended so.
 abbrev pub IsAsked : List ℕ → List ℕ → Option (List ℕ) → Result Asked RunFault → Type 0
 IsAsked input name left r = IsReachedBy (IsAnswered (final input) name) (IsNoQuery input name) input left r
-
--- the text is such a one of the answer to that name
-abbrev pub IsMadeBy : (Asked → List ℕ → Type 0) → ScriptState → List ℕ → List ℕ → Type 0
-IsMadeBy IsTextOf s name text = (a : Asked) × IsAnswered s name a × IsTextOf a text

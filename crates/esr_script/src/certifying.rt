@@ -1,56 +1,46 @@
 //! Certifies a query of a script: the whole script is run without its output, and the query's bundle is written.
 
-ghost use Rattle.std.specs.Prelude.{◌≡◌, true, false};
+ghost use Rattle.std.specs.Prelude.{◌≡◌, true, false, IfOk};
 ghost use Rattle.esr_history.specs.Watch.{failed};
-ghost use Rattle.esr_script.specs.Certify.{IsCertifiedBy};
+ghost use Rattle.esr_script.specs.Certify.{IsBundleLine, IsCertifiedBy};
 ghost use Rattle.esr_script.specs.Replays.{bundle_line};
 ghost use Rattle.esr_script.specs.ReaderToWriter.{ReadsAndWrites};
+ghost use Rattle.esr_script.specs.Text.{transaction_called};
 
 use crate::asked::Asked;
 use crate::fault::RunFault;
 use crate::telling::{Telling, tell};
+use esr_audit::Finding;
 use esr_bundle::to_json;
 use esr_history::Watched;
 use std::alloc::{AllocError, Global};
 use std::io::{Read, Write};
 
-/// The bundle of a query, and a line feed.
-#[derive(Drop)]
+/// The bundle of a finding, and a line feed. The certificate loses its count of augmentations unless `steps`.
+fn bundle_line(alloc: Global, finding: &mut Finding, steps: bool) -> Result<Vec<u8>, AllocError>
+    ensures { IfOk result (λ v. v.items ≡ bundle_line steps finding.old) }
+{
+    if !steps {
+        finding.certificate.augmentations = None;
+    }
+    let Ok(mut text) = to_json(alloc, &finding.problem, &finding.certificate) else {
+        return Err(AllocError);
+    };
+    text.push(b'\n')?;
+    Ok(text)
+}
+
+/// The bundle of a query, with the count of augmentations if `steps`, and a line feed.
 struct Bundling {
-    /// With the count of augmentations.
     steps: bool,
 }
 
 impl Telling for Bundling {
-    ghost IsTextOf = { λ b a text. text ≡ bundle_line b.steps a.finding };
+    ghost IsTextOf = { λ b s name text. IsBundleLine b.steps s.history (transaction_called s name).0 text };
 
     fn text_of(&self, alloc: Global, asked: &mut Asked) -> Result<Vec<u8>, AllocError> {
-        let finding = &mut asked.finding;
-        if !self.steps {
-            finding.certificate.augmentations = None;
-        }
-        let Ok(mut text) = to_json(alloc, &finding.problem, &finding.certificate) else {
-            return Err(AllocError);
-        };
-        text.push(b'\n')?;
-        Ok(text)
+        bundle_line(alloc, &mut asked.finding, self.steps)
     }
-}
-
-/// Certifies with the count of augmentations or without.
-fn certify_with<R: Read, W: Write>(
-    alloc: Global,
-    reader: &mut Watched<R>,
-    writer: &mut Watched<W>,
-    name: &str,
-    steps: bool,
-) -> Result<(), RunFault>
-    requires reader { failed reader.old ≡ false }
-    requires writer { failed writer.old ≡ false }
-    ensures { ReadsAndWrites R.remaining W.contents reader.old reader.new writer.old writer.new
-        (λ input. IsCertifiedBy steps input name.now) result }
-{
-    tell(alloc, reader, writer, name, &Bundling { steps })
 }
 
 /// Runs a script without writing its output, and writes the bundle of its query of that name, and a line feed.
@@ -68,7 +58,7 @@ pub fn certify<R: Read, W: Write>(
     ensures { ReadsAndWrites R.remaining W.contents reader.old reader.new writer.old writer.new
         (λ input. IsCertifiedBy false input name.now) result }
 {
-    certify_with(alloc, reader, writer, name, false)
+    tell(alloc, reader, writer, name, &Bundling { steps: false })
 }
 
 /// The same with the count of augmentations.
@@ -83,5 +73,5 @@ pub fn certify_steps<R: Read, W: Write>(
     ensures { ReadsAndWrites R.remaining W.contents reader.old reader.new writer.old writer.new
         (λ input. IsCertifiedBy true input name.now) result }
 {
-    certify_with(alloc, reader, writer, name, true)
+    tell(alloc, reader, writer, name, &Bundling { steps: true })
 }

@@ -2,7 +2,6 @@
 
 ghost use Rattle.std.specs.Prelude.{◌≡◌, ℕ, List, IfOk, IfErr, Ok, true, false, Some};
 ghost use Rattle.esr_history.specs.Watch.{inner, failed};
-ghost use Rattle.esr_script.specs.Ask.{IsMadeBy};
 ghost use Rattle.esr_script.specs.Ends.{IsReachedBy, IsNoQuery, IsToldBy, is_query};
 ghost use Rattle.esr_script.specs.Parts.{is_read_fault, is_write_fault};
 ghost use Rattle.esr_script.specs.ReaderToWriter.{ReadsAndWrites};
@@ -15,16 +14,18 @@ use esr_history::Watched;
 use std::alloc::{AllocError, Global};
 use std::io::{Read, Write};
 
-/// A text of what a script tells of one of its queries.
+/// A text that is told of a query of a script.
 pub trait Telling {
-    ghost use Rattle.esr_script.specs.declared.asked.Asked.{Asked};
+    ghost use Rattle.esr_script.specs.Ask.{IsAnswered};
+    ghost use Rattle.esr_script.specs.Text.{ScriptState};
 
-    /// Whether it is the text of such an answer.
-    ghost IsTextOf: { Self → Asked → List ℕ → Type 0 };
+    /// Whether it is the text of the query of that name after a script.
+    ghost IsTextOf: { Self → ScriptState → List ℕ → List ℕ → Type 0 };
 
-    /// The text. The answer may be used up for it.
+    /// The text of the query that was asked for. The answer may be used up for it.
     fn text_of(&self, alloc: Global, asked: &mut Asked) -> Result<Vec<u8>, AllocError>
-        ensures { IfOk result (λ text. IsTextOf self.now asked.old text.items) };
+        ensures { (s : ScriptState) (name : List ℕ) → IsAnswered s name asked.old
+            → IfOk result (λ text. IsTextOf self.now s name text.items) };
 }
 
 /// What was made, with the fault of the run where it was not.
@@ -50,7 +51,7 @@ fn told<R: Read, T: Telling>(
     requires reader { failed reader.old ≡ false }
     ensures told { (input : List ℕ) → R.remaining (inner reader.old) ≡ Some input
         → IsReachedBy (λ text. (is_query input name.now ≡ true)
-        × IsMadeBy (T.IsTextOf telling.now) (final input) name.now text.items)
+        × T.IsTextOf telling.now (final input) name.now text.items)
         (IsNoQuery input name.now) input (R.remaining (inner reader.new)) result }
     ensures reader { failed reader.new ≡ is_read_fault result }
     ensures write { is_write_fault result ≡ false }
@@ -76,7 +77,7 @@ pub fn tell<R: Read, W: Write, T: Telling>(
     requires reader { failed reader.old ≡ false }
     requires writer { failed writer.old ≡ false }
     ensures { ReadsAndWrites R.remaining W.contents reader.old reader.new writer.old writer.new
-        (λ input. IsToldBy (IsMadeBy (T.IsTextOf telling.now) (final input) name.now) input name.now) result }
+        (λ input. IsToldBy (T.IsTextOf telling.now (final input) name.now) input name.now) result }
 {
     let mut text = match told(alloc, reader, name, telling) {
         Ok(text) => text,

@@ -2,4 +2,4 @@ use Rattle.esr_script.proofs.certifying.certify_steps.Goals as goal
 
 -- by what the call ensures, and by nothing else
 pub returns : goal.returns
-returns g c = search c.certify_with.ensures depth 1
+returns g c = search c.tell.ensures depth 1

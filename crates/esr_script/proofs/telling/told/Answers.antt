@@ -10,4 +10,4 @@ pub returns-in-Ok-clause-told : goal.returns-in-Ok-clause-told
 returns-in-Ok-clause-told g c input known =
     let asked = c.in-Ok.ensures.asked input known in
     reached_made input (g.R.Read.remaining (inner c.ask.new.reader)) _ _ _ c.text_of.result c.made.result asked.0 asked.1
-    c.text_of.ensures (λ text is. (asked.2.finding.committed, (c.in-Ok.asked, asked.2, is))) c.made.ensures.ok c.made.ensures.faults
+    (c.text_of.ensures _ _ asked.2) (λ text is. (asked.2.finding.committed, is)) c.made.ensures.ok c.made.ensures.faults

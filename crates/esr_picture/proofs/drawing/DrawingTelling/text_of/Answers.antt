@@ -1,0 +1,4 @@
+use Rattle.esr_picture.proofs.drawing.DrawingTelling.text_of.Goals as goal
+
+pub returns : goal.returns
+returns c s name answered = c.draw.ensures
