@@ -1,8 +1,6 @@
 -- The transactions that committed in a history.
-use Rattle.std.proofs.Common.{◌≡◌, ℕ, ◌+◌, ◌≤◌, ◌<◌, ◌==◌, eqb, arith, subst, true, false, not, List, [], ◌∷◌, length, filter, map, refl, sym, ap, ◌∙◌, inl, inr, Option, Some, None, All}
-use Rattle.std.specs.Prelude.{IsTrue, is_some, unwrap_or}
+use Rattle.std.proofs.Common.{◌≡◌, ℕ, ◌+◌, ◌≤◌, ◌<◌, ◌==◌, eqb, arith, subst, true, false, not, List, [], ◌∷◌, length, filter, map, refl, sym, ap, ◌∙◌, inl, inr, Option, Some, None, All, IsTrue, is_some, unwrap_or, option_map}
 use Rattle.std.specs.List.{list_any, AllByRecursion, IsDistinct}
-use Rattle.std.specs.Option.{option_map}
 use Rattle.std.proofs.lemmas.Bool.{and_from, or_left, or_right, eq-eqb, ne_eqb, eqb-true}
 use Rattle.std.proofs.lemmas.Map.Steps.{length-le_from_distinct_below}
 use Rattle.std.proofs.lemmas.List.Elements.{All-from_recursion}

@@ -5,8 +5,7 @@ use Rattle.std.proofs.lemmas.Int.{ints}
 use Rattle.std.proofs.lemmas.List.{take_more, map-append}
 use Rattle.esr_history.proofs.Charges.{range-push}
 use Rattle.esr_items.specs.Values.{IsValue}
-use Rattle.esr_audit.specs.declared.reads.ItemRead.{ItemRead}
-use Rattle.esr_audit.specs.Reads.{values_of}
+use Rattle.esr_audit.specs.Reads.{values_of, ItemRead}
 
 pub value_fits : (v : ℤ) → IsValue v → FitsSigned w64 v
 value_fits v h = omega (arith, ints)

@@ -1,6 +1,5 @@
 -- What is gathered are the reads of the query.
-use Rattle.std.proofs.Common.{◌≡◌, ℕ, ◌≤◌, ◌<◌, not, List, [], ◌∷◌, length, filter, map, refl, ap, ◌∙◌, arith, All}
-use Rattle.std.specs.Prelude.{IsTrue}
+use Rattle.std.proofs.Common.{◌≡◌, ℕ, ◌≤◌, ◌<◌, not, List, [], ◌∷◌, length, filter, map, refl, ap, ◌∙◌, arith, All, IsTrue}
 use Rattle.std.specs.List.{AllByRecursion}
 use Rattle.std.proofs.lemmas.List.{length-map}
 use Rattle.std.proofs.lemmas.List.Elements.{All-from_recursion}
@@ -13,8 +12,7 @@ use Rattle.esr_history.specs.Ranges.{IsWithinRanges}
 use Rattle.esr_order.specs.declared.accesses.Access.{Access}
 use Rattle.esr_order.specs.Scans.{access_of, accesses_in}
 use Rattle.esr_order.proofs.Accessed.{reads_are}
-use Rattle.esr_audit.specs.declared.reads.ItemRead.{ItemRead}
-use Rattle.esr_audit.specs.Reads.{item_read_in, item_read_of}
+use Rattle.esr_audit.specs.Reads.{item_read_in, item_read_of, ItemRead}
 use Rattle.esr_audit.proofs.Within.{reads_counted, reads_in_range}
 
 -- the reads among the accesses of q are its reads

@@ -1,6 +1,5 @@
 -- The problem that is made for a query is the one gathered from an order, which is sound.
-use Rattle.std.proofs.Common.{◌≡◌, ◌≤◌, ◌^◌, ◌*◌, ℕ, ℤ, suc, true, List, length, map, filter, take, sym, ap, ◌∙◌, subst, All}
-use Rattle.std.specs.Prelude.{IsTrue}
+use Rattle.std.proofs.Common.{◌≡◌, ◌≤◌, ◌^◌, ◌*◌, ℕ, ℤ, suc, true, List, length, map, filter, take, sym, ap, ◌∙◌, subst, All, IsTrue}
 use Rattle.std.specs.List.{range_with_len}
 use Rattle.std.proofs.lemmas.List.Elements.{All-from_recursion}
 use Rattle.esr_items.specs.Values.{IsValue}
@@ -15,8 +14,7 @@ use Rattle.esr_order.specs.Near.{AreNear, has_written}
 use Rattle.esr_cert.specs.declared.problem.Chain.{Chain}
 use Rattle.esr_cert.specs.Views.{chain_of, problem_of}
 use Rattle.esr_cert.specs.Problem.{Problem, is_sound}
-use Rattle.esr_audit.specs.declared.reads.ItemRead.{ItemRead}
-use Rattle.esr_audit.specs.Reads.{gathered, items_in, values_in, item_read_of}
+use Rattle.esr_audit.specs.Reads.{gathered, items_in, values_in, item_read_of, ItemRead}
 use Rattle.esr_audit.proofs.Versions.{versions_are}
 use Rattle.esr_audit.proofs.Standing.{problem_from}
 use Rattle.esr_audit.proofs.Within.{state_in_range, sound, each_mapped}

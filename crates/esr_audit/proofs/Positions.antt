@@ -1,6 +1,5 @@
 -- A set of positions as a list, and the transactions at them.
-use Rattle.std.proofs.Common.{◌≡◌, ℕ, zero, suc, ◌+◌, ◌<◌, ◌≤◌, Bool, true, false, cond, not, ◌||◌, eqb, List, [], ◌∷◌, length, filter, refl, sym, ap, ◌∙◌, inl, inr, arith, Option, Some}
-use Rattle.std.specs.Prelude.{nat_lt}
+use Rattle.std.proofs.Common.{◌≡◌, ℕ, zero, suc, ◌+◌, ◌<◌, ◌≤◌, Bool, true, false, cond, not, ◌||◌, eqb, List, [], ◌∷◌, length, filter, refl, sym, ap, ◌∙◌, inl, inr, arith, Option, Some, nat_lt}
 use Rattle.std.specs.List.{list_all, filter_map, cons_option, slice_get, range_with_len, AllByRecursion}
 use Rattle.std.proofs.lemmas.Bool.{cases_eq, eq-eqb, ne_eqb, true≢false, and_parts, or_left, or_right, ltb-true, not-true}
 use Rattle.std.proofs.lemmas.Option.{same_Some}

@@ -1,6 +1,5 @@
 -- The problem gathered from an order of a query stands for the query.
-use Rattle.std.proofs.Common.{◌≡◌, ◌≢◌, ℕ, zero, suc, ◌+◌, ◌<◌, ◌≤◌, ◌↔◌, Bool, true, ◌&&◌, ◌||◌, eqb, List, [], ◌∷◌, length, filter, map, refl, sym, ap, ◌∙◌, subst, inl, inr, arith, Some, Contains}
-use Rattle.std.specs.Prelude.{All, AllPairs, IsTrue, nat_lt}
+use Rattle.std.proofs.Common.{◌≡◌, ◌≢◌, ℕ, zero, suc, ◌+◌, ◌<◌, ◌≤◌, ◌↔◌, Bool, true, ◌&&◌, ◌||◌, eqb, List, [], ◌∷◌, length, filter, map, refl, sym, ap, ◌∙◌, subst, inl, inr, arith, Some, Contains, All, AllPairs, IsTrue, nat_lt}
 use Rattle.std.specs.List.{list_any, slice_get, range_with_len, AllByRecursion}
 use Rattle.std.proofs.lemmas.Bool.{cases_eq, eqb-true, eq-eqb, ne_eqb, and_from, lt-ltb}
 use Rattle.std.proofs.lemmas.Option.{slice_get-get_or}
@@ -19,9 +18,8 @@ use Rattle.esr_order.specs.Near.{AreNear, has_written}
 use Rattle.esr_order.proofs.NearLaws.{near_closed, near_writers}
 use Rattle.esr_cert.specs.Problem.{Problem, is_closed, in_set, is_ascending}
 use Rattle.esr_cert.proofs.Sound as sound
-use Rattle.esr_audit.specs.declared.reads.ItemRead.{ItemRead}
 use Rattle.esr_audit.specs.Problems.{passes_at, places, items_read, writers_of, chain_for, StandsFor}
-use Rattle.esr_audit.specs.Reads.{gathered, items_in, item_read_of}
+use Rattle.esr_audit.specs.Reads.{gathered, items_in, item_read_of, ItemRead}
 use Rattle.esr_audit.proofs.Smallest.{passes_here, among_element}
 use Rattle.esr_audit.proofs.Positions.{filter_agree, ascending_range}
 use Rattle.esr_audit.proofs.Versions.{read_alike, gathered_stands}

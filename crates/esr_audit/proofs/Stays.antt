@@ -1,6 +1,5 @@
 -- The answer of an audit stays in longer histories.
-use Rattle.std.proofs.Common.{◌≡◌, ℕ, ◌≤◌, Bool, true, List, [], ◌∷◌, sym, ap, ◌∙◌, subst, arith, filter, map, Contains, Ok, Err, inl, inr, ⊎_elim}
-use Rattle.std.specs.Prelude.{All, IsTrue, Result, IfOk}
+use Rattle.std.proofs.Common.{◌≡◌, ℕ, ◌≤◌, Bool, true, List, [], ◌∷◌, sym, ap, ◌∙◌, subst, arith, filter, map, Contains, Ok, Err, inl, inr, ⊎_elim, All, IsTrue, Result, IfOk}
 use Rattle.std.proofs.lemmas.List.Elements.{All-from_recursion, recursion_from_All}
 use Rattle.esr_history.specs.declared.event.TxnId.{TxnId}
 use Rattle.esr_history.specs.declared.event.Entry.{Entry}
@@ -13,10 +12,8 @@ use Rattle.esr_history.specs.Queries.{updates_of, cost, IsAlike}
 use Rattle.esr_order.specs.Placements.{is_among, IsClosed, IsLeastSet, IsSmallestLeastSet}
 use Rattle.esr_order.specs.Statements.{ClosedSetsAreParts}
 use Rattle.esr_order.proofs.Ordered.{law_of_placements}
-use Rattle.esr_audit.specs.declared.finding.Finding.{Finding}
 use Rattle.esr_audit.specs.declared.finding.Book.{Book}
-use Rattle.esr_audit.specs.declared.finding.AuditError.{AuditError}
-use Rattle.esr_audit.specs.Findings.{IsAnswer, IsFinding, IsBook}
+use Rattle.esr_audit.specs.Findings.{IsAnswer, IsFinding, IsBook, Finding, AuditError}
 use Rattle.esr_audit.proofs.Committed.{query_committed}
 
 module _ (d : Distance) (h longer : Schedule) (q : ℕ) (alike : IsAlike d h longer q) where

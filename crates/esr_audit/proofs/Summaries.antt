@@ -1,11 +1,9 @@
 -- The summaries of findings are those of their queries.
-use Rattle.std.proofs.Common.{◌≡◌, ℕ, suc, List, [], ◌∷◌, map, refl, ap, ◌∙◌, arith}
-use Rattle.std.specs.Prelude.{All}
+use Rattle.std.proofs.Common.{◌≡◌, ℕ, suc, List, [], ◌∷◌, map, refl, ap, ◌∙◌, arith, All}
 use Rattle.esr_history.specs.Machine.{Distance, Schedule}
 use Rattle.esr_order.specs.Placements.{is_among}
 use Rattle.esr_order.proofs.Least.{law_of_listed_sets}
-use Rattle.esr_audit.specs.declared.finding.Finding.{Finding}
-use Rattle.esr_audit.specs.Findings.{IsFinding, summary, summary_of}
+use Rattle.esr_audit.specs.Findings.{IsFinding, summary, summary_of, Finding}
 
 pub summary_is : (d : Distance) (h : Schedule) (f : Finding) → IsFinding d h f → summary f ≡ summary_of d h f.query.0
 summary_is d h f is =

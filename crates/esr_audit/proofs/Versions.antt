@@ -1,6 +1,5 @@
 -- The versions of an item in an order are the values that its first writers leave.
-use Rattle.std.proofs.Common.{◌≡◌, ℕ, zero, suc, ℤ, ◌+◌, Bool, true, false, ◌||◌, cond, eqb, List, [], ◌∷◌, length, take, filter, map, flat_map, sum_by, refl, sym, ap, ◌∙◌, arith, Option, Some, None, append-nil}
-use Rattle.std.specs.Prelude.{is_some}
+use Rattle.std.proofs.Common.{◌≡◌, ℕ, zero, suc, ℤ, ◌+◌, Bool, true, false, ◌||◌, cond, eqb, List, [], ◌∷◌, length, take, filter, map, flat_map, sum_by, refl, sym, ap, ◌∙◌, arith, Option, Some, None, append-nil, is_some}
 use Rattle.std.specs.List.{list_any, filter_map, cons_option, slice_get, slice_index_or, range_with_len, last_or, AllByRecursion}
 use Rattle.std.proofs.lemmas.List.Sums.{sum_by-cons}
 use Rattle.std.proofs.lemmas.Option.{get_or_from_slice_get}
@@ -15,10 +14,9 @@ use Rattle.esr_history.proofs.LastWriter.{last_value-append, last_value-some}
 use Rattle.esr_order.specs.Chains.{Chain, chain_from, some_chain, if_written, last_of, last_among, chain_among, writers_in}
 use Rattle.esr_order.specs.Orders.{Ordered, chain_at}
 use Rattle.esr_cert.specs.Problem as problems
-use Rattle.esr_audit.specs.declared.reads.ItemRead.{ItemRead}
 use Rattle.esr_order.specs.Near.{has_written}
 use Rattle.esr_audit.specs.Problems.{passes_at, places, writers_of, version_cost, chain_for}
-use Rattle.esr_audit.specs.Reads.{values_of, distance_sum, values_in, gathered, item_read_of}
+use Rattle.esr_audit.specs.Reads.{values_of, distance_sum, values_in, gathered, item_read_of, ItemRead}
 use Rattle.esr_audit.proofs.Values.{values_none, values_some, writers_leave}
 use Rattle.esr_audit.proofs.Places.{length-places}
 

@@ -1,8 +1,6 @@
 -- The problem gathered from an order of a query of a legal history is within the ranges of problems.
-use Rattle.std.proofs.Common.{◌≡◌, ℕ, zero, suc, ℤ, ◌+◌, ◌*◌, ◌^◌, ◌<◌, ◌≤◌, Bool, true, false, cond, not, ◌&&◌, eqb, List, [], ◌∷◌, ◌++◌, length, filter, map, flat_map, take, sum_by, count_by, refl, sym, ap, ◌∙◌, subst, inl, inr, arith, Option, Some, None, All, Contains}
-use Rattle.std.specs.Prelude.{IsTrue, nat_lt, nat_le, is_some, unwrap_or, slice_get}
+use Rattle.std.proofs.Common.{◌≡◌, ℕ, zero, suc, ℤ, ◌+◌, ◌*◌, ◌^◌, ◌<◌, ◌≤◌, Bool, true, false, cond, not, ◌&&◌, eqb, List, [], ◌∷◌, ◌++◌, length, filter, map, flat_map, take, sum_by, count_by, refl, sym, ap, ◌∙◌, subst, inl, inr, arith, Option, Some, None, All, Contains, IsTrue, nat_lt, nat_le, is_some, unwrap_or, slice_get, option_map}
 use Rattle.std.specs.List.{list_all, list_any, filter_map, cons_option, range_with_len, AllByRecursion, before_first}
-use Rattle.std.specs.Option.{option_map}
 use Rattle.std.proofs.lemmas.Bool.{and_from, true≢false, lt-ltb, le-leb, eq-eqb}
 use Rattle.std.proofs.lemmas.List.{length-map}
 use Rattle.std.proofs.lemmas.List.Sums.{sum_by-cons, sum_by-le, sum_by-le-sum_by}

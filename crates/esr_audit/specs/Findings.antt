@@ -1,6 +1,5 @@
 -- What an audit finds of a committed query.
-use Rattle.std.specs.Prelude.{◌≡◌, ◌≤◌, ℕ, List, All, filter, map, Some}
-use Rattle.std.specs.List.{filter_map, slice_get}
+use Rattle.std.specs.Prelude.{◌≡◌, ◌≤◌, ℕ, List, All, filter, map, Some, filter_map, slice_get}
 use Rattle.esr_history.specs.Events.{is_query}
 use Rattle.esr_history.specs.Machine.{Distance, Schedule, done, charges_in, import_in}
 use Rattle.esr_history.specs.Operations.{commit_order}
@@ -16,9 +15,9 @@ use Rattle.esr_flow.specs.Augmentation.{Takes}
 use Rattle.esr_order.specs.declared.order.OrderError.{OrderError}
 use Rattle.esr_order.specs.declared.order.OrderError.TheVariants.{NotACommittedQuery, NoMemory}
 use Rattle.esr_cert.specs.Views.{certificate_of}
-use Rattle.esr_audit.specs.declared.finding.Finding.{Finding}
+pub use Rattle.esr_audit.specs.declared.finding.Finding.{Finding}
 use Rattle.esr_audit.specs.declared.finding.Book.{Book}
-use Rattle.esr_audit.specs.declared.finding.AuditError.{AuditError}
+pub use Rattle.esr_audit.specs.declared.finding.AuditError.{AuditError}
 use Rattle.esr_audit.specs.declared.finding.AuditError.TheVariants as refusals
 use Rattle.esr_audit.specs.Problems.{StandsFor}
 

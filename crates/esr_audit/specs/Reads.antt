@@ -8,7 +8,7 @@ use Rattle.esr_order.specs.Chains.{writers_in}
 use Rattle.esr_order.specs.Chains as orders
 use Rattle.esr_order.specs.Orders.{Ordered, chain_at}
 use Rattle.esr_cert.specs.Problem.{Chain}
-use Rattle.esr_audit.specs.declared.reads.ItemRead.{ItemRead}
+pub use Rattle.esr_audit.specs.declared.reads.ItemRead.{ItemRead}
 
 -- a read, as what was read of an item
 abbrev pub item_read_of : Operation → ItemRead

@@ -1,6 +1,5 @@
 //! Audits: what is found of the committed queries of a history.
-ghost use Rattle.std.specs.Prelude.{◌≡◌, ◌↔◌, false, List, map, All, IfOk, IfErr, IsErrOf, IsTrue};
-ghost use Rattle.std.specs.List.{filter_map, slice_get};
+ghost use Rattle.std.specs.Prelude.{◌≡◌, ◌↔◌, false, List, map, All, IfOk, IfErr, IsErrOf, IsTrue, filter_map, slice_get};
 ghost use Rattle.esr_history.specs.declared.event.Entry.{Entry};
 ghost use Rattle.esr_history.specs.Legal.{along};
 ghost use Rattle.esr_history.specs.Machine.{IsLegal, done};

@@ -1,12 +1,11 @@
 //! The chains of a query's problem.
-ghost use Rattle.std.specs.Prelude.{◌≡◌, ◌<◌, ◌≤◌, ◌∷◌, ◌==◌, ℕ, length, map, All, IfOk};
+ghost use Rattle.std.specs.Prelude.{◌≡◌, ◌<◌, ◌≤◌, ◌∷◌, ◌==◌, ℕ, length, map, All, IfOk, option_map};
 ghost use Rattle.std.specs.List.{list_any};
 ghost use Rattle.esr_items.specs.Values.{IsValue};
 ghost use Rattle.esr_history.specs.declared.limits.TheConstants.{MOST_READS};
 ghost use Rattle.esr_order.specs.Chains as orders;
 ghost use Rattle.esr_order.specs.Orders.{chain_at};
 ghost use Rattle.esr_cert.specs.Views.{chain_of as chain_view};
-ghost use Rattle.std.specs.Option.{option_map};
 ghost use Rattle.esr_order.specs.Chains.{seen_links, writers_in};
 ghost use Rattle.esr_audit.specs.Reads.{values_of, distance_sum, values_in, gathered, gathered_from, items_in};
 

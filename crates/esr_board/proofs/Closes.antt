@@ -5,14 +5,11 @@ use lib.ListN.{get_elem?}
 use Rattle.std.proofs.lemmas.Bool.{cases_lt}
 use Rattle.std.proofs.lemmas.List.Sums.{sum_by-cons, sum_by-append, sum_by_push}
 use Rattle.atomic_table.specs.Table.{State, Me}
-use Rattle.esr_board.specs.declared.hand.BoardSize.{BoardSize}
 use Rattle.std.proofs.lemmas.List.Concat.{flat_map-cons}
 use Rattle.esr_audit.proofs.Costs.{sum_mapped}
 use Rattle.atomic_table.proofs.Lists.{at_set}
-use Rattle.esr_board.specs.declared.hand.Hand.{Hand}
-use Rattle.esr_board.specs.declared.board.BoardSeat.{BoardSeat}
-use Rattle.esr_board.specs.Claims.{times, below, EachOnceBelow, passes_of, IdleIsEmpty, IsFair, IsKept, IsBoardAt, joined, spent}
-use Rattle.esr_board.specs.Boards.{hand_of, drawn, all_drawn}
+use Rattle.esr_board.specs.Claims.{times, below, EachOnceBelow, passes_of, IdleIsEmpty, IsFair, IsKept, IsBoardAt, joined, spent, BoardSize, Hand}
+use Rattle.esr_board.specs.Boards.{hand_of, drawn, all_drawn, BoardSeat}
 use Rattle.esr_board.proofs.Weights.{sum_set, ones, length-below, times-below-none, times-below-one}
 
 module _ {X : Type 0} where

@@ -6,9 +6,7 @@ use Rattle.std.proofs.lemmas.Bool.{cases_lt}
 use Rattle.std.proofs.lemmas.List.Sums.{sum_by-cons, sum_by-append, sum_by_push, sum_by-le-sum_by}
 use Rattle.atomic_table.specs.Table.{Me, step, keeps, stepped, Allows, Splits, Joins}
 use Rattle.atomic_table.proofs.Lists.{at_set, at_snoc, set_else}
-use Rattle.esr_board.specs.declared.hand.Hand.{Hand}
-use Rattle.esr_board.specs.declared.hand.BoardSize.{BoardSize}
-use Rattle.esr_board.specs.Claims.{times, count_past, below, passes_of, IsFair, IsKept, first_hand, with_claim, Claimed, with_one_less, one_pass, joined, spent}
+use Rattle.esr_board.specs.Claims.{times, count_past, below, passes_of, IsFair, IsKept, first_hand, with_claim, Claimed, with_one_less, one_pass, joined, spent, Hand, BoardSize}
 use Rattle.esr_board.proofs.Weights.{sum_set, part_le, ones, length-below, past_yes, past_no, count_past_push, count_past-below, times-below-none, times_at}
 
 -- the word never passes the jobs by more than the seats

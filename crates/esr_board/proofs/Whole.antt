@@ -6,9 +6,8 @@ use Rattle.std.proofs.lemmas.List.Elements.{All-append}
 use borrow.Author.Tests.{lt-leb}
 use Rattle.esr_history.specs.declared.event.TxnId.{TxnId}
 use Rattle.esr_audit.specs.declared.finding.Finding.{Finding}
-use Rattle.esr_board.specs.declared.board.BoardSeat.{BoardSeat}
 use Rattle.esr_board.specs.Claims.{times, count_past, Drew, EachOnceBelow}
-use Rattle.esr_board.specs.Boards.{drawn, all_drawn}
+use Rattle.esr_board.specs.Boards.{drawn, all_drawn, BoardSeat}
 use Rattle.esr_board.specs.Shares.{IsFilled}
 use Rattle.esr_board.proofs.Closes.{sum_flat}
 

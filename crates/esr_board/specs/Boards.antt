@@ -1,8 +1,8 @@
 -- What callers see of a board and its seats.
 use Rattle.std.specs.Prelude.{◌≡◌, ℕ, List, flat_map}
-use Rattle.esr_board.specs.declared.hand.Hand.{Hand}
+use Rattle.esr_board.specs.Claims.{Hand}
 use Rattle.esr_board.specs.declared.board.Board.{Board}
-use Rattle.esr_board.specs.declared.board.BoardSeat.{BoardSeat}
+pub use Rattle.esr_board.specs.declared.board.BoardSeat.{BoardSeat}
 
 -- how many jobs a board has, and how many seats
 abbrev pub jobs_of : Board → ℕ

@@ -3,8 +3,8 @@ use Rattle.std.specs.Prelude.{◌≡◌, ℕ, zero, suc, ◌+◌, ◌-◌, ◌<�
 use mathlib.Core.Option.{some}
 use lib.ListN.{get_elem?}
 use Rattle.atomic_table.specs.Table.{State, Me, Step}
-use Rattle.esr_board.specs.declared.hand.Hand.{Hand}
-use Rattle.esr_board.specs.declared.hand.BoardSize.{BoardSize}
+pub use Rattle.esr_board.specs.declared.hand.Hand.{Hand}
+pub use Rattle.esr_board.specs.declared.hand.BoardSize.{BoardSize}
 
 abbrev pub hand : ℕ → ℕ → List ℕ → Hand
 hand jobs passes drawn = record { jobs = jobs; passes = passes; drawn = drawn }

@@ -1,6 +1,5 @@
 -- What is known where a call's error is handed on, and of a list one element of which fails a test.
-use Rattle.std.proofs.Common.{◌≡◌, ℕ, ◌+◌, ◌<◌, List, [], ◌∷◌, ◌++◌, Bool, true, false, Result, Ok, Err, IfErr, map, take, length, get_or, refl, sym, ap, ◌∙◌, subst, true≢false}
-use Rattle.std.specs.Result.{IsErrAnd}
+use Rattle.std.proofs.Common.{◌≡◌, ℕ, ◌+◌, ◌<◌, List, [], ◌∷◌, ◌++◌, Bool, true, false, Result, Ok, Err, IfErr, map, take, length, get_or, refl, sym, ap, ◌∙◌, subst, true≢false, IsErrAnd}
 use Rattle.std.specs.List.{list_all}
 use Rattle.std.proofs.lemmas.Bool.{false_from_ne_true, and_from, and_parts}
 use Rattle.std.proofs.lemmas.List.{length-map, take-map, map_more}

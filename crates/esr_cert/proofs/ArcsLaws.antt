@@ -3,10 +3,9 @@ use Rattle.std.proofs.Common.{◌≡◌, ℕ, zero, suc, ◌+◌, ◌-◌, ◌<�
 use Rattle.std.proofs.lemmas.List.{length-map, get_or-map, get_or_default}
 use Rattle.std.proofs.lemmas.Bool.{cases_lt}
 use Rattle.std.proofs.lemmas.List.Sums.{sum_by-cons}
-use Rattle.esr_cert.specs.declared.network.Arc.{Arc}
 use Rattle.esr_cert.specs.declared.problem.Chain as code
 use Rattle.esr_cert.specs.Problem.{Chain, Problem, size, is_sound}
-use Rattle.esr_cert.specs.Network.{arc_at, links, chain_links, back_arc, must_arc, back_arcs, must_arcs, network}
+use Rattle.esr_cert.specs.Network.{arc_at, links, chain_links, back_arc, must_arc, back_arcs, must_arcs, network, Arc}
 use Rattle.esr_cert.specs.Starts.{starts_from, joined, AreStarts}
 use Rattle.esr_history.specs.declared.event.TxnId.{TxnId}
 use Rattle.esr_cert.specs.Views.{chain_of, problem_of}

@@ -4,12 +4,9 @@ use Rattle.std.proofs.lemmas.Bool.{cases_order, cases_Bool, eqb-true}
 use Rattle.std.proofs.lemmas.List.{take_more, take_all, length-take-le}
 use Rattle.std.proofs.lemmas.List.Elements.{filter-append}
 use Rattle.std.proofs.lemmas.List.Sums.{sum_by-append}
-use Rattle.esr_cert.specs.declared.network.Arc.{Arc}
-use Rattle.esr_cert.specs.declared.residual.ResidualArc.{ResidualArc}
-use Rattle.esr_cert.specs.declared.residual.ResidualArc.TheVariants.{Forward, Backward}
-use Rattle.esr_cert.specs.Network.{arc_at, network}
+use Rattle.esr_cert.specs.Network.{arc_at, network, Arc}
 use Rattle.esr_cert.specs.Flow.{amount_at, carried, inflow, outflow, is_conserved_at, is_conserved}
-use Rattle.esr_cert.specs.Steps.{start}
+use Rattle.esr_cert.specs.Steps.{start, ResidualArc, Forward, Backward}
 use Rattle.esr_cert.specs.Rows.{first_steps, steps_from, row_of}
 use Rattle.esr_cert.specs.Balance.{amount_in, amount_out, is_balanced}
 use Rattle.esr_cert.proofs.Cut.{pick, pick_zero}

@@ -5,7 +5,7 @@ use Rattle.esr_cert.specs.Problem.{Problem, in_set, is_ascending, is_closed, cos
 use Rattle.esr_cert.specs.Network.{network}
 use Rattle.esr_cert.specs.Flow.{are_within, is_conserved, worth, IsFlow}
 use Rattle.esr_cert.specs.Certificate.{Certificate, amounts, is_known, are_rows_matched, is_within, worth_matches, is_count_in_bound, Certifies}
-use Rattle.esr_cert.specs.declared.certificate.Fault.{Fault}
+use Rattle.esr_cert.specs.Faults.{Fault}
 use Rattle.esr_cert.proofs.Flows.{flow_facts}
 use Rattle.esr_cert.proofs.Sound.{facts}
 use Rattle.esr_cert.proofs.Matched.{IsMatched}

@@ -3,14 +3,10 @@ use Rattle.std.proofs.Common.{◌≡◌, refl, ℕ, ◌+◌, ◌-◌, ◌*◌, �
 use Rattle.std.specs.List.Sorted.{IsNonDecreasingBy, IsPartitionPoint}
 use Rattle.std.proofs.lemmas.Bool.{cases_lt, ltb-true, ltb-false}
 use Rattle.std.proofs.lemmas.List.{get_or_default}
-use Rattle.esr_cert.specs.declared.network.Arc.{Arc}
-use Rattle.esr_cert.specs.declared.residual.ResidualArc.{ResidualArc}
-use Rattle.esr_cert.specs.declared.residual.ResidualArc.TheVariants.{Forward, Backward}
-use Rattle.esr_cert.specs.declared.rows.Span.{Span}
 use Rattle.esr_cert.specs.declared.rows.TheConstants.{MOST_ARCS}
-use Rattle.esr_cert.specs.Network.{arc_at, HaveEnds}
-use Rattle.esr_cert.specs.Steps.{arc_of, order_of, start, step_at, AreOnce}
-use Rattle.esr_cert.specs.Rows.{span_at, row_in, first_steps, steps_from, row_of, AreDegrees, AreRows, AreSteps, lengthen}
+use Rattle.esr_cert.specs.Network.{arc_at, HaveEnds, Arc}
+use Rattle.esr_cert.specs.Steps.{arc_of, order_of, start, step_at, AreOnce, ResidualArc, Forward, Backward}
+use Rattle.esr_cert.specs.Rows.{span_at, row_in, first_steps, steps_from, row_of, AreDegrees, AreRows, AreSteps, lengthen, Span}
 use Rattle.esr_cert.proofs.StepsLaws.{first_next, has_steps}
 use Rattle.esr_cert.proofs.RowsLaws.{row_length, at_row, Filled, filled_more, place_within, room_along, room_against, filled_all, step_with}
 

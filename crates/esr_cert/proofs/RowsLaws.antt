@@ -3,12 +3,9 @@ use Rattle.std.proofs.Common.{◌≡◌, ◌≢◌, ℕ, suc, ◌+◌, ◌-◌, 
 use Rattle.std.proofs.lemmas.Bool.{cases_eq, cases_lt}
 use Rattle.std.proofs.lemmas.List.{get_or-take, get_or-drop, take-take, ext_get_or, length_push, get_or_read}
 use Rattle.std.proofs.lemmas.List.Sums.{sum_by_more, sum_by-take-le, sum_by-cons, sum_by_more_le, sum_by-set, get_or-le-sum_by}
-use Rattle.esr_cert.specs.declared.network.Arc.{Arc}
-use Rattle.esr_cert.specs.declared.residual.ResidualArc.{ResidualArc}
-use Rattle.esr_cert.specs.declared.residual.ResidualArc.TheVariants.{Forward, Backward}
-use Rattle.esr_cert.specs.declared.rows.Span.{Span}
-use Rattle.esr_cert.specs.Steps.{start, step_at}
-use Rattle.esr_cert.specs.Rows.{row_in, span_at, first_steps, steps_from, row_of, AreDegrees, AreRows, longer}
+use Rattle.esr_cert.specs.Network.{Arc}
+use Rattle.esr_cert.specs.Steps.{start, step_at, ResidualArc, Forward, Backward}
+use Rattle.esr_cert.specs.Rows.{row_in, span_at, first_steps, steps_from, row_of, AreDegrees, AreRows, longer, Span}
 use Rattle.esr_cert.proofs.StepsLaws.{steps_here, steps_other, room_for, first_within, first_more, first_count, last_or_not, not_last, at_last}
 
 pub row_length : {X : Type 0} (list : List X) (span : Span) → span.end ≤ length list → length (row_in list span) ≡ span.end - span.begin

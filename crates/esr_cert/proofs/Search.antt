@@ -1,9 +1,8 @@
 -- What a binary search of an ascending list finds.
-use Rattle.std.proofs.Common.{◌≡◌, ℕ, zero, suc, ◌+◌, ◌≤◌, ◌<◌, List, [], ◌∷◌, true, false, ◌&&◌, cond, eqb, ltb, refl, sym, ap, ◌∙◌, subst, inl, inr, arith, length, get_or, Result, Ok, Err, MatchResult, ltb-true, le-ltb, lt-ltb, eq-eqb, ne_eqb}
+use Rattle.std.proofs.Common.{◌≡◌, ℕ, zero, suc, ◌+◌, ◌≤◌, ◌<◌, List, [], ◌∷◌, true, false, ◌&&◌, cond, eqb, ltb, refl, sym, ap, ◌∙◌, subst, inl, inr, arith, length, get_or, Result, Ok, Err, MatchResult, ltb-true, le-ltb, lt-ltb, eq-eqb, ne_eqb, is_ok}
 use Rattle.std.specs.declared.cmp.Ordering.{Ordering}
 use Rattle.std.specs.declared.cmp.Ordering.TheVariants.{Less, Equal, Greater}
 use Rattle.std.specs.Ordering.{nat_cmp, is_lt, ordering_then}
-use Rattle.std.specs.Result.{is_ok}
 use Rattle.std.proofs.lemmas.Cmp.{nat_cmp_total, then_total, on_total}
 use Rattle.std.specs.List.Sorted.{IsBinarySearchResult, IsPartitionPoint, IsSearchInRange}
 use Rattle.std.proofs.lemmas.Bool.{and_parts, or_from, or_left, or_right, or_cases, and_from, cases_lt, cases_order, false_from_ne_true, eqb-true}

@@ -1,8 +1,6 @@
 -- Whether a flow is conserved at a node, by the steps that start there.
-use Rattle.std.specs.Prelude.{ℕ, List, Bool, ◌==◌}
-use Rattle.std.specs.List.{sum_by}
-use Rattle.esr_cert.specs.declared.residual.ResidualArc.{ResidualArc}
-use Rattle.esr_cert.specs.declared.residual.ResidualArc.TheVariants.{Forward, Backward}
+use Rattle.std.specs.Prelude.{ℕ, List, Bool, ◌==◌, sum_by}
+use Rattle.esr_cert.specs.Steps.{ResidualArc, Forward, Backward}
 use Rattle.esr_cert.specs.Flow.{amount_at}
 
 -- the amount that comes to a node on the arc of a step that starts there

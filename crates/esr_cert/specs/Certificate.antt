@@ -4,8 +4,7 @@ use Rattle.std.specs.List.{list_all, concat}
 use Rattle.esr_cert.specs.Problem.{Chain, Problem, size, in_set, is_ascending, is_closed, cost}
 use Rattle.esr_cert.specs.Network.{network}
 use Rattle.esr_cert.specs.Flow.{are_within, is_conserved, worth}
-use Rattle.esr_cert.specs.declared.certificate.Fault.{Fault}
-use Rattle.esr_cert.specs.declared.certificate.Fault.TheVariants.{SetNotAscending, UnknownUpdate, SetNotClosed, OverCapacity, NotConserved, WorthNotCost, TooManyAugmentations}
+use Rattle.esr_cert.specs.Faults.{Fault, SetNotAscending, UnknownUpdate, SetNotClosed, OverCapacity, NotConserved, WorthNotCost, TooManyAugmentations}
 
 -- a set, a flow in the network, in parts, the worth of both, and perhaps how many augmentations led to the flow
 pub record Certificate : Type 0 where

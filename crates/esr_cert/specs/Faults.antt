@@ -1,8 +1,8 @@
 -- The numbers of the faults, and the fault of parts that make no problem.
 use Rattle.std.specs.Prelude.{ℕ, not, if◌then◌else◌, Option, Some, None}
 use Rattle.esr_cert.specs.Problem.{Problem, has_shape, is_in_range}
-use Rattle.esr_cert.specs.declared.certificate.Fault.{Fault}
-use Rattle.esr_cert.specs.declared.certificate.Fault.TheVariants.{SetNotAscending, UnknownUpdate, SetNotClosed, OverCapacity, NotConserved, WorthNotCost, TooManyAugmentations}
+pub use Rattle.esr_cert.specs.declared.certificate.Fault.{Fault}
+pub use Rattle.esr_cert.specs.declared.certificate.Fault.TheVariants.{SetNotAscending, UnknownUpdate, SetNotClosed, OverCapacity, NotConserved, WorthNotCost, TooManyAugmentations}
 use Rattle.esr_cert.specs.declared.problem.BundleFault.{BundleFault}
 use Rattle.esr_cert.specs.declared.problem.BundleFault.TheVariants.{Json, Shape, Range, NoMemory}
 

@@ -1,13 +1,10 @@
 -- For each node the steps that start at it, in rows that lie one after another.
 use Rattle.std.specs.Prelude.{◌≡◌, ℕ, zero, suc, ◌+◌, ◌*◌, ◌-◌, ◌<◌, ◌≤◌, ◌==◌, List, [], ◌∷◌, ◌++◌, length, get_or, set, take, drop, filter, sum}
-use Rattle.esr_cert.specs.declared.network.Arc.{Arc}
-use Rattle.esr_cert.specs.declared.residual.ResidualArc.{ResidualArc}
-use Rattle.esr_cert.specs.declared.residual.ResidualArc.TheVariants.{Forward, Backward}
-use Rattle.esr_cert.specs.declared.rows.Span.{Span}
+pub use Rattle.esr_cert.specs.declared.rows.Span.{Span}
 use Rattle.esr_cert.specs.declared.rows.Rows.{Rows}
 use Rattle.esr_cert.specs.declared.rows.TheConstants.{MOST_ARCS}
-use Rattle.esr_cert.specs.Network.{Network}
-use Rattle.esr_cert.specs.Steps.{arc_of, start, step_at, AreOnce}
+use Rattle.esr_cert.specs.Network.{Network, Arc}
+use Rattle.esr_cert.specs.Steps.{arc_of, start, step_at, AreOnce, ResidualArc, Forward, Backward}
 
 abbrev pub span_at : List Span → ℕ → Span
 span_at spans v = get_or spans v (record { begin = 0; end = 0 })

@@ -1,9 +1,8 @@
 -- Residual arcs, the steps of paths: forward over an arc of a network, or backward over it.
 use Rattle.std.specs.Prelude.{◌≡◌, ℕ, ◌+◌, ◌*◌, ◌<◌, ◌||◌, ◌==◌, Bool, true, false, List, [], ◌∷◌, length, get_or}
-use Rattle.esr_cert.specs.declared.network.Arc.{Arc}
-use Rattle.esr_cert.specs.declared.residual.ResidualArc.{ResidualArc}
-use Rattle.esr_cert.specs.declared.residual.ResidualArc.TheVariants.{Forward, Backward}
-use Rattle.esr_cert.specs.Network.{arc_at}
+pub use Rattle.esr_cert.specs.declared.residual.ResidualArc.{ResidualArc}
+pub use Rattle.esr_cert.specs.declared.residual.ResidualArc.TheVariants.{Forward, Backward}
+use Rattle.esr_cert.specs.Network.{arc_at, Arc}
 
 abbrev pub arc_of : ResidualArc → ℕ
 arc_of (Forward i) = i

@@ -1,9 +1,7 @@
 -- The words of which the program finds no fault.
-use Rattle.std.proofs.Common.{◌≡◌, ◌∙◌, ◌≤◌, ◌||◌, ℕ, Bool, cond, codes, not, true, false, refl, sym, ap, subst, List, [], ◌∷◌, Option, Some, None, IfOk, IsErrAnd, IsSomeAnd, Result, Ok, Err, MatchResult, ⊎_elim, ◌⊎◌, inl, inr, is_some, true≢false, ◌==◌, arith}
-use Rattle.std.specs.Prelude.{find, length, option_map, ◌&&◌}
+use Rattle.std.proofs.Common.{◌≡◌, ◌∙◌, ◌≤◌, ◌||◌, ℕ, Bool, cond, codes, not, true, false, refl, sym, ap, subst, List, [], ◌∷◌, Option, Some, None, IfOk, IsErrAnd, IsSomeAnd, Result, Ok, Err, MatchResult, ⊎_elim, ◌⊎◌, inl, inr, is_some, true≢false, ◌==◌, arith, find, length, option_map, ◌&&◌, bytes_eq}
 use Rattle.std.specs.Option.{option_map_or}
 use Rattle.clap.proofs.ValueTestLemmas.{Accepts-accepts, accepts-Accepts}
-use Rattle.std.specs.Str.{bytes_eq}
 use Rattle.std.specs.Str.Parse.{IsNumeral, digits_value, without_leading_plus}
 use Rattle.std.proofs.lemmas.Bool.Decides.{nat_tests}
 use Rattle.std.proofs.lemmas.Str.Parse.{digit_from_value}

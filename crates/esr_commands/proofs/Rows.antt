@@ -1,9 +1,6 @@
 -- Of words with no fault each value of an argument has passed the argument's parser.
-use Rattle.std.proofs.Common.{◌≡◌, ℕ, Bool, arith, cond, true, false, zero, suc, refl, sym, List, [], ◌∷◌, ◌++◌, length, Option, Some, None, IfSome, is_some, true≢false, fold}
-use Rattle.std.specs.Prelude.{find, min, slice_get, ◌&&◌, ◌+◌, ◌||◌, drop, encode_utf8}
-use Rattle.std.proofs.lemmas.Bool.{ne_eqb}
+use Rattle.std.proofs.Common.{◌≡◌, ℕ, Bool, arith, cond, true, false, zero, suc, refl, sym, List, [], ◌∷◌, ◌++◌, length, Option, Some, None, IfSome, is_some, true≢false, fold, find, min, slice_get, ◌&&◌, ◌+◌, ◌||◌, drop, encode_utf8, ne_eqb, bytes_eq, chars}
 use Rattle.std.specs.Option.{option_map_or}
-use Rattle.std.specs.Str.{bytes_eq, chars}
 use Rattle.clap.specs.Lexer.{long_of, short_of}
 use Rattle.clap.specs.Facts.{explicit_source, parser_of_value, unwrap_or_range}
 use Rattle.clap.specs.ValueTests.{accepts}

@@ -1,18 +1,12 @@
 -- What holds where an event is not refused.
-use Rattle.std.proofs.Common.{◌≡◌, ℕ, ◌<◌, ◌≤◌, List, [], ◌∷◌, ◌++◌, length, Bool, true, false, ◌&&◌, ◌==◌, refl, sym, ◌∙◌, ap, subst, arith, Option, None, Some, if◌then◌else◌}
-use Rattle.std.specs.Prelude.{All}
+use Rattle.std.proofs.Common.{◌≡◌, ℕ, ◌<◌, ◌≤◌, List, [], ◌∷◌, ◌++◌, length, Bool, true, false, ◌&&◌, ◌==◌, refl, sym, ◌∙◌, ap, subst, arith, Option, None, Some, if◌then◌else◌, All}
 use Rattle.std.specs.List.{filter_map, cons_option, AllByRecursion}
 use Rattle.std.proofs.lemmas.Bool.{false≢true, and_parts}
 use Rattle.std.proofs.lemmas.Bool.Decides.{nat_tests}
 use Rattle.std.proofs.lemmas.List.Elements.{All-from_recursion}
 use Rattle.std.proofs.lemmas.List.Sums.{sum_by-le-sum_by}
 use Rattle.esr_items.specs.Values.{versions_at}
-use Rattle.esr_items.specs.declared.store.Versions.{Versions}
-use Rattle.esr_items.specs.declared.metric.ItemId.{ItemId}
-use Rattle.esr_history.specs.declared.event.TxnId.{TxnId}
-use Rattle.esr_history.specs.declared.event.Event.{Event}
-use Rattle.esr_history.specs.declared.event.Event.TheVariants.{BeginUpdate, BeginQuery, Read, Write, Commit, Abort}
-use Rattle.esr_history.specs.declared.event.Refusal.{Refusal}
+use Rattle.esr_core.specs.Words.{Versions, ItemId, TxnId, Event, BeginUpdate, BeginQuery, Read, Write, Commit, Abort, Refusal}
 use Rattle.esr_history.specs.Events.{numbers, reads, reads_any, is_query, is_update, is_active, holds_read, reads_of, all_reads_of}
 use Rattle.esr_history.specs.Machine.{Distance, Schedule, done, due_in, first_reason, refusal, reasons, Charge, import_full, export_full}
 use Rattle.esr_history.specs.ItemLocks.{ItemLocks, query_reads}
@@ -23,8 +17,7 @@ use Rattle.esr_ledgers.specs.declared.ledgers.Quote.{Quote}
 use Rattle.esr_ledgers.specs.declared.ledgers.Quote.TheVariants.{Fits}
 use Rattle.esr_ledgers.specs.Books.{quote_of, charged}
 use Rattle.esr_locks.specs.Tables.{locks_at}
-use Rattle.esr_core.specs.declared.state.Transaction.{Transaction}
-use Rattle.esr_core.specs.Tied.{IsTied, books_of}
+use Rattle.esr_core.specs.Tied.{IsTied, books_of, Transaction}
 use Rattle.esr_core.specs.States.{reason_of, read_charge, charged_once}
 use Rattle.esr_core.proofs.Locks.{locks_here}
 use Rattle.esr_core.proofs.Accounts.{books-kept}

@@ -1,11 +1,9 @@
 -- The accounts of transactions.
-use Rattle.std.proofs.Common.{◌≡◌, ℕ, zero, suc, ℤ, ◌+◌, ◌<◌, ◌≤◌, List, [], ◌∷◌, ◌++◌, length, Bool, true, false, not, refl, sym, ◌∙◌, ap, arith, Option, None, Some, if◌then◌else◌, map, add-zero, length-append}
-use Rattle.std.specs.Prelude.{unwrap_or}
+use Rattle.std.proofs.Common.{◌≡◌, ℕ, zero, suc, ℤ, ◌+◌, ◌<◌, ◌≤◌, List, [], ◌∷◌, ◌++◌, length, Bool, true, false, not, refl, sym, ◌∙◌, ap, arith, Option, None, Some, if◌then◌else◌, map, add-zero, length-append, unwrap_or, option_map}
 use Rattle.std.specs.List.{range_with_len}
-use Rattle.std.specs.Option.{option_map}
 use Rattle.std.proofs.lemmas.Option.{slice_get_past}
 use Rattle.std.proofs.lemmas.List.FromFn.{map-range_with_len_more}
-use Rattle.esr_history.specs.declared.event.Event.{Event}
+use Rattle.esr_core.specs.Words.{Event}
 use Rattle.esr_history.specs.Events.{Beginning, beginning_of, beginnings, beginning, numbers, limit_of, is_begun, is_query, is_update}
 use Rattle.esr_history.specs.Machine.{Charge, due, charges, import_in, export_in}
 use Rattle.esr_history.proofs.Charges.{import-push, export-push}

@@ -1,9 +1,6 @@
 -- An answer goes on to the state of the longer history.
 use Rattle.std.proofs.Common.{◌≡◌, [], ◌∷◌, ◌++◌, ◌∙◌, ap, None, Some, arith}
-use Rattle.esr_history.specs.declared.event.Event.{Event}
-use Rattle.esr_history.specs.declared.event.Reply.{Reply}
-use Rattle.esr_history.specs.declared.event.Reply.TheVariants.{Refused}
-use Rattle.esr_history.specs.declared.event.Refusal.{Refusal}
+use Rattle.esr_core.specs.Words.{Event, Reply, Refused, Refusal}
 use Rattle.esr_history.specs.Events.{is_refusal}
 use Rattle.esr_history.specs.Machine.{Distance, Schedule, done, extended, refusal, acceptance, reply_to}
 use Rattle.esr_history.proofs.Lawful.{done-refused, done-accepted, acceptance_accepts}

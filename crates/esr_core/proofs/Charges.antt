@@ -1,18 +1,11 @@
 -- Charges on the accounts of transactions.
-use Rattle.std.proofs.Common.{◌≡◌, ℕ, zero, suc, ℤ, ◌+◌, ◌<◌, ◌≤◌, List, [], ◌∷◌, ◌++◌, length, Bool, true, false, ◌&&◌, ◌==◌, refl, sym, ◌∙◌, ap, arith, inl, inr, Option, None, Some, if◌then◌else◌, map, add-zero, zero-add}
-use Rattle.std.specs.Prelude.{find, nat_lt}
+use Rattle.std.proofs.Common.{◌≡◌, ℕ, zero, suc, ℤ, ◌+◌, ◌<◌, ◌≤◌, List, [], ◌∷◌, ◌++◌, length, Bool, true, false, ◌&&◌, ◌==◌, refl, sym, ◌∙◌, ap, arith, inl, inr, Option, None, Some, if◌then◌else◌, map, add-zero, zero-add, find, nat_lt, option_map}
 use Rattle.std.specs.List.{filter_map, cons_option, AllByRecursion}
-use Rattle.std.specs.Option.{option_map}
 use Rattle.std.proofs.lemmas.Bool.{cases_Bool, cases_eq, false≢true, eq-eqb, ne_eqb, eqb-true, and_parts}
 use Rattle.std.proofs.lemmas.Option.{same_Some}
 use Rattle.std.proofs.lemmas.List.Sums.{sum_by-cons}
 use Rattle.std.proofs.lemmas.List.Elements.{All-from_recursion}
-use Rattle.esr_items.specs.declared.metric.ItemId.{ItemId}
-use Rattle.esr_history.specs.declared.event.TxnId.{TxnId}
-use Rattle.esr_history.specs.declared.event.Event.{Event}
-use Rattle.esr_history.specs.declared.event.Event.TheVariants.{Write}
-use Rattle.esr_history.specs.declared.event.Refusal.{Refusal}
-use Rattle.esr_history.specs.declared.event.Refusal.TheVariants.{BlockedByImport, BlockedByExport}
+use Rattle.esr_core.specs.Words.{ItemId, TxnId, Event, Write, Refusal, BlockedByImport, BlockedByExport}
 use Rattle.esr_history.specs.Events.{beginning_of, beginnings, numbers, limit_of, is_begun, is_query, is_update, holds_read, reads_of, current_value}
 use Rattle.esr_history.specs.Machine.{Distance, Schedule, Charge, done, due, charges, charges_in, charge_of_write, import_in, export_in, total, import_full, export_full, first_reason}
 use Rattle.esr_history.specs.ItemLocks.{query_reads}

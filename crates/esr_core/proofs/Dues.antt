@@ -1,20 +1,15 @@
 -- The charges of an event import what is due for it.
-use Rattle.std.proofs.Common.{◌≡◌, ℕ, ℤ, ◌+◌, ◌<◌, List, [], ◌∷◌, length, true, false, refl, sym, ◌∙◌, ap, Bool, Option, None, Some}
-use Rattle.std.specs.Prelude.{◌==◌, if◌then◌else◌}
+use Rattle.std.proofs.Common.{◌≡◌, ℕ, ℤ, ◌+◌, ◌<◌, List, [], ◌∷◌, length, true, false, refl, sym, ◌∙◌, ap, Bool, Option, None, Some, ◌==◌, if◌then◌else◌}
 use Rattle.std.proofs.lemmas.List.Sums.{sum_by-cons}
 use Rattle.esr_items.specs.Values.{versions_at}
-use Rattle.esr_items.specs.declared.store.Versions.{Versions}
-use Rattle.esr_items.specs.declared.metric.ItemId.{ItemId}
-use Rattle.esr_history.specs.declared.event.TxnId.{TxnId}
-use Rattle.esr_history.specs.declared.event.Event.TheVariants.{Read, Write}
+use Rattle.esr_core.specs.Words.{Versions, ItemId, TxnId, Read, Write}
 use Rattle.esr_history.specs.Events.{is_query, is_update}
 use Rattle.esr_history.specs.Machine.{Distance, Schedule, Charge, done, due_in, charge_of_read, import_in, writer}
 use Rattle.esr_history.specs.ItemLocks.{ItemLocks}
 use Rattle.esr_history.specs.Imports.{imported}
 use Rattle.esr_ledgers.specs.declared.account.Account.{Account}
 use Rattle.esr_locks.specs.Tables.{locks_at}
-use Rattle.esr_core.specs.declared.state.Transaction.{Transaction}
-use Rattle.esr_core.specs.Tied.{IsTied}
+use Rattle.esr_core.specs.Tied.{IsTied, Transaction}
 use Rattle.esr_core.specs.States.{read_charge, charges_for}
 use Rattle.esr_core.proofs.Charges.{charge_to, charges_by}
 use Rattle.esr_core.proofs.Reasons.{due_some, due_none}

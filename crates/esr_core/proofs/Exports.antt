@@ -1,8 +1,6 @@
 -- What is known of a transaction, and what it has exported.
-use Rattle.std.proofs.Common.{◌≡◌, ℕ, List, false, not, refl, sym, Option, None, Some}
-use Rattle.std.specs.Prelude.{unwrap_or}
-use Rattle.std.specs.Option.{option_map}
-use Rattle.esr_history.specs.declared.event.Entry.{Entry}
+use Rattle.std.proofs.Common.{◌≡◌, ℕ, List, false, not, refl, sym, Option, None, Some, unwrap_or, option_map}
+use Rattle.esr_core.specs.Words.{Entry}
 use Rattle.esr_history.specs.declared.back_links.Facts.{Facts}
 use Rattle.esr_history.specs.Events.{Beginning, accepted, beginning, is_update}
 use Rattle.esr_history.specs.BackLinks.{facts_by, facts_of}

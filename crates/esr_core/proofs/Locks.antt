@@ -1,8 +1,6 @@
 -- The locks on items.
-use Rattle.std.proofs.Common.{◌≡◌, ℕ, suc, ℤ, ◌+◌, ◌<◌, ◌≤◌, List, [], ◌∷◌, ◌++◌, length, Bool, true, false, not, ◌&&◌, ◌||◌, ◌==◌, refl, sym, ◌∙◌, ap, arith, inl, inr, Option, None, Some, if◌then◌else◌, map, set, append-nil, add-zero, length-append}
-use Rattle.std.specs.Prelude.{find, filter, unwrap_or}
+use Rattle.std.proofs.Common.{◌≡◌, ℕ, suc, ℤ, ◌+◌, ◌<◌, ◌≤◌, List, [], ◌∷◌, ◌++◌, length, Bool, true, false, not, ◌&&◌, ◌||◌, ◌==◌, refl, sym, ◌∙◌, ap, arith, inl, inr, Option, None, Some, if◌then◌else◌, map, set, append-nil, add-zero, length-append, find, filter, unwrap_or, option_map}
 use Rattle.std.specs.List.{range_with_len, list_any, filter_map}
-use Rattle.std.specs.Option.{option_map}
 use Rattle.std.proofs.lemmas.Bool.{cases_Bool, cases_eq, false≢true, and_parts, and_from, and_left, and_right, or_right, eq-eqb, ne_eqb, eqb-true, false_from_ne_true}
 use Rattle.std.proofs.lemmas.Option.{same_Some}
 use Rattle.std.proofs.lemmas.List.FromFn.{length-map-range_with_len, get_or-map-range_with_len}
@@ -10,10 +8,7 @@ use Rattle.std.proofs.lemmas.List.Elements.{filter_agree, filter-append}
 use Rattle.std.proofs.lemmas.List.Sums.{sum_by_push}
 use mathlib.Core.List.{map-map}
 use mathlib.Core.Bool.{and-true}
-use Rattle.esr_items.specs.declared.metric.ItemId.{ItemId}
-use Rattle.esr_history.specs.declared.event.TxnId.{TxnId}
-use Rattle.esr_history.specs.declared.event.Event.{Event}
-use Rattle.esr_history.specs.declared.event.Event.TheVariants.{Read, Write}
+use Rattle.esr_core.specs.Words.{ItemId, TxnId, Event, Read, Write}
 use Rattle.esr_history.specs.Events.{Beginning, beginning_of, beginnings, beginning, numbers, commits, aborts, reads, writes, is_active, is_begun, is_query, is_update, holds_read, holds_write, reads_of}
 use Rattle.esr_history.specs.Machine.{writer}
 use Rattle.esr_history.specs.ItemLocks.{ItemLocks, query_reads, item_locks, locks_of}

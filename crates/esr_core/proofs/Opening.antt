@@ -1,9 +1,8 @@
 -- The machine before its first event, and its totals.
-use Rattle.std.proofs.Common.{◌≡◌, ℕ, ℤ, ◌+◌, List, [], ◌∷◌, refl, sym, ◌∙◌, ap, map, if◌then◌else◌, arith}
-use Rattle.std.specs.Prelude.{sum_by}
+use Rattle.std.proofs.Common.{◌≡◌, ℕ, ℤ, ◌+◌, List, [], ◌∷◌, refl, sym, ◌∙◌, ap, map, if◌then◌else◌, arith, sum_by}
 use Rattle.std.proofs.lemmas.Bool.{cases_Bool}
 use Rattle.std.proofs.lemmas.List.Sums.{sum_by-cons}
-use Rattle.esr_history.specs.declared.event.Event.{Event}
+use Rattle.esr_core.specs.Words.{Event}
 use Rattle.esr_history.specs.Events.{numbers, is_query}
 use Rattle.esr_history.specs.Machine.{charges, import_in, export_in}
 use Rattle.esr_history.proofs.Sides.{charges_kinds, no_import, no_export}

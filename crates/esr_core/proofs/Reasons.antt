@@ -1,18 +1,11 @@
 -- The reasons to refuse an event, by the parts of the machine.
-use Rattle.std.proofs.Common.{◌≡◌, ℕ, suc, ℤ, ◌<◌, ◌≤◌, List, [], ◌∷◌, length, Bool, true, false, ◌&&◌, refl, sym, ◌∙◌, ap, subst, arith, Option, None, Some, if◌then◌else◌, get_or, ◌-◌, ◌+◌}
-use Rattle.std.specs.Prelude.{nat_le}
+use Rattle.std.proofs.Common.{◌≡◌, ℕ, suc, ℤ, ◌<◌, ◌≤◌, List, [], ◌∷◌, length, Bool, true, false, ◌&&◌, refl, sym, ◌∙◌, ap, subst, arith, Option, None, Some, if◌then◌else◌, get_or, ◌-◌, ◌+◌, nat_le}
 use Rattle.std.proofs.lemmas.Bool.{and_parts}
 use Rattle.std.proofs.lemmas.Bool.Decides.{nat_tests}
 use Rattle.std.proofs.lemmas.Option.{same_Some}
 use Rattle.std.proofs.lemmas.List.Elements.{All-from_recursion}
 use Rattle.esr_items.specs.Values.{versions_at}
-use Rattle.esr_items.specs.declared.store.Versions.{Versions}
-use Rattle.esr_items.specs.declared.metric.ItemId.{ItemId}
-use Rattle.esr_history.specs.declared.event.TxnId.{TxnId}
-use Rattle.esr_history.specs.declared.event.Event.{Event}
-use Rattle.esr_history.specs.declared.event.Event.TheVariants.{Read}
-use Rattle.esr_history.specs.declared.event.Refusal.{Refusal}
-use Rattle.esr_history.specs.declared.event.Refusal.TheVariants.{TooManyReads, QueryMayNotWrite}
+use Rattle.esr_core.specs.Words.{Versions, ItemId, TxnId, Event, Read, Refusal, TooManyReads, QueryMayNotWrite}
 use Rattle.esr_history.specs.Events.{numbers, is_query, is_update, holds_write, all_reads_of}
 use Rattle.esr_history.specs.Machine.{Distance, Schedule, Charge, done, due_in, writer, charge_of_read, first_reason, not_begun, ended, no_item, many_reads, query_writes, out_of_range, read_blocked, write_blocked, blocked_by, import_full, export_full, refusal, when, other_writer, other_holder}
 use Rattle.esr_history.specs.ItemLocks.{ItemLocks, item_locks}
@@ -21,8 +14,7 @@ use Rattle.esr_ledgers.specs.declared.account.Account.{Account}
 use Rattle.esr_ledgers.specs.Books.{quote_of, AreCharges, is_open_query}
 use Rattle.esr_history.specs.Ascending.{IsSmallest}
 use Rattle.esr_locks.specs.Tables.{locks_at, keeps_from_reading, keeps_from_writing}
-use Rattle.esr_core.specs.declared.state.Transaction.{Transaction}
-use Rattle.esr_core.specs.Tied.{IsTied, books_of, transaction_after}
+use Rattle.esr_core.specs.Tied.{IsTied, books_of, transaction_after, Transaction}
 use Rattle.esr_core.specs.States.{reason_of, read_charge}
 use Rattle.esr_core.proofs.Rows.{row_is}
 use Rattle.esr_core.proofs.Locks.{locks_len, locks_here, least_writer, least_holder}

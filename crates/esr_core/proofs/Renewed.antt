@@ -4,16 +4,14 @@ use Rattle.std.specs.List.{list_any, range_with_len}
 use Rattle.std.proofs.lemmas.List.{get_or-map, length-map, same_lists}
 use Rattle.std.proofs.lemmas.List.FromFn.{get_or-map-range_with_len, length-map-range_with_len}
 use Rattle.esr_items.specs.Values.{value_at, both_versions}
-use Rattle.esr_items.specs.declared.store.Versions.{Versions}
-use Rattle.esr_history.specs.declared.event.Event.{Event}
+use Rattle.esr_core.specs.Words.{Versions, Event}
 use Rattle.esr_history.specs.Events.{numbers, is_active, last_value, committed_value}
 use Rattle.esr_history.specs.Machine.{Distance, Schedule, IsLegal}
 use Rattle.esr_history.specs.Serial.{committed_updates, state, values_by}
 use Rattle.esr_history.proofs.Laws.{legal_serializable}
 use Rattle.esr_history.specs.ItemLocks.{ItemLocks}
 use Rattle.esr_ledgers.specs.declared.account.Account.{Account}
-use Rattle.esr_core.specs.declared.state.Transaction.{Transaction}
-use Rattle.esr_core.specs.Tied.{IsTied, transaction_after, transactions_after}
+use Rattle.esr_core.specs.Tied.{IsTied, transaction_after, transactions_after, Transaction}
 use Rattle.esr_core.specs.Renewed.{committed_values, state_over, AreSerializableAsOne}
 
 -- the rows of active transactions

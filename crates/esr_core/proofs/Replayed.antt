@@ -1,9 +1,7 @@
 -- A legal history run again: each of its replies is the machine's after the entries before it. What replays a history cites this.
-use Rattle.std.proofs.Common.{◌≡◌, ℕ, ℤ, zero, suc, ◌+◌, ◌<◌, List, [], ◌∷◌, ◌++◌, length, take, map, refl, sym, ap, arith, Some, None, append_assoc, append-nil}
-use Rattle.std.specs.Prelude.{slice_get}
+use Rattle.std.proofs.Common.{◌≡◌, ℕ, ℤ, zero, suc, ◌+◌, ◌<◌, List, [], ◌∷◌, ◌++◌, length, take, map, refl, sym, ap, arith, Some, None, append_assoc, append-nil, slice_get}
 use Rattle.esr_items.specs.Values.{both_versions}
-use Rattle.esr_items.specs.declared.store.Versions.{Versions}
-use Rattle.esr_history.specs.declared.event.Entry.{Entry}
+use Rattle.esr_core.specs.Words.{Versions, Entry}
 use Rattle.esr_history.specs.Machine.{Distance, Schedule, extended, reply_to, IsLegal, IsLegalAfter}
 
 -- the history up to an entry

@@ -1,15 +1,12 @@
 -- The table of transactions.
-use Rattle.std.proofs.Common.{◌≡◌, ℕ, zero, suc, ◌+◌, ◌<◌, ◌≤◌, List, [], ◌∷◌, ◌++◌, length, Bool, true, false, not, ◌&&◌, ◌==◌, refl, sym, ◌∙◌, ap, arith, None, Some, if◌then◌else◌, map, get_or, set, add-zero}
-use Rattle.std.specs.Prelude.{is_some, slice_get}
+use Rattle.std.proofs.Common.{◌≡◌, ℕ, zero, suc, ◌+◌, ◌<◌, ◌≤◌, List, [], ◌∷◌, ◌++◌, length, Bool, true, false, not, ◌&&◌, ◌==◌, refl, sym, ◌∙◌, ap, arith, None, Some, if◌then◌else◌, map, get_or, set, add-zero, is_some, slice_get}
 use Rattle.std.specs.List.{range_with_len}
 use Rattle.std.proofs.lemmas.Bool.{false≢true, eq-eqb, ne_eqb, and_right}
 use Rattle.std.proofs.lemmas.Option.{slice_get_past}
 use Rattle.std.proofs.lemmas.List.FromFn.{length-map-range_with_len, get_or-map-range_with_len, map-range_with_len_more}
 use Rattle.std.proofs.lemmas.List.Sums.{sum_by_push}
 use Rattle.std.proofs.lemmas.List.{length_push}
-use Rattle.esr_history.specs.declared.event.Event.{Event}
-use Rattle.esr_history.specs.declared.event.Event.TheVariants.{Read}
-use Rattle.esr_history.specs.declared.event.Refusal.TheVariants.{AlreadyEnded, NoSuchTransaction}
+use Rattle.esr_core.specs.Words.{Event, Read, AlreadyEnded, NoSuchTransaction}
 use Rattle.esr_history.specs.Events.{Beginning, beginning_of, beginnings, numbers, commits, aborts, reads_any, is_active, is_begun, is_query, all_reads_of}
 use Rattle.esr_history.specs.Machine.{Schedule, done, when, first_reason, not_begun, ended}
 use Rattle.esr_history.specs.Orderly.{IsOrderly, names}
@@ -17,8 +14,7 @@ use Rattle.esr_history.proofs.Lists.{any_push_no}
 use Rattle.esr_history.proofs.Ranges.{map_same, set_range}
 use Rattle.esr_history.proofs.Reaches.{count_none}
 use Rattle.esr_history.proofs.Orderly.{names_aborter}
-use Rattle.esr_core.specs.declared.state.Transaction.{Transaction}
-use Rattle.esr_core.specs.Tied.{transaction_after, transactions_after}
+use Rattle.esr_core.specs.Tied.{transaction_after, transactions_after, Transaction}
 use Rattle.esr_core.proofs.Held.{active-kept, active-same, IsBegin, numbers-kept, query-kept, beginnings-begin, beginning-begin, beginning-new, not_named, commits_name}
 
 -- there is a row for each transaction

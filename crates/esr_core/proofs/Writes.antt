@@ -3,13 +3,7 @@ use Rattle.std.proofs.Common.{◌≡◌, ℕ, ℤ, ◌<◌, List, [], ◌∷◌,
 use Rattle.std.specs.List.{filter_map, cons_option, AllByRecursion}
 use Rattle.std.proofs.lemmas.Bool.{and_parts}
 use Rattle.esr_items.specs.Values.{current_at}
-use Rattle.esr_items.specs.declared.store.Versions.{Versions}
-use Rattle.esr_items.specs.declared.metric.ItemId.{ItemId}
-use Rattle.esr_history.specs.declared.event.TxnId.{TxnId}
-use Rattle.esr_history.specs.declared.event.Event.{Event}
-use Rattle.esr_history.specs.declared.event.Event.TheVariants.{Write}
-use Rattle.esr_history.specs.declared.event.Refusal.{Refusal}
-use Rattle.esr_history.specs.declared.event.Refusal.TheVariants.{QueryMayNotWrite}
+use Rattle.esr_core.specs.Words.{Versions, ItemId, TxnId, Event, Write, Refusal, QueryMayNotWrite}
 use Rattle.esr_history.specs.Events.{numbers, is_query, is_update, is_active, holds_read, reads_of, current_value}
 use Rattle.esr_history.specs.Machine.{Distance, Schedule, done, due_in, first_reason, not_begun, ended, no_item, query_writes, out_of_range, write_blocked, import_full, export_full, refusal}
 use Rattle.esr_history.specs.ItemLocks.{ItemLocks, query_reads}
@@ -19,8 +13,7 @@ use Rattle.esr_history.proofs.Orderly.{active_parts}
 use Rattle.esr_ledgers.specs.declared.account.Account.{Account}
 use Rattle.esr_ledgers.specs.Books.{AreCharges, charged}
 use Rattle.esr_locks.specs.Tables.{locks_at}
-use Rattle.esr_core.specs.declared.state.Transaction.{Transaction}
-use Rattle.esr_core.specs.Tied.{IsTied, books_of}
+use Rattle.esr_core.specs.Tied.{IsTied, books_of, Transaction}
 use Rattle.esr_core.specs.States.{charges_to, reason_for}
 use Rattle.esr_core.proofs.Locks.{locks_here}
 use Rattle.esr_core.proofs.Charges.{charges_by, quote_reason, due-write, are_charges-write, books-charged}

@@ -1,11 +1,7 @@
 -- Going on from the committed values of a history.
 use Rattle.std.specs.Prelude.{◌≡◌, ◌<◌, ℕ, ℤ, Bool, ◌&&◌, ◌==◌, IsTrue, List, [], ◌∷◌, ◌++◌, length, map, flat_map}
 use Rattle.std.specs.List.{before_first, filter_map, list_any, range_with_len}
-use Rattle.esr_items.specs.declared.metric.ItemId.{ItemId}
-use Rattle.esr_history.specs.declared.event.TxnId.{TxnId}
-use Rattle.esr_history.specs.declared.event.Event.TheVariants.{Read}
-use Rattle.esr_history.specs.declared.event.Reply.TheVariants.{Value}
-use Rattle.esr_history.specs.declared.event.Entry.{Entry}
+use Rattle.esr_core.specs.Words.{ItemId, TxnId, Read, Value, Entry}
 use Rattle.esr_history.specs.Events.{accepted, numbers, is_active, is_update, is_committed, written, last_value, committed_value}
 use Rattle.esr_history.specs.Machine.{Schedule, schedule_of, done}
 use Rattle.esr_history.specs.Serial.{IsSerialOrder, IsSerializable, committed_updates, values_by, state}

@@ -1,6 +1,5 @@
 -- A drive file with its text: one block, whose update is read by a query.
-use Rattle.std.proofs.Common.{◌≡◌, ℕ, All, refl, sym, ◌∙◌, List, [], ◌∷◌, None, Bool, true, false, arith}
-use Rattle.std.specs.Prelude.{codes, pos}
+use Rattle.std.proofs.Common.{◌≡◌, ℕ, All, refl, sym, ◌∙◌, List, [], ◌∷◌, None, Bool, true, false, arith, codes, pos}
 use Rattle.std.specs.Fmt.{digits}
 use Rattle.std.proofs.lemmas.List.Elements.{All-push}
 use Rattle.esr_items.specs.declared.metric.ItemId.{ItemId}

@@ -1,7 +1,5 @@
 -- Updates that are among others.
-use Rattle.std.proofs.Common.{◌≡◌, ℕ, zero, suc, ◌+◌, ◌<◌, Bool, true, false, cond, eqb, List, [], ◌∷◌, ◌++◌, length, get_or, take, map, filter, refl, ◌∙◌, ap, arith, Result, append-nil}
-use Rattle.std.specs.Ordering.{nat_cmp}
-use Rattle.std.specs.Result.{is_ok}
+use Rattle.std.proofs.Common.{◌≡◌, ℕ, zero, suc, ◌+◌, ◌<◌, Bool, true, false, cond, eqb, List, [], ◌∷◌, ◌++◌, length, get_or, take, map, filter, refl, ◌∙◌, ap, arith, Result, append-nil, nat_cmp, is_ok}
 use Rattle.std.specs.List.Sorted.{IsBinarySearchResult, IsNonDecreasing}
 use Rattle.std.proofs.lemmas.Bool.{or_left, or_right, or_from, cases_lt, eq-eqb, ne_eqb}
 use Rattle.std.proofs.lemmas.List.{take_more}

@@ -1,8 +1,6 @@
 -- A history that a machine makes again, entry by entry.
-use Rattle.std.proofs.Common.{◌≡◌, ◌≢◌, ℕ, zero, suc, ◌+◌, false, if◌then◌else◌, List, [], ◌∷◌, ◌++◌, take, drop, flat_map, refl, sym, ◌∙◌, ap, subst, arith, Some, append-nil}
-use Rattle.std.specs.Prelude.{◌-◌, IfOk, OnOk, Result, Ok, Err, is_err, slice_get}
+use Rattle.std.proofs.Common.{◌≡◌, ◌≢◌, ℕ, zero, suc, ◌+◌, false, if◌then◌else◌, List, [], ◌∷◌, ◌++◌, take, drop, flat_map, refl, sym, ◌∙◌, ap, subst, arith, Some, append-nil, ◌-◌, IfOk, OnOk, Result, Ok, Err, is_err, slice_get, eq-eqb, ne_eqb}
 use Rattle.std.specs.List.{range_with_len}
-use Rattle.std.proofs.lemmas.Bool.{eq-eqb, ne_eqb}
 use Rattle.std.proofs.lemmas.Grind.{flat_map-append}
 use Rattle.std.proofs.lemmas.Option.{same_Some}
 use Rattle.esr_history.specs.declared.event.Reply.{Reply}

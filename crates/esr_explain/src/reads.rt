@@ -1,6 +1,5 @@
 //! What a query read, beside what it would have read in its nearest placement.
-ghost use Rattle.std.specs.Prelude.{◌≡◌, ◌++◌, ℕ, OnOk, All, map};
-ghost use Rattle.std.specs.List.{flat_map};
+ghost use Rattle.std.specs.Prelude.{◌≡◌, ◌++◌, ℕ, OnOk, All, map, flat_map};
 ghost use Rattle.esr_items.specs.Values.{value_at, IsValue};
 ghost use Rattle.esr_items.specs.Weights.{weighted};
 ghost use Rattle.esr_explain.specs.Accesses.{access_line};

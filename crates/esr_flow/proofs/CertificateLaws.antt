@@ -1,12 +1,11 @@
 -- The certificate of a maximum flow.
-use Rattle.std.proofs.Common.{◌≡◌, ℕ, ◌+◌, ◌-◌, ◌*◌, ◌≤◌, Bool, true, false, List, [], ◌∷◌, ◌++◌, length, take, drop, map, flat_map, sum_by, Contains, Vec, Global, Some, refl, sym, ap, ◌∙◌, subst, arith, eq-eqb, le-leb, append-nil, length-append, length-take, length-drop, take-add, take-append-drop}
-use Rattle.std.specs.Prelude.{◌==◌, nat_lt}
+use Rattle.std.proofs.Common.{◌≡◌, ℕ, ◌+◌, ◌-◌, ◌*◌, ◌≤◌, Bool, true, false, List, [], ◌∷◌, ◌++◌, length, take, drop, map, flat_map, sum_by, Contains, Vec, Global, Some, refl, sym, ap, ◌∙◌, subst, arith, eq-eqb, le-leb, append-nil, length-append, length-take, length-drop, take-add, take-append-drop, ◌==◌, nat_lt}
 use Rattle.std.specs.List.{concat, list_all}
 use Rattle.std.proofs.lemmas.Bool.{and_parts, and_from}
 use Rattle.std.proofs.lemmas.List.{length-map, map-append, take_rest}
 use Rattle.std.proofs.lemmas.List.Folds.{concat-append}
 use Rattle.std.proofs.lemmas.List.Sums.{sum_by-cons, sum_by-append}
-use Rattle.esr_cert.specs.declared.network.Arc.{Arc}
+use Rattle.esr_flow.specs.Words.{Arc}
 use Rattle.esr_cert.specs.declared.problem.Chain as code
 use Rattle.esr_cert.specs.Problem.{Chain, Problem, size, in_set, is_ascending, cost, IsSmallestLeast}
 use Rattle.esr_cert.specs.Network.{links, chain_links, chain_arcs, back_arcs, must_arcs, back_arc, must_arc, network}

@@ -1,9 +1,7 @@
 -- The distance to the sink in the residual network, cut off at a limit that no path undercuts.
 use Rattle.std.proofs.Common.{◌≡◌, ℕ, zero, suc, ◌<◌, ◌≤◌, Bool, true, ◌&&◌, ◌||◌, ◌⊎◌, leb, eqb, List, [], ◌∷◌, length, refl, ap, inl, inr, arith, eq-eqb, eqb-true, le-leb, leb-true}
 use Rattle.std.proofs.lemmas.Bool.{or_left, or_right, or_cases, and_parts, and_from, lt-leb}
-use Rattle.esr_cert.specs.declared.network.Arc.{Arc}
-use Rattle.esr_cert.specs.declared.residual.ResidualArc.{ResidualArc}
-use Rattle.esr_cert.specs.declared.residual.ResidualArc.TheVariants.{Forward, Backward}
+use Rattle.esr_flow.specs.Words.{Arc, ResidualArc, Forward, Backward}
 use Rattle.esr_flow.specs.Residual.{Falls, finish, residual_capacity, IsResidual, IsPath}
 use Rattle.esr_cert.specs.Steps.{arc_of, start}
 use Rattle.esr_cert.specs.Flow.{within}

@@ -4,19 +4,16 @@ use Rattle.std.proofs.Math.Seq.{get_or-append_seam}
 use Rattle.std.proofs.lemmas.Bool.{cases_eq}
 use Rattle.std.proofs.lemmas.List.{ext_get_or, get_or-map, get_or_default, length-map}
 use Rattle.std.proofs.lemmas.List.Elements.{Contains-push_cases}
-use Rattle.esr_cert.specs.declared.network.Arc.{Arc}
-use Rattle.esr_cert.specs.declared.residual.ResidualArc.{ResidualArc}
-use Rattle.esr_cert.specs.declared.residual.ResidualArc.TheVariants.{Forward, Backward}
+use Rattle.esr_flow.specs.Words.{Arc, ResidualArc, Forward, Backward}
 use Rattle.esr_cert.specs.Network.{arc_at}
 use Rattle.esr_cert.specs.Flow.{within, amount_at}
 use Rattle.esr_cert.specs.Steps.{start, step_at}
 use Rattle.esr_cert.specs.Rows.{span_at, first_steps, steps_from, row_of}
 use Rattle.esr_cert.proofs.StepsLaws.{steps_parts, room_for, first_all, first_next}
 use Rattle.esr_cert.proofs.RowsLaws.{row_length, at_row, Counted, counted_more}
-use Rattle.esr_flow.specs.declared.entry.AdjacencyEntry.{AdjacencyEntry}
-use Rattle.esr_flow.specs.declared.graph.Graph.{Graph}
+use Rattle.esr_flow.specs.ShortEntry.{AdjacencyEntry}
 use Rattle.esr_flow.specs.Residual.{left_of}
-use Rattle.esr_flow.specs.Graph.{arcs_of, IsGraph, adjacency_entry, entry_at, AreEntries}
+use Rattle.esr_flow.specs.Graph.{arcs_of, IsGraph, adjacency_entry, entry_at, AreEntries, Graph}
 use Rattle.esr_flow.proofs.EntriesLaws.{along_is, against_is}
 
 -- the first steps are those before an arc, its two, and later ones

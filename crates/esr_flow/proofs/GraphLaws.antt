@@ -4,8 +4,7 @@ use Rattle.esr_cert.specs.Problem.{Problem, size}
 use Rattle.esr_cert.specs.Network.{Network, IsNetwork, network}
 use Rattle.esr_cert.proofs.Sound.{IsProblem}
 use Rattle.esr_cert.proofs.Least.{is_network}
-use Rattle.esr_flow.specs.declared.graph.Graph.{Graph}
-use Rattle.esr_flow.specs.Graph.{arcs_of, net_of, IsGraph}
+use Rattle.esr_flow.specs.Graph.{arcs_of, net_of, IsGraph, Graph}
 use Rattle.std.specs.List.Sorted.{IsNonDecreasingBy}
 use Rattle.esr_cert.specs.Steps.{order_of, HasSteps}
 use Rattle.esr_cert.specs.Rows.{AreLaid}

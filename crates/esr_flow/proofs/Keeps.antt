@@ -5,8 +5,7 @@ use Rattle.esr_cert.specs.Network.{arc_at, Network, IsNetwork}
 use Rattle.esr_cert.specs.Flow.{within, amount_at, carried, IsFlow, worth}
 use Rattle.esr_cert.specs.Cut.{crosses, comes_back, capacity_or_zero, across, IsLimited, AreLimited}
 use Rattle.esr_cert.proofs.Cut.{cut, carried_at_most, carried_full, full_from, nothing_back, nothing_from}
-use Rattle.esr_cert.specs.declared.residual.ResidualArc.{ResidualArc}
-use Rattle.esr_cert.specs.declared.residual.ResidualArc.TheVariants.{Forward, Backward}
+use Rattle.esr_flow.specs.Words.{ResidualArc, Forward, Backward}
 use Rattle.esr_flow.specs.Residual.{left_of, finish, IsResidual, IsPath}
 use Rattle.esr_cert.specs.Steps.{start}
 

@@ -1,11 +1,10 @@
 -- The labels that a search gives: by how many levels a node's first visit comes before the sink's.
 use Rattle.std.proofs.Common.{◌≡◌, ℕ, ◌+◌, ◌-◌, ◌<◌, ◌≤◌, ◌⊎◌, max, List, length, set, sym, ap, ◌∙◌, subst, inl, inr, arith, length-set, get_or-set_other, get_or-set_same}
 use Rattle.std.proofs.lemmas.Bool.{cases_eq, cases_lt}
-use Rattle.esr_flow.specs.declared.search.Visit.{Visit}
 use Rattle.esr_cert.specs.Steps.{start}
 use Rattle.esr_flow.specs.Residual.{finish, Falls}
 use Rattle.esr_cert.specs.Network.{Network}
-use Rattle.esr_flow.specs.Search.{visit_at, label_at, Leads, FoundSink, Guides}
+use Rattle.esr_flow.specs.Search.{visit_at, label_at, Leads, FoundSink, Guides, Visit}
 
 -- the first k visits have given their labels
 pub record Labelled (visits : List Visit) (nodes last : ℕ) (labels : List ℕ) (k : ℕ) : Type 0 where

@@ -2,8 +2,7 @@
 use Rattle.std.proofs.Common.{◌≡◌, ℕ, zero, suc, ◌+◌, ◌^◌, ◌<◌, ◌≤◌, List, [], ◌∷◌, ◌++◌, length, get_or, take, Some, refl, ap, ◌∙◌, arith, add-one}
 use Rattle.std.proofs.lemmas.List.{take_more}
 use Rattle.esr_cert.specs.declared.range.TheConstants.{MAX_COST}
-use Rattle.esr_cert.specs.declared.network.Arc.{Arc}
-use Rattle.esr_cert.specs.declared.residual.ResidualArc.{ResidualArc}
+use Rattle.esr_flow.specs.Words.{Arc, ResidualArc}
 use Rattle.esr_cert.specs.Flow.{amount_at, IsFlow, worth}
 use Rattle.esr_flow.specs.Residual.{finish, IsPath, bottleneck, shift, raise}
 use Rattle.esr_cert.specs.Network.{Network, IsNetwork}

@@ -1,6 +1,6 @@
 -- What an augmentation along a guided path keeps.
 use Rattle.std.proofs.Common.{◌≡◌, ℕ, ◌+◌, ◌*◌, ◌≤◌, List, length, sym, subst, arith}
-use Rattle.esr_cert.specs.declared.residual.ResidualArc.{ResidualArc}
+use Rattle.esr_flow.specs.Words.{ResidualArc}
 use Rattle.esr_cert.specs.Network.{Network, IsNetwork}
 use Rattle.esr_flow.specs.Residual.{Falls, raise}
 use Rattle.esr_flow.specs.Augmentation.{Augments, Takes}

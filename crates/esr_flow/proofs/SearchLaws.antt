@@ -2,15 +2,12 @@
 use Rattle.std.proofs.Common.{◌≡◌, ◌≢◌, ℕ, zero, suc, ◌+◌, ◌<◌, ◌≤◌, Bool, true, false, cond, ◌⊎◌, eqb, List, [], ◌∷◌, ◌++◌, length, set, refl, sym, ap, ◌∙◌, subst, inl, inr, arith, true≢false, length-set, get_or-set_other, get_or-set_same, eq-eqb, eqb-true}
 use Rattle.std.proofs.lemmas.Bool.{cases_eq, cases_Bool, cases_lt, cond-true, cond-false}
 use Rattle.std.proofs.lemmas.List.{get_or_append_left, get_or_push, length_push}
-use Rattle.esr_cert.specs.declared.network.Arc.{Arc}
-use Rattle.esr_cert.specs.declared.residual.ResidualArc.{ResidualArc}
-use Rattle.esr_cert.specs.declared.residual.ResidualArc.TheVariants.{Forward, Backward}
-use Rattle.esr_flow.specs.declared.search.Visit.{Visit}
+use Rattle.esr_flow.specs.Words.{Arc, ResidualArc, Forward, Backward}
 use Rattle.esr_cert.specs.Steps.{arc_of, start}
 use Rattle.esr_flow.specs.Residual.{finish, IsResidual, IsPath}
 use Rattle.esr_cert.specs.Network.{Network, IsNetwork}
 use Rattle.esr_flow.specs.Augmentation.{IsReach}
-use Rattle.esr_flow.specs.Search.{visit_at, is_marked, unmarked, Leads, Comes, Searched}
+use Rattle.esr_flow.specs.Search.{visit_at, is_marked, unmarked, Leads, Comes, Searched, Visit}
 
 -- labels that rise by at most one along each residual step
 rise_bound : (arcs : List Arc) (flow : List ℕ) (d : ℕ → ℕ) → ((s : ResidualArc) → IsResidual arcs flow s → d (finish arcs s) ≤ suc (d (start arcs s))) → (path : List ResidualArc) (a b : ℕ) → IsPath arcs flow a path b → d b ≤ length path + d a

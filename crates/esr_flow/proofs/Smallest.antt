@@ -4,15 +4,13 @@ use Rattle.std.proofs.lemmas.Bool.{cases_eq, cases_lt}
 use Rattle.std.proofs.lemmas.List.{get_or_append_left, length-map, get_or-map}
 use Rattle.std.proofs.lemmas.List.Sums.{sum_by-cons}
 use Rattle.esr_cert.specs.declared.range.TheConstants.{MAX_COST}
-use Rattle.esr_cert.specs.declared.network.Arc.{Arc}
+use Rattle.esr_flow.specs.Words.{Arc, ResidualArc, Forward, Backward}
 use Rattle.esr_cert.specs.Problem.{Chain, Problem, size, version, chain_cost, cost, greatest, IsSmallestLeast}
 use Rattle.esr_cert.specs.Network.{arc_at, Network, back_arc, must_arc, chain_arcs, back_arcs, must_arcs, network}
 use Rattle.esr_cert.specs.Flow.{within, amount_at, IsFlow, worth}
 use Rattle.esr_cert.specs.Cut.{with_source}
 use Rattle.esr_cert.proofs.Sound.{IsClosed, IsProblem, closed_facts, closed_from}
 use Rattle.esr_cert.proofs.Least.{with_the_source, without_sink, is_network, limited, cost_across, worth_le_cost}
-use Rattle.esr_cert.specs.declared.residual.ResidualArc.{ResidualArc}
-use Rattle.esr_cert.specs.declared.residual.ResidualArc.TheVariants.{Forward, Backward}
 use Rattle.esr_flow.specs.Residual.{left_of, finish, IsPath}
 use Rattle.esr_cert.specs.Steps.{arc_of, start}
 use Rattle.esr_flow.specs.Augmentation.{IsReach}

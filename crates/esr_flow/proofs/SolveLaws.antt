@@ -3,15 +3,13 @@ use Rattle.std.proofs.Common.{◌≡◌, ◌≢◌, ℕ, zero, suc, ◌+◌, ◌
 use Rattle.std.specs.List.{list_all}
 use Rattle.std.proofs.lemmas.Bool.{cases_eq, cases_Bool, or_left, or_from, and_parts, and_from, ltb-true}
 use Rattle.std.proofs.lemmas.List.Sums.{sum_by-cons}
-use Rattle.esr_cert.specs.declared.network.Arc.{Arc}
+use Rattle.esr_flow.specs.Words.{Arc, ResidualArc, Forward, Backward}
 use Rattle.esr_cert.specs.Problem.{Chain, Problem, size, in_set, is_ascending, chain_cost, cost, IsSmallestLeast}
 use Rattle.esr_cert.specs.Network.{arc_at, network}
 use Rattle.esr_cert.specs.Flow.{amount_at}
 use Rattle.esr_cert.specs.Cut.{with_source, IsLimited, AreLimited}
 use Rattle.esr_cert.proofs.Sound.{here, there, IsClosed, IsChain, IsProblem, closed_facts, closed_from}
 use Rattle.esr_cert.proofs.Least.{with_the_source, without_sink, limited, version_same}
-use Rattle.esr_cert.specs.declared.residual.ResidualArc.{ResidualArc}
-use Rattle.esr_cert.specs.declared.residual.ResidualArc.TheVariants.{Forward, Backward}
 use Rattle.esr_flow.specs.Residual.{left_of, finish, residual_capacity, bottleneck, smaller, IsPath}
 use Rattle.esr_cert.specs.Steps.{arc_of, start}
 use Rattle.esr_flow.specs.Maximum.{HasLimit}

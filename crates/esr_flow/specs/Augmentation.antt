@@ -1,7 +1,7 @@
 -- Augmentations along shortest paths (Edmonds and Karp, 1972), and what the source reaches in the residual network.
 use Rattle.std.specs.Prelude.{◌≡◌, ℕ, zero, suc, ◌≤◌, Bool, true, List, length, replicate, Some}
 use Rattle.esr_cert.specs.Network.{Network}
-use Rattle.esr_cert.specs.declared.residual.ResidualArc.{ResidualArc}
+use Rattle.esr_flow.specs.Words.{ResidualArc}
 use Rattle.esr_cert.specs.Steps.{start}
 use Rattle.esr_flow.specs.Residual.{finish, IsResidual, IsPath, bottleneck, raise}
 

@@ -2,11 +2,10 @@
 -- them have residual capacity.
 use Rattle.std.specs.Prelude.{◌≡◌, ℕ, ◌<◌, ◌≤◌, false, List, length, get_or, map, Contains, ◌^◌}
 use Rattle.std.specs.List.Sorted.{IsNonDecreasingBy}
-use Rattle.esr_cert.specs.declared.network.Arc.{Arc}
+use Rattle.esr_flow.specs.Words.{Arc, ResidualArc}
 use Rattle.esr_cert.specs.Network.{Network, IsNetwork, network}
-use Rattle.esr_cert.specs.declared.residual.ResidualArc.{ResidualArc}
-use Rattle.esr_flow.specs.declared.entry.AdjacencyEntry.{AdjacencyEntry}
-use Rattle.esr_flow.specs.declared.graph.Graph.{Graph}
+use Rattle.esr_flow.specs.ShortEntry.{AdjacencyEntry}
+pub use Rattle.esr_flow.specs.declared.graph.Graph.{Graph}
 use Rattle.esr_cert.specs.Flow.{within}
 use Rattle.esr_cert.specs.Steps.{arc_of, order_of, start, opposite, step_at, HasSteps}
 use Rattle.esr_cert.specs.Rows.{span_at, row_in, row_of, AreSteps}

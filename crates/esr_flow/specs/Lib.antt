@@ -1,3 +1,4 @@
+pub mod Words
 pub mod Residual
 pub mod Augmentation
 pub mod Graph

@@ -1,7 +1,6 @@
 -- What a solver needs of a network: its flows are small, and each path to the sink is limited.
 use Rattle.std.specs.Prelude.{◌≡◌, ℕ, ◌<◌, List, length, get_or, None}
-use Rattle.esr_cert.specs.declared.network.Arc.{Arc}
-use Rattle.esr_cert.specs.declared.residual.ResidualArc.{ResidualArc}
+use Rattle.esr_flow.specs.Words.{Arc, ResidualArc}
 use Rattle.esr_cert.specs.Network.{Network}
 use Rattle.esr_cert.specs.Steps.{arc_of}
 use Rattle.esr_flow.specs.Residual.{bottleneck, IsPath}

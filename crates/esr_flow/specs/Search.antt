@@ -1,9 +1,7 @@
 -- What a breadth-first search of the residual network has found.
 use Rattle.std.specs.Prelude.{◌≡◌, ℕ, suc, ◌+◌, ◌-◌, ◌<◌, ◌≤◌, Bool, true, false, if◌then◌else◌, List, [], ◌∷◌, length, get_or}
-use Rattle.esr_cert.specs.declared.residual.ResidualArc.{ResidualArc}
-use Rattle.esr_cert.specs.declared.residual.ResidualArc.TheVariants.{Forward}
-use Rattle.esr_cert.specs.declared.network.Arc.{Arc}
-use Rattle.esr_flow.specs.declared.search.Visit.{Visit}
+use Rattle.esr_flow.specs.Words.{ResidualArc, Forward, Arc}
+pub use Rattle.esr_flow.specs.declared.search.Visit.{Visit}
 use Rattle.esr_flow.specs.declared.search.Found.{Found}
 use Rattle.esr_flow.specs.declared.search.Found.TheVariants.{Path, Reach}
 use Rattle.esr_cert.specs.Network.{Network}

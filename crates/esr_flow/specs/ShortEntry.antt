@@ -1,9 +1,8 @@
 -- Entries as numbers: four times the node, with 2 more where the opposite has residual capacity and 1 more where
 -- the step has.
-use Rattle.std.specs.Prelude.{◌≡◌, ℕ, ◌+◌, ◌*◌, ◌/◌, ◌%◌, ◌==◌, nat_lt, if◌then◌else◌}
-use Rattle.std.proofs.Common.{ap, ◌∙◌, inl, inr, arith, cond, eq-eqb, ne_eqb}
+use Rattle.std.proofs.Common.{ap, ◌∙◌, inl, inr, arith, cond, eq-eqb, ne_eqb, ◌≡◌, ℕ, ◌+◌, ◌*◌, ◌/◌, ◌%◌, ◌==◌, nat_lt, if◌then◌else◌}
 use Rattle.std.proofs.lemmas.Bool.{cases_eq, cases_lt, lt-ltb, le-ltb}
-use Rattle.esr_flow.specs.declared.entry.AdjacencyEntry.{AdjacencyEntry}
+pub use Rattle.esr_flow.specs.declared.entry.AdjacencyEntry.{AdjacencyEntry}
 
 abbrev pub entry_in : ℕ → AdjacencyEntry
 entry_in n = record { to = n / 4; ahead = n % 2 == 1; back = nat_lt 1 (n % 4) }

@@ -1,9 +1,6 @@
 -- What holds of a read, a write and an end that are not refused, each reason by its name.
 use Rattle.std.proofs.Common.{◌≡◌, ℤ, List, [], ◌∷◌, Option, None, Some, refl, arith}
-use Rattle.esr_items.specs.declared.metric.ItemId.{ItemId}
-use Rattle.esr_history.specs.declared.event.TxnId.{TxnId}
-use Rattle.esr_history.specs.declared.event.Event.TheVariants.{Read, Write}
-use Rattle.esr_history.specs.declared.event.Refusal.{Refusal}
+use Rattle.esr_history.specs.Events.{ItemId, TxnId, Read, Write, Refusal}
 use Rattle.esr_history.specs.Machine.{Distance, Schedule, not_begun, ended, no_item, query_writes, out_of_range, many_reads, read_blocked, write_blocked, import_full, export_full, due_in, first_reason, reasons}
 
 -- none of the reasons applies

@@ -1,6 +1,5 @@
 -- What a search finds in a list that ascends, and what an edit there does.
-use Rattle.std.proofs.Common.{◌≡◌, ℕ, zero, suc, ◌<◌, ◌≤◌, List, [], ◌∷◌, length, Bool, true, false, not, ◌==◌, refl, sym, ap, subst, arith, inl, inr, get_or, set, map, Result, Ok, Err, IfOk, IfErr, ◌||◌, Some}
-use Rattle.std.specs.Prelude.{filter, find, nat_lt}
+use Rattle.std.proofs.Common.{◌≡◌, ℕ, zero, suc, ◌<◌, ◌≤◌, List, [], ◌∷◌, length, Bool, true, false, not, ◌==◌, refl, sym, ap, subst, arith, inl, inr, get_or, set, map, Result, Ok, Err, IfOk, IfErr, ◌||◌, Some, filter, find, nat_lt}
 use Rattle.std.specs.List.{AllByRecursion, insert, remove, list_any}
 use Rattle.std.specs.List.Sorted.{IsSearchInRange, IsBinarySearchResult, IsNonDecreasingBy}
 use Rattle.std.specs.Ordering.{nat_cmp, ordering_index}

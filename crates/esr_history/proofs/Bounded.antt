@@ -1,8 +1,7 @@
 -- The distance of a committed query from the version at its commit is at most what it was charged.
-use Rattle.std.proofs.Common.{◌≡◌, ℕ, ◌+◌, ◌≤◌, ℤ, Bool, true, false, cond, not, List, [], ◌∷◌, ◌++◌, take, drop, refl, sym, ◌∙◌, ap, subst, inl, ⊎_elim, arith, filter, eqb, sum_by}
+use Rattle.std.proofs.Common.{◌≡◌, ℕ, ◌+◌, ◌≤◌, ℤ, Bool, true, false, cond, not, List, [], ◌∷◌, ◌++◌, take, drop, refl, sym, ◌∙◌, ap, subst, inl, ⊎_elim, arith, filter, eqb, sum_by, take-append-drop}
 use Rattle.std.specs.List.{list_any, before_first, position_or_len}
 use Rattle.std.proofs.Math.Path.{fun_ext}
-use Rattle.std.proofs.lemmas.List.{take-append-drop}
 use Rattle.std.proofs.lemmas.Bool.{true≢false, cases_Bool, and_right, or_cases, or_left, or_parts, eq-eqb, ne_eqb}
 use Rattle.esr_history.specs.Operations.{Operation}
 use Rattle.esr_history.proofs.Membership.{In, In-append_left, In-of_filter, filter_agree_in, any-from_number}

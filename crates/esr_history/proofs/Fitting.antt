@@ -1,13 +1,7 @@
 -- The accepted entries of a legal history are on its items and of transactions that have begun, and its begins are numbered one after another.
-use Rattle.std.proofs.Common.{◌≡◌, ℕ, ◌+◌, ◌<◌, ◌≤◌, true, false, not, [], ◌∷◌, ◌++◌, length, refl, sym, ◌∙◌, ap, arith, Option, Some, None, eqb, inl, inr}
-use Rattle.std.specs.Prelude.{nat_le, if◌then◌else◌}
+use Rattle.std.proofs.Common.{◌≡◌, ℕ, ◌+◌, ◌<◌, ◌≤◌, true, false, not, [], ◌∷◌, ◌++◌, length, refl, sym, ◌∙◌, ap, arith, Option, Some, None, eqb, inl, inr, nat_le, if◌then◌else◌}
 use Rattle.std.proofs.lemmas.Bool.{true≢false, not-false, leb-false, ne_eqb, cases_Bool}
-use Rattle.esr_history.specs.declared.event.Event.{Event}
-use Rattle.esr_history.specs.declared.event.Event.TheVariants.{BeginUpdate, BeginQuery, Read, Write, Commit, Abort}
-use Rattle.esr_history.specs.declared.event.Reply.{Reply}
-use Rattle.esr_history.specs.declared.event.Refusal.{Refusal}
-use Rattle.esr_history.specs.declared.event.Refusal.TheVariants.{NoSuchTransaction, NoSuchItem}
-use Rattle.esr_history.specs.Events.{is_refusal, beginning_of, beginnings, is_begun}
+use Rattle.esr_history.specs.Events.{is_refusal, beginning_of, beginnings, is_begun, Event, BeginUpdate, BeginQuery, Read, Write, Commit, Abort, Reply, Refusal, NoSuchTransaction, NoSuchItem}
 use Rattle.esr_history.specs.Machine.{Distance, Schedule, done, reply_to, reasons, refusal, acceptance, answered, not_begun, no_item, IsLegal}
 use Rattle.esr_history.specs.Legal.{legal_induction}
 use Rattle.esr_history.specs.BackLinks.{item_of, txn_of, ender, begun_by, begun_count, is_key, IsFit, IsNumbered}

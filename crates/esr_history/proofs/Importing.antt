@@ -1,18 +1,11 @@
 -- The table of imports, entry after entry.
-use Rattle.std.proofs.Common.{◌≡◌, ℕ, zero, suc, ◌+◌, ◌<◌, ◌≤◌, ◌^◌, true, false, List, [], ◌∷◌, ◌++◌, length, refl, sym, ◌∙◌, ap, subst, arith, map, Option, Some, None, inl, inr, ⊎_elim}
-use Rattle.std.specs.Prelude.{slice_index_or, unwrap_or, nat_lt}
+use Rattle.std.proofs.Common.{◌≡◌, ℕ, zero, suc, ◌+◌, ◌<◌, ◌≤◌, ◌^◌, true, false, List, [], ◌∷◌, ◌++◌, length, refl, sym, ◌∙◌, ap, subst, arith, map, Option, Some, None, inl, inr, ⊎_elim, slice_index_or, unwrap_or, nat_lt, option_map}
 use Rattle.std.specs.List.{range_with_len, slice_get, cons_option, AllByRecursion}
-use Rattle.std.specs.Option.{option_map}
 use Rattle.std.proofs.lemmas.Bool.{ltb-false, cases_Bool, cases_lt}
 use Rattle.std.proofs.lemmas.List.{length-map, length_push}
 use Rattle.std.proofs.lemmas.Option.{slice_get_past}
 use Rattle.std.proofs.lemmas.List.FromFn.{length-range_with_len}
-use Rattle.esr_history.specs.declared.event.TxnId.{TxnId}
-use Rattle.esr_history.specs.declared.event.Event.{Event}
-use Rattle.esr_history.specs.declared.event.Event.TheVariants.{BeginUpdate, BeginQuery}
-use Rattle.esr_history.specs.declared.event.Reply.{Reply}
-use Rattle.esr_history.specs.declared.event.Refusal.TheVariants.{LimitOutOfRange}
-use Rattle.esr_history.specs.Events.{Beginning, is_refusal, beginnings, beginning_of, limit_of}
+use Rattle.esr_history.specs.Events.{Beginning, is_refusal, beginnings, beginning_of, limit_of, TxnId, Event, BeginUpdate, BeginQuery, Reply, LimitOutOfRange}
 use Rattle.esr_history.specs.Machine.{Distance, Schedule, done, extended, charges_in, charges, due_in, distance_in, import_in, limit_too_high, reply_to, reasons, IsLegal}
 use Rattle.esr_history.specs.Legal.{legal_induction, IsLegal-extended}
 use Rattle.esr_history.specs.BackLinks.{begun_count}

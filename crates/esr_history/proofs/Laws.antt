@@ -1,19 +1,12 @@
 -- The laws of legal histories on their committed updates and queries.
-use Rattle.std.proofs.Common.{◌≡◌, ℕ, ℤ, ◌≤◌, true, false, ◌&&◌, ◌==◌, List, [], ◌∷◌, ◌++◌, length, take, refl, sym, ◌∙◌, ap, subst, filter, eqb, Some, slice_get, sum_by, if◌then◌else◌, arith}
-use Rattle.std.specs.Prelude.{IsTrue, unwrap_or}
+use Rattle.std.proofs.Common.{◌≡◌, ℕ, ℤ, ◌≤◌, true, false, ◌&&◌, ◌==◌, List, [], ◌∷◌, ◌++◌, length, take, refl, sym, ◌∙◌, ap, subst, filter, eqb, Some, slice_get, sum_by, if◌then◌else◌, arith, IsTrue, unwrap_or, option_map}
 use Rattle.std.specs.List.{before_first, filter_map}
-use Rattle.std.specs.Option.{option_map}
 use Rattle.std.proofs.Math.Path.{fun_ext}
 use Rattle.std.proofs.Math.Seq.{take-append_seam}
 use Rattle.std.proofs.lemmas.Bool.{and_parts, or_left}
 use Rattle.std.proofs.lemmas.List.Elements.{filter-append, filter_map-append}
 use Rattle.esr_items.specs.Values.{value_at}
-use Rattle.esr_items.specs.declared.metric.ItemId.{ItemId}
-use Rattle.esr_history.specs.declared.event.TxnId.{TxnId}
-use Rattle.esr_history.specs.declared.event.Event.TheVariants.{Read}
-use Rattle.esr_history.specs.declared.event.Reply.TheVariants.{Value}
-use Rattle.esr_history.specs.declared.event.Entry.{Entry}
-use Rattle.esr_history.specs.Events.{accepted, is_query, is_update, is_committed, written, last_value}
+use Rattle.esr_history.specs.Events.{accepted, is_query, is_update, is_committed, written, last_value, ItemId, TxnId, Read, Value, Entry}
 use Rattle.esr_history.specs.Machine.{Distance, Schedule, done, distance_in, import_in, charges_in, IsLegal}
 use Rattle.esr_history.specs.Legal.{along}
 use Rattle.esr_history.specs.Operations.{Operation, operations, operations_in, commit_order}

@@ -2,7 +2,7 @@
 use Rattle.std.proofs.Common.{◌≡◌, List, [], ◌∷◌, ◌++◌, map, All, refl, ap}
 use Rattle.std.proofs.lemmas.List.{get_or_append_left}
 use Rattle.std.proofs.lemmas.List.Elements.{All-head, All-tail}
-use Rattle.esr_history.specs.declared.event.Entry.{Entry}
+use Rattle.esr_history.specs.Events.{Entry}
 use Rattle.esr_history.specs.declared.short.Short.{Short}
 use Rattle.esr_history.specs.declared.short.Short.TheVariants.{Long}
 use Rattle.esr_history.specs.Short.{unpacked, IsWithin, no_entry}

@@ -1,8 +1,6 @@
 -- Lists made from numbers in a row.
-use Rattle.std.proofs.Common.{◌≡◌, ℕ, zero, suc, ◌+◌, ◌<◌, ◌≤◌, List, [], ◌∷◌, ◌++◌, Bool, true, false, not, ◌==◌, refl, sym, ◌∙◌, ap, subst, arith, inl, inr, Option, None, Some, if◌then◌else◌, map, set}
-use Rattle.std.specs.Prelude.{filter, find, unwrap_or}
+use Rattle.std.proofs.Common.{◌≡◌, ℕ, zero, suc, ◌+◌, ◌<◌, ◌≤◌, List, [], ◌∷◌, ◌++◌, Bool, true, false, not, ◌==◌, refl, sym, ◌∙◌, ap, subst, arith, inl, inr, Option, None, Some, if◌then◌else◌, map, set, filter, find, unwrap_or, option_map}
 use Rattle.std.specs.List.{filter_map, range_with_len, cons_option, list_any, AllByRecursion}
-use Rattle.std.specs.Option.{option_map}
 use Rattle.std.proofs.lemmas.Bool.{cases_Bool, cases_eq, eq-eqb, eqb-true, ne_eqb, false≢true, or_left, or_right, or_cases}
 use Rattle.esr_history.specs.Ascending.{placed, IsAscendingBy}
 use Rattle.esr_history.proofs.Ascending.{lt_ltb, le_ltb}

@@ -1,6 +1,5 @@
 -- Each legal history reaches its trace.
-use Rattle.std.proofs.Common.{◌≡◌, ℕ, zero, suc, ℤ, ◌+◌, ◌*◌, ◌<◌, ◌≤◌, List, [], ◌∷◌, ◌++◌, length, Bool, true, false, cond, not, ◌&&◌, ◌||◌, ◌==◌, ◌⊎◌, refl, sym, ◌∙◌, ap, subst, arith, inl, inr, Option, None, Some, if◌then◌else◌, filter, eqb, count_by, append-nil, add-zero}
-use Rattle.std.specs.Prelude.{is_some, find}
+use Rattle.std.proofs.Common.{◌≡◌, ℕ, zero, suc, ℤ, ◌+◌, ◌*◌, ◌<◌, ◌≤◌, List, [], ◌∷◌, ◌++◌, length, Bool, true, false, cond, not, ◌&&◌, ◌||◌, ◌==◌, ◌⊎◌, refl, sym, ◌∙◌, ap, subst, arith, inl, inr, Option, None, Some, if◌then◌else◌, filter, eqb, count_by, append-nil, add-zero, is_some, find}
 use Rattle.std.specs.List.{filter_map, list_any, cons_option, range_with_len}
 use Rattle.std.proofs.Math.Path.{fun_ext}
 use Rattle.std.proofs.Math.Nat.{le_trans}
@@ -8,16 +7,7 @@ use Rattle.std.proofs.lemmas.Bool.{cases_Bool, true≢false, cases_eq, eq-eqb, n
 use Rattle.std.proofs.lemmas.List.Elements.{filter_map-append, filter-append}
 use Rattle.std.proofs.lemmas.List.Sums.{sum_by-cons}
 use Rattle.esr_items.specs.Values.{value_at}
-use Rattle.esr_items.specs.declared.metric.ItemId.{ItemId}
-use Rattle.esr_history.specs.declared.event.TxnId.{TxnId}
-use Rattle.esr_history.specs.declared.event.Event.{Event}
-use Rattle.esr_history.specs.declared.event.Event.TheVariants.{Read, Write, Commit, Abort}
-use Rattle.esr_history.specs.declared.event.Reply.{Reply}
-use Rattle.esr_history.specs.declared.event.Reply.TheVariants.{Value, Wrote, Committed, Aborted, Refused}
-use Rattle.esr_history.specs.declared.event.Refusal.{Refusal}
-use Rattle.esr_history.specs.declared.event.Refusal.TheVariants.{BlockedByLock}
-use Rattle.esr_history.specs.declared.event.Entry.{Entry}
-use Rattle.esr_history.specs.Events.{Beginning, is_refusal, beginning, beginning_of, beginnings, numbers, is_query, is_update, is_active, holds_read, holds_write, reads, reads_of, committed_value, current_value}
+use Rattle.esr_history.specs.Events.{Beginning, is_refusal, beginning, beginning_of, beginnings, numbers, is_query, is_update, is_active, holds_read, holds_write, reads, reads_of, committed_value, current_value, ItemId, TxnId, Event, Read, Write, Commit, Abort, Reply, Value, Wrote, Committed, Aborted, Refused, Refusal, BlockedByLock, Entry}
 use Rattle.esr_history.specs.Machine.{Distance, Schedule, Charge, done, extended, distance_in, charges, charges_in, due_in, charge_of_read, charge_of_write, import_in, writer, other_writer, other_holder, blocked_by, reply_to, reasons, refusal, acceptance, answered, IsLegal}
 use Rattle.esr_history.specs.Legal.{legal_induction}
 use Rattle.esr_history.specs.Operations.{Operation, operation_by, operations, committer, commit_order}

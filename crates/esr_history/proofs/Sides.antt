@@ -1,14 +1,10 @@
 -- Who is charged: queries import, updates export.
-use Rattle.std.proofs.Common.{◌≡◌, ℕ, ℤ, ◌*◌, List, [], ◌∷◌, ◌++◌, Bool, true, false, ◌&&◌, ◌==◌, refl, sym, ◌∙◌, ap, subst, Option, None, Some, if◌then◌else◌, append_assoc, append-nil, arith}
-use Rattle.std.specs.Prelude.{unwrap_or}
+use Rattle.std.proofs.Common.{◌≡◌, ℕ, ℤ, ◌*◌, List, [], ◌∷◌, ◌++◌, Bool, true, false, ◌&&◌, ◌==◌, refl, sym, ◌∙◌, ap, subst, Option, None, Some, if◌then◌else◌, append_assoc, append-nil, arith, unwrap_or, option_map}
 use Rattle.std.specs.List.{filter_map, AllByRecursion}
-use Rattle.std.specs.Option.{option_map}
 use Rattle.std.proofs.lemmas.Bool.{false≢true, ne_eqb, and_parts}
 use Rattle.std.proofs.lemmas.List.Sums.{sum_by-cons}
 use Rattle.std.proofs.lemmas.Option.{same_Some}
-use Rattle.esr_history.specs.declared.event.Event.{Event}
-use Rattle.esr_history.specs.declared.event.Event.TheVariants.{Read, Write}
-use Rattle.esr_history.specs.Events.{Beginning, beginning, numbers, is_query, is_update, reads_of, holds_read, current_value}
+use Rattle.esr_history.specs.Events.{Beginning, beginning, numbers, is_query, is_update, reads_of, holds_read, current_value, Event, Read, Write}
 use Rattle.esr_history.specs.Machine.{Charge, due, charges, charges_after, charge_of_write, import_in, export_in}
 use Rattle.esr_history.proofs.Orderly.{beginning-push, is_update-push}
 use Rattle.esr_history.proofs.Lists.{find_some, Each-filter_map}

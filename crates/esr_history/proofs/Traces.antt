@@ -1,8 +1,6 @@
 -- What a legal history accepts, step by step: its operations, ends and begins, and what each step may rest on.
-use Rattle.std.proofs.Common.{◌≡◌, ℕ, ◌+◌, ◌*◌, ◌≤◌, ℤ, Bool, true, false, not, ◌&&◌, ◌||◌, ◌⊎◌, List, [], ◌∷◌, ◌++◌, filter, eqb, Option, count_by, map}
-use Rattle.std.specs.Prelude.{is_some, unwrap_or}
+use Rattle.std.proofs.Common.{◌≡◌, ℕ, ◌+◌, ◌*◌, ◌≤◌, ℤ, Bool, true, false, not, ◌&&◌, ◌||◌, ◌⊎◌, List, [], ◌∷◌, ◌++◌, filter, eqb, Option, count_by, map, is_some, unwrap_or, option_map}
 use Rattle.std.specs.List.{list_any}
-use Rattle.std.specs.Option.{option_map}
 use Rattle.esr_history.specs.Events.{Beginning, last_value}
 use Rattle.esr_history.specs.Operations.{Operation}
 use Rattle.esr_history.proofs.Membership.{In}

@@ -1,6 +1,5 @@
 -- Committed and current values of a trace, and how each step moves them.
-use Rattle.std.proofs.Common.{◌≡◌, ℕ, ℤ, Bool, true, false, cond, not, ◌&&◌, ◌||◌, ◌⊎◌, List, [], ◌∷◌, ◌++◌, refl, sym, ◌∙◌, ap, subst, inl, inr, ⊎_elim, filter, eqb, flat_map, arith}
-use Rattle.std.proofs.lemmas.List.{append-nil}
+use Rattle.std.proofs.Common.{◌≡◌, ℕ, ℤ, Bool, true, false, cond, not, ◌&&◌, ◌||◌, ◌⊎◌, List, [], ◌∷◌, ◌++◌, refl, sym, ◌∙◌, ap, subst, inl, inr, ⊎_elim, filter, eqb, flat_map, arith, append-nil}
 use Rattle.std.proofs.lemmas.List.Concat.{flat_map-append}
 use Rattle.std.proofs.lemmas.List.Elements.{filter-append}
 use Rattle.std.proofs.lemmas.Bool.{true≢false, cond_both, cases_Bool, cases_eq, and_parts, and_from, and_left, and_right, or_cases, or_left, or_parts, eqb-true, eq-eqb, ne_eqb, not-true, not_from_false, not_from_true, false_from_ne_true, eqb-false, cond-true, cond-false}

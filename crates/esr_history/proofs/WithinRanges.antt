@@ -1,20 +1,11 @@
 -- The counts and ranges of legal histories.
-use Rattle.std.proofs.Common.{◌≡◌, ℕ, zero, suc, ℤ, ◌+◌, ◌<◌, ◌≤◌, ◌^◌, true, false, not, ◌&&◌, ◌==◌, List, [], ◌∷◌, ◌++◌, length, refl, sym, ◌∙◌, ap, subst, arith, inl, inr, filter, Option, Some, None, All, cond, count_by, ◌⊎◌}
-use Rattle.std.specs.Prelude.{unwrap_or, nat_le, is_some, unsigned_abs}
+use Rattle.std.proofs.Common.{◌≡◌, ℕ, zero, suc, ℤ, ◌+◌, ◌<◌, ◌≤◌, ◌^◌, true, false, not, ◌&&◌, ◌==◌, List, [], ◌∷◌, ◌++◌, length, refl, sym, ◌∙◌, ap, subst, arith, inl, inr, filter, Option, Some, None, All, cond, count_by, ◌⊎◌, unwrap_or, nat_le, is_some, unsigned_abs, option_map, length-append}
 use Rattle.std.specs.List.{AllByRecursion, cons_option}
-use Rattle.std.specs.Option.{option_map}
 use Rattle.std.proofs.lemmas.Bool.{cases_Bool, true≢false, leb-false, leb-true, not-false, false_from_ne_true, eqb-true}
 use Rattle.std.proofs.lemmas.List.Elements.{All-from_recursion, recursion_from_All}
 use Rattle.std.proofs.lemmas.List.Sums.{sum_by-append, sum_by-cons}
-use Rattle.std.proofs.lemmas.List.{length-append}
 use Rattle.esr_items.specs.Values.{value_at, IsValue, is_value}
-use Rattle.esr_history.specs.declared.event.Event.{Event}
-use Rattle.esr_history.specs.declared.event.Event.TheVariants.{BeginUpdate, BeginQuery, Read, Write, Commit, Abort}
-use Rattle.esr_history.specs.declared.event.Reply.{Reply}
-use Rattle.esr_history.specs.declared.event.Reply.TheVariants.{Refused}
-use Rattle.esr_history.specs.declared.event.Refusal.{Refusal}
-use Rattle.esr_history.specs.declared.event.Refusal.TheVariants.{NoSuchItem, ValueOutOfRange, TooManyTransactions, TooManyReads}
-use Rattle.esr_history.specs.Events.{Beginning, beginning, beginnings, beginning_of, is_query, is_update, is_active, is_refusal, reads_any, all_reads_of, current_value}
+use Rattle.esr_history.specs.Events.{Beginning, beginning, beginnings, beginning_of, is_query, is_update, is_active, is_refusal, reads_any, all_reads_of, current_value, Event, BeginUpdate, BeginQuery, Read, Write, Commit, Abort, Reply, Refused, Refusal, NoSuchItem, ValueOutOfRange, TooManyTransactions, TooManyReads}
 use Rattle.esr_history.specs.Machine.{Distance, Schedule, done, extended, reply_to, reasons, refusal, acceptance, answered, IsLegal, no_item}
 use Rattle.esr_history.specs.Legal.{legal_induction}
 use Rattle.esr_history.specs.Operations.{Operation, operation_by, operations}

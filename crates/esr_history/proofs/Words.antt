@@ -1,7 +1,5 @@
 -- The words of a history and those of its trace say the same.
-use Rattle.std.proofs.Common.{◌≡◌, ℕ, ◌+◌, Bool, true, false, cond, not, ◌&&◌, ◌||◌, ◌==◌, List, [], ◌∷◌, refl, sym, ◌∙◌, ap, arith, filter, eqb, Option, Some, None, count_by, map, flat_map}
-use Rattle.std.specs.Prelude.{unwrap_or}
-use Rattle.std.specs.Option.{option_map}
+use Rattle.std.proofs.Common.{◌≡◌, ℕ, ◌+◌, Bool, true, false, cond, not, ◌&&◌, ◌||◌, ◌==◌, List, [], ◌∷◌, refl, sym, ◌∙◌, ap, arith, filter, eqb, Option, Some, None, count_by, map, flat_map, unwrap_or, option_map}
 use Rattle.std.specs.List.{list_any, filter_map, cons_option}
 use Rattle.std.proofs.Math.Path.{fun_ext}
 use Rattle.std.proofs.lemmas.Bool.{or_parts, or_from}
@@ -9,11 +7,7 @@ use Rattle.std.proofs.lemmas.List.{map-append}
 use Rattle.std.proofs.lemmas.List.Sums.{sum_by-cons}
 use mathlib.Core.Bool.{and_comm}
 use Rattle.esr_items.specs.Values.{value_at}
-use Rattle.esr_history.specs.declared.event.Event.{Event}
-use Rattle.esr_history.specs.declared.event.Event.TheVariants.{BeginUpdate, BeginQuery, Read, Write, Commit, Abort}
-use Rattle.esr_history.specs.declared.event.Reply.{Reply}
-use Rattle.esr_history.specs.declared.event.Entry.{Entry}
-use Rattle.esr_history.specs.Events.{is_refusal, beginning, is_active, is_committed, is_aborted, reads, writes, reads_of, written, last_value, committed_value, current_value, Beginning, is_query, is_update}
+use Rattle.esr_history.specs.Events.{is_refusal, beginning, is_active, is_committed, is_aborted, reads, writes, reads_of, written, last_value, committed_value, current_value, Beginning, is_query, is_update, Event, BeginUpdate, BeginQuery, Read, Write, Commit, Abort, Reply, Entry}
 use Rattle.esr_history.specs.Machine.{Schedule, done}
 use Rattle.esr_history.specs.Operations.{Operation, operation_by, operation_of, operations, commit_order, answer}
 use Rattle.esr_history.specs.Serial.{values_by, state}

@@ -1,16 +1,10 @@
 -- The places of earlier entries of a log, as a scan of it gives them.
-use Rattle.std.specs.Prelude.{◌≡◌, ℕ, zero, suc, ◌+◌, ◌^◌, ◌<◌, ◌≤◌, Bool, true, false, ◌==◌, List, [], ◌∷◌, ◌++◌, Option, None, Some, map, take, slice_get, slice_index_or, slice_set, length, ⊤, vec_capacity, if◌then◌else◌}
+use Rattle.std.specs.Prelude.{◌≡◌, ℕ, zero, suc, ◌+◌, ◌^◌, ◌<◌, ◌≤◌, Bool, true, false, ◌==◌, List, [], ◌∷◌, ◌++◌, Option, None, Some, map, take, slice_get, slice_index_or, slice_set, length, ⊤, vec_capacity, if◌then◌else◌, option_map}
 use Rattle.std.specs.List.{last_or, range_with_len}
-use Rattle.std.specs.Option.{option_map}
-use Rattle.esr_history.specs.declared.event.Event.{Event}
-use Rattle.esr_history.specs.declared.event.Event.TheVariants.{BeginUpdate, BeginQuery, Read, Write, Commit, Abort}
-use Rattle.esr_history.specs.declared.event.Reply.{Reply}
-use Rattle.esr_history.specs.declared.event.Reply.TheVariants.{Begun}
-use Rattle.esr_history.specs.declared.event.Entry.{Entry}
-use Rattle.esr_history.specs.declared.back_links.Facts.{Facts}
+pub use Rattle.esr_history.specs.declared.back_links.Facts.{Facts}
 use Rattle.esr_history.specs.declared.back_links.Begin.{Begin}
 use Rattle.esr_history.specs.declared.back_links.BackLinks.{BackLinks}
-use Rattle.esr_history.specs.Events.{Beginning, is_refusal, accepted, beginnings, beginning}
+use Rattle.esr_history.specs.Events.{Beginning, is_refusal, accepted, beginnings, beginning, Event, BeginUpdate, BeginQuery, Read, Write, Commit, Abort, Reply, Begun, Entry}
 
 -- the item that an event is on
 abbrev pub item_of : Event → Option ℕ

@@ -1,11 +1,7 @@
 -- What the transactions of a history have imported, by their numbers.
 use Rattle.std.specs.Prelude.{◌≡◌, ℕ, false, ◌+◌, ◌==◌, List, [], ◌∷◌, ◌++◌, map, sum_by, if◌then◌else◌}
 use Rattle.std.specs.List.{range_with_len}
-use Rattle.esr_history.specs.declared.event.TxnId.{TxnId}
-use Rattle.esr_history.specs.declared.event.Event.{Event}
-use Rattle.esr_history.specs.declared.event.Event.TheVariants.{BeginUpdate, BeginQuery}
-use Rattle.esr_history.specs.declared.event.Reply.{Reply}
-use Rattle.esr_history.specs.Events.{is_refusal}
+use Rattle.esr_history.specs.Events.{is_refusal, TxnId, Event, BeginUpdate, BeginQuery, Reply}
 use Rattle.esr_history.specs.Machine.{Distance, Schedule, charges_in, due_in, import_in}
 use Rattle.esr_history.specs.BackLinks.{begun_count}
 

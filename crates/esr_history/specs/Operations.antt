@@ -1,12 +1,6 @@
 -- What the transactions of a history did to its items.
-use Rattle.std.specs.Prelude.{ℕ, ℤ, pos, List, Bool, true, false, not, Option, None, Some, filter}
-use Rattle.std.specs.List.{filter_map}
-use Rattle.esr_history.specs.declared.event.Event.{Event}
-use Rattle.esr_history.specs.declared.event.Event.TheVariants.{Read, Write, Commit}
-use Rattle.esr_history.specs.declared.event.Reply.{Reply}
-use Rattle.esr_history.specs.declared.event.Reply.TheVariants.{Value}
-use Rattle.esr_history.specs.declared.event.Entry.{Entry}
-use Rattle.esr_history.specs.Events.{is_refusal}
+use Rattle.std.specs.Prelude.{ℕ, ℤ, pos, List, Bool, true, false, not, Option, None, Some, filter, filter_map}
+use Rattle.esr_history.specs.Events.{is_refusal, Event, Read, Write, Commit, Reply, Value, Entry}
 use Rattle.esr_history.specs.Machine.{Schedule}
 
 -- an accepted read or write; its value is the one answered, or the one written

@@ -2,9 +2,7 @@
 -- of an item can be active, and nobody ends twice.
 use Rattle.std.specs.Prelude.{◌≡◌, ℕ, List, Bool, true, false, ◌==◌, Option, None, Some, if◌then◌else◌}
 use Rattle.std.specs.List.{filter_map, list_any, last_or}
-use Rattle.esr_history.specs.declared.event.Event.{Event}
-use Rattle.esr_history.specs.declared.event.Event.TheVariants.{Read, Write, Commit, Abort}
-use Rattle.esr_history.specs.Events.{writes, is_begun, is_update, is_committed, is_aborted, holds_write}
+use Rattle.esr_history.specs.Events.{writes, is_begun, is_update, is_committed, is_aborted, holds_write, Event, Read, Write, Commit, Abort}
 
 -- whether an event is one of transaction t, after its begin
 abbrev pub names : ℕ → Event → Bool

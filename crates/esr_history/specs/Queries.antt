@@ -1,13 +1,8 @@
 -- What the audit of a committed query rests on: its updates, its reads, and their distances from the values that sets
 -- of updates leave.
-use Rattle.std.specs.Prelude.{◌≡◌, ℕ, ℤ, Bool, true, false, not, ◌&&◌, ◌==◌, ◌≤◌, IsTrue, List, [], filter, Contains, sum_by, unwrap_or, if◌then◌else◌}
+use Rattle.std.specs.Prelude.{◌≡◌, ℕ, ℤ, Bool, true, false, not, ◌&&◌, ◌==◌, ◌≤◌, IsTrue, List, [], filter, Contains, sum_by, unwrap_or, if◌then◌else◌, option_map}
 use Rattle.std.specs.List.{before_first}
-use Rattle.std.specs.Option.{option_map}
-use Rattle.esr_history.specs.declared.event.Reply.{Reply}
-use Rattle.esr_history.specs.declared.event.Reply.TheVariants.{Begun}
-use Rattle.esr_history.specs.declared.event.Event.{Event}
-use Rattle.esr_history.specs.declared.event.Entry.{Entry}
-use Rattle.esr_history.specs.Events.{beginning, is_query, is_update, is_committed, accepted}
+use Rattle.esr_history.specs.Events.{beginning, is_query, is_update, is_committed, accepted, Reply, Begun, Event, Entry}
 use Rattle.esr_history.specs.Machine.{Distance, Schedule, done, distance_in, charges_in, import_in}
 use Rattle.esr_history.specs.Operations.{Operation, operations, commit_order}
 use Rattle.esr_history.specs.Serial.{is_before, state}

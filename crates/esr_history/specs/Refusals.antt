@@ -1,8 +1,6 @@
 -- How refusals are told outside the program.
 use Rattle.std.specs.Prelude.{ℕ, List, codes, Option, None, Some}
-use Rattle.esr_history.specs.declared.event.TxnId.{TxnId}
-use Rattle.esr_history.specs.declared.event.Refusal.{Refusal}
-use Rattle.esr_history.specs.declared.event.Refusal.TheVariants.{NoSuchTransaction, AlreadyEnded, NoSuchItem, QueryMayNotWrite, ValueOutOfRange, LimitOutOfRange, TooManyTransactions, TooManyReads, BlockedByLock, BlockedByImport, BlockedByExport}
+use Rattle.esr_history.specs.Events.{TxnId, Refusal, NoSuchTransaction, AlreadyEnded, NoSuchItem, QueryMayNotWrite, ValueOutOfRange, LimitOutOfRange, TooManyTransactions, TooManyReads, BlockedByLock, BlockedByImport, BlockedByExport}
 
 -- a number, words, and the transaction that is named, where one is
 pub record Told : Type 0 where

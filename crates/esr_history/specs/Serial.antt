@@ -2,12 +2,7 @@
 use Rattle.std.specs.Prelude.{◌≡◌, ◌≢◌, ◌↔◌, ℕ, ℤ, Bool, false, not, ◌&&◌, ◌||◌, ◌==◌, IsTrue, List, [], ◌∷◌, ◌++◌, filter, flat_map, AllPairs, Contains}
 use Rattle.std.specs.List.{before_first, filter_map, list_any}
 use Rattle.esr_items.specs.Values.{value_at}
-use Rattle.esr_items.specs.declared.metric.ItemId.{ItemId}
-use Rattle.esr_history.specs.declared.event.TxnId.{TxnId}
-use Rattle.esr_history.specs.declared.event.Event.TheVariants.{Read}
-use Rattle.esr_history.specs.declared.event.Reply.TheVariants.{Value}
-use Rattle.esr_history.specs.declared.event.Entry.{Entry}
-use Rattle.esr_history.specs.Events.{accepted, is_update, is_committed, written, last_value, committed_value}
+use Rattle.esr_history.specs.Events.{accepted, is_update, is_committed, written, last_value, committed_value, ItemId, TxnId, Read, Value, Entry}
 use Rattle.esr_history.specs.Machine.{Schedule, done}
 use Rattle.esr_history.specs.Operations.{Operation, operations, commit_order}
 

@@ -1,12 +1,6 @@
 -- Entries in 16 bytes.
 use Rattle.std.specs.Prelude.{ℕ, ◌<◌, List, length, ⊤, slice_index_or}
-use Rattle.esr_items.specs.declared.metric.ItemId.{ItemId}
-use Rattle.esr_history.specs.declared.event.TxnId.{TxnId}
-use Rattle.esr_history.specs.declared.event.Event.TheVariants.{BeginUpdate, BeginQuery, Read, Write, Commit, Abort}
-use Rattle.esr_history.specs.declared.event.Reply.{Reply}
-use Rattle.esr_history.specs.declared.event.Reply.TheVariants.{Begun, Value, Wrote, Committed, Aborted, Refused}
-use Rattle.esr_history.specs.declared.event.Refusal.TheVariants.{BlockedByLock, BlockedByImport, BlockedByExport}
-use Rattle.esr_history.specs.declared.event.Entry.{Entry}
+use Rattle.esr_history.specs.Events.{ItemId, TxnId, BeginUpdate, BeginQuery, Read, Write, Commit, Abort, Reply, Begun, Value, Wrote, Committed, Aborted, Refused, BlockedByLock, BlockedByImport, BlockedByExport, Entry}
 use Rattle.esr_history.specs.declared.short.Bar.{Bar}
 use Rattle.esr_history.specs.declared.short.Bar.TheVariants.{Lock, Import, Export}
 use Rattle.esr_history.specs.declared.short.Short.{Short}

@@ -1,7 +1,6 @@
 -- Worked examples: the conflict order, costs and imports of some histories.
 use Rattle.std.specs.Prelude.{◌≡◌, pos, [], ◌∷◌, Bool, true, false, refl, map, ◌==◌}
-use Rattle.esr_history.specs.declared.event.Event.TheVariants.{BeginUpdate, BeginQuery, Read, Write, Commit, Abort}
-use Rattle.esr_history.specs.declared.event.Reply.TheVariants.{Begun, Value, Wrote, Committed}
+use Rattle.esr_history.specs.Events.{BeginUpdate, BeginQuery, Read, Write, Commit, Abort, Begun, Value, Wrote, Committed}
 use Rattle.esr_history.specs.Machine.{Schedule, charges_in, import_in}
 use Rattle.esr_history.specs.Worked.{plain, started_from, played, replies, txn, item}
 use Rattle.esr_history.specs.Serial.{is_before, committed_updates, state}

@@ -1,17 +1,13 @@
 -- What charges do to accounts.
-use Rattle.std.proofs.Common.{◌≡◌, ℕ, zero, suc, ◌+◌, ◌<◌, ◌≤◌, ◌^◌, ◌*◌, List, [], ◌∷◌, ◌++◌, length, Bool, true, false, not, ◌==◌, refl, sym, ◌∙◌, ap, subst, arith, inl, inr, Option, None, Some, if◌then◌else◌, get_or, set, take}
-use Rattle.std.specs.Prelude.{is_some, find, sum_by, unwrap_or, All}
+use Rattle.std.proofs.Common.{◌≡◌, ℕ, zero, suc, ◌+◌, ◌<◌, ◌≤◌, ◌^◌, ◌*◌, List, [], ◌∷◌, ◌++◌, length, Bool, true, false, not, ◌==◌, refl, sym, ◌∙◌, ap, subst, arith, inl, inr, Option, None, Some, if◌then◌else◌, get_or, set, take, is_some, find, sum_by, unwrap_or, All, option_map}
 use Rattle.std.specs.List.{AllByRecursion, insert}
-use Rattle.std.specs.Option.{option_map}
 use Rattle.std.proofs.lemmas.Bool.{cases_Bool, cases_eq, eq-eqb, ne_eqb, false≢true, ltb-false, not-true, or_left, or_right}
 use Rattle.std.proofs.lemmas.List.Sums.{sum_by-cons, sum_by-le, sum_by-insert}
 use Rattle.std.proofs.lemmas.List.Elements.{All-from_recursion, recursion_from_All, All-weaker}
 use Rattle.esr_history.specs.declared.event.TxnId.{TxnId}
 use Rattle.esr_history.specs.Ascending.{IsAscendingBy, IsPlaceOf}
 use Rattle.esr_history.proofs.Ascending.{place_tail, placed_ascends, all_placed}
-use Rattle.esr_ledgers.specs.declared.account.Account.{Account}
-use Rattle.esr_ledgers.specs.Books.{number, account_of, is_open, is_open_query, is_open_update, limit_at, account_amount, total_of, would_pass, raised, charged_to_queries, charged, imports, exports, IsWithinLimit, AreBooks, AreCharges, with_account, quoted, quote_of}
-use Rattle.esr_ledgers.specs.declared.ledgers.Quote.TheVariants.{Fits}
+use Rattle.esr_ledgers.specs.Books.{number, account_of, is_open, is_open_query, is_open_update, limit_at, account_amount, total_of, would_pass, raised, charged_to_queries, charged, imports, exports, IsWithinLimit, AreBooks, AreCharges, with_account, quoted, quote_of, Account, Fits}
 use Rattle.esr_history.proofs.Lists.{find_none_all}
 
 abbrev more : ℕ → Account → Account

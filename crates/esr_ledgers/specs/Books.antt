@@ -1,12 +1,11 @@
 -- The accounts of transactions: what queries have imported and updates have exported.
-use Rattle.std.specs.Prelude.{◌≡◌, ℕ, ◌+◌, ◌<◌, ◌≤◌, ◌^◌, List, [], ◌∷◌, Bool, true, false, not, ◌==◌, nat_lt, Option, None, Some, unwrap_or, find, map, sum_by, All, if◌then◌else◌}
+use Rattle.std.specs.Prelude.{◌≡◌, ℕ, ◌+◌, ◌<◌, ◌≤◌, ◌^◌, List, [], ◌∷◌, Bool, true, false, not, ◌==◌, nat_lt, Option, None, Some, unwrap_or, find, map, sum_by, All, if◌then◌else◌, option_map}
 use Rattle.std.specs.List.{list_any, AllByRecursion}
-use Rattle.std.specs.Option.{option_map}
 use Rattle.esr_history.specs.declared.event.TxnId.{TxnId}
 use Rattle.esr_history.specs.Ascending.{IsAscendingBy, placed}
-use Rattle.esr_ledgers.specs.declared.account.Account.{Account}
+pub use Rattle.esr_ledgers.specs.declared.account.Account.{Account}
 use Rattle.esr_ledgers.specs.declared.ledgers.Quote.{Quote}
-use Rattle.esr_ledgers.specs.declared.ledgers.Quote.TheVariants.{Fits, Import, Export}
+pub use Rattle.esr_ledgers.specs.declared.ledgers.Quote.TheVariants.{Fits, Import, Export}
 
 abbrev pub number : Account → ℕ
 number a = a.number.0

@@ -1,6 +1,5 @@
 -- Where no byte is a line feed, the count of bytes before the first is the length.
-use Rattle.std.proofs.Common.{◌≡◌, ℕ, ◌≤◌, List, [], ◌∷◌, length, arith, nat_eq, nat_lt, None, ltb-false}
-use Rattle.std.specs.List.{position}
+use Rattle.std.proofs.Common.{◌≡◌, ℕ, ◌≤◌, List, [], ◌∷◌, length, arith, nat_eq, nat_lt, None, ltb-false, position}
 use Rattle.esr_line.specs.Lines.{line_len}
 use Rattle.std.proofs.lemmas.Bool.{cases_Bool}
 use Rattle.esr_line.proofs.Blanks.{chosen_none}

@@ -1,7 +1,6 @@
 //! What comes next in bytes that are cut into lines.
 
-ghost use Rattle.std.specs.Prelude.{◌≡◌, nat_eq};
-ghost use Rattle.std.specs.List.{position};
+ghost use Rattle.std.specs.Prelude.{◌≡◌, nat_eq, position};
 ghost use Rattle.esr_line.specs.Lines.{line_len, IsNext};
 
 use crate::limits::MAX_LINE_BYTES;

@@ -1,8 +1,6 @@
 -- The smallest number that passes a test, in a list that ascends.
-use Rattle.std.proofs.Common.{◌≡◌, ℕ, ◌<◌, ◌≤◌, List, [], ◌∷◌, Bool, false, not, ◌&&◌, ◌==◌, refl, sym, ◌∙◌, arith, Option, None, Some, map}
-use Rattle.std.specs.Prelude.{find, All}
+use Rattle.std.proofs.Common.{◌≡◌, ℕ, ◌<◌, ◌≤◌, List, [], ◌∷◌, Bool, false, not, ◌&&◌, ◌==◌, refl, sym, ◌∙◌, arith, Option, None, Some, map, find, All, option_map}
 use Rattle.std.specs.List.{list_any, AllByRecursion}
-use Rattle.std.specs.Option.{option_map}
 use Rattle.std.proofs.lemmas.Bool.{cases_eq, eq-eqb, ne_eqb, and_right, and_left}
 use Rattle.std.proofs.lemmas.List.Elements.{All-cons, All-head, All-tail}
 use Rattle.esr_history.specs.Ascending.{IsAscendingBy, IsSmallest}

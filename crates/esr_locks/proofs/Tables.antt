@@ -1,9 +1,7 @@
 -- What one more lock and a release do to the rows and the lists of a table.
-use Rattle.std.proofs.Common.{◌≡◌, ℕ, ◌+◌, ◌<◌, ◌≤◌, List, [], ◌∷◌, ◌++◌, length, Bool, true, false, not, ◌||◌, ◌==◌, refl, sym, ◌∙◌, ap, subst, arith, inl, inr, ◌⊎◌, Option, None, Some, if◌then◌else◌, map, get_or, set, get_or-set_same, get_or-set_other, zero, suc, take}
+use Rattle.std.proofs.Common.{◌≡◌, ℕ, ◌+◌, ◌<◌, ◌≤◌, List, [], ◌∷◌, ◌++◌, length, Bool, true, false, not, ◌||◌, ◌==◌, refl, sym, ◌∙◌, ap, subst, arith, inl, inr, ◌⊎◌, Option, None, Some, if◌then◌else◌, map, get_or, set, get_or-set_same, get_or-set_other, zero, suc, take, All, unwrap_or, filter, slice_index, option_map}
 use Rattle.std.proofs.Math.ListN.{length-set}
-use Rattle.std.specs.Prelude.{All, unwrap_or, filter, slice_index}
 use Rattle.std.specs.List.{list_any, range_with_len}
-use Rattle.std.specs.Option.{option_map}
 use Rattle.std.proofs.lemmas.Bool.{cases_Bool, cases_eq, eq-eqb, eqb-true, ne_eqb, false≢true, or_cases, or_left, or_right, or_parts}
 use Rattle.std.proofs.lemmas.List.{map-set, map-append, get_or-map, ext_get_or, length-map, take_more, get_or_default}
 use Rattle.std.proofs.lemmas.List.Elements.{All-nil, All-push}

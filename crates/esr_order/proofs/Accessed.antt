@@ -1,7 +1,6 @@
 -- What the entries of a transaction give are its accesses.
-use Rattle.std.proofs.Common.{◌≡◌, ◌<◌, All, arith, ℕ, ◌+◌, Bool, true, false, not, ◌&&◌, List, [], ◌∷◌, ◌++◌, length, refl, sym, ◌∙◌, ap, Option, None, Some, reverse, cond, filter, map, eqb, append_assoc, if◌then◌else◌}
+use Rattle.std.proofs.Common.{◌≡◌, ◌<◌, All, arith, ℕ, ◌+◌, Bool, true, false, not, ◌&&◌, List, [], ◌∷◌, ◌++◌, length, refl, sym, ◌∙◌, ap, Option, None, Some, reverse, cond, filter, map, eqb, append_assoc, if◌then◌else◌, option_map}
 use Rattle.std.specs.List.{filter_map, slice_get, cons_option}
-use Rattle.std.specs.Option.{option_map}
 use Rattle.std.proofs.lemmas.List.{length-append, reverse-append}
 use Rattle.std.proofs.lemmas.List.Elements.{All-from_recursion}
 use Rattle.esr_history.specs.declared.event.Event.{Event}
@@ -15,8 +14,7 @@ use Rattle.esr_history.specs.Operations.{Operation, operation_of, operation_by, 
 use Rattle.esr_history.specs.Queries.{reads_by}
 use Rattle.esr_history.proofs.Membership.{get_seam, In-of_filter, each_in}
 use Rattle.esr_history.proofs.WithinRanges.{legal_items}
-use Rattle.esr_order.specs.declared.accesses.Access.{Access}
-use Rattle.esr_order.specs.Scans.{access_of, access_in, access_by, access_at, accesses_in}
+use Rattle.esr_order.specs.Scans.{access_of, access_in, access_by, access_at, accesses_in, Access}
 use Rattle.esr_order.proofs.Entries.{accepts}
 use Rattle.esr_order.proofs.Lists.{of_map}
 use Rattle.esr_order.proofs.Linked.{IsWalk, walk_none, walk_next, walk_done, walk_smaller, accepted_owns}

@@ -1,6 +1,5 @@
 -- What is found makes an order of the query.
-use Rattle.std.proofs.Common.{◌≡◌, ◌≢◌, ℕ, zero, suc, ◌+◌, ◌<◌, ◌≤◌, Bool, true, false, List, [], ◌∷◌, length, None, Some, All, AllPairs, Contains, refl, sym, ◌∙◌, ap, subst, arith, inl, inr, ⊎_elim, map, filter, eqb, slice_index_or, get_or}
-use Rattle.std.specs.Prelude.{IsTrue, is_some}
+use Rattle.std.proofs.Common.{◌≡◌, ◌≢◌, ℕ, zero, suc, ◌+◌, ◌<◌, ◌≤◌, Bool, true, false, List, [], ◌∷◌, length, None, Some, All, AllPairs, Contains, refl, sym, ◌∙◌, ap, subst, arith, inl, inr, ⊎_elim, map, filter, eqb, slice_index_or, get_or, IsTrue, is_some}
 use Rattle.std.specs.List.{slice_get, range_with_len, AllByRecursion}
 use Rattle.std.proofs.lemmas.Bool.{cases_order}
 use Rattle.std.proofs.lemmas.List.Elements.{All-contains, All-from_recursion, recursion_from_All, Contains-get_or}

@@ -1,7 +1,6 @@
 -- What a scan of a log finds, in the words of its history.
-use Rattle.std.proofs.Common.{◌≡◌, ℕ, zero, suc, ◌+◌, drop, List, [], ◌∷◌, ◌++◌, length, Bool, true, false, not, Option, None, Some, refl, sym, ◌∙◌, ap, arith, map, filter, cond, append_assoc, if◌then◌else◌}
+use Rattle.std.proofs.Common.{◌≡◌, ℕ, zero, suc, ◌+◌, drop, List, [], ◌∷◌, ◌++◌, length, Bool, true, false, not, Option, None, Some, refl, sym, ◌∙◌, ap, arith, map, filter, cond, append_assoc, if◌then◌else◌, length-append}
 use Rattle.std.specs.List.{filter_map, slice_get, range_with_len, cons_option}
-use Rattle.std.proofs.lemmas.List.{length-append}
 use Rattle.esr_history.specs.declared.event.Event.{Event}
 use Rattle.esr_history.specs.declared.event.Entry.{Entry}
 use Rattle.esr_history.specs.Events.{is_refusal}

@@ -1,6 +1,5 @@
 -- Steps of updates in a serial order: writers of an item in a row are pairs.
-use Rattle.std.proofs.Common.{◌≡◌, ℕ, zero, suc, ◌+◌, ◌<◌, ◌≤◌, ℤ, Bool, true, false, List, [], ◌∷◌, length, get_or, refl, sym, ◌∙◌, ap, subst, arith, inl, inr, ⊎_elim, filter, eqb, cond, map, Some, ◌&&◌, ◌==◌, AllPairs, Contains}
-use Rattle.std.specs.Prelude.{is_some}
+use Rattle.std.proofs.Common.{◌≡◌, ℕ, zero, suc, ◌+◌, ◌<◌, ◌≤◌, ℤ, Bool, true, false, List, [], ◌∷◌, length, get_or, refl, sym, ◌∙◌, ap, subst, arith, inl, inr, ⊎_elim, filter, eqb, cond, map, Some, ◌&&◌, ◌==◌, AllPairs, Contains, is_some}
 use Rattle.std.specs.List.{last_or}
 use Rattle.std.proofs.lemmas.Bool.{true≢false, cases_order, cases_eq, eqb-true, eq-eqb}
 use Rattle.esr_history.proofs.Membership.{In, In-Contains, In-filter, Pairs, each_at, filter-some}

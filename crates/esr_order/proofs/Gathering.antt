@@ -8,9 +8,8 @@ use Rattle.esr_history.specs.declared.event.TxnId.{TxnId}
 use Rattle.esr_history.specs.Machine.{Schedule}
 use Rattle.esr_history.specs.Operations.{Operation, operations}
 use Rattle.esr_history.proofs.Membership.{In, In-Contains, Contains-In, In-append_cases, In-append_left, In-append_right, Pairs, Pairs-append, Pairs-from_all, All-from_pairs, each_at}
-use Rattle.esr_order.specs.declared.accesses.Access.{Access}
 use Rattle.esr_order.specs.UpdateOperations.{UpdateOperation}
-use Rattle.esr_order.specs.Scans.{access_of, accesses_in}
+use Rattle.esr_order.specs.Scans.{access_of, accesses_in, Access}
 use Rattle.esr_order.specs.Listing.{IsBelow}
 use Rattle.esr_order.specs.Turns.{placed_operation, operation_at, turn, turns}
 use Rattle.esr_order.specs.Ties.{pair_of, pairs_from, AreTies, AreNextPaired, on_item}

@@ -1,9 +1,8 @@
 -- The laws of placements over legal histories.
-use Rattle.std.proofs.Common.{◌≡◌, ℕ, ◌+◌, ◌<◌, ◌≤◌, Bool, false, List, [], ◌∷◌, length, take, drop, sym, ◌∙◌, ap, subst, filter, eqb, arith, inl, inr}
+use Rattle.std.proofs.Common.{◌≡◌, ℕ, ◌+◌, ◌<◌, ◌≤◌, Bool, false, List, [], ◌∷◌, length, take, drop, sym, ◌∙◌, ap, subst, filter, eqb, arith, inl, inr, take-append-drop}
 use Rattle.std.specs.List.{before_first, position_or_len, list_any, AllByRecursion, IsDistinct}
 use Rattle.std.proofs.lemmas.Bool.{or_left, ne_eqb, eqb-true}
 use Rattle.std.proofs.lemmas.Map.Steps.{length-le_from_distinct_below}
-use Rattle.std.proofs.lemmas.List.{take-append-drop}
 use Rattle.std.proofs.lemmas.List.Elements.{filter-append}
 use Rattle.esr_history.specs.Events.{is_update, beginnings}
 use Rattle.esr_history.specs.Machine.{Distance, Schedule, done, IsLegal}

@@ -1,8 +1,7 @@
 -- The closed sets are the parts of placements, for updates whose commit order keeps the conflict order.
-use Rattle.std.proofs.Common.{◌≡◌, ℕ, ◌≤◌, Bool, true, false, not, List, ◌++◌, length, take, drop, sym, ◌∙◌, ap, subst, ⊎_elim, arith, Contains}
+use Rattle.std.proofs.Common.{◌≡◌, ℕ, ◌≤◌, Bool, true, false, not, List, ◌++◌, length, take, drop, sym, ◌∙◌, ap, subst, ⊎_elim, arith, Contains, take-append-drop, length-append}
 use Rattle.std.proofs.Math.Path.{fun_ext}
 use Rattle.std.proofs.Math.Seq.{take-append_seam}
-use Rattle.std.proofs.lemmas.List.{take-append-drop, length-append}
 use Rattle.std.proofs.lemmas.Bool.{true≢false, cases_Bool, not-true, not_from_false, false_from_ne_true}
 use Rattle.esr_items.specs.Values.{value_at}
 use Rattle.esr_history.specs.Machine.{Distance, Schedule}

@@ -1,6 +1,5 @@
 -- A search back in commit order finds the near updates.
-use Rattle.std.proofs.Common.{◌≡◌, ◌≢◌, ◌↔◌, ◌⊎◌, ℕ, zero, suc, ◌<◌, ◌≤◌, Bool, true, false, not, ◌&&◌, ◌||◌, List, [], ◌∷◌, ◌++◌, reverse, length, drop, get_or, refl, sym, ◌∙◌, ap, subst, arith, inl, inr, ⊎_elim, AllPairs, Contains, filter, map, cond, eqb}
-use Rattle.std.specs.Prelude.{if◌then◌else◌, IsTrue}
+use Rattle.std.proofs.Common.{◌≡◌, ◌≢◌, ◌↔◌, ◌⊎◌, ℕ, zero, suc, ◌<◌, ◌≤◌, Bool, true, false, not, ◌&&◌, ◌||◌, List, [], ◌∷◌, ◌++◌, reverse, length, drop, get_or, refl, sym, ◌∙◌, ap, subst, arith, inl, inr, ⊎_elim, AllPairs, Contains, filter, map, cond, eqb, if◌then◌else◌, IsTrue}
 use Rattle.std.specs.List.{list_any}
 use Rattle.std.proofs.lemmas.List.{reverse-append}
 use Rattle.std.proofs.lemmas.Bool.{true≢false, and_parts, and_from, or_cases, or_left, or_right, eqb-true, eq-eqb, ne_eqb, false_from_ne_true}
@@ -13,10 +12,9 @@ use Rattle.esr_history.proofs.Membership.{In, In-Contains, Contains-In, In-any, 
 use Rattle.esr_history.proofs.Traces.{writes_item}
 use Rattle.esr_history.proofs.Versions.{wrote_by, wrote_parts}
 use Rattle.esr_history.proofs.Words.{wrote_trace}
-use Rattle.esr_order.specs.declared.accesses.Access.{Access}
 use Rattle.esr_order.specs.declared.search.Items.{Items}
 use Rattle.esr_order.specs.Placements.{is_among}
-use Rattle.esr_order.specs.Scans.{access_of, accesses_in}
+use Rattle.esr_order.specs.Scans.{access_of, accesses_in, Access}
 use Rattle.esr_order.specs.Chains.{update_at, nth}
 use Rattle.esr_order.specs.Near.{has_written, has_written_read, IsRowTo, IsNear, AreNear}
 use Rattle.esr_order.specs.Seeking.{marked, is_access, Seen, seen_items, conflicts_with}

@@ -1,9 +1,8 @@
 -- Numbers in order, each once.
-use Rattle.std.proofs.Common.{Less, Equal, Greater, is_eq, arith, ◌≡◌, ℕ, ◌<◌, List, ◌∙◌, ap, ⊎_elim, eqb, AllPairs}
+use Rattle.std.proofs.Common.{Less, Equal, Greater, is_eq, arith, ◌≡◌, ℕ, ◌<◌, List, ◌∙◌, ap, ⊎_elim, eqb, AllPairs, IsSorted}
 use Rattle.std.specs.Ordering.{nat_cmp, eq_by_cmp}
 use Rattle.std.specs.Cmp.{nat_cmp_is}
 use Rattle.std.specs.List.{dedup}
-use Rattle.std.specs.List.Sorted.{IsSorted}
 use Rattle.std.proofs.lemmas.Bool.{cases_order, eq-eqb, ne_eqb}
 use Rattle.std.proofs.lemmas.Cmp.{nat_cmp_total}
 use Rattle.std.proofs.lemmas.List.Kept.{IsStrictlySortedBy-dedup}

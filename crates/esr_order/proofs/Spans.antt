@@ -1,6 +1,5 @@
 -- Where the transactions of a legal history begin, and where they end.
-use Rattle.std.proofs.Common.{◌≡◌, ℕ, zero, suc, ◌+◌, ◌<◌, ◌≤◌, Bool, true, false, not, ◌||◌, ◌⊎◌, List, [], ◌∷◌, ◌++◌, length, take, drop, refl, sym, ◌∙◌, ap, subst, arith, inl, inr, ⊎_elim, Some, None, append-nil, filter, map, cond, add-one}
-use Rattle.std.specs.Prelude.{if◌then◌else◌}
+use Rattle.std.proofs.Common.{◌≡◌, ℕ, zero, suc, ◌+◌, ◌<◌, ◌≤◌, Bool, true, false, not, ◌||◌, ◌⊎◌, List, [], ◌∷◌, ◌++◌, length, take, drop, refl, sym, ◌∙◌, ap, subst, arith, inl, inr, ⊎_elim, Some, None, append-nil, filter, map, cond, add-one, if◌then◌else◌}
 use Rattle.std.specs.List.{cons_option, slice_get, list_any, last_or, before_first}
 use Rattle.std.proofs.Math.Seq.{take-append_seam}
 use Rattle.std.proofs.lemmas.Bool.{true≢false, cases_Bool, or_parts, eq-eqb, ne_eqb, eqb-true}

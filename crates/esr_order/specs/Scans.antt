@@ -1,6 +1,5 @@
 -- What the entries of a log give, where they are accepted.
-use Rattle.std.specs.Prelude.{◌≡◌, ℕ, List, [], ◌∷◌, Bool, true, false, ◌==◌, Option, None, Some, Contains, is_some, filter, map, nat_lt, slice_get, if◌then◌else◌}
-use Rattle.std.specs.Option.{option_map}
+use Rattle.std.specs.Prelude.{◌≡◌, ℕ, List, [], ◌∷◌, Bool, true, false, ◌==◌, Option, None, Some, Contains, is_some, filter, map, nat_lt, slice_get, if◌then◌else◌, option_map}
 use Rattle.esr_history.specs.declared.event.TxnId.{TxnId}
 use Rattle.esr_history.specs.declared.event.Event.{Event}
 use Rattle.esr_history.specs.declared.event.Event.TheVariants.{BeginQuery, Commit}
@@ -10,7 +9,7 @@ use Rattle.esr_history.specs.declared.back_links.Facts.{Facts}
 use Rattle.esr_history.specs.BackLinks.{accepted_end, last_place, facts_of}
 use Rattle.esr_history.specs.Machine.{Schedule, done}
 use Rattle.esr_history.specs.Operations.{Operation, operation_of, operations_in}
-use Rattle.esr_order.specs.declared.accesses.Access.{Access}
+pub use Rattle.esr_order.specs.declared.accesses.Access.{Access}
 
 abbrev pub if_accepted : {Y : Type 0} → (Entry → Option Y) → Entry → Option Y
 if_accepted f e = if is_refusal e.reply then None else f e

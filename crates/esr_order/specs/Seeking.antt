@@ -1,7 +1,7 @@
 -- What a search back from a query has come by: the items that the query and the near updates read, and those that these
 -- updates wrote.
 use Rattle.std.specs.Prelude.{ℕ, Bool, false, not, ◌&&◌, ◌||◌, ◌==◌, List, slice_index_or, if◌then◌else◌}
-use Rattle.esr_order.specs.declared.accesses.Access.{Access}
+use Rattle.esr_order.specs.Scans.{Access}
 use Rattle.esr_order.specs.declared.search.Items.{Items}
 
 abbrev pub marked : List Bool → ℕ → Bool

@@ -1,8 +1,5 @@
 -- One more line in a plan.
-use Rattle.std.proofs.Common.{◌≡◌, ◌≤◌, ℕ, ℤ, ◌+◌, ◌<◌, true, false, List, [], ◌∷◌, ◌++◌, All, length, length-append, map, Option, Some, None, Ok, Vec, Global, refl, ap, sym, subst, ◌∙◌, append_assoc, append-nil, arith, nat_eq}
-use Rattle.std.specs.Prelude.{is_some}
-use Rattle.std.specs.List.{flat_map, filter_map}
-use Rattle.std.specs.Option.{option_map}
+use Rattle.std.proofs.Common.{◌≡◌, ◌≤◌, ℕ, ℤ, ◌+◌, ◌<◌, true, false, List, [], ◌∷◌, ◌++◌, All, length, length-append, map, Option, Some, None, Ok, Vec, Global, refl, ap, sym, subst, ◌∙◌, append_assoc, append-nil, arith, nat_eq, is_some, flat_map, filter_map, option_map}
 use Rattle.std.proofs.lemmas.Bool.Decides.{nat_tests}
 use Rattle.std.proofs.lemmas.Grind.{flat_map-append}
 use Rattle.std.proofs.lemmas.List.{map-append, length-map}
@@ -11,9 +8,8 @@ use Rattle.esr_items.specs.Values.{IsValue, is_value}
 use Rattle.esr_items.specs.Weights.{IsWeight, is_weight}
 use Rattle.esr_report.specs.Names.{position_of, is_bound}
 use Rattle.esr_line.specs.Command.{Command}
-use Rattle.esr_plan.specs.declared.call.Call.{Call}
 use Rattle.esr_plan.specs.declared.draft.Draft.{Draft}
-use Rattle.esr_plan.specs.Calls.{command_of, IsResolved, AreResolved}
+use Rattle.esr_plan.specs.Calls.{command_of, IsResolved, AreResolved, Call}
 use Rattle.esr_plan.specs.Plan.{Plan, new_name, new_names, onto_last, weight_in, weights_of, with_session, with_item, with_operation, with_begin}
 use Rattle.esr_plan.specs.Drafts.{commands_in, current_calls, blocks_with, blocks_of, plan_in, ArePlaces, IsSound}
 use Rattle.esr_plan.specs.Sheets as sheets

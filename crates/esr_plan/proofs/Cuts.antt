@@ -1,17 +1,14 @@
 -- What the first line feed says of the lines, and what the lines say of the reading.
-use Rattle.std.proofs.Common.{◌≡◌, ℕ, ◌+◌, ◌-◌, ◌<◌, ◌≤◌, List, [], ◌∷◌, ◌++◌, Bool, true, false, length, take, drop, refl, sym, ◌∙◌, ap, subst, arith, inl, inr, Result, Ok, Err, nat_eq, Some, None, ltb-true, length-drop, length-take, length-append}
+use Rattle.std.proofs.Common.{◌≡◌, ℕ, ◌+◌, ◌-◌, ◌<◌, ◌≤◌, List, [], ◌∷◌, ◌++◌, Bool, true, false, length, take, drop, refl, sym, ◌∙◌, ap, subst, arith, inl, inr, Result, Ok, Err, nat_eq, Some, None, ltb-true, length-drop, length-take, length-append, nat_lt, IfSome, Option, if◌then◌else◌}
 use Rattle.std.proofs.Math.Seq.{take-length}
 use Rattle.std.proofs.lemmas.List.{drop-append-le, drop-drop, append-nil, append_assoc}
 use Rattle.std.proofs.lemmas.Bool.Decides.{nat_tests}
 use Rattle.std.proofs.lemmas.Option.{cond_some}
 use Rattle.std.proofs.lemmas.Bool.{cases_Bool}
-use Rattle.std.specs.Prelude.{nat_lt, IfSome, Option, if◌then◌else◌}
 use Rattle.std.specs.Io.KnownBytes.{Consumes}
-use Rattle.esr_plan.specs.Plan.{cut_fault, plan_of, plan_from, nothing}
+use Rattle.esr_plan.specs.Plan.{cut_fault, plan_of, plan_from, nothing, DriveFault, TooManyLines, LineTooLong}
 use Rattle.esr_plan.specs.Readings.{IsLineFault, IsReadFault}
-use Rattle.esr_plan.specs.declared.fault.DriveFault.{DriveFault}
 use Rattle.esr_plan.specs.declared.fault.DriveFault.TheVariants as fault
-use Rattle.esr_plan.specs.declared.fault.DriveFault.TheVariants.{TooManyLines, LineTooLong}
 use Rattle.std.specs.List.{position, position_or_len}
 use Rattle.esr_history.proofs.Ascending.{le_ltb, lt_ltb}
 use Rattle.esr_line.specs.Lines.{lines, line_len}

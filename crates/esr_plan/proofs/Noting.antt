@@ -1,6 +1,5 @@
 -- The table of the names that transactions began by.
-use Rattle.std.proofs.Common.{Bor, ◌≡◌, ◌≢◌, ℕ, zero, suc, ◌+◌, ◌-◌, ◌<◌, ◌≤◌, List, [], ◌∷◌, ◌++◌, Bool, true, false, not, cond, length, take, drop, map, get_or, Option, Some, None, unwrap_or, refl, ap, sym, ◌∙◌, arith, nat_eq, if◌then◌else◌, add-one}
-use Rattle.std.specs.Prelude.{slice_set, slice_get, replicate, Vec}
+use Rattle.std.proofs.Common.{Bor, ◌≡◌, ◌≢◌, ℕ, zero, suc, ◌+◌, ◌-◌, ◌<◌, ◌≤◌, List, [], ◌∷◌, ◌++◌, Bool, true, false, not, cond, length, take, drop, map, get_or, Option, Some, None, unwrap_or, refl, ap, sym, ◌∙◌, arith, nat_eq, if◌then◌else◌, add-one, slice_set, slice_get, replicate, Vec}
 use Rattle.std.specs.declared.alloc.Global.{Global}
 use Rattle.std.specs.List.{flat_map, filter, filter_map, find, range_with_len}
 use Rattle.std.specs.Option.{option_and_then, option_map, option_map_or}
@@ -12,10 +11,9 @@ use Rattle.esr_history.specs.declared.event.Entry.{Entry}
 use Rattle.esr_history.specs.declared.event.Reply.{Reply}
 use Rattle.esr_history.specs.Events.{Beginning, is_refusal, accepted, beginning_of, beginnings}
 use Rattle.esr_history.specs.BackLinks.{begun_count}
-use Rattle.esr_plan.specs.declared.call.Call.{Call}
 use Rattle.esr_plan.specs.Plan.{new_name}
 use Rattle.esr_plan.specs.Blocks.{Answered, number_in}
-use Rattle.esr_plan.specs.Calls.{answers_of, AreAnswered, all_answers}
+use Rattle.esr_plan.specs.Calls.{answers_of, AreAnswered, all_answers, Call}
 use Rattle.esr_plan.specs.Text.{has_begun, name_begun}
 use Rattle.esr_plan.specs.Tables.{answered, is_begin, with_number, with_begun, noted}
 

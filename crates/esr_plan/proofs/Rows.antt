@@ -1,11 +1,8 @@
 -- Drive files with what they ask for.
-use Rattle.std.proofs.Common.{◌≡◌, refl, List, [], ◌∷◌, Result, Ok, Err, Some, None}
-use Rattle.std.specs.Prelude.{codes, pos, negsuc}
+use Rattle.std.proofs.Common.{◌≡◌, refl, List, [], ◌∷◌, Result, Ok, Err, Some, None, codes, pos, negsuc}
 use Rattle.std.specs.Fmt.{digits}
 use Rattle.esr_line.specs.Command.{Command, begin_update, begin_query, read, write, commit}
-use Rattle.esr_plan.specs.declared.fault.DriveFault.{DriveFault}
-use Rattle.esr_plan.specs.declared.fault.DriveFault.TheVariants.{BadScript}
-use Rattle.esr_plan.specs.Plan.{Plan, plan_of}
+use Rattle.esr_plan.specs.Plan.{Plan, plan_of, DriveFault, BadScript}
 
 -- the plan of one item with these blocks
 abbrev one_item : List (List Command) → Result Plan DriveFault

@@ -1,6 +1,5 @@
 -- What an audit finds is what its line says.
-use Rattle.std.proofs.Common.{◌≡◌, ℕ, ℤ, zero, suc, ◌+◌, ◌<◌, List, [], ◌∷◌, ◌++◌, length, take, map, get_or, Option, Result, OnOk, refl, sym, ap, subst, ◌∙◌, append_assoc, append-nil, length-take, arith, ◌≤◌}
-use Rattle.std.specs.List.{flat_map}
+use Rattle.std.proofs.Common.{◌≡◌, ℕ, ℤ, zero, suc, ◌+◌, ◌<◌, List, [], ◌∷◌, ◌++◌, length, take, map, get_or, Option, Result, OnOk, refl, sym, ap, subst, ◌∙◌, append_assoc, append-nil, length-take, arith, ◌≤◌, flat_map}
 use Rattle.std.proofs.lemmas.Grind.{flat_map-append}
 use Rattle.std.proofs.lemmas.List.{take_more, take_all, get_or_default}
 use Rattle.esr_items.specs.Weights.{weighted}
@@ -12,8 +11,7 @@ use Rattle.esr_audit.specs.declared.finding.Finding.{Finding}
 use Rattle.esr_audit.specs.Findings.{IsFinding}
 use Rattle.esr_report.specs.Lines.{audit_line, reply_line, session_line}
 use Rattle.esr_history.specs.declared.event.Reply.{Reply}
-use Rattle.esr_plan.specs.declared.call.Call.{Call}
-use Rattle.esr_plan.specs.Calls.{command_of, answers_of}
+use Rattle.esr_plan.specs.Calls.{command_of, answers_of, Call}
 use Rattle.esr_plan.specs.Tables.{answered}
 use Rattle.esr_plan.proofs.Noting.{answer_at, length_answers}
 use Rattle.esr_report.specs.Names.{name_of_transaction}

@@ -1,8 +1,5 @@
 -- What sessions do with the commands of their blocks.
-use Rattle.std.specs.Prelude.{◌≡◌, ℕ, ◌≤◌, List, [], ◌∷◌, ◌++◌, Bool, true, false, Option, Some, None, All, length, map, slice_get, unwrap_or}
-use Rattle.std.specs.List.{position}
-use Rattle.std.specs.Option.{option_and_then}
-use Rattle.std.specs.Str.{bytes_eq}
+use Rattle.std.specs.Prelude.{◌≡◌, ℕ, ◌≤◌, List, [], ◌∷◌, ◌++◌, Bool, true, false, Option, Some, None, All, length, map, slice_get, unwrap_or, position, option_and_then, bytes_eq}
 use Rattle.esr_items.specs.declared.TheConstants.{MOST_ITEMS}
 use Rattle.esr_items.specs.declared.metric.ItemId.{ItemId}
 use Rattle.esr_history.specs.declared.event.TxnId.{TxnId}

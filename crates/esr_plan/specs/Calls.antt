@@ -1,7 +1,5 @@
 -- Calls, read from the structs that lend their names.
-use Rattle.std.specs.Prelude.{◌≡◌, ℕ, ◌<◌, List, [], ◌∷◌, true, false, Option, length, take, slice_get, slice_index_or, unwrap_or}
-use Rattle.std.specs.List.{position}
-use Rattle.std.specs.Option.{option_and_then}
+use Rattle.std.specs.Prelude.{◌≡◌, ℕ, ◌<◌, List, [], ◌∷◌, true, false, Option, length, take, slice_get, slice_index_or, unwrap_or, position, option_and_then}
 use Rattle.esr_history.specs.declared.event.TxnId.{TxnId}
 use Rattle.esr_history.specs.declared.event.Event.{Event}
 use Rattle.esr_history.specs.declared.event.Event.TheVariants as event
@@ -9,7 +7,7 @@ use Rattle.esr_history.specs.declared.event.Reply.{Reply}
 use Rattle.esr_line.specs.Command.{Command, begin_update, begin_query, begin_strict_query, read, write, commit, abort}
 use Rattle.esr_plan.specs.declared.call.Caller.{Caller}
 use Rattle.esr_plan.specs.declared.call.Operand.{Operand}
-use Rattle.esr_plan.specs.declared.call.Call.{Call}
+pub use Rattle.esr_plan.specs.declared.call.Call.{Call}
 use Rattle.esr_plan.specs.declared.call.Call.TheVariants as call
 use Rattle.esr_plan.specs.Blocks.{Answered, begins, number_in, item_called}
 

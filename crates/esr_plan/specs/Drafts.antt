@@ -1,17 +1,15 @@
 -- A plan that is being made, as contracts see it.
-use Rattle.std.specs.Prelude.{◌≡◌, ◌≤◌, ℕ, List, [], ◌∷◌, ◌++◌, All, Option, Some, None, Result, Err, map, length, nat_lt, slice_get, if◌then◌else◌}
-use Rattle.std.specs.Option.{option_map}
+use Rattle.std.specs.Prelude.{◌≡◌, ◌≤◌, ℕ, List, [], ◌∷◌, ◌++◌, All, Option, Some, None, Result, Err, map, length, nat_lt, slice_get, if◌then◌else◌, option_map}
 use Rattle.esr_items.specs.declared.TheConstants.{MOST_ITEMS}
 use Rattle.esr_items.specs.Values.{IsValue}
 use Rattle.esr_items.specs.Weights.{IsWeight}
 use Rattle.esr_report.specs.Names.{position_of}
 use Rattle.esr_line.specs.Command.{Command}
-use Rattle.esr_plan.specs.declared.call.Call.{Call}
 use Rattle.esr_plan.specs.declared.draft.TheConstants.{MAX_BLOCKS}
 use Rattle.esr_plan.specs.declared.draft.Draft.{Draft}
 use Rattle.esr_plan.specs.declared.draft.Wrong.{Wrong}
 use Rattle.esr_plan.specs.declared.draft.Wrong.TheVariants as wrong
-use Rattle.esr_plan.specs.Calls.{command_of, place_of, AreResolved}
+use Rattle.esr_plan.specs.Calls.{command_of, place_of, AreResolved, Call}
 use Rattle.esr_plan.specs.Plan.{Plan, new_names, weights_of}
 
 abbrev pub commands_in : List Call → List Command

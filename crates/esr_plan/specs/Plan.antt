@@ -1,7 +1,5 @@
 -- What a drive file asks for, or the fault of the line at fault.
-use Rattle.std.specs.Prelude.{ℕ, ◌+◌, ◌==◌, ℤ, List, [], ◌∷◌, ◌++◌, not, nat_lt, nat_eq, Option, Some, None, Result, Ok, Err, length, map, codes, unwrap_or, if◌then◌else◌}
-use Rattle.std.specs.List.{filter_map, flat_map}
-use Rattle.std.specs.Str.{bytes_eq}
+use Rattle.std.specs.Prelude.{ℕ, ◌+◌, ◌==◌, ℤ, List, [], ◌∷◌, ◌++◌, not, nat_lt, nat_eq, Option, Some, None, Result, Ok, Err, length, map, codes, unwrap_or, if◌then◌else◌, filter_map, flat_map, bytes_eq}
 use Rattle.esr_items.specs.declared.TheConstants.{MOST_ITEMS}
 use Rattle.esr_items.specs.Values.{is_value}
 use Rattle.esr_items.specs.Weights.{is_weight}
@@ -10,8 +8,8 @@ use Rattle.esr_line.specs.Lines.{lines}
 use Rattle.esr_line.specs.Command.{Command, item, weighted_item, begin_update, begin_query, begin_strict_query, read, write, commit, abort, is_skipped, reading}
 use Rattle.esr_line.specs.declared.limits.TheConstants.{MAX_LINES, MAX_LINE_BYTES}
 use Rattle.esr_plan.specs.declared.draft.TheConstants.{MAX_BLOCKS}
-use Rattle.esr_plan.specs.declared.fault.DriveFault.{DriveFault}
-use Rattle.esr_plan.specs.declared.fault.DriveFault.TheVariants.{LineTooLong, TooManyLines, BadScript}
+pub use Rattle.esr_plan.specs.declared.fault.DriveFault.{DriveFault}
+pub use Rattle.esr_plan.specs.declared.fault.DriveFault.TheVariants.{LineTooLong, TooManyLines, BadScript}
 
 -- the names of the items, the values with which they open and the weights that were given,
 -- and the commands of each block

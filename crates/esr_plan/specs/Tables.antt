@@ -4,10 +4,9 @@ use Rattle.esr_history.specs.Events.{is_refusal, beginning_of}
 use Rattle.esr_history.specs.declared.event.Entry.{Entry}
 use Rattle.esr_history.specs.declared.event.Reply.{Reply}
 use Rattle.esr_plan.specs.declared.table.BegunNames.{BegunNames}
-use Rattle.esr_plan.specs.declared.call.Call.{Call}
 use Rattle.esr_plan.specs.Plan.{new_name}
 use Rattle.esr_plan.specs.Blocks.{Answered, number_in}
-use Rattle.esr_plan.specs.Calls.{command_of}
+use Rattle.esr_plan.specs.Calls.{command_of, Call}
 
 abbrev pub answered : Call → Reply → Answered
 answered call reply = record { command = command_of call; reply = reply }

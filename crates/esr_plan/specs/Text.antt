@@ -1,6 +1,5 @@
 -- The text of a drive, by its plan, its history and the last replies.
-use Rattle.std.specs.Prelude.{ℕ, ◌+◌, ℤ, pos, List, [], ◌∷◌, ◌++◌, Option, Some, None, length, map, unwrap_or, nat_eq, Bool, false}
-use Rattle.std.specs.List.{flat_map, find}
+use Rattle.std.specs.Prelude.{ℕ, ◌+◌, ℤ, pos, List, [], ◌∷◌, ◌++◌, Option, Some, None, length, map, unwrap_or, nat_eq, Bool, false, flat_map, find}
 use Rattle.std.specs.Option.{option_and_then, option_map_or}
 use Rattle.esr_items.specs.Weights.{weighted}
 use Rattle.esr_history.specs.Events.{numbers}

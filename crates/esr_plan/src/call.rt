@@ -1,7 +1,6 @@
 //! What a session is to call, line by line.
 
-ghost use Rattle.std.specs.Prelude.{◌≡◌};
-ghost use Rattle.std.specs.Option.{option_map};
+ghost use Rattle.std.specs.Prelude.{◌≡◌, option_map};
 ghost use Rattle.esr_report.specs.Subjects.{named_by};
 ghost use Rattle.esr_plan.specs.Calls.{command_of, number_by, event_by};
 ghost use Rattle.esr_plan.specs.Plan.{new_name};

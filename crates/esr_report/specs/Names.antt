@@ -1,7 +1,6 @@
 -- A table of names, as the list of them in the order in which they were bound.
-use Rattle.std.specs.Prelude.{ℕ, List, [], ◌∷◌, Bool, true, not, ◌&&◌, Option, is_some, slice_index_or, ◌-◌}
+use Rattle.std.specs.Prelude.{ℕ, List, [], ◌∷◌, Bool, true, not, ◌&&◌, Option, is_some, slice_index_or, ◌-◌, bytes_eq}
 use Rattle.std.specs.List.{position, list_any}
-use Rattle.std.specs.Str.{bytes_eq}
 
 -- the position of a name, where it is bound
 abbrev pub position_of : List (List ℕ) → List ℕ → Option ℕ

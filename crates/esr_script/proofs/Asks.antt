@@ -2,8 +2,7 @@
 use Rattle.std.proofs.Common.{◌≡◌, ℕ, List, ◌++◌, Result, Ok, OnOk}
 use Rattle.esr_history.specs.declared.event.Event.{Event}
 use Rattle.esr_report.specs.Lines.{Named}
-use Rattle.esr_script.specs.declared.fault.RunFault.{RunFault}
-use Rattle.esr_script.specs.Text.{ScriptState, ask}
+use Rattle.esr_script.specs.Text.{ScriptState, ask, RunFault}
 
 pub asked : (r : Result (Unit {0}) RunFault) (s after : ScriptState) (n m : Named) (e f : Event) (out grown : List ℕ) → n ≡ m → e ≡ f
     → OnOk r ((t : List ℕ) × (ask s n e ≡ Ok (after, t)) × (grown ≡ out ++ t)) → OnOk r ((t : List ℕ) × (ask s m f ≡ Ok (after, t)) × (grown ≡ out ++ t))

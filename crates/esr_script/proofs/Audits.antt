@@ -1,6 +1,5 @@
 -- What an audit finds is what its line says.
-use Rattle.std.proofs.Common.{◌≡◌, ℕ, List, ◌++◌, Result, Ok, Err, IfOk, OnOk, map, refl, sym, ◌∙◌, ap, true, false, arith}
-use Rattle.std.specs.Prelude.{◌↔◌, IsErrOf, IsOk}
+use Rattle.std.proofs.Common.{◌≡◌, ℕ, List, ◌++◌, Result, Ok, Err, IfOk, OnOk, map, refl, sym, ◌∙◌, ap, true, false, arith, ◌↔◌, IsErrOf, IsOk}
 use Rattle.esr_history.specs.declared.event.TxnId.{TxnId}
 use Rattle.esr_history.specs.Machine.{Distance, Schedule, charges_in, import_in}
 use Rattle.esr_history.specs.Queries.{is_committed_query}
@@ -13,10 +12,9 @@ use Rattle.esr_audit.specs.declared.finding.AuditError.{AuditError}
 use Rattle.esr_audit.specs.declared.finding.AuditError.TheVariants.{NotACommittedQuery}
 use Rattle.esr_audit.specs.Findings.{IsShown, IsFindingOf}
 use Rattle.esr_report.specs.Lines.{audit_line}
-use Rattle.esr_script.specs.declared.fault.RunFault.{RunFault}
 use Rattle.esr_items.specs.Weights.{weighted}
 use Rattle.esr_script.specs.Ask.{IsFoundOf}
-use Rattle.esr_script.specs.Text.{ScriptState, transaction_called, audit_text, closed}
+use Rattle.esr_script.specs.Text.{ScriptState, transaction_called, audit_text, closed, RunFault}
 use Rattle.std.proofs.lemmas.Grind.{common_steps}
 
 module _ (d : Distance) (h : Schedule) (q : ℕ) where

@@ -1,14 +1,11 @@
 -- Each end of going over a whole script.
-use Rattle.std.proofs.Common.{◌≡◌, ℕ, List, [], ◌⊎◌, inl, inr, refl, sym, ap, subst, Option, Some, false, Result, Ok, Err, OnOk, IfOk, IfErr, arith}
-use Rattle.std.specs.Prelude.{IsErrOf}
+use Rattle.std.proofs.Common.{◌≡◌, ℕ, List, [], ◌⊎◌, inl, inr, refl, sym, ap, subst, Option, Some, false, Result, Ok, Err, OnOk, IfOk, IfErr, arith, IsErrOf}
 use Rattle.std.specs.Io.KnownBytes.{Appends, Consumes}
 use Rattle.esr_history.specs.Queries.{is_committed_query}
 use Rattle.esr_history.specs.Watch.{BeginsWith}
-use Rattle.esr_script.specs.declared.asked.Asked.{Asked}
-use Rattle.esr_script.specs.declared.fault.RunFault.{RunFault}
 use Rattle.esr_script.specs.declared.fault.RunFault.TheVariants as fault
-use Rattle.esr_script.specs.Text.{ScriptState, transaction_called, final}
-use Rattle.esr_script.specs.Ask.{IsAnswered, IsAsked}
+use Rattle.esr_script.specs.Text.{ScriptState, transaction_called, final, RunFault}
+use Rattle.esr_script.specs.Ask.{IsAnswered, IsAsked, Asked}
 use Rattle.esr_script.specs.Ends.{IsWhole, IsReachedBy, IsWrittenBy}
 use Rattle.std.proofs.lemmas.Grind.{common_steps}
 

@@ -2,12 +2,11 @@
 use Rattle.std.proofs.Common.{◌≡◌, ◌≢◌, ℕ, ◌<◌, ◌≤◌, List, [], ◌∷◌, ◌++◌, ◌⊎◌, Bool, true, false, length, take, refl, sym, ◌∙◌, ap, arith, Option, Some, None, Result, Ok, Err, OnOk, OnErr, IfErr, append_assoc, append-nil, ◌==◌, eq-eqb, IsErrOf, ◌||◌}
 use Rattle.std.specs.Io.KnownBytes.{IsAtEnd, Consumes, Keeps}
 use Rattle.esr_history.specs.Watch.{BeginsWith}
-use Rattle.esr_script.specs.declared.fault.RunFault.{RunFault}
 use Rattle.esr_script.specs.declared.fault.RunFault.TheVariants as fault
 use Rattle.esr_line.specs.declared.next.Next.{Next}
 use Rattle.esr_line.specs.declared.next.Next.TheVariants as next
 use Rattle.esr_line.specs.declared.limits.TheConstants.{MAX_LINES, MAX_LINE_BYTES}
-use Rattle.esr_script.specs.Text.{ScriptState, answer, outcome}
+use Rattle.esr_script.specs.Text.{ScriptState, answer, outcome, RunFault}
 use Rattle.esr_script.specs.Run.{IsRunBy}
 use Rattle.esr_line.specs.Lines.{line_len, IsNext}
 use Rattle.esr_script.specs.Parts.{Standing, IsHeldRun, is_read_fault, is_write_fault}

@@ -6,14 +6,12 @@ use Rattle.esr_cert.specs.Problem.{Problem}
 use Rattle.esr_cert.specs.Certificate.{Certificate, Certifies}
 use Rattle.esr_cert.proofs.Certified.{faultless, certifies_from}
 use Rattle.esr_bundle.specs.Bundle.{bundle}
-use Rattle.esr_script.specs.declared.fault.RunFault.{RunFault}
 use Rattle.esr_script.specs.declared.fault.RunFault.TheVariants as fault
 use Rattle.esr_line.specs.declared.next.Next.TheVariants as next
 use Rattle.esr_line.specs.declared.limits.TheConstants.{MAX_LINES, MAX_LINE_BYTES}
-use Rattle.esr_script.specs.Text.{ScriptState, transaction_called, Outcome, answer}
+use Rattle.esr_script.specs.Text.{ScriptState, transaction_called, Outcome, answer, RunFault}
 use Rattle.esr_cert.specs.Views.{certificate_of}
-use Rattle.esr_script.specs.declared.asked.Asked.{Asked}
-use Rattle.esr_script.specs.Ask.{IsAnswered}
+use Rattle.esr_script.specs.Ask.{IsAnswered, Asked}
 use Rattle.esr_script.specs.Certify.{IsFound, IsBundleOf, IsBundleLine}
 use Rattle.esr_script.specs.Ends.{EndsBy}
 use Rattle.esr_script.specs.Replays.{IsReplay, with_count, bundle_line}

@@ -5,9 +5,8 @@ use Rattle.esr_history.specs.Queries.{is_committed_query}
 use Rattle.esr_cert.specs.Views.{certificate_of}
 use Rattle.esr_audit.specs.declared.finding.Finding.{Finding}
 use Rattle.esr_audit.specs.Findings.{summary, summary_of}
-use Rattle.esr_script.specs.declared.asked.Asked.{Asked}
-use Rattle.esr_script.specs.declared.fault.RunFault.{RunFault}
-use Rattle.esr_script.specs.Text.{ScriptState, transaction_called, final}
+pub use Rattle.esr_script.specs.declared.asked.Asked.{Asked}
+use Rattle.esr_script.specs.Text.{ScriptState, transaction_called, final, RunFault}
 use Rattle.esr_script.specs.Ends.{IsReachedBy, IsNoQuery}
 use Rattle.esr_script.specs.Certify.{IsFound}
 

@@ -1,14 +1,12 @@
 -- What the audit of a whole script writes.
-use Rattle.std.specs.Prelude.{◌≡◌, ℕ, List, ◌++◌, Option, Result, map, length}
-use Rattle.std.specs.List.{flat_map}
+use Rattle.std.specs.Prelude.{◌≡◌, ℕ, List, ◌++◌, Option, Result, map, length, flat_map}
 use Rattle.esr_history.specs.Serial.{committed_updates}
 use Rattle.esr_history.specs.Totals.{all_imports, all_exports}
 use Rattle.esr_audit.specs.Findings.{summary_of, committed_queries}
 use Rattle.esr_report.specs.Names.{name_of_transaction}
 use Rattle.esr_report.specs.Lines.{audit_line, order_line, totals_line}
-use Rattle.esr_script.specs.declared.fault.RunFault.{RunFault}
 use Rattle.esr_items.specs.Weights.{weighted}
-use Rattle.esr_script.specs.Text.{ScriptState, final}
+use Rattle.esr_script.specs.Text.{ScriptState, final, RunFault}
 use Rattle.esr_script.specs.Ends.{IsWrittenBy}
 
 -- the line of what is told of a query, by the names of the transactions: the query, its distance, its import, and the

@@ -1,6 +1,5 @@
 -- What certifying a query of a script writes.
-use Rattle.std.specs.Prelude.{◌≡◌, ℕ, List, [], ◌∷◌, ◌++◌, Bool, true, false, Option, None, Result}
-use Rattle.std.specs.List.{filter_map, slice_get}
+use Rattle.std.specs.Prelude.{◌≡◌, ℕ, List, [], ◌∷◌, ◌++◌, Bool, true, false, Option, None, Result, filter_map, slice_get}
 use Rattle.esr_items.specs.Weights.{weighted}
 use Rattle.esr_history.specs.Machine.{Schedule}
 use Rattle.esr_cert.specs.Problem.{Problem}
@@ -9,8 +8,7 @@ use Rattle.esr_order.specs.Least.{least_set}
 use Rattle.esr_audit.specs.Problems.{StandsFor}
 use Rattle.esr_audit.specs.Findings.{IsCounted}
 use Rattle.esr_bundle.specs.Bundle.{bundle}
-use Rattle.esr_script.specs.declared.fault.RunFault.{RunFault}
-use Rattle.esr_script.specs.Text.{final}
+use Rattle.esr_script.specs.Text.{final, RunFault}
 use Rattle.esr_script.specs.Ends.{query_of, IsToldBy}
 
 -- The problem stands for the query of the history; the certificate certifies it, with the smallest least set, and tells

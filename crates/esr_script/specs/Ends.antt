@@ -3,9 +3,8 @@ use Rattle.std.specs.Prelude.{◌≡◌, ⊤, ℕ, List, [], Bool, true, false, 
 use Rattle.std.specs.Io.KnownBytes.{Consumes}
 use Rattle.esr_history.specs.Queries.{is_committed_query}
 use Rattle.esr_history.specs.Watch.{BeginsWith}
-use Rattle.esr_script.specs.declared.fault.RunFault.{RunFault}
 use Rattle.esr_script.specs.declared.fault.RunFault.TheVariants as fault
-use Rattle.esr_script.specs.Text.{transaction_called, outcome, final}
+use Rattle.esr_script.specs.Text.{transaction_called, outcome, final, RunFault}
 
 -- no line ends the run of the input
 abbrev pub IsWhole : List ℕ → Type 0

@@ -1,11 +1,10 @@
 -- What the private parts of a run speak of.
 use Rattle.std.specs.Prelude.{◌≡◌, ℕ, List, ◌++◌, Bool, true, false, length, Option, Some, Result, Err}
 use Rattle.esr_history.specs.Watch.{BeginsWith}
-use Rattle.esr_script.specs.declared.fault.RunFault.{RunFault}
 use Rattle.esr_script.specs.declared.fault.RunFault.TheVariants as fault
 use Rattle.esr_line.specs.Lines.{lines, whole_lines}
 use Rattle.esr_script.specs.Run.{IsRunBy}
-use Rattle.esr_script.specs.Text.{ScriptState, start, state_after, outcome, outcome_of_lines, outcome_from, behind}
+use Rattle.esr_script.specs.Text.{ScriptState, start, state_after, outcome, outcome_of_lines, outcome_from, behind, RunFault}
 
 -- whether a read failed, and whether a write did
 abbrev pub is_read_fault : {T : Type 0} → Result T RunFault → Bool

@@ -3,7 +3,7 @@ use Rattle.std.specs.Prelude.{◌≡◌, ℕ, List, Option, Some, Result}
 use Rattle.std.specs.Io.KnownBytes.{Appends}
 use Rattle.esr_history.specs.Watch.{inner, failed}
 use Rattle.esr_history.specs.declared.watched.Watched.{Watched}
-use Rattle.esr_script.specs.declared.fault.RunFault.{RunFault}
+use Rattle.esr_script.specs.Text.{RunFault}
 use Rattle.esr_script.specs.Parts.{is_read_fault, is_write_fault}
 
 -- Such a call ended so. Whatever the input was, it ended by Ends, which is of the input, what is left of it, the result

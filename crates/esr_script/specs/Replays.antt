@@ -4,8 +4,7 @@ use Rattle.esr_cert.specs.Certificate.{Certificate}
 use Rattle.esr_cert.specs.Views.{certificate_of}
 use Rattle.esr_audit.specs.declared.finding.Finding.{Finding}
 use Rattle.esr_bundle.specs.Bundle.{bundle}
-use Rattle.esr_script.specs.declared.fault.RunFault.{RunFault}
-use Rattle.esr_script.specs.Text.{ScriptState, final}
+use Rattle.esr_script.specs.Text.{ScriptState, final, RunFault}
 use Rattle.esr_script.specs.Ends.{IsReachedBy}
 
 -- the lines of the input were gone over, and led to this state

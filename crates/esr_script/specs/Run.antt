@@ -2,10 +2,9 @@
 use Rattle.std.specs.Prelude.{◌≡◌, ℕ, ◌≤◌, List, Option, Result, Ok, Err, Some, None, take, length}
 use Rattle.std.specs.Io.KnownBytes.{Consumes}
 use Rattle.esr_history.specs.Watch.{BeginsWith}
-use Rattle.esr_script.specs.declared.fault.RunFault.{RunFault}
 use Rattle.esr_script.specs.declared.fault.RunFault.TheVariants as fault
 use Rattle.esr_line.specs.Lines.{lines, whole_lines}
-use Rattle.esr_script.specs.Text.{Outcome, outcome, outcome_of_lines}
+use Rattle.esr_script.specs.Text.{Outcome, outcome, outcome_of_lines, RunFault}
 
 -- no line ends the run, and this is its text
 abbrev pub IsWholeText : Outcome → List ℕ → Type 0

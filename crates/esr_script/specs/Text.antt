@@ -20,7 +20,7 @@ use Rattle.esr_report.specs.declared.lines.LineError.TheVariants.{NotACommand, I
 use Rattle.esr_report.specs.Names.{position_of, is_bound}
 use Rattle.esr_report.specs.Lines.{Named, item_line, weighted_item_line, reply_line, totals_line, audit_line, error_line}
 use Rattle.esr_line.specs.declared.limits.TheConstants.{MAX_LINES, MAX_LINE_BYTES}
-use Rattle.esr_script.specs.declared.fault.RunFault.{RunFault}
+pub use Rattle.esr_script.specs.declared.fault.RunFault.{RunFault}
 use Rattle.esr_script.specs.declared.fault.RunFault.TheVariants as fault
 use Rattle.esr_line.specs.Lines.{lines}
 use Rattle.esr_line.specs.Command.{Command, item, weighted_item, begin_update, begin_query, begin_strict_query, read, write, commit, abort, audit, totals, is_skipped, reading}

@@ -1,7 +1,6 @@
 //! The lines of the audit of a whole history.
 
-ghost use Rattle.std.specs.Prelude.{◌≡◌, ◌++◌, OnOk, map};
-ghost use Rattle.std.specs.List.{flat_map};
+ghost use Rattle.std.specs.Prelude.{◌≡◌, ◌++◌, OnOk, map, flat_map};
 ghost use Rattle.esr_report.specs.Lines.{order_line, totals_line};
 ghost use Rattle.esr_audit.specs.Findings.{summary};
 ghost use Rattle.esr_script.specs.Audit.{told_line};

@@ -1,11 +1,9 @@
 -- Calls that are given again.
-use Rattle.std.proofs.Common.{◌≡◌, ℕ, true, List, [], ◌∷◌, ◌++◌, Result, Ok, Err, IfErr}
+use Rattle.std.proofs.Common.{◌≡◌, ℕ, true, List, [], ◌∷◌, ◌++◌, Result, Ok, Err, IfErr, ℤ}
 use Rattle.std.proofs.lemmas.List.Elements.{All-push}
-use Rattle.std.specs.Prelude.{ℤ}
 use Rattle.esr_history.specs.Machine.{Distance}
 use Rattle.esr_history.specs.declared.event.Event.{Event}
-use Rattle.esr_session.specs.declared.receipt.Receipt.{Receipt}
-use Rattle.esr_session.specs.Receipts.{IsReceipt, AreBlocked, is_blocked}
+use Rattle.esr_session.specs.Receipts.{IsReceipt, AreBlocked, is_blocked, Receipt}
 
 pub blocked_more : (d : Distance) (opening : List ℤ) (weights : List ℕ) (event : Event) (rs : List Receipt) (r : Receipt)
     → AreBlocked d opening weights event rs → r.event ≡ event → IsReceipt d opening weights r → is_blocked r.reply ≡ true → AreBlocked d opening weights event (rs ++ r ∷ [])

@@ -1,14 +1,12 @@
 -- Lists of receipts that are all good match the history.
-use Rattle.std.proofs.Common.{◌≡◌, inl, inr, ℕ, zero, suc, ◌+◌, ◌<◌, ◌≤◌, Bool, true, false, ltb, List, [], ◌∷◌, ◌++◌, All, length, get_or, set, take, drop, drop-cons, refl, ap, sym, subst, ◌∙◌, append_assoc, arith}
-use Rattle.std.proofs.lemmas.List.{append-nil, get_or-set_other, take-append-drop}
+use Rattle.std.proofs.Common.{◌≡◌, inl, inr, ℕ, zero, suc, ◌+◌, ◌<◌, ◌≤◌, Bool, true, false, ltb, List, [], ◌∷◌, ◌++◌, All, length, get_or, set, take, drop, drop-cons, refl, ap, sym, subst, ◌∙◌, append_assoc, arith, append-nil, get_or-set_other, take-append-drop}
 use Rattle.std.proofs.lemmas.List.Elements.{All-append}
 use Rattle.std.proofs.lemmas.Option.{slice_get_within}
 use Rattle.std.proofs.Math.ListN.{length-set}
 use Rattle.std.proofs.lemmas.Grind.{get_or-set_at, flat_map-append}
 use Rattle.std.proofs.lemmas.Bool.Decides.{nat_tests}
 use Rattle.esr_history.specs.declared.event.Entry.{Entry}
-use Rattle.esr_session.specs.declared.receipt.Receipt.{Receipt}
-use Rattle.esr_session.specs.Receipts.{Names, RisesFrom, Matches, IsFirstForeign, IsGood, GoodFrom, AllGood, next_place, receipts_in, count_in, count_at, entry_of}
+use Rattle.esr_session.specs.Receipts.{Names, RisesFrom, Matches, IsFirstForeign, IsGood, GoodFrom, AllGood, next_place, receipts_in, count_in, count_at, entry_of, Receipt}
 use Rattle.esr_session.specs.Marks.{AreMarked}
 use Rattle.esr_session.proofs.Counts.{eq_or_not, one_same, one_other, count_at-append, count_at-cons, length_receipts, upto-count, upto-ones, upto-each}
 

@@ -1,7 +1,6 @@
 -- Which places of a history are named.
 use Rattle.std.specs.Prelude.{◌≡◌, ℕ, ◌<◌, Bool, false, List, length, slice_index_or, nat_lt}
-use Rattle.esr_session.specs.declared.receipt.Receipt.{Receipt}
-use Rattle.esr_session.specs.Receipts.{count_at}
+use Rattle.esr_session.specs.Receipts.{count_at, Receipt}
 
 -- a place is marked exactly where some receipt has it
 abbrev pub AreMarked : List Receipt → List Bool → Type 0

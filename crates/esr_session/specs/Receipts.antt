@@ -1,6 +1,5 @@
 -- Receipts of answered calls, and lists of receipts that match a history.
-use Rattle.std.specs.Prelude.{◌≡◌, ℕ, ◌+◌, ◌<◌, ◌≤◌, ◌==◌, Bool, true, false, List, [], ◌∷◌, ◌++◌, length, slice_get, count_by, All, Some, Result, Ok, Err, ℤ}
-use Rattle.std.specs.List.{flat_map, sum_by}
+use Rattle.std.specs.Prelude.{◌≡◌, ℕ, ◌+◌, ◌<◌, ◌≤◌, ◌==◌, Bool, true, false, List, [], ◌∷◌, ◌++◌, length, slice_get, count_by, All, Some, Result, Ok, Err, ℤ, flat_map, sum_by}
 use Rattle.esr_history.specs.Machine.{Distance, IsLegal, schedule_of}
 use Rattle.esr_history.specs.declared.event.Event.{Event}
 use Rattle.esr_history.specs.declared.event.Reply.{Reply}
@@ -8,7 +7,7 @@ use Rattle.esr_history.specs.declared.event.Reply.TheVariants.{Begun, Value, Wro
 use Rattle.esr_history.specs.declared.event.Refusal.{Refusal}
 use Rattle.esr_history.specs.declared.event.Refusal.TheVariants.{BlockedByLock, BlockedByImport, BlockedByExport}
 use Rattle.esr_history.specs.declared.event.Entry.{Entry}
-use Rattle.esr_session.specs.declared.receipt.Receipt.{Receipt}
+pub use Rattle.esr_session.specs.declared.receipt.Receipt.{Receipt}
 use Rattle.esr_session.specs.declared.receipt.CloseError.{CloseError}
 use Rattle.esr_session.specs.declared.receipt.CloseError.TheVariants.{SessionMissing, ForeignReceipt, NoMemory}
 

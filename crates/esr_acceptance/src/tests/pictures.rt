@@ -2,8 +2,8 @@
 
 use crate::tests::devices::{Way, check_cut, cut_after, narrow_until};
 use esr_history::Watched;
-use esr_picture::picture;
-use esr_script::RunFault;
+use esr_picture::Drawing;
+use esr_script::{RunFault, tell};
 use std::alloc::{AllocError, Global};
 use std::process::Abort;
 use std::str::from_utf8;
@@ -56,7 +56,7 @@ const TWICE: &str = "item a 7 weight 3\n\
 fn has(rt: &impl Abort, alloc: Global, script: &str, name: &str, texts: &[&str]) {
     let mut reader = Watched::new(script.as_bytes());
     let mut writer = Watched::new(Vec::new(alloc));
-    let ended = picture(alloc, &mut reader, &mut writer, name);
+    let ended = tell(alloc, &mut reader, &mut writer, name, &Drawing);
     assert!(rt; ended == Ok(()));
     let written = from_utf8(writer.inner().as_slice()).unwrap_or("");
     assert!(rt; written.starts_with("<svg ") && written.ends_with("</svg>\n"));
@@ -108,7 +108,7 @@ fn add_update(script: &mut String, i: u32) -> Result<(), AllocError> {
 fn count(alloc: Global, script: &str, text: &str) -> usize {
     let mut reader = Watched::new(script.as_bytes());
     let mut writer = Watched::new(Vec::new(alloc));
-    let _ = picture(alloc, &mut reader, &mut writer, "q");
+    let _ = tell(alloc, &mut reader, &mut writer, "q", &Drawing);
     let written = from_utf8(writer.inner().as_slice()).unwrap_or("");
     written.matches(text).count()
 }
@@ -141,7 +141,7 @@ fn what_is_no_committed_query_is_not_drawn(rt: HostRuntime) {
     for name in ["transfer", "checking", "nobody", "<"] {
         let mut reader = Watched::new(BANK.as_bytes());
         let mut writer = Watched::new(Vec::new(alloc));
-        let ended = picture(alloc, &mut reader, &mut writer, name);
+        let ended = tell(alloc, &mut reader, &mut writer, name, &Drawing);
         assert!(rt; ended == Err(RunFault::NotACommittedQuery));
         assert!(rt; writer.inner().is_empty());
     }
@@ -153,7 +153,7 @@ fn each_read_fails_in_turn(rt: HostRuntime) {
     for left in 0..BANK.len() + 1 {
         let mut reader = cut_after(BANK, 1, left);
         let mut writer = Watched::new(Vec::new(alloc));
-        let ended = picture(alloc, &mut reader, &mut writer, "report");
+        let ended = tell(alloc, &mut reader, &mut writer, "report", &Drawing);
         assert!(rt; ended == Err(RunFault::Read));
         check_cut(&rt, &reader, &writer);
     }
@@ -165,7 +165,7 @@ fn writes_fail(rt: HostRuntime) {
     for left in 0..20 {
         let mut reader = Watched::new(BANK.as_bytes());
         let mut writer = narrow_until(alloc, 3, left, Way::Errs);
-        let ended = picture(alloc, &mut reader, &mut writer, "report");
+        let ended = tell(alloc, &mut reader, &mut writer, "report", &Drawing);
         assert!(rt; ended == Err(RunFault::Write) && writer.failed() && !reader.failed());
         assert!(rt; writer.inner().taken.len() <= 60);
     }

@@ -1,5 +1,4 @@
-use Rattle.std.proofs.Common.{◌≡◌, ◌∙◌, ap, subst, sym, Option, Some}
-use Rattle.std.specs.Prelude.{IfSome}
+use Rattle.std.proofs.Common.{◌≡◌, ◌∙◌, ap, subst, sym, Option, Some, IfSome}
 use Rattle.esr_history.specs.Machine.{Schedule}
 use Rattle.esr_core.specs.Renewed.{committed_values}
 use Rattle.esr_c.specs.Answers.{fresh}

@@ -1,6 +1,5 @@
 //! Who has written an item, and what an update has exported.
-ghost use Rattle.std.specs.Prelude.{◌≡◌, ◌<◌, length};
-ghost use Rattle.std.specs.Option.{option_map};
+ghost use Rattle.std.specs.Prelude.{◌≡◌, ◌<◌, length, option_map};
 ghost use Rattle.esr_history.specs.Machine.{charges_in, done, export_in, writer};
 
 use super::Machine;

@@ -1,9 +1,9 @@
 //! Queries explained.
 
 use crate::tests::devices::check_written;
-use esr_explain::explain;
+use esr_explain::Explaining;
 use esr_history::Watched;
-use esr_script::RunFault;
+use esr_script::{RunFault, tell};
 use std::alloc::Global;
 use std::process::Abort;
 
@@ -110,7 +110,7 @@ fn explained(
 ) {
     let mut reader = Watched::new(script.as_bytes());
     let mut writer = Watched::new(Vec::new(alloc));
-    let ended = explain(alloc, &mut reader, &mut writer, name);
+    let ended = tell(alloc, &mut reader, &mut writer, name, &Explaining);
     assert!(rt; ended == ends, "{} ends so", name);
     check_written(rt, &writer, text, name);
 }

@@ -1,7 +1,6 @@
 use Rattle.std.proofs.Common.{rules, ◌≡◌, ◌∙◌, ap, map, List, [], ◌∷◌, refl}
 use Rattle.esr_history.specs.declared.event.TxnId.{TxnId}
-use Rattle.esr_audit.specs.declared.finding.Finding.{Finding}
-use Rattle.esr_audit.specs.Findings.{committed_queries}
+use Rattle.esr_audit.specs.Findings.{committed_queries, Finding}
 use Rattle.esr_audit.proofs.Summaries.{all_summaries}
 use Rattle.esr_audit.proofs.audit.book_of.Goals as goal
 

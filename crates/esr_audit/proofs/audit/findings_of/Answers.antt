@@ -2,8 +2,7 @@ use Rattle.std.proofs.Common.{◌++◌, ◌∷◌, [], List, map, take, ap, ◌�
 use Rattle.std.proofs.lemmas.List.{map-append, take_more}
 use Rattle.std.proofs.lemmas.List.Elements.{All-push}
 use Rattle.esr_history.specs.declared.event.TxnId.{TxnId}
-use Rattle.esr_audit.specs.declared.finding.Finding.{Finding}
-use Rattle.esr_audit.specs.Findings.{IsFinding, IsFindingOf}
+use Rattle.esr_audit.specs.Findings.{IsFinding, IsFindingOf, Finding}
 use Rattle.esr_audit.proofs.audit.findings_of.Goals as goal
 
 pub loop-q-preserved : goal.loop-q-preserved

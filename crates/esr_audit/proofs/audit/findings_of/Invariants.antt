@@ -1,6 +1,5 @@
 use Rattle.std.proofs.Common.{◌≡◌, All, take, map}
-use Rattle.esr_audit.specs.declared.finding.Finding.{Finding}
-use Rattle.esr_audit.specs.Findings.{IsFinding}
+use Rattle.esr_audit.specs.Findings.{IsFinding, Finding}
 use Rattle.esr_audit.proofs.audit.findings_of.Given as goal
 
 abbrev pub invariant-loop-q : goal.invariant-loop-q

@@ -1,9 +1,7 @@
-use Rattle.std.proofs.Common.{ℤ, List, length, arith, ap, ◌∙◌, sym, subst}
-use Rattle.std.specs.Prelude.{All}
+use Rattle.std.proofs.Common.{ℤ, List, length, arith, ap, ◌∙◌, sym, subst, All}
 use Rattle.std.proofs.lemmas.List.Elements.{All-from_recursion, recursion_from_All}
 use Rattle.esr_items.specs.Values.{IsValue}
-use Rattle.esr_audit.specs.declared.reads.ItemRead.{ItemRead}
-use Rattle.esr_audit.specs.Reads.{values_of}
+use Rattle.esr_audit.specs.Reads.{values_of, ItemRead}
 use Rattle.esr_audit.proofs.Gathered.{values_few, values_in_range}
 use Rattle.esr_audit.proofs.chains.chain_of.Goals as goal
 

@@ -3,8 +3,7 @@ use Rattle.std.specs.List.{list_any}
 use Rattle.esr_order.specs.Orders.{Ordered, chain_at}
 use Rattle.esr_cert.specs.Problem as spec
 use Rattle.esr_cert.specs.Views.{chain_of as chain_view}
-use Rattle.esr_audit.specs.declared.reads.ItemRead.{ItemRead}
-use Rattle.esr_audit.specs.Reads.{gathered, gathered_from}
+use Rattle.esr_audit.specs.Reads.{gathered, gathered_from, ItemRead}
 use Rattle.esr_audit.proofs.Gathered.{chain_step, chain_skip}
 use Rattle.esr_audit.proofs.chains.chains_of.Goals as goal
 use Rattle.esr_audit.proofs.chains.chains_of.Goals.{then-is_read+in_ok-chain_of+in_ok-push, else-is_read}

@@ -1,6 +1,5 @@
-use Rattle.std.proofs.Common.{◌≡◌, ℕ, ℤ, pos, ◌∷◌, take, get_or, map, arith, ap, ◌∙◌, w64, to_z, of_z}
+use Rattle.std.proofs.Common.{◌≡◌, ℕ, ℤ, pos, ◌∷◌, take, get_or, map, arith, ap, ◌∙◌, w64, to_z, of_z, take_all}
 use Rattle.std.proofs.lemmas.Int.{to_z-of_z}
-use Rattle.std.proofs.lemmas.List.{take_all}
 use Rattle.esr_audit.specs.Reads.{distance_sum}
 use Rattle.esr_audit.proofs.Gathered.{value_fits, cost_step}
 use Rattle.esr_audit.proofs.chains.costs_of.Goals as goal

@@ -1,6 +1,5 @@
-use Rattle.std.proofs.Common.{◌≡◌, ℕ, ℤ, pos, ◌+◌, ◌≤◌, take, get_or, arith, ap, ◌∙◌, sym, sum_by, w64, to_z, of_z}
+use Rattle.std.proofs.Common.{◌≡◌, ℕ, ℤ, pos, ◌+◌, ◌≤◌, take, get_or, arith, ap, ◌∙◌, sym, sum_by, w64, to_z, of_z, take_all}
 use Rattle.std.proofs.lemmas.Int.{to_z-of_z}
-use Rattle.std.proofs.lemmas.List.{take_all}
 use Rattle.std.proofs.lemmas.List.Sums.{sum_by_more}
 use Rattle.esr_audit.proofs.Gathered.{value_fits}
 use Rattle.esr_audit.proofs.chains.distance_to.Given.{Over}

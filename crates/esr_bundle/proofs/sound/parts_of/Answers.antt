@@ -1,7 +1,5 @@
-use Rattle.std.proofs.Common.{◌≡◌, ◌≢◌, ℕ, List, Bool, true, false, Some, Result, IfErr, map, sym, ap, ◌∙◌}
+use Rattle.std.proofs.Common.{◌≡◌, ◌≢◌, ℕ, List, Bool, true, false, Some, Result, IfErr, map, sym, ap, ◌∙◌, IsErrAnd, map-id}
 use Rattle.std.specs.List.{list_all}
-use Rattle.std.specs.Result.{IsErrAnd}
-use Rattle.std.proofs.lemmas.List.{map-id}
 use Rattle.esr_cert.specs.Problem.{Chain, Problem, has_shape}
 use Rattle.esr_cert.specs.Faults.{problem_fault}
 use Rattle.esr_cert.specs.declared.problem.BundleFault.{BundleFault}

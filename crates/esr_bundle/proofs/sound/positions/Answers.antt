@@ -1,5 +1,4 @@
-use Rattle.std.proofs.Common.{rules}
-use Rattle.std.proofs.lemmas.List.{map-id}
+use Rattle.std.proofs.Common.{rules, map-id}
 use Rattle.esr_bundle.proofs.sound.positions.Goals as goal
 
 pub returns : goal.returns

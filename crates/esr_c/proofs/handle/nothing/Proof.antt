@@ -1,5 +1,5 @@
 -- `nothing` owns nothing.
-use Rattle.std.proofs.Common.{◌≡◌, [], ◌∷◌, refl, lit<}
+use Rattle.std.proofs.Common.{◌≡◌, [], ◌∷◌, refl, lit<, None}
 use mir.Val.{vint}
 use base.Logic.{emp}
 use types.Kit.{raw, ◌$◌, ◌∵◌, !, qed, by, keep, drop, use0}
@@ -11,7 +11,6 @@ use contract.Running.{tables}
 use denote.RawPtr.{null_ptr}
 use denote.Steps.{nothing}
 use denote.Triple.Walked.{Stays, walk_of}
-use Rattle.std.specs.Prelude.{None}
 use Rattle.std.proofs.raw_atomic.Walks.{proved_at, leaves}
 use Rattle.esr_c.specs.Owned.{owned}
 use Rattle.esr_c.proofs.Words.{alone, MachineHandle, held_in}

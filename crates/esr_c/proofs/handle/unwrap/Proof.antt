@@ -1,6 +1,6 @@
 -- `unwrap` takes the block back.
 use Rattle.esr_history.specs.Machine.{Schedule}
-use Rattle.std.proofs.Common.{true≢false, ◌≡◌, List, [], ◌∷◌, ◌++◌, refl, sym, subst}
+use Rattle.std.proofs.Common.{true≢false, ◌≡◌, List, [], ◌∷◌, ◌++◌, refl, sym, subst, Option, None, Some, IsSome}
 use mir.Syntax.{tcons, tnil, ty_ptr}
 use mir.Val.{Val, vptr}
 use base.Logic.{SProp, ent, emp, never, id⊢, fst∗}
@@ -21,7 +21,6 @@ use denote.Signature.{types_at, plain}
 use denote.RawPtr.{Ptr, block_ptr, null_ptr, ptr_val, in_a_block}
 use denote.Steps.{nothing, heard}
 use denote.Triple.Walked.{Stays, stay_dropped, walk_of}
-use Rattle.std.specs.Prelude.{Option, None, Some, IsSome}
 use Rattle.core.proofs.alloc.Calls.{Goes-blank}
 use Rattle.std.proofs.raw_atomic.Walks.{proved_at, leaves}
 use Rattle.std_alloc.specs.Box.Ownership.{box_owns}

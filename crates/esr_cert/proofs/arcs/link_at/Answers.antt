@@ -1,6 +1,6 @@
 use Rattle.std.proofs.Common.{arith, ◌≡◌, ◌∷◌, ◌++◌, [], ◌+◌, ◌-◌, ◌<◌, ◌∙◌, Some, length, get_or, ap, sym, ℕ}
 use Rattle.std.proofs.lemmas.List.{get_or_append_left, get_or_push, get_or_read}
-use Rattle.esr_cert.specs.declared.network.Arc.{Arc}
+use Rattle.esr_cert.specs.Network.{Arc}
 use Rattle.esr_cert.proofs.ArcsLaws.{link_is, writer_before}
 use Rattle.esr_cert.proofs.arcs.link_at.Goals.{then-j-eq0, else-j-eq0, then-j-len, else-j-len}
 use Rattle.esr_cert.proofs.arcs.link_at.Goals as goal

@@ -1,7 +1,7 @@
 use Rattle.std.proofs.Common.{◌≡◌, Option, Some, None, IsOk, refl, subst}
 use Rattle.esr_cert.specs.Certificate.{or_fault}
 use Rattle.esr_cert.specs.Views.{certificate_of}
-use Rattle.esr_cert.specs.declared.certificate.Fault.{Fault}
+use Rattle.esr_cert.specs.Faults.{Fault}
 use Rattle.esr_cert.proofs.Certified.{cost_is, faultless, worth_least}
 use Rattle.esr_cert.proofs.checker.check.Goals as goal
 

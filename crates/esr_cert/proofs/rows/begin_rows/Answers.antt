@@ -1,8 +1,7 @@
 use Rattle.std.proofs.Common.{arith, ◌≡◌, ℕ, ◌+◌, ◌<◌, ◌∙◌, List, [], ◌∷◌, ◌++◌, ap, length, take, sum, below_more}
 use Rattle.std.proofs.lemmas.List.{get_or_append_left, get_or_push, length_push}
 use Rattle.std.proofs.lemmas.List.Sums.{sum_by_more}
-use Rattle.esr_cert.specs.declared.rows.Span.{Span}
-use Rattle.esr_cert.specs.Rows.{span_at}
+use Rattle.esr_cert.specs.Rows.{span_at, Span}
 use Rattle.esr_cert.proofs.rows.begin_rows.Goals as goal
 
 -- one more row begins where the last ends

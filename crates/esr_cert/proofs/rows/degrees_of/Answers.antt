@@ -1,8 +1,7 @@
 use Rattle.std.proofs.Common.{arith, ◌≡◌, refl, ℕ, ◌+◌, ◌<◌, ◌++◌, [], ◌∷◌, List, length, get_or, set, subst}
 use Rattle.std.proofs.lemmas.List.{length_push}
-use Rattle.esr_cert.specs.declared.network.Arc.{Arc}
-use Rattle.esr_cert.specs.declared.residual.ResidualArc.TheVariants.{Forward, Backward}
-use Rattle.esr_cert.specs.Network.{arc_at, HaveEnds}
+use Rattle.esr_cert.specs.Steps.{Forward, Backward}
+use Rattle.esr_cert.specs.Network.{arc_at, HaveEnds, Arc}
 use Rattle.esr_cert.specs.Rows.{first_steps}
 use Rattle.esr_cert.proofs.StepsLaws.{first_next, first_count}
 use Rattle.esr_cert.proofs.RowsLaws.{Counted, counted_at, counted_more, counted_all}

@@ -1,5 +1,4 @@
-use Rattle.std.proofs.Common.{◌≡◌, take, map}
-use Rattle.std.specs.Prelude.{All}
+use Rattle.std.proofs.Common.{◌≡◌, take, map, All}
 use Rattle.esr_items.specs.Values.{IsValue}
 use Rattle.esr_core.proofs.machine.committed_values.Given as goal
 

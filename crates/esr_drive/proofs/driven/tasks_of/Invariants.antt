@@ -1,5 +1,4 @@
-use Rattle.std.proofs.Common.{◌≡◌, ◌+◌, ◌≤◌, [], All, length, map, take, vec_len}
-use Rattle.std.specs.Vec.{vec_capacity}
+use Rattle.std.proofs.Common.{◌≡◌, ◌+◌, ◌≤◌, [], All, length, map, take, vec_len, vec_capacity}
 use Rattle.esr_drive.proofs.driven.tasks_of.Given as goal
 
 -- a session that has made no call for each block so far, and for each of the others

@@ -1,5 +1,4 @@
-use Rattle.std.proofs.Common.{ap, ◌∙◌}
-use Rattle.std.specs.List.{flat_map}
+use Rattle.std.proofs.Common.{ap, ◌∙◌, flat_map}
 use Rattle.esr_plan.specs.Text.{finding_text}
 use Rattle.esr_plan.proofs.Told.{by_queries, same_end}
 use Rattle.esr_plan.specs.Tables.{names_in}

@@ -1,10 +1,9 @@
-use Rattle.std.proofs.Common.{◌+◌, ◌≤◌, length, [], List, take, sym, subst, rules}
+use Rattle.std.proofs.Common.{◌+◌, ◌≤◌, length, [], List, take, sym, subst, rules, take_all}
 use Rattle.esr_items.specs.Weights.{weighted}
 use Rattle.esr_history.specs.declared.event.Reply.{Reply}
 use Rattle.esr_session.specs.declared.receipt.Receipt.{Receipt}
 use Rattle.esr_plan.specs.Blocks.{AreRuns, start}
 use Rattle.esr_plan.specs.Calls.{answers_of}
-use Rattle.std.proofs.lemmas.List.{take_all}
 use Rattle.esr_plan.specs.declared.call.Call.{Call}
 use Rattle.esr_drive.proofs.Calling.{block_more}
 use Rattle.esr_drive.proofs.run.call_all.Goals as goal

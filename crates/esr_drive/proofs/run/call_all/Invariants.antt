@@ -1,5 +1,4 @@
-use Rattle.std.proofs.Common.{◌≡◌, ◌≤◌, ℕ, List, length, take, vec_len}
-use Rattle.std.specs.Vec.{vec_capacity}
+use Rattle.std.proofs.Common.{◌≡◌, ◌≤◌, ℕ, List, length, take, vec_len, vec_capacity}
 use Rattle.esr_plan.specs.Blocks.{AreRuns}
 use Rattle.esr_plan.specs.Calls.{answers_of, AreResolved}
 use Rattle.esr_drive.proofs.run.call_all.Given as goal

@@ -1,5 +1,4 @@
-use Rattle.std.proofs.Common.{◌≡◌, ◌≢◌, ◌∙◌, ◌+◌, ◌-◌, ◌++◌, ap, ap₂, append-nil, subst, sym, [], OnOk, Some}
-use Rattle.std.specs.Prelude.{slice_get}
+use Rattle.std.proofs.Common.{◌≡◌, ◌≢◌, ◌∙◌, ◌+◌, ◌-◌, ◌++◌, ap, ap₂, append-nil, subst, sym, [], OnOk, Some, slice_get}
 use Rattle.esr_items.specs.Weights.{weighted}
 use Rattle.esr_history.specs.Machine.{Schedule, charges_in, import_in, export_in}
 use Rattle.esr_explain.specs.Explain.{charge_at, charge_line, imported, exported, meeting, until}

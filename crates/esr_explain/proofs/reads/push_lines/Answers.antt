@@ -1,8 +1,7 @@
-use Rattle.std.proofs.Common.{◌≡◌, ◌∙◌, ◌+◌, ◌++◌, Bool, List, [], ℕ, ℤ, ap, append-nil, append_assoc, false, flat_map, get_or, if◌then◌else◌, of_z, pos, subst, sym, take, to_z, w64, arith}
+use Rattle.std.proofs.Common.{◌≡◌, ◌∙◌, ◌+◌, ◌++◌, Bool, List, [], ℕ, ℤ, ap, append-nil, append_assoc, false, flat_map, get_or, if◌then◌else◌, of_z, pos, subst, sym, take, to_z, w64, arith, take_all}
 use Rattle.std.proofs.lemmas.Int.{to_z-of_z}
 use Rattle.esr_items.specs.Values.{value_at, IsValue}
 use Rattle.esr_items.specs.Weights.{weighted}
-use Rattle.std.proofs.lemmas.List.{take_all}
 use Rattle.esr_audit.proofs.Gathered.{value_fits}
 use Rattle.esr_order.specs.declared.accesses.Access.{Access}
 use Rattle.esr_explain.specs.Accesses.{access_line}

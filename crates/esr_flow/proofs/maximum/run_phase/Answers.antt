@@ -1,5 +1,4 @@
-use Rattle.std.proofs.Common.{arith, ◌+◌, ◌*◌, ◌≤◌, length, sym, subst}
-use Rattle.std.specs.Option.{IfSome}
+use Rattle.std.proofs.Common.{arith, ◌+◌, ◌*◌, ◌≤◌, length, sym, subst, IfSome}
 use Rattle.esr_flow.specs.Graph.{arcs_of, net_of}
 use Rattle.esr_flow.specs.Search.{IsGuided}
 use Rattle.esr_flow.specs.Maximum.{InArcs}

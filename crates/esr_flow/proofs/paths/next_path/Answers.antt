@@ -1,11 +1,9 @@
 use Rattle.std.proofs.Common.{arith, ◌≡◌, ℕ, ◌+◌, ◌-◌, ◌<◌, ◌≤◌, [], ◌∷◌, ◌++◌, List, length, set, drop, sym, ◌∙◌, ap, subst, suc, true, false, length-set, length-take}
 use Rattle.std.proofs.lemmas.List.{length_push, get_or_read}
-use Rattle.esr_cert.specs.declared.network.Arc.{Arc}
+use Rattle.esr_flow.specs.Words.{Arc, ResidualArc, Forward}
 use Rattle.esr_cert.specs.Flow.{within}
 use Rattle.esr_cert.specs.Network.{Network}
-use Rattle.esr_cert.specs.declared.residual.ResidualArc.{ResidualArc}
-use Rattle.esr_cert.specs.declared.residual.ResidualArc.TheVariants.{Forward}
-use Rattle.esr_flow.specs.declared.entry.AdjacencyEntry.{AdjacencyEntry}
+use Rattle.esr_flow.specs.ShortEntry.{AdjacencyEntry}
 use Rattle.esr_flow.specs.Residual.{residual_capacity, finish}
 use Rattle.esr_cert.specs.Steps.{arc_of, start, opposite, step_at}
 use Rattle.esr_flow.specs.Graph.{arcs_of, net_of, Lists, IsEntry, entry_at}

@@ -1,8 +1,7 @@
 use Rattle.std.proofs.Common.{arith, ◌≡◌, ℕ, ◌+◌, ◌-◌, ◌<◌, max, length, set, sym, ◌∙◌, subst}
 use Rattle.std.proofs.lemmas.List.{get_or_default}
-use Rattle.esr_flow.specs.declared.search.Visit.{Visit}
 use Rattle.esr_flow.specs.Graph.{net_of}
-use Rattle.esr_flow.specs.Search.{visit_at, label_at}
+use Rattle.esr_flow.specs.Search.{visit_at, label_at, Visit}
 use Rattle.esr_flow.proofs.LabelLaws.{Labelled, label_more, labels_guide}
 use Rattle.esr_flow.proofs.search.labels_of.Goals as goal
 

@@ -1,8 +1,7 @@
 use Rattle.std.proofs.Common.{◌≡◌, true, false, set, replicate, [], ◌∷◌, subst, sym, ◌∙◌, ap, ◌++◌}
-use Rattle.esr_cert.specs.declared.residual.ResidualArc.TheVariants.{Forward}
-use Rattle.esr_flow.specs.declared.search.Visit.{Visit}
+use Rattle.esr_flow.specs.Words.{Forward}
 use Rattle.esr_flow.specs.Graph.{net_of}
-use Rattle.esr_flow.specs.Search.{is_marked, Searched}
+use Rattle.esr_flow.specs.Search.{is_marked, Searched, Visit}
 use Rattle.esr_flow.proofs.PathLaws.{begin, sink_unmarked}
 use Rattle.esr_flow.proofs.search.search.Goals as goal
 

@@ -1,8 +1,7 @@
 use Rattle.std.proofs.Common.{arith, ◌≡◌, ℕ, false, subst, ◌∙◌, ap}
-use Rattle.esr_cert.specs.declared.residual.ResidualArc.TheVariants.{Forward}
+use Rattle.esr_flow.specs.Words.{Forward}
 use Rattle.std.proofs.lemmas.List.{get_or_default}
-use Rattle.esr_flow.specs.declared.graph.Graph.{Graph}
-use Rattle.esr_flow.specs.Graph.{net_of}
+use Rattle.esr_flow.specs.Graph.{net_of, Graph}
 use Rattle.esr_cert.specs.Rows.{row_in, span_at}
 use Rattle.esr_flow.specs.Search.{visit_at, Searched, AfterScan}
 use Rattle.esr_flow.proofs.EntriesLaws.{lists_read}

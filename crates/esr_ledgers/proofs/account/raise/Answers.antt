@@ -1,10 +1,7 @@
-use Rattle.std.proofs.Common.{◌≡◌, ◌+◌, ◌<◌, ◌^◌, ◌∙◌, sym, ap, arith, set, Option, Some}
-use Rattle.std.specs.Prelude.{unwrap_or}
-use Rattle.std.specs.Option.{option_map}
+use Rattle.std.proofs.Common.{◌≡◌, ◌+◌, ◌<◌, ◌^◌, ◌∙◌, sym, ap, arith, set, Option, Some, unwrap_or, option_map}
 use Rattle.esr_history.specs.Ascending.{IsPlaceOf}
 use Rattle.esr_history.proofs.Ascending.{found_at}
-use Rattle.esr_ledgers.specs.declared.account.Account.{Account}
-use Rattle.esr_ledgers.specs.Books.{number, account_of, account_amount}
+use Rattle.esr_ledgers.specs.Books.{number, account_of, account_amount, Account}
 use Rattle.esr_ledgers.proofs.Books.{raised_at}
 use Rattle.esr_ledgers.proofs.account.raise.Goals as goal
 use Rattle.esr_ledgers.proofs.account.raise.Goals.{After-index_mut-account}

@@ -1,5 +1,4 @@
-use Rattle.std.proofs.Common.{◌≡◌, take, None}
-use Rattle.std.specs.Prelude.{find}
+use Rattle.std.proofs.Common.{◌≡◌, take, None, find}
 use Rattle.esr_ledgers.specs.Books.{would_pass}
 use Rattle.esr_ledgers.proofs.ledgers.first_over.Given as goal
 

@@ -1,10 +1,7 @@
-use Rattle.std.proofs.Common.{◌≡◌, ◌+◌, ◌<◌, ◌^◌, ◌∙◌, subst, sym, ap, ℕ, get_or, take, Option}
-use Rattle.std.specs.Prelude.{unwrap_or}
-use Rattle.std.specs.Option.{option_map}
+use Rattle.std.proofs.Common.{◌≡◌, ◌+◌, ◌<◌, ◌^◌, ◌∙◌, subst, sym, ap, ℕ, get_or, take, Option, unwrap_or, option_map}
 use Rattle.std.proofs.lemmas.List.{take_more}
 use Rattle.esr_history.specs.declared.event.TxnId.{TxnId}
-use Rattle.esr_ledgers.specs.declared.account.Account.{Account}
-use Rattle.esr_ledgers.specs.Books.{account_of, raised, charged_to_queries}
+use Rattle.esr_ledgers.specs.Books.{account_of, raised, charged_to_queries, Account}
 use Rattle.esr_ledgers.proofs.Books.{account_at_turn, open_by_account, charged_to_queries-push, raised_ascends}
 use Rattle.esr_ledgers.proofs.ledgers.import_each.Goals as goal
 

@@ -1,8 +1,7 @@
 use Rattle.std.proofs.Common.{◌≡◌, sym, ◌∙◌, ap, subst, reverse, List, ◌∷◌, []}
 use Rattle.std.specs.List.{cons_option}
 use Rattle.std.proofs.lemmas.List.{reverse-append}
-use Rattle.esr_order.specs.declared.accesses.Access.{Access}
-use Rattle.esr_order.specs.Scans.{access_at}
+use Rattle.esr_order.specs.Scans.{access_at, Access}
 use Rattle.esr_order.proofs.Accessed.{IsBackTo, back_none, back_more, back_smaller, back_done}
 use Rattle.esr_order.proofs.accesses.list_accesses.Goals as goal
 use Rattle.esr_order.proofs.accesses.list_accesses.Goals.{in-Some-access_at+in_ok-push, in_default-access_at}

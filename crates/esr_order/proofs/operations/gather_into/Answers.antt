@@ -2,7 +2,7 @@ use Rattle.std.proofs.Common.{◌≡◌, ◌<◌, ◌-◌, ◌++◌, suc, sym, s
 use Rattle.std.specs.List.{range_with_len}
 use Rattle.std.proofs.lemmas.List.{length-map}
 use Rattle.esr_history.specs.Operations.{operations}
-use Rattle.esr_order.specs.declared.accesses.Access.{Access}
+use Rattle.esr_order.specs.Scans.{Access}
 use Rattle.esr_order.specs.Listing.{IsBelow}
 use Rattle.esr_order.specs.Ties.{pairs_from, on_item, AreTies, AreNextPaired}
 use Rattle.esr_order.specs.Turns.{operation_at, turns}

@@ -1,5 +1,4 @@
-use Rattle.std.proofs.Common.{◌≡◌, ◌∙◌, ap, take, reverse}
-use Rattle.std.specs.List.{slice_get}
+use Rattle.std.proofs.Common.{◌≡◌, ◌∙◌, ap, take, reverse, slice_get}
 use Rattle.esr_order.specs.Scans.{is_strict_begin}
 use Rattle.esr_order.proofs.Spans.{before_begin_is}
 use Rattle.esr_order.proofs.Commits.{begin_place, strict_is}

@@ -1,7 +1,7 @@
 use Rattle.std.proofs.Common.{◌≡◌, ◌<◌, ◌-◌, ◌⊎◌, ◌||◌, suc, true, false, sym, ◌∙◌, ap, subst, inl, inr, length, map, reverse, All, arith}
 use Rattle.std.specs.List.{list_any}
 use Rattle.esr_history.specs.Queries.{updates_of}
-use Rattle.esr_order.specs.declared.accesses.Access.{Access}
+use Rattle.esr_order.specs.Scans.{Access}
 use Rattle.esr_order.specs.Near.{AreNear}
 use Rattle.esr_order.specs.Seeking.{marked, is_access, seen_items, conflicts_with}
 use Rattle.esr_order.proofs.Accessed.{accesses_inside}

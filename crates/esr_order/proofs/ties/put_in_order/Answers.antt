@@ -1,6 +1,5 @@
-use Rattle.std.proofs.Common.{◌<◌, AllPairs, Contains, eqb, sym, subst}
+use Rattle.std.proofs.Common.{◌<◌, AllPairs, Contains, eqb, sym, subst, eqb-true}
 use Rattle.std.proofs.lemmas.Cmp.{nat_eq_equiv}
-use Rattle.std.proofs.lemmas.Bool.{eqb-true}
 use Rattle.std.proofs.lemmas.List.Filters.{dedup_is}
 use Rattle.std.proofs.lemmas.List.Kept.{Contains-dedup, Contains-from_dedup}
 use Rattle.std.proofs.lemmas.List.Sorted.{Contains-permutation, IsPermutation-sym}

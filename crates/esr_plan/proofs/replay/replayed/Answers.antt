@@ -1,5 +1,4 @@
-use Rattle.std.proofs.Common.{◌≡◌, ℕ, ℤ, List, [], length, map, sym, ap, ◌∙◌, arith}
-use Rattle.std.specs.Prelude.{slice_get}
+use Rattle.std.proofs.Common.{◌≡◌, ℕ, ℤ, List, [], length, map, sym, ap, ◌∙◌, arith, slice_get}
 use Rattle.esr_items.specs.declared.store.Versions.{Versions}
 use Rattle.esr_items.specs.Weights.{weighted}
 use Rattle.esr_history.specs.declared.event.Entry.{Entry}

@@ -1,5 +1,4 @@
-use Rattle.std.proofs.Common.{rules, ◌≡◌, ◌+◌, ◌-◌, ◌<◌, [], length, map, drop, replicate, sym, ap, ◌∙◌, arith}
-use Rattle.std.specs.List.{flat_map}
+use Rattle.std.proofs.Common.{rules, ◌≡◌, ◌+◌, ◌-◌, ◌<◌, [], length, map, drop, replicate, sym, ap, ◌∙◌, arith, flat_map}
 use Rattle.esr_history.specs.BackLinks.{begun_count}
 use Rattle.std.proofs.lemmas.List.{length-map}
 use Rattle.esr_plan.specs.Calls.{answers_of, all_answers}

@@ -1,6 +1,4 @@
-use Rattle.std.proofs.Common.{◌≡◌, ◌≤◌, [], length, drop, map}
-use Rattle.std.specs.Prelude.{replicate}
-use Rattle.std.specs.List.{flat_map}
+use Rattle.std.proofs.Common.{◌≡◌, ◌≤◌, [], length, drop, map, replicate, flat_map}
 use Rattle.esr_history.specs.BackLinks.{begun_count}
 use Rattle.esr_plan.specs.Calls.{all_answers}
 use Rattle.esr_plan.specs.Tables.{names_in, noted}

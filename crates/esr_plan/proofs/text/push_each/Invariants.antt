@@ -1,5 +1,4 @@
-use Rattle.std.proofs.Common.{◌≡◌, ◌++◌, take}
-use Rattle.std.specs.List.{flat_map}
+use Rattle.std.proofs.Common.{◌≡◌, ◌++◌, take, flat_map}
 use Rattle.esr_plan.specs.Text.{finding_text}
 use Rattle.esr_plan.specs.Tables.{names_in}
 use Rattle.esr_plan.proofs.text.push_each.Given as goal

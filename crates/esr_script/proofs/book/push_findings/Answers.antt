@@ -1,6 +1,4 @@
-use Rattle.std.proofs.Common.{rules, ◌++◌, ◌∙◌, ap}
-use Rattle.std.specs.List.{flat_map}
-use Rattle.std.proofs.lemmas.List.{take_all}
+use Rattle.std.proofs.Common.{rules, ◌++◌, ◌∙◌, ap, flat_map, take_all}
 use Rattle.esr_audit.specs.Findings.{summary}
 use Rattle.esr_script.specs.Audit.{told_line}
 use Rattle.esr_script.proofs.Audited.{lines_of_map}

@@ -1,5 +1,4 @@
-use Rattle.std.proofs.Common.{◌≡◌, ◌++◌, take}
-use Rattle.std.specs.List.{flat_map}
+use Rattle.std.proofs.Common.{◌≡◌, ◌++◌, take, flat_map}
 use Rattle.esr_audit.specs.Findings.{summary}
 use Rattle.esr_script.specs.Audit.{told_line}
 use Rattle.esr_script.proofs.book.push_findings.Given as goal

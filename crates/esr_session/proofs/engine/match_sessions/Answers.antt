@@ -1,12 +1,9 @@
-use Rattle.std.proofs.Common.{◌≡◌, ◌<◌, List, length, true, Result, Ok, Err, arith}
-use Rattle.std.proofs.lemmas.List.{map-id}
-use Rattle.std.specs.Prelude.{IfErr}
+use Rattle.std.proofs.Common.{◌≡◌, ◌<◌, List, length, true, Result, Ok, Err, arith, map-id, IfErr}
 use Rattle.esr_history.specs.declared.event.Entry.{Entry}
 use Rattle.esr_session.specs.declared.receipt.CloseError.{CloseError}
 use Rattle.esr_session.specs.declared.receipt.CloseError.TheVariants.{SessionMissing}
-use Rattle.esr_session.specs.declared.receipt.Receipt.{Receipt}
 use Rattle.esr_session.specs.Engine.{is_missing}
-use Rattle.esr_session.specs.Receipts.{IsVerdict, count_in}
+use Rattle.esr_session.specs.Receipts.{IsVerdict, count_in, Receipt}
 use Rattle.esr_session.proofs.engine.match_sessions.Goals as goal
 
 -- where a session is missing there are fewer receipts than entries

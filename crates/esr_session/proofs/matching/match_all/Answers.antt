@@ -1,7 +1,6 @@
 use Rattle.std.proofs.Common.{◌≡◌, ◌+◌, ◌≤◌, ◌<◌, ◌++◌, ◌∷◌, [], List, length, map, take, drop, suc, sym, subst, ap, ◌∙◌, arith, rules}
 use Rattle.std.proofs.lemmas.List.{take_more, take_all, take-map, length-map}
-use Rattle.esr_session.specs.declared.receipt.Receipt.{Receipt}
-use Rattle.esr_session.specs.Receipts.{GoodFrom, AllGood, IsForeignIn, count_in, receipts_in}
+use Rattle.esr_session.specs.Receipts.{GoodFrom, AllGood, IsForeignIn, count_in, receipts_in, Receipt}
 use Rattle.esr_session.specs.Marks.{AreMarked}
 use Rattle.esr_session.proofs.Good.{good_matches, foreign_unmatched, matches_count, all_good-snoc, receipts_in-snoc, cut_at}
 use Rattle.esr_session.proofs.Lists.{mapped_at}

@@ -2,8 +2,7 @@ use Rattle.std.proofs.Common.{◌≡◌, ◌+◌, ◌≤◌, ◌++◌, ◌∷◌
 use Rattle.std.proofs.lemmas.List.{take_more}
 use Rattle.esr_history.specs.declared.event.Event.TheVariants.{BeginUpdate}
 use Rattle.esr_history.specs.declared.event.Reply.TheVariants.{Begun}
-use Rattle.esr_session.specs.declared.receipt.Receipt.{Receipt}
-use Rattle.esr_session.specs.Receipts.{GoodFrom, next_place, receipt, receipts_in}
+use Rattle.esr_session.specs.Receipts.{GoodFrom, next_place, receipt, receipts_in, Receipt}
 use Rattle.esr_session.specs.Marks.{AreMarked}
 use Rattle.esr_session.proofs.Good.{good_unmarked, unmarked_good, cut_at, good_from-snoc, next_place-snoc, marked-snoc, named_below}
 use Rattle.esr_session.proofs.matching.match_list.Goals as goal

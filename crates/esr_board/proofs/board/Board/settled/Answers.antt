@@ -1,7 +1,6 @@
 use Rattle.std.proofs.Common.{◌≡◌, rules, arith, sym, sum_by, List, [], map, subst}
-use Rattle.esr_board.specs.Boards.{IsSeatOf, drawn, hand_of}
+use Rattle.esr_board.specs.Boards.{IsSeatOf, drawn, hand_of, BoardSeat}
 use Rattle.esr_board.specs.Claims.{passes_of, IsBoardAt}
-use Rattle.esr_board.specs.declared.board.BoardSeat.{BoardSeat}
 use Rattle.esr_board.proofs.Keeps.{joins}
 use Rattle.esr_board.proofs.Closes.{settles, popped, all_popped, joined_numbers, joined_passes, joined_count, given_at, counted_all, none_left}
 use Rattle.esr_board.proofs.board.Board.settled.Goals as goal

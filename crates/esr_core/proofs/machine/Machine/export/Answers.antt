@@ -1,6 +1,4 @@
-use Rattle.std.proofs.Common.{◌≡◌, ◌∙◌, ℕ, ap, false, true, not, Bool, Option, Some, arith}
-use Rattle.std.specs.Prelude.{unwrap_or}
-use Rattle.std.specs.Option.{option_map}
+use Rattle.std.proofs.Common.{◌≡◌, ◌∙◌, ℕ, ap, false, true, not, Bool, Option, Some, arith, unwrap_or, option_map}
 use Rattle.esr_history.specs.declared.back_links.Facts.{Facts}
 use Rattle.esr_history.specs.Events.{is_update}
 use Rattle.esr_history.specs.BackLinks.{facts_of}

@@ -1,5 +1,5 @@
 use Rattle.std.proofs.Common.{ap, sym, ◌∙◌, map}
-use Rattle.esr_items.specs.declared.store.Versions.{Versions}
+use Rattle.esr_core.specs.Words.{Versions}
 use Rattle.esr_core.proofs.Replayed.{committed_of_both}
 use Rattle.esr_core.proofs.machine.Machine.fresh.Goals as goal
 

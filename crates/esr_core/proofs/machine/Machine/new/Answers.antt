@@ -1,5 +1,5 @@
 use Rattle.std.proofs.Common.{◌≡◌, ◌≤◌, ◌∙◌, ap, map, arith, [], length}
-use Rattle.esr_items.specs.declared.store.Versions.{Versions}
+use Rattle.esr_core.specs.Words.{Versions}
 use Rattle.esr_history.specs.Machine.{Schedule}
 use Rattle.esr_core.proofs.machine.Machine.new.Goals as goal
 

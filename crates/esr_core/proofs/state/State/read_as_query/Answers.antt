@@ -1,8 +1,6 @@
-use Rattle.std.proofs.Common.{◌≡◌, ℕ, ◌+◌, ◌-◌, ◌<◌, ◌≤◌, ◌∙◌, sym, ap, arith, refl, None, Some, Option, length, get_or, true}
-use Rattle.std.specs.Prelude.{IfSome}
+use Rattle.std.proofs.Common.{◌≡◌, ℕ, ◌+◌, ◌-◌, ◌<◌, ◌≤◌, ◌∙◌, sym, ap, arith, refl, None, Some, Option, length, get_or, true, IfSome}
 use Rattle.esr_items.specs.Values.{versions_at}
-use Rattle.esr_history.specs.declared.event.TxnId.{TxnId}
-use Rattle.esr_history.specs.declared.event.Event.TheVariants.{Read}
+use Rattle.esr_core.specs.Words.{TxnId, Read}
 use Rattle.esr_history.specs.Events.{is_active, all_reads_of}
 use Rattle.esr_history.specs.Machine.{done}
 use Rattle.esr_history.proofs.Lawful.{follows}

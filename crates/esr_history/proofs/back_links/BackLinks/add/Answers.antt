@@ -1,6 +1,4 @@
-use Rattle.std.proofs.Common.{◌≡◌, ◌+◌, ◌++◌, ◌∷◌, [], length, sym, ◌∙◌, ap, rules, refl, arith}
-use Rattle.std.specs.Prelude.{vec_capacity}
-use Rattle.std.proofs.lemmas.List.{length-append}
+use Rattle.std.proofs.Common.{◌≡◌, ◌+◌, ◌++◌, ◌∷◌, [], length, sym, ◌∙◌, ap, rules, refl, arith, vec_capacity, length-append}
 use Rattle.esr_history.specs.BackLinks.{key_at, item_in, txn_in, accepted_item}
 use Rattle.esr_history.proofs.Linking.{accepted_more, refused_more, links_length}
 use Rattle.esr_history.proofs.back_links.BackLinks.add.Goals as goal

@@ -1,5 +1,4 @@
-use Rattle.std.proofs.Common.{◌<◌, ◌-◌, ◌∙◌, sym, ap, Some, ◌+◌, arith, length}
-use Rattle.std.proofs.lemmas.Bool.{ltb-true}
+use Rattle.std.proofs.Common.{◌<◌, ◌-◌, ◌∙◌, sym, ap, Some, ◌+◌, arith, length, ltb-true}
 use Rattle.esr_history.specs.BackLinks.{decoded, key_at, accepted_end, last_place, begun_count}
 use Rattle.esr_history.proofs.Linking.{at_key_is, decoded_coded, facts_are}
 use Rattle.esr_history.proofs.back_links.BackLinks.facts.Goals as goal

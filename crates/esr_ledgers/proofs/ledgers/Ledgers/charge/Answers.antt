@@ -1,7 +1,6 @@
 use Rattle.std.proofs.Common.{◌≡◌, ◌+◌, ◌<◌, ◌^◌, arith, length, ◌∙◌, refl}
 use Rattle.std.proofs.Math.Nat.{mul-le-mul_right}
-use Rattle.esr_ledgers.specs.declared.ledgers.Quote.TheVariants.{Fits}
-use Rattle.esr_ledgers.specs.Books.{AreCharges, AreBooks, quote_of, charged}
+use Rattle.esr_ledgers.specs.Books.{AreCharges, AreBooks, quote_of, charged, Fits}
 use Rattle.esr_ledgers.proofs.Books.{all_open, imports_fit, export_fits, export_fits_then, still_open, books_then, total_bounded}
 use Rattle.esr_ledgers.proofs.ledgers.Ledgers.charge.Goals as goal
 use Rattle.esr_ledgers.proofs.ledgers.Ledgers.charge.Goals.{After-raise}

@@ -1,11 +1,9 @@
-use Rattle.std.proofs.Common.{◌≡◌, ◌∙◌, sym, ap, false, List, arith, refl}
-use Rattle.std.specs.List.{insert}
+use Rattle.std.proofs.Common.{◌≡◌, ◌∙◌, sym, ap, false, List, arith, refl, insert}
 use Rattle.std.proofs.lemmas.Bool.{false≢true}
 use Rattle.std.proofs.lemmas.Grind.{common_steps}
 use Rattle.esr_history.specs.Ascending.{IsPlaceOf, IsGapFor}
 use Rattle.esr_history.proofs.Ascending.{any_place, placed_gap}
-use Rattle.esr_ledgers.specs.declared.account.Account.{Account}
-use Rattle.esr_ledgers.specs.Books.{number, is_open, with_account, new_account}
+use Rattle.esr_ledgers.specs.Books.{number, is_open, with_account, new_account, Account}
 use Rattle.esr_ledgers.proofs.Books.{AreBooks-with_account}
 use Rattle.esr_ledgers.proofs.ledgers.Ledgers.open.Goals as goal
 use Rattle.esr_ledgers.proofs.ledgers.Ledgers.open.Goals.{Else-is_err}

@@ -1,5 +1,4 @@
-use Rattle.std.proofs.Common.{◌≡◌, ◌∙◌, sym, ap, subst, refl, not, ℕ, map, ◌<◌, arith}
-use Rattle.std.specs.Prelude.{All}
+use Rattle.std.proofs.Common.{◌≡◌, ◌∙◌, sym, ap, subst, refl, not, ℕ, map, ◌<◌, arith, All}
 use Rattle.esr_history.proofs.Ascending.{placed_ascends, map-placed, any-map}
 use Rattle.esr_locks.specs.Rows.{RowOf, query_and_count}
 use Rattle.esr_locks.specs.Tables.{has_query_lock}

@@ -1,6 +1,5 @@
-use Rattle.std.proofs.Common.{◌≡◌, ◌∙◌, ◌==◌, ◌||◌, sym, ap, subst, refl, not, map, arith}
+use Rattle.std.proofs.Common.{◌≡◌, ◌∙◌, ◌==◌, ◌||◌, sym, ap, subst, refl, not, map, arith, option_map}
 use Rattle.std.specs.List.{list_any}
-use Rattle.std.specs.Option.{option_map}
 use Rattle.esr_history.specs.Ascending.{placed}
 use Rattle.esr_history.proofs.Ascending.{placed_ascends, map-placed, any-map}
 use Rattle.esr_locks.specs.Rows.{RowOf, reader, query_and_count}

@@ -1,7 +1,5 @@
-use Rattle.std.proofs.Common.{◌≡◌, ◌∙◌, sym, ap, refl, not, ◌==◌, Bool, true, false, ◌&&◌, ◌||◌, Option, None, Some}
-use Rattle.std.specs.Prelude.{find}
+use Rattle.std.proofs.Common.{◌≡◌, ◌∙◌, sym, ap, refl, not, ◌==◌, Bool, true, false, ◌&&◌, ◌||◌, Option, None, Some, find, option_map}
 use Rattle.std.specs.List.{list_any}
-use Rattle.std.specs.Option.{option_map}
 use Rattle.esr_history.proofs.Ascending.{any-map}
 use Rattle.esr_history.specs.Ascending.{IsSmallest}
 use Rattle.esr_locks.specs.declared.lists.Reader.{Reader}

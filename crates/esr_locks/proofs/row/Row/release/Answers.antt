@@ -1,6 +1,4 @@
-use Rattle.std.proofs.Common.{◌≡◌, ◌∙◌, ap, subst, refl, not, ℕ, map, ◌==◌, false, Option, None, Some, if◌then◌else◌, arith}
-use Rattle.std.specs.Prelude.{filter, unwrap_or}
-use Rattle.std.specs.Option.{option_map}
+use Rattle.std.proofs.Common.{◌≡◌, ◌∙◌, ap, subst, refl, not, ℕ, map, ◌==◌, false, Option, None, Some, if◌then◌else◌, arith, filter, unwrap_or, option_map}
 use Rattle.esr_history.specs.declared.event.TxnId.{TxnId}
 use Rattle.esr_history.proofs.Ascending.{filter_ascends, all_filter, map-others}
 use Rattle.esr_locks.specs.Rows.{RowOf, query_and_count}

@@ -1,5 +1,4 @@
-use Rattle.std.proofs.Common.{◌≡◌, ◌<◌, ◌∙◌, sym, ap, subst, length, map, set, arith, rules, min}
-use Rattle.std.specs.Prelude.{slice_index}
+use Rattle.std.proofs.Common.{◌≡◌, ◌<◌, ◌∙◌, sym, ap, subst, length, map, set, arith, rules, min, slice_index}
 use Rattle.std.proofs.lemmas.List.{length-map}
 use Rattle.esr_locks.specs.Rows.{RowOf, LockedItemsOf}
 use Rattle.esr_locks.specs.Tables.{Table}

@@ -1,6 +1,4 @@
-use Rattle.std.proofs.Common.{◌≡◌, ◌≢◌, ◌<◌, ℕ, zero, suc, List, [], ◌∷◌, false, Some, refl, sym, ap, ◌∙◌, length, get_or, set, map, arith, eqb}
-use Rattle.std.specs.Prelude.{slice_get}
-use Rattle.std.specs.Option.{option_map}
+use Rattle.std.proofs.Common.{◌≡◌, ◌≢◌, ◌<◌, ℕ, zero, suc, List, [], ◌∷◌, false, Some, refl, sym, ap, ◌∙◌, length, get_or, set, map, arith, eqb, slice_get, option_map}
 use Rattle.std.proofs.lemmas.Option.{slice_get-map, slice_get-get_or}
 use Rattle.esr_order.specs.declared.chains.Links.{Links}
 use Rattle.esr_order.specs.Chains.{Chain, if_written, seen_links}

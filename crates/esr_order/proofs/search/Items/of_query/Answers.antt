@@ -1,6 +1,6 @@
 use Rattle.std.proofs.Common.{◌≡◌, ℕ, zero, suc, ◌<◌, ◌||◌, false, refl, sym, ◌∙◌, ap, subst, length, replicate, All}
 use Rattle.std.specs.List.{list_any}
-use Rattle.esr_order.specs.declared.accesses.Access.{Access}
+use Rattle.esr_order.specs.Scans.{Access}
 use Rattle.esr_order.specs.Seeking.{marked, is_access}
 use Rattle.esr_order.proofs.Accessed.{accesses_inside}
 use Rattle.esr_order.proofs.Lists.{written_back}

@@ -1,6 +1,5 @@
-use Rattle.std.proofs.Common.{◌≡◌, ◌≤◌, ◌<◌, ◌^◌, length-append, List, length, ◌∙◌, map, ap, ◌++◌, ◌∷◌, [], false, arith, rules, None}
+use Rattle.std.proofs.Common.{◌≡◌, ◌≤◌, ◌<◌, ◌^◌, length-append, List, length, ◌∙◌, map, ap, ◌++◌, ◌∷◌, [], false, arith, rules, None, bytes_eq}
 use Rattle.std.specs.List.{list_any}
-use Rattle.std.specs.Str.{bytes_eq}
 use Rattle.arrayvec.specs.declared.array_string.ArrayString.{ArrayString}
 use Rattle.indexmap.specs.IndexSet.{insert_key}
 use Rattle.esr_report.specs.Names.{position_of}

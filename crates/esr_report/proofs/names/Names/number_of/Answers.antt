@@ -1,6 +1,4 @@
-use Rattle.std.proofs.Common.{◌<◌, length, ◌∙◌, sym, ap, rules}
-use Rattle.std.specs.List.{position}
-use Rattle.std.specs.Str.{bytes_eq}
+use Rattle.std.proofs.Common.{◌<◌, length, ◌∙◌, sym, ap, rules, position, bytes_eq}
 use Rattle.arrayvec.specs.declared.array_string.ArrayString.{ArrayString}
 use Rattle.esr_report.specs.Names.{position_of}
 use Rattle.esr_report.proofs.Positions.{position_seen, longer}

@@ -1,6 +1,5 @@
 use Rattle.std.proofs.Common.{◌≡◌, ◌<◌, length, ◌++◌, ◌∷◌, [], true, List, ap, sym, ◌∙◌, append_assoc, length-append, arith}
-use Rattle.esr_session.specs.declared.receipt.Receipt.{Receipt}
-use Rattle.esr_session.specs.Receipts.{AreBlocked, is_blocked}
+use Rattle.esr_session.specs.Receipts.{AreBlocked, is_blocked, Receipt}
 use Rattle.esr_session.proofs.Calls.{blocked_more, if_err}
 use Rattle.esr_session.proofs.session.Session.call_patient.Goals as goal
 

@@ -1,6 +1,5 @@
 use Rattle.std.proofs.Common.{◌≡◌, ◌+◌, List, [], ◌∷◌, ◌++◌, length}
-use Rattle.esr_session.specs.Receipts.{IsReceipt, AreBlocked}
-use Rattle.esr_session.specs.declared.receipt.Receipt.{Receipt}
+use Rattle.esr_session.specs.Receipts.{IsReceipt, AreBlocked, Receipt}
 use Rattle.esr_session.proofs.session.Session.call_patient.Given as goal
 
 -- the calls before the last one were all blocked
