@@ -2,28 +2,33 @@
 //! came of them goes to standard output, how long they took to standard error.
 #![tactic(auto)]
 
-mod checked;
 mod draws;
 mod sessions;
-mod solved;
 
-use crate::checked::{certificate_of, problem_of};
-use crate::solved::{line, scattered};
 use anyhow::{Result, anyhow};
 use esr_bundle::{from_json, to_json};
-use esr_cert::{BundleFault, Certificate, Problem, check};
+use esr_cert::{Certificate, Problem, check};
 use esr_flow::{Network, Solved, solve};
-use std::alloc::{AllocError, Global};
+use std::alloc::Global;
 use std::io::Read;
 use std::rt::Clock;
 use std::sync::Wait;
 use std::thread::Threads;
 use std::time::Instant;
 
-const USAGE: &str = "usage: esr_bench check UPDATES ROUNDS, with 100 to 60000 updates
-       esr_bench solve line|scattered UPDATES
-       esr_bench bundle, with a bundle on standard input
-       esr_bench sessions TRANSACTIONS, at most 60000";
+const USAGE: &str =
+    "usage: esr_bench check ROUNDS | solve | bundle, each with a bundle on standard input | sessions COUNT";
+
+/// What is measured of a bundle.
+#[derive(Clone, Copy)]
+enum Measured {
+    /// So many checks of its certificate.
+    Check(u32),
+    /// Its problem solved anew.
+    Solve,
+    /// All of it read, checked and written again.
+    Whole,
+}
 
 fn main(rt: HostRuntime) -> Result<()> {
     let alloc = rt.alloc();
@@ -53,11 +58,33 @@ fn measure_words<R: Input + Print + Eprint + Clock + Threads + Wait + Sync>(
     words: &[&str],
 ) -> Result<()> {
     match words {
-        ["check", updates, rounds] => measure_check(rt, alloc, updates.parse()?, rounds.parse()?),
-        ["solve", kind, updates] => measure_solve(rt, alloc, kind, updates.parse()?),
-        ["bundle"] => measure_bundle(rt, alloc),
+        ["check", rounds] => measure_bundle(rt, alloc, Measured::Check(rounds.parse()?)),
+        ["solve"] => measure_bundle(rt, alloc, Measured::Solve),
+        ["bundle"] => measure_bundle(rt, alloc, Measured::Whole),
         ["sessions", transactions] => sessions::measure(rt, alloc, transactions.parse()?),
         _ => Err(anyhow!("{USAGE}")),
+    }
+}
+
+/// Reads the bundle on standard input, and measures what is asked for.
+fn measure_bundle(
+    rt: &(impl Input + Print + Eprint + Clock),
+    alloc: Global,
+    measured: Measured,
+) -> Result<()> {
+    let mut input = Vec::new(alloc);
+    rt.reader().read_to_end(&mut input)?;
+    let start = Instant::now(rt)?;
+    match from_json(alloc, &input) {
+        Ok((problem, certificate)) => {
+            let read = start.elapsed(rt)?.as_millis();
+            match measured {
+                Measured::Check(rounds) => check_often(rt, &problem, &certificate, rounds),
+                Measured::Solve => solve_once(rt, alloc, &problem),
+                Measured::Whole => measure_whole(rt, alloc, &input, &problem, &certificate, read),
+            }
+        }
+        Err(fault) => Err(anyhow!("no bundle: {fault:?}")),
     }
 }
 
@@ -70,23 +97,6 @@ fn arc_count(problem: &Problem) -> usize {
     count
 }
 
-/// Checks the certificate of a problem so many times, and tells how long one check took.
-fn measure_check(
-    rt: &(impl Print + Eprint + Clock),
-    alloc: Global,
-    updates: u32,
-    rounds: u32,
-) -> Result<()> {
-    if !(100..=60_000).contains(&updates) || rounds == 0 {
-        return Err(anyhow!("{USAGE}"));
-    }
-    let Ok(problem) = problem_of(alloc, updates) else {
-        return Err(anyhow!("no problem"));
-    };
-    let certificate = certificate_of(alloc, updates)?;
-    check_often(rt, &problem, &certificate, rounds)
-}
-
 /// Checks a certificate so many times, and tells how long one check took.
 fn check_often(
     rt: &(impl Print + Eprint + Clock),
@@ -94,36 +104,20 @@ fn check_often(
     certificate: &Certificate,
     rounds: u32,
 ) -> Result<()> {
+    if rounds == 0 {
+        return Err(anyhow!("{USAGE}"));
+    }
     let start = Instant::now(rt)?;
     let mut valid = true;
     for _ in 0..rounds {
         valid = valid && check(problem, certificate).is_ok();
     }
-    let each = start.elapsed(rt)?.as_micros() / u128::from(rounds.max(1));
+    let each = start.elapsed(rt)?.as_micros() / u128::from(rounds);
     let updates = problem.updates().len();
     let arcs = arc_count(problem);
     println!(rt; "updates {updates} arcs {arcs} valid {valid}")?;
     eprintln!(rt; "microseconds {each}")?;
     Ok(())
-}
-
-/// Solves a problem of so many updates, and tells what was found, and how long it took.
-fn measure_solve(
-    rt: &(impl Print + Eprint + Clock),
-    alloc: Global,
-    kind: &str,
-    updates: u32,
-) -> Result<()> {
-    let problem = match kind {
-        "line" => line(alloc, updates),
-        "scattered" => scattered(alloc, updates),
-        _ => return Err(anyhow!("{USAGE}")),
-    };
-    match problem {
-        Ok(problem) => solve_once(rt, alloc, &problem),
-        Err(BundleFault::NoMemory) => Err(anyhow!("{AllocError}")),
-        Err(fault) => Err(anyhow!("no problem: {fault:?}")),
-    }
 }
 
 /// Solves the problem, says what was found, and how long it took.
@@ -164,23 +158,8 @@ fn tell_solved(
     Ok(())
 }
 
-/// Reads the bundle on standard input, checks it, writes it again, and says
-/// whether the same bytes came out.
-fn measure_bundle(rt: &(impl Input + Print + Eprint + Clock), alloc: Global) -> Result<()> {
-    let mut input = Vec::new(alloc);
-    rt.reader().read_to_end(&mut input)?;
-    let start = Instant::now(rt)?;
-    match from_json(alloc, &input) {
-        Ok((problem, certificate)) => {
-            let read = start.elapsed(rt)?.as_millis();
-            measure_parts(rt, alloc, &input, &problem, &certificate, read)
-        }
-        Err(fault) => Err(anyhow!("no bundle: {fault:?}")),
-    }
-}
-
-/// Checks what was read of a bundle in so many milliseconds, and writes it again.
-fn measure_parts(
+/// Checks what was read of a bundle in so many milliseconds, writes it again, and says whether the same bytes came out.
+fn measure_whole(
     rt: &(impl Print + Eprint + Clock),
     alloc: Global,
     input: &[u8],
