@@ -51,28 +51,6 @@ impl Model for Store {
     ghost invariant = { λ s. (length s.items.items ≤ MOST_ITEMS) × All AreValues s.items.items };
 }
 
-fn is_value(v: i64) -> bool
-    ensures { IsTrue result ↔ IsValue v }
-{
-    v.unsigned_abs() <= LARGEST_VALUE
-}
-
-/// Whether a store may have the values, and else why not.
-fn check(values: &[i64]) -> Result<(), ItemsError>
-    ensures ok { OnOk result ((length values.now ≤ MOST_ITEMS) × All IsValue values.now) }
-    ensures err { IfErr result (λ e. ((e ≡ ItemsError.TooManyItems) × (MOST_ITEMS < length values.now))
-        ⊎ ((e ≡ ItemsError.ValueOutOfRange) × (length values.now ≤ MOST_ITEMS)
-        × Any (λ v. ¬ IsValue v) values.now)) }
-{
-    if values.len() > MOST_ITEMS {
-        return Err(ItemsError::TooManyItems);
-    }
-    if !values.iter().all(|v| is_value(*v)) {
-        return Err(ItemsError::ValueOutOfRange);
-    }
-    Ok(())
-}
-
 impl Store {
     /// A store in which each item has the value given, as its committed and its current value.
     pub fn new(alloc: Global, values: Vec<i64>) -> Result<Store, ItemsError>
@@ -146,4 +124,27 @@ impl Store {
         let versions = &mut self.items[x.0 as usize];
         versions.current = versions.committed;
     }
+}
+
+/// Whether an item may have the value.
+fn is_value(v: i64) -> bool
+    ensures { IsTrue result ↔ IsValue v }
+{
+    v.unsigned_abs() <= LARGEST_VALUE
+}
+
+/// Whether a store may have the values, and else why not.
+fn check(values: &[i64]) -> Result<(), ItemsError>
+    ensures ok { OnOk result ((length values.now ≤ MOST_ITEMS) × All IsValue values.now) }
+    ensures err { IfErr result (λ e. ((e ≡ ItemsError.TooManyItems) × (MOST_ITEMS < length values.now))
+        ⊎ ((e ≡ ItemsError.ValueOutOfRange) × (length values.now ≤ MOST_ITEMS)
+        × Any (λ v. ¬ IsValue v) values.now)) }
+{
+    if values.len() > MOST_ITEMS {
+        return Err(ItemsError::TooManyItems);
+    }
+    if !values.iter().all(|v| is_value(*v)) {
+        return Err(ItemsError::ValueOutOfRange);
+    }
+    Ok(())
 }
