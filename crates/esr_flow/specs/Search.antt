@@ -33,6 +33,10 @@ pub record Comes (arcs : List Arc) (flow : List ℕ) (visits : List Visit) (j : 
   pub begins : start arcs (visit_at visits j).step ≡ (visit_at visits (visit_at visits j).parent).node
   pub next_level : (visit_at visits j).level ≡ suc (visit_at visits (visit_at visits j).parent).level
 
+-- each visit but the first comes from an earlier one
+abbrev pub ComeFromEarlier : List Visit → Type 0
+ComeFromEarlier visits = (j : ℕ) → 0 < j → j < length visits → (visit_at visits j).parent < j
+
 -- the visits before head are done: each residual step from them leads to a visit
 pub record Searched (net : Network) (flow : List ℕ) (visits : List Visit) (marks : List Bool) (head : ℕ) : Type 0 where
   pub marks_length : length marks ≡ net.nodes

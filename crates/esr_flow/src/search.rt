@@ -1,7 +1,8 @@
 //! Breadth-first search of the residual network.
-ghost use Rattle.std.specs.Prelude.{◌≡◌, ◌-◌, ◌<◌, ◌≤◌, false, length, IfOk};
+ghost use Rattle.std.specs.Prelude.{◌≡◌, ℕ, List, ◌-◌, ◌<◌, ◌≤◌, false, length, IfOk};
+ghost use Rattle.esr_cert.specs.Network.{Network};
 ghost use Rattle.esr_flow.specs.Graph.{arcs_of, net_of, IsGraph, AreEntries, Lists};
-ghost use Rattle.esr_flow.specs.Search.{Searched, visit_at, is_marked, IsShortestPath, AfterScan, AfterSearch, FoundSink, IsFound, Guides, label_at};
+ghost use Rattle.esr_flow.specs.Search.{Searched, visit_at, is_marked, ComeFromEarlier, IsShortestPath, AfterScan, AfterSearch, FoundSink, IsFound, Guides, label_at};
 
 use crate::entry::ShortEntry;
 use crate::graph::Graph;
@@ -57,16 +58,14 @@ fn scan(
     Ok(false)
 }
 
-/// The steps from the source to the node of the last visit, which is the sink.
-fn path_to_last(
-    alloc: Global,
-    _graph: &Graph,
-    _flow: &[u64],
-    visits: &[Visit],
-) -> Result<Vec<ResidualArc>, AllocError>
-    requires { FoundSink (net_of _graph.now) _flow.now visits.now }
-    ensures shortest { IfOk result (λ path. IsShortestPath (net_of _graph.now) _flow.now path.items) }
-    ensures steps { IfOk result (λ path. length path.items ≡ (visit_at visits.now (length visits.now - 1)).level) }
+/// The steps from the first visit to the last: where that is of the sink, a shortest path.
+fn path_to_last(alloc: Global, visits: &[Visit]) -> Result<Vec<ResidualArc>, AllocError>
+    requires some { 0 < length visits.now }
+    requires earlier { ComeFromEarlier visits.now }
+    ensures shortest { IfOk result (λ path. (net : Network) (flow : List ℕ)
+        → FoundSink net flow visits.now → IsShortestPath net flow path.items) }
+    ensures steps { IfOk result (λ path. (net : Network) (flow : List ℕ) → FoundSink net flow visits.now
+        → length path.items ≡ (visit_at visits.now (length visits.now - 1)).level) }
 {
     let mut path = Vec::new(alloc);
     let mut at = visits.len() - 1;
@@ -160,7 +159,7 @@ pub fn search(
     if !visit_nodes(graph, flow, entries, &mut visits, &mut marks)? {
         return Ok(Found::Reach(marks));
     }
-    let path = path_to_last(alloc, graph, flow, &visits)?;
+    let path = path_to_last(alloc, &visits)?;
     let labels = labels_of(alloc, graph, flow, &visits)?;
     Ok(Found::Path(path, labels))
 }
