@@ -1,5 +1,5 @@
 -- The verdict on the bytes of a bundle, the line that is written for it, and how a judgement ends.
-use Rattle.std.specs.Prelude.{◌≡◌, ℕ, ◌<◌, ◌≤◌, List, [], ◌∷◌, ◌++◌, length, codes, decimal, Bool, true, false, Option, Some, None, Result, Ok, Err}
+use Rattle.std.specs.Prelude.{◌≡◌, ℕ, ◌<◌, ◌≤◌, List, [], ◌∷◌, ◌++◌, length, codes, decimal, Option, Some, None, Result, Ok, Err}
 use Rattle.std.specs.Io.KnownBytes.{Consumes}
 use Rattle.esr_history.specs.Watch.{BeginsWith}
 use Rattle.esr_cert.specs.Problem.{Problem}
@@ -47,12 +47,3 @@ IsJudgedBy input left (Err ends.Write) written =
     (length input ≤ MAX_BYTES) × (v : Verdict) × IsVerdictOf input v × BeginsWith (verdict_line v) written
 IsJudgedBy input left (Err ends.TooLong) written = (MAX_BYTES < length input) × (written ≡ [])
 IsJudgedBy input left (Err ends.NoMemory) written = written ≡ []
-
--- whether a read failed, and whether a write did
-abbrev pub is_read_fault : {T : Type 0} → Result T JudgeFault → Bool
-is_read_fault (Err ends.Read) = true
-is_read_fault _ = false
-
-abbrev pub is_write_fault : {T : Type 0} → Result T JudgeFault → Bool
-is_write_fault (Err ends.Write) = true
-is_write_fault _ = false

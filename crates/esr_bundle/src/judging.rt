@@ -1,9 +1,9 @@
 //! The judgement of a bundle: bytes in, one line out.
-ghost use Rattle.std.specs.Prelude.{◌≡◌, ◌≢◌, ◌⊎◌, ◌||◌, ◌+◌, ◌++◌, ◌≤◌, ◌<◌, ℕ, List, IsOk, IfOk, IfErr, IsErrOf, false, length, Some};
+ghost use Rattle.std.specs.Prelude.{◌≡◌, ◌≢◌, ◌⊎◌, ◌↔◌, ◌+◌, ◌++◌, ◌≤◌, ◌<◌, ℕ, List, IsOk, IfOk, IfErr, IsErrOf, IsTrue, false, length, Some};
 ghost use Rattle.std.specs.Io.KnownBytes.{Appends, Consumes, IsAtEnd};
 ghost use Rattle.esr_history.specs.Watch.{inner, failed};
 ghost use Rattle.esr_cert.specs.Faults.{bundle_fault_number};
-ghost use Rattle.esr_bundle.specs.Judge.{IsVerdictOf, IsJudgedBy, verdict_line, is_read_fault, is_write_fault};
+ghost use Rattle.esr_bundle.specs.Judge.{IsVerdictOf, IsJudgedBy, verdict_line};
 
 use crate::reading::from_json;
 use esr_cert::{BundleFault, check};
@@ -58,12 +58,13 @@ fn read_some<R: Read>(
     chunk: &mut [u8],
     bytes: &mut Vec<u8>,
 ) -> Result<usize, JudgeFault>
-    requires { 0 < length chunk.old }
+    requires room { 0 < length chunk.old }
+    requires reader { failed reader.old ≡ false }
     ensures ok { IfOk result (λ n. (more : List ℕ) × (length more ≡ n) × (bytes.new.items ≡ bytes.old.items ++ more)
         × Consumes (R.remaining (inner reader.old)) (R.remaining (inner reader.new)) more
         × (n ≡ 0 → IsAtEnd (R.remaining (inner reader.new)))) }
     ensures faults { IfErr result (λ e. (e ≡ JudgeFault.Read) ⊎ (e ≡ JudgeFault.NoMemory)) }
-    ensures failed { failed reader.new ≡ (failed reader.old || is_read_fault result) }
+    ensures failed { IsTrue (failed reader.new) ↔ IsErrOf result JudgeFault.Read }
     ensures room { length chunk.new ≡ length chunk.old }
 {
     match reader.read(chunk) {
@@ -77,13 +78,14 @@ fn read_some<R: Read>(
 
 /// Reads to the end of the input.
 fn read_all<R: Read>(alloc: Global, reader: &mut Watched<R>) -> Result<Vec<u8>, JudgeFault>
+    requires { failed reader.old ≡ false }
     ensures ok { IfOk result (λ v. Consumes (R.remaining (inner reader.old)) (R.remaining (inner reader.new)) v.items
         × IsAtEnd (R.remaining (inner reader.new)) × (length v.items ≤ MAX_BYTES)) }
     ensures long { IsErrOf result JudgeFault.TooLong → (taken : List ℕ)
         × Consumes (R.remaining (inner reader.old)) (R.remaining (inner reader.new)) taken
         × (MAX_BYTES < length taken) }
-    ensures failed { failed reader.new ≡ (failed reader.old || is_read_fault result) }
-    ensures write { is_write_fault result ≡ false }
+    ensures failed { IsTrue (failed reader.new) ↔ IsErrOf result JudgeFault.Read }
+    ensures write { ¬ IsErrOf result JudgeFault.Write }
 {
     let Ok(mut chunk) = room(alloc) else {
         return Err(JudgeFault::NoMemory);
@@ -160,8 +162,8 @@ pub fn judge<R: Read, W: Write>(
         × IsJudgedBy input (R.remaining (inner reader.new)) result written }
 
     // Where a read or a write has failed, there is no verdict.
-    ensures reader { failed reader.new ≡ is_read_fault result }
-    ensures writer { failed writer.new ≡ is_write_fault result }
+    ensures reader { IsTrue (failed reader.new) ↔ IsErrOf result JudgeFault.Read }
+    ensures writer { IsTrue (failed writer.new) ↔ IsErrOf result JudgeFault.Write }
 {
     let bytes = match read_all(alloc, reader) {
         Ok(bytes) => bytes,

@@ -1,4 +1,4 @@
-use Rattle.std.proofs.Common.{rules, ◌≡◌, [], length, drop, arith, ◌∙◌, ap, refl}
+use Rattle.std.proofs.Common.{rules, ◌≡◌, [], length, drop, arith, ◌∙◌, ap}
 use Rattle.std.proofs.KnownBytes.{Consumes-trans, Consumes-nil}
 use Rattle.esr_bundle.proofs.Verdicts.{no_more, room_kept}
 use Rattle.esr_bundle.proofs.judging.read_all.Goals as goal
@@ -6,7 +6,7 @@ use Rattle.esr_bundle.proofs.judging.read_all.Goals as goal
 pub chunks-init : goal.chunks-init
 chunks-init g c =
     let none : c.new-bytes.result.items ≡ [] = search rules in
-    record { bound = rw none (omega arith); read = rw none (Consumes-nil _); room = c.in-Ok.ensures; failed = refl }
+    record { bound = rw none (omega arith); read = rw none (Consumes-nil _); room = c.in-Ok.ensures; failed = c.requires }
 
 pub returns-then-count-eq0-clause-ok : goal.returns-then-count-eq0-clause-ok
 returns-then-count-eq0-clause-ok g c =

@@ -1,4 +1,4 @@
-use Rattle.std.proofs.Common.{◌≡◌, ◌≤◌, ◌-◌, ◌<◌, length}
+use Rattle.std.proofs.Common.{◌≡◌, ◌≤◌, ◌-◌, ◌<◌, false, length}
 use Rattle.std.specs.Io.KnownBytes.{Consumes}
 use Rattle.esr_history.specs.Watch.{inner, failed}
 use Rattle.esr_bundle.proofs.judging.read_all.Given as goal
@@ -8,7 +8,7 @@ invariant-chunks g l = record {
   bound : length l.bytes.items ≤ 64000000;
   read : Consumes (g.R.Read.remaining (inner l.initial.reader)) (g.R.Read.remaining (inner l.reader)) l.bytes.items;
   room : 0 < length l.chunk.items;
-  failed : failed l.reader ≡ failed l.initial.reader;
+  failed : failed l.reader ≡ false;
 }
 
 abbrev pub decreases-chunks : goal.decreases-chunks
