@@ -3,10 +3,10 @@ use Rattle.std.proofs.Common.{◌≡◌, ℕ, suc, ◌+◌, ◌-◌, ◌%◌, �
 use mathlib.Core.Option.{none, some}
 use lib.ListN.{get_elem?}
 use Rattle.std.proofs.lemmas.Bool.{cases_lt}
-use Rattle.std.proofs.lemmas.List.Sums.{sum_by-cons, sum_by-append, sum_by_push, sum_by-le-sum_by}
+use Rattle.std.proofs.lemmas.List.Sums.{sum_by-append, sum_by_push, sum_by-le-sum_by}
 use Rattle.atomic_table.specs.Table.{Me, step, keeps, stepped, Allows, Splits, Joins}
 use Rattle.atomic_table.proofs.Lists.{at_set, at_snoc, set_else}
-use Rattle.esr_board.specs.Claims.{times, count_past, below, passes_of, IsFair, IsKept, first_hand, with_claim, Claimed, with_one_less, one_pass, joined, spent, Hand, BoardSize}
+use Rattle.esr_board.specs.Claims.{times, count_past, below, passes_of, IsFair, IsKept, with_claim, Claimed, with_one_less, one_pass, joined, spent, Hand, BoardSize}
 use Rattle.esr_board.proofs.Weights.{sum_set, part_le, ones, length-below, past_yes, past_no, count_past_push, count_past-below, times-below-none, times_at}
 
 -- the word never passes the jobs by more than the seats
@@ -64,9 +64,6 @@ claims size slots id me its few_jobs few_seats some_pass s r _ at fits =
       subst (λ (n : ℕ). IsKept size (stepped s 0 n id me.1 w keeps)) next now,
       (refl, drawn_below v.jobs size.seats word s.views id v fair at, drawn_le v.jobs size.seats word s.views id v fair at, omega arith),
     )
-
-pub opens : (size : BoardSize) → IsKept size record { words = 0 ∷ size.jobs ∷ size.seats ∷ []; homes = []; views = first_hand size ∷ [] }
-opens size = grind (arith, sum_by-cons (passes_of size.jobs) (first_hand size))
 
 -- one pass goes to a new seat
 pub splits : (size : BoardSize) (id : ℕ) (v : Hand) → v.jobs ≡ size.jobs → 0 < v.passes → v.drawn ≡ [] → Splits (IsKept size) id v (with_one_less v) (one_pass v)

@@ -49,9 +49,6 @@ module _ (es : List Entry) (t : ℕ) where
           let s : f ≡ record { query = b.query; limit = b.limit; end = last_place accepted_end t es } = same_Some f (record { query = b.query; limit = b.limit; end = last_place accepted_end t es }) e in
           (b, is, ap (λ (g : Facts). g.query) s, ap (λ (g : Facts). g.end) s)
 
-  pub query_none : None ≡ facts_of es t → false ≡ is_query (accepted es) t
-  query_none none = sym (ap (λ (b : Option Beginning). unwrap_or (option_map (λ c. c.query) b) false) (facts_none none))
-
   pub query_some : (f : Facts) → Some f ≡ facts_of es t → f.query ≡ is_query (accepted es) t
   query_some f some = let s = facts_some f some in s.2 ∙ sym (ap (λ (b : Option Beginning). unwrap_or (option_map (λ c. c.query) b) false) s.1)
 

@@ -21,9 +21,6 @@ Pair = ℕ × ℕ
 abbrev pub Holds : (ℕ → Bool) → List Pair → Type 0
 Holds S pairs = (p : Pair) → In p pairs → S p.1 ≡ true → S p.0 ≡ true
 
-pub fewer : (ps qs : List Pair) (S : ℕ → Bool) → Holds S (ps ++ qs) → Holds S ps
-fewer ps qs S h p i = h p (In-append_left ps qs p i)
-
 abbrev test : ℕ → ℕ → UpdateOperation → UpdateOperation → Bool
 test i j a b = eqb a.place i && (eqb b.place j && clash a b)
 

@@ -1,5 +1,5 @@
 -- The near updates of a query are closed downward, and hold all writers of what it read and all that it must see.
-use Rattle.std.proofs.Common.{◌≡◌, ◌≢◌, ◌↔◌, ℕ, ◌<◌, Bool, true, false, ◌&&◌, List, [], ◌∷◌, length, refl, sym, ◌∙◌, ap, subst, arith, inl, inr, ⊎_elim, AllPairs, Contains, filter, map, cond}
+use Rattle.std.proofs.Common.{◌≡◌, ◌↔◌, ℕ, ◌<◌, Bool, true, false, ◌&&◌, List, [], ◌∷◌, length, refl, sym, ◌∙◌, ap, subst, arith, inl, inr, ⊎_elim, AllPairs, Contains, filter, map, cond}
 use Rattle.std.specs.List.{range_with_len}
 use Rattle.std.proofs.lemmas.Bool.{true≢false, cases_order, and_parts}
 use Rattle.esr_history.specs.Machine.{Distance, Schedule, IsLegal}
@@ -18,9 +18,6 @@ use Rattle.esr_order.proofs.Turns.{not_before_itself}
 use Rattle.esr_order.proofs.Lists.{in_map, of_map, at_place}
 
 module _ (d : Distance) (h : Schedule) (q : ℕ) (legal : IsLegal d h) where
-  once : AllPairs (λ u v. u ≢ v) (updates_of h q)
-  once = All-from_pairs (λ u v. u ≢ v) (updates_of h q) (in_order d h q legal).once
-
   keeps : AllPairs (λ u v. is_before h v u ≡ false) (updates_of h q)
   keeps = All-from_pairs (λ u v. is_before h v u ≡ false) (updates_of h q) (in_order d h q legal).keeps
 
