@@ -11,6 +11,7 @@ use Rattle.esr_history.specs.declared.event.TxnId.{TxnId}
 use Rattle.esr_history.specs.Machine.{Distance}
 use Rattle.esr_session.specs.declared.receipt.Receipt.{Receipt}
 use Rattle.esr_session.specs.Receipts.{AreBlocked, is_blocked}
+use Rattle.esr_plan.specs.declared.call.Kind.TheVariants as kind
 use Rattle.esr_plan.specs.declared.call.Call.{Call}
 use Rattle.esr_plan.specs.declared.call.Call.TheVariants as call
 use Rattle.esr_plan.specs.Calls.{command_of, answers_of, number_by, event_by, place_of, IsResolved, AreResolved}
@@ -110,7 +111,9 @@ event_resolved names calls replies (call.Write txn x value) e is =
     ap₂ (λ t i. Some (event.Write t i value)) (number_same calls replies txn.name.now txn.begin e is.0) (sym is.1)
 event_resolved names calls replies (call.Commit txn) e is = ap (λ t. Some (event.Commit t)) (number_same calls replies txn.name.now txn.begin e is)
 event_resolved names calls replies (call.Abort txn) e is = ap (λ t. Some (event.Abort t)) (number_same calls replies txn.name.now txn.begin e is)
-event_resolved names calls replies _ e is = refl
+event_resolved names calls replies (call.Begin name kind.Update limit) e is = refl
+event_resolved names calls replies (call.Begin name kind.Query limit) e is = refl
+event_resolved names calls replies (call.Begin name kind.StrictQuery limit) e is = refl
 
 -- one more call with its receipts
 pub block_more : (names : List (List ℕ)) (d : Distance) (o : List ℤ) (w : List ℕ) (calls : List Call) (replies seen : List Reply) (i : ℕ) (x : Call) (e : Event) (r : Receipt) (old new blocked : List Receipt)

@@ -1,4 +1,4 @@
--- Which faults are those of the reader and of the writer.
+-- The faults of a drive that neither its reader nor its writer makes.
 use Rattle.std.specs.Prelude.{◌≡◌, ℕ, List, Bool, true, false, Option, Some, None, Result, Ok, Err, unwrap_or, if◌then◌else◌}
 use Rattle.std.specs.List.{list_any}
 use Rattle.esr_core.specs.declared.machine.StepError.{StepError}
@@ -6,10 +6,6 @@ use Rattle.esr_core.specs.declared.machine.StepError.TheVariants as error
 use Rattle.esr_plan.specs.Plan.{Plan, plan_of}
 use Rattle.esr_plan.specs.declared.fault.DriveFault.{DriveFault}
 use Rattle.esr_plan.specs.declared.fault.DriveFault.TheVariants as fault
-
-abbrev pub is_write_fault : {T : Type 0} → Result T DriveFault → Bool
-is_write_fault (Err fault.Write) = true
-is_write_fault _ = false
 
 -- the faults of the engine, and of memory
 abbrev pub is_engine_fault : DriveFault → Bool

@@ -10,9 +10,8 @@ use esr_board::Gate;
 use esr_history::{History, NoMemory, Reply};
 use esr_items::{Store, Weighted};
 use esr_plan::{Call, DriveFault};
-use esr_session::{CloseError, Engine, LEDGER_PARTS, Naming, Session};
+use esr_session::{CloseError, Engine, Naming, Session};
 use std::alloc::{AllocError, Global};
-use std::marker::Brand;
 use std::sync::Wait;
 use std::sync::ledger::Blank;
 use std::thread::Threads;
@@ -67,7 +66,7 @@ fn tasks_of<'a, 't, N: Naming>(
 }
 
 /// Runs the blocks on one engine, which N names.
-fn drive_blocks<N: Naming + Send + Sync, R: Threads + Wait + Sync, G: Gate + Sync>(
+pub fn drive_blocks<N: Naming + Send + Sync, R: Threads + Wait + Sync, G: Gate + Sync>(
     rt: &R,
     alloc: Global,
     blank: Blank,
@@ -109,27 +108,4 @@ fn drive_blocks<N: Naming + Send + Sync, R: Threads + Wait + Sync, G: Gate + Syn
             _ => Err(DriveFault::Close),
         },
     }
-}
-
-/// Runs the blocks on an engine of their own.
-pub fn run_plan<R: Threads + Wait + Sync, G: Gate + Sync>(
-    rt: &R,
-    alloc: Global,
-    items: Store,
-    metric: Weighted,
-    blocks: &[Vec<Call<'_>>],
-    gate: &G,
-) -> Result<Driven, DriveFault>
-    requires { length blocks.now ≤ MAX_BLOCKS }
-    ensures { DrivesTo (map (λ w. w.committed) items) metric (map (λ b. b.items) blocks.now) result }
-{
-    drive_blocks::<Brand, R, G>(
-        rt,
-        alloc,
-        Blank::new(LEDGER_PARTS),
-        items,
-        metric,
-        blocks,
-        gate,
-    )
 }

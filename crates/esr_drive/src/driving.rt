@@ -13,7 +13,7 @@ ghost use Rattle.esr_drive.specs.Faults.{IsTextFault, is_engine_fault};
 ghost use Rattle.esr_plan.specs.Sheets.{plan_in, IsSound};
 ghost use Rattle.esr_plan.specs.Plan.{cut_fault, weights_of};
 
-use crate::driven::{Driven, run_plan};
+use crate::driven::{Driven, drive_blocks};
 use crate::findings::push_findings;
 use esr_board::Gate;
 use esr_history::Watched;
@@ -21,9 +21,12 @@ use esr_plan::{
     DriveFault, Sheet, begun_names, metric_of, push_blocks, push_items, push_totals, read_all,
     sheet_of, store_of,
 };
+use esr_session::LEDGER_PARTS;
 use std::alloc::{AllocError, Global};
 use std::io::{Read, Write};
+use std::marker::Brand;
 use std::sync::Wait;
+use std::sync::ledger::Blank;
 use std::thread::Threads;
 
 /// Reads a drive file to its end, runs each of its blocks by a session on a thread of its own, and
@@ -85,7 +88,7 @@ fn text_in<R: Threads + Wait + Sync, G: Gate + Sync>(
     }
 }
 
-/// Runs the blocks of a plan.
+/// Runs the blocks of a plan on an engine of their own.
 fn run_sheet<R: Threads + Wait + Sync, G: Gate + Sync>(
     rt: &R,
     alloc: Global,
@@ -103,10 +106,15 @@ fn run_sheet<R: Threads + Wait + Sync, G: Gate + Sync>(
     let Ok(metric) = metric_of(alloc, sheet.weights.as_slice()) else {
         return Err(DriveFault::NoMemory);
     };
-    match run_plan(rt, alloc, items, metric, sheet.blocks.as_slice(), gate) {
-        Ok(driven) => Ok(driven),
-        Err(fault) => Err(fault),
-    }
+    drive_blocks::<Brand, R, G>(
+        rt,
+        alloc,
+        Blank::new(LEDGER_PARTS),
+        items,
+        metric,
+        sheet.blocks.as_slice(),
+        gate,
+    )
 }
 
 /// The text of what the blocks of a plan left.

@@ -5,16 +5,27 @@ use Rattle.esr_history.specs.declared.event.Event.{Event}
 use Rattle.esr_history.specs.declared.event.Event.TheVariants as event
 use Rattle.esr_history.specs.declared.event.Reply.{Reply}
 use Rattle.esr_line.specs.Command.{Command, begin_update, begin_query, begin_strict_query, read, write, commit, abort}
+use Rattle.esr_plan.specs.declared.call.Kind.{Kind}
+use Rattle.esr_plan.specs.declared.call.Kind.TheVariants as kind
 use Rattle.esr_plan.specs.declared.call.Caller.{Caller}
 use Rattle.esr_plan.specs.declared.call.Operand.{Operand}
 pub use Rattle.esr_plan.specs.declared.call.Call.{Call}
 use Rattle.esr_plan.specs.declared.call.Call.TheVariants as call
 use Rattle.esr_plan.specs.Blocks.{Answered, begins, number_in, item_called}
 
+-- the command and the event that begin a transaction of the kind
+abbrev pub begin_command : Kind → List ℕ → ℕ → Command
+begin_command kind.Update name limit = begin_update name limit
+begin_command kind.Query name limit = begin_query name limit
+begin_command kind.StrictQuery name limit = begin_strict_query name limit
+
+abbrev pub begin_event : Kind → ℕ → Event
+begin_event kind.Update limit = event.BeginUpdate limit
+begin_event kind.Query limit = event.BeginQuery limit false
+begin_event kind.StrictQuery limit = event.BeginQuery limit true
+
 abbrev pub command_of : Call → Command
-command_of (call.BeginUpdate name limit) = begin_update name.now limit
-command_of (call.BeginQuery name limit) = begin_query name.now limit
-command_of (call.BeginStrictQuery name limit) = begin_strict_query name.now limit
+command_of (call.Begin name k limit) = begin_command k name.now limit
 command_of (call.Read txn x) = read txn.name.now x.name.now
 command_of (call.Write txn x value) = write txn.name.now x.name.now value
 command_of (call.Commit txn) = commit txn.name.now
@@ -45,9 +56,7 @@ number_by replies begin =
 
 -- the event of a call, by the last replies to the calls before it
 abbrev pub event_by : List Reply → Call → Event
-event_by replies (call.BeginUpdate name limit) = event.BeginUpdate limit
-event_by replies (call.BeginQuery name limit) = event.BeginQuery limit false
-event_by replies (call.BeginStrictQuery name limit) = event.BeginQuery limit true
+event_by replies (call.Begin name k limit) = begin_event k limit
 event_by replies (call.Read txn x) = event.Read (number_by replies txn.begin) x.item
 event_by replies (call.Write txn x value) = event.Write (number_by replies txn.begin) x.item value
 event_by replies (call.Commit txn) = event.Commit (number_by replies txn.begin)

@@ -2,7 +2,7 @@
 
 ghost use Rattle.std.specs.Prelude.{◌≡◌, option_map};
 ghost use Rattle.esr_report.specs.Subjects.{named_by};
-ghost use Rattle.esr_plan.specs.Calls.{command_of, number_by, event_by};
+ghost use Rattle.esr_plan.specs.Calls.{begin_event, command_of, number_by, event_by};
 ghost use Rattle.esr_plan.specs.Plan.{new_name};
 ghost use Rattle.esr_plan.specs.Blocks.{number_in};
 ghost use Rattle.esr_plan.specs.Text.{subject_of};
@@ -26,19 +26,20 @@ pub struct Operand<'a> {
     pub item: ItemId,
 }
 
+/// What a transaction begins as.
+#[derive(Clone, Copy, Debug)]
+pub enum Kind {
+    Update,
+    Query,
+    StrictQuery,
+}
+
 /// A command of a block, with its names as text of the file.
 #[derive(Clone, Copy, Debug)]
 pub enum Call<'a> {
-    BeginUpdate {
+    Begin {
         name: &'a str,
-        limit: u64,
-    },
-    BeginQuery {
-        name: &'a str,
-        limit: u64,
-    },
-    BeginStrictQuery {
-        name: &'a str,
+        kind: Kind,
         limit: u64,
     },
     Read {
@@ -64,9 +65,7 @@ impl<'a> Call<'a> {
         ensures { option_map (λ name. name.now) result ≡ new_name (command_of self.now) }
     {
         match self {
-            Call::BeginUpdate { name, limit: _ } => Some(name),
-            Call::BeginQuery { name, limit: _ } => Some(name),
-            Call::BeginStrictQuery { name, limit: _ } => Some(name),
+            Call::Begin { name, .. } => Some(name),
             _ => None,
         }
     }
@@ -81,9 +80,7 @@ impl<'a> Call<'a> {
             value: 0,
         };
         match self {
-            Call::BeginUpdate { name, limit: _ } => Subject { txn: name, ..none },
-            Call::BeginQuery { name, limit: _ } => Subject { txn: name, ..none },
-            Call::BeginStrictQuery { name, limit: _ } => Subject { txn: name, ..none },
+            Call::Begin { name, .. } => Subject { txn: name, ..none },
             Call::Read { txn, item } => Subject {
                 txn: txn.name,
                 item: item.name,
@@ -129,20 +126,29 @@ fn transaction(replies: &[Reply], caller: Caller<'_>) -> TxnId
     TxnId(number_in(*reply).unwrap_or(0))
 }
 
+/// The event that begins a transaction of the kind.
+fn begin_event(kind: Kind, limit: u64) -> Event
+    ensures { result ≡ begin_event kind limit }
+{
+    match kind {
+        Kind::Update => Event::BeginUpdate { limit },
+        Kind::Query => Event::BeginQuery {
+            limit,
+            strict: false,
+        },
+        Kind::StrictQuery => Event::BeginQuery {
+            limit,
+            strict: true,
+        },
+    }
+}
+
 /// The event of a call, by the last replies to the calls of its block before it.
 pub fn event_of(replies: &[Reply], call: Call<'_>) -> Event
     ensures { result ≡ event_by replies.now call.entry }
 {
     match call {
-        Call::BeginUpdate { name: _, limit } => Event::BeginUpdate { limit },
-        Call::BeginQuery { name: _, limit } => Event::BeginQuery {
-            limit,
-            strict: false,
-        },
-        Call::BeginStrictQuery { name: _, limit } => Event::BeginQuery {
-            limit,
-            strict: true,
-        },
+        Call::Begin { kind, limit, .. } => begin_event(kind, limit),
         Call::Read { txn, item } => Event::Read {
             txn: transaction(replies, txn),
             item: item.item,

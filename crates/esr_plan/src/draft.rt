@@ -6,10 +6,10 @@ ghost use Rattle.esr_items.specs.Weights.{is_weight};
 ghost use Rattle.esr_line.specs.Lines.{lines};
 ghost use Rattle.esr_line.specs.Command.{view};
 ghost use Rattle.esr_plan.specs.Plan.{with_session, with_item, with_operation, with_begin, with_command, with_line, plan_from, nothing, new_name, weight_in};
-ghost use Rattle.esr_plan.specs.Calls.{command_of, place_of, IsCaller, IsOperand, IsResolved};
+ghost use Rattle.esr_plan.specs.Calls.{begin_command, command_of, place_of, IsCaller, IsOperand, IsResolved};
 ghost use Rattle.esr_plan.specs.Drafts.{plan_in, current_calls, IsSound, IsWrong};
 
-use crate::call::{Call, Caller, Operand};
+use crate::call::{Call, Caller, Kind, Operand};
 use crate::fault::DriveFault;
 use crate::reading::first_line;
 use esr_items::{ItemId, LARGEST_VALUE, LARGEST_WEIGHT, MOST_ITEMS};
@@ -183,15 +183,15 @@ impl<'a> Draft<'a> {
         Ok(())
     }
 
-    /// Adds a call that begins the transaction with this name.
-    fn add_begin(&mut self, name: &str, call: Call<'a>) -> Result<(), Wrong>
+    /// Adds the call that begins a transaction.
+    fn add_begin(&mut self, name: &'a str, kind: Kind, limit: u64) -> Result<(), Wrong>
         requires sound { IsSound self.old }
-        requires named { new_name (command_of call) ≡ Some name.now }
-        requires resolved { IsResolved self.old.names (current_calls self.old) call }
         requires room { length self.old.begun < 2 ^ 32 }
-        ensures ok { OnOk result (IsSound self.new × (with_begin (plan_in self.old) name.now (command_of call.entry)
+        ensures ok { OnOk result (IsSound self.new
+            × (with_begin (plan_in self.old) name.entry.now (begin_command kind name.entry.now limit)
             ≡ Ok (plan_in self.new))) }
-        ensures err { IfErr result (IsWrong (with_begin (plan_in self.old) name.now (command_of call.entry))) }
+        ensures err { IfErr result
+            (IsWrong (with_begin (plan_in self.old) name.entry.now (begin_command kind name.entry.now limit))) }
         ensures begun { OnOk result (length self.new.begun ≤ length self.old.begun + 1) }
     {
         let Some(block) = &mut self.current else {
@@ -201,7 +201,7 @@ impl<'a> Draft<'a> {
             return Err(Wrong::Line(3));
         }
         let place = block.len();
-        if block.push(call).is_err()
+        if block.push(Call::Begin { name, kind, limit }).is_err()
             || self.begun.bind(name).is_err()
             || self.places.push(place).is_err()
         {
@@ -226,14 +226,10 @@ impl<'a> Draft<'a> {
                 value,
                 weight,
             } => self.add_item(name, value, Some(weight)),
-            Line::BeginUpdate { name, limit } => {
-                self.add_begin(name, Call::BeginUpdate { name, limit })
-            }
-            Line::BeginQuery { name, limit } => {
-                self.add_begin(name, Call::BeginQuery { name, limit })
-            }
+            Line::BeginUpdate { name, limit } => self.add_begin(name, Kind::Update, limit),
+            Line::BeginQuery { name, limit } => self.add_begin(name, Kind::Query, limit),
             Line::BeginStrictQuery { name, limit } => {
-                self.add_begin(name, Call::BeginStrictQuery { name, limit })
+                self.add_begin(name, Kind::StrictQuery, limit)
             }
             Line::Read { txn, item } => {
                 let txn = self.caller(txn);

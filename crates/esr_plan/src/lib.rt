@@ -11,7 +11,7 @@ mod sheet;
 mod table;
 mod text;
 
-pub use call::{Call, event_of};
+pub use call::{Call, Kind, event_of};
 pub use draft::MAX_BLOCKS;
 pub use fault::DriveFault;
 pub use opening::{metric_of, store_of};

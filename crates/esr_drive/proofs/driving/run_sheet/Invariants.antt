@@ -1,5 +1,5 @@
 use Rattle.std.proofs.Common.{map}
-use Rattle.esr_drive.proofs.driven.run_plan.Given as goal
+use Rattle.esr_drive.proofs.driving.run_sheet.Given as goal
 
 -- which engine it is
 abbrev pub ghosts-drive_blocks-N-Naming : goal.ghosts-drive_blocks-N-Naming
