@@ -1,5 +1,5 @@
 -- What a run's last state answers of a query.
-use Rattle.std.proofs.Common.{◌≡◌, ℕ, List, Bool, true, false, map, sym, ◌∙◌, ap, subst, arith}
+use Rattle.std.proofs.Common.{◌≡◌, ℕ, List, Bool, true, map, sym, ◌∙◌, ap, subst, arith}
 use Rattle.esr_items.specs.Weights.{weighted}
 use Rattle.esr_history.specs.declared.event.TxnId.{TxnId}
 use Rattle.esr_history.specs.Machine.{Schedule, charges_in, import_in}
@@ -24,9 +24,6 @@ module _ (s : ScriptState) (items names : List (List ℕ)) (was : Bool) (first h
   -- what holds of the machine's history and of the number holds of the state's and of the name's
   both : (P : Schedule → ℕ → Type 0) → P h q.0 → P s.history (transaction_called s name).0
   both P p = subst (P s.history) (ap (λ (t : TxnId). t.0) called) (subst (λ k. P k q.0) history_is p)
-
-  pub refused : is_committed_query h q.0 ≡ false → is_committed_query s.history (transaction_called s name).0 ≡ false
-  refused none = both (λ k n. is_committed_query k n ≡ false) none
 
   pub found_of : (f : Finding) → f.query ≡ q
       → is_committed_query h q.0 ≡ true → f.distance ≡ least_cost weighted h q.0 → f.import ≡ import_in (charges_in weighted h) q.0

@@ -50,9 +50,6 @@ state-more a s s' (l ∷ ls) line t at is = state-more (next_state a l) s s' ls 
 
 -- ---- progress
 
-pub begun : (input : List ℕ) → Progress input input 0 start []
-begun input = record { used = []; answered = []; split = refl; counted = refl; cut = λ bytes. refl; cut_whole = λ bytes. refl; reached = refl; ran = λ more. refl }
-
 module _ (input : List ℕ) (n : ℕ) (s : ScriptState) (w : List ℕ) where
   -- a line more
   pub step : (bytes rest : List ℕ) (s' : ScriptState) (t : List ℕ) → Progress input (bytes ++ rest) n s w → n ≢ MAX_LINES

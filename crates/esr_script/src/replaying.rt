@@ -18,10 +18,10 @@ use std::io::Read;
 
 /// Goes over all lines of the input. Their output is dropped, line after line.
 fn replay_lines<R: Read>(
+    alloc: Global,
     reader: &mut Watched<R>,
     pending: &mut Pending,
     script: &mut Script,
-    out: &mut Vec<u8>,
 ) -> Result<(), RunFault>
     requires pending { pending.old ≡ [] }
     requires script { script.old ≡ start }
@@ -31,20 +31,21 @@ fn replay_lines<R: Read>(
     ensures reader { failed reader.new ≡ is_read_fault result }
     ensures write { is_write_fault result ≡ false }
 {
+    let mut dropped = Vec::new(alloc);
     let mut count: u64 = 0;
     'lines: loop {
         let next = next_line(pending.bytes());
         if let Next::More = next {
             match pending.fill(reader) {
                 Err(fault) => return Err(fault),
-                Ok(0) => return answer_last(pending, count, script, out),
+                Ok(0) => return answer_last(pending, count, script, &mut dropped),
                 Ok(_) => continue 'lines,
             }
         }
-        if let Err(fault) = answer_next(next, pending, count, script, out) {
+        if let Err(fault) = answer_next(next, pending, count, script, &mut dropped) {
             return Err(fault);
         }
-        out.clear();
+        dropped.clear();
         count += 1;
     }
 }
@@ -61,8 +62,7 @@ pub fn replay<R: Read>(alloc: Global, reader: &mut Watched<R>) -> Result<Script,
         return Err(RunFault::NoMemory);
     };
     let mut script = Script::new(alloc);
-    let mut dropped = Vec::new(alloc);
-    if let Err(fault) = replay_lines(reader, &mut pending, &mut script, &mut dropped) {
+    if let Err(fault) = replay_lines(alloc, reader, &mut pending, &mut script) {
         return Err(fault);
     }
     Ok(script)
