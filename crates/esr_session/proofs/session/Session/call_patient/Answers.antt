@@ -1,4 +1,4 @@
-use Rattle.std.proofs.Common.{◌≡◌, ◌<◌, length, ◌++◌, ◌∷◌, [], true, List, ap, sym, ◌∙◌, append_assoc, length-append, arith}
+use Rattle.std.proofs.Common.{rules, ◌≡◌, ◌<◌, length, ◌++◌, ◌∷◌, [], true, List, ap, sym, ◌∙◌, append_assoc, length-append, arith}
 use Rattle.esr_session.specs.Receipts.{AreBlocked, is_blocked, Receipt}
 use Rattle.esr_session.proofs.Calls.{blocked_more, if_err}
 use Rattle.esr_session.proofs.session.Session.call_patient.Goals as goal
@@ -30,3 +30,6 @@ loop-turn-preserved g c =
       c.in_ok-last-2.ensures.event,
       c.in_ok-last-2.ensures.receipt,
     )
+
+pub returns-clause-ok : goal.returns-clause-ok
+returns-clause-ok g c = search rules
