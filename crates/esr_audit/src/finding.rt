@@ -1,5 +1,9 @@
 //! What audits find.
 
+ghost use Rattle.std.specs.Prelude.{◌≡◌};
+ghost use Rattle.esr_audit.specs.declared.finding.AuditError.TheVariants.{NoMemory};
+ghost use Rattle.esr_audit.specs.Findings.{refusal_of};
+
 use esr_cert::{Certificate, Problem};
 use esr_history::{NoMemory, TxnId};
 use esr_order::OrderError;
@@ -50,9 +54,6 @@ pub enum AuditError {
 }
 
 impl From<NoMemory> for AuditError {
-    ghost use Rattle.std.specs.Prelude.{◌≡◌};
-    ghost use Rattle.esr_audit.specs.declared.finding.AuditError.TheVariants.{NoMemory};
-
     ghost from_gives = { λ _ e. e ≡ NoMemory };
 
     fn from(_: NoMemory) -> AuditError {
@@ -61,9 +62,6 @@ impl From<NoMemory> for AuditError {
 }
 
 impl From<OrderError> for AuditError {
-    ghost use Rattle.std.specs.Prelude.{◌≡◌};
-    ghost use Rattle.esr_audit.specs.Findings.{refusal_of};
-
     ghost from_gives = { λ why e. e ≡ refusal_of why };
 
     fn from(why: OrderError) -> AuditError {

@@ -1,9 +1,12 @@
 //! The arcs of a problem's network.
-ghost use Rattle.std.specs.Prelude.{◌≡◌, ◌+◌, ◌^◌, ◌<◌, ◌≤◌, length, map, sum_by};
+ghost use Rattle.std.specs.Prelude.{◌≡◌, ◌+◌, ◌^◌, ◌<◌, ◌≤◌, length, map, sum_by, List, true};
 ghost use Rattle.esr_items.specs.declared.TheConstants.{MOST_ITEMS};
 ghost use Rattle.esr_history.specs.declared.limits.TheConstants.{MOST_TRANSACTIONS};
-ghost use Rattle.esr_cert.specs.Views.{chain_of};
-ghost use Rattle.esr_cert.specs.Network.{arc_at, chain_links};
+ghost use Rattle.esr_cert.specs.Views.{chain_of, problem_of};
+ghost use Rattle.esr_cert.specs.Network.{arc_at, chain_links, network};
+ghost use Rattle.esr_cert.specs.declared.network.Arc.{Arc};
+ghost use Rattle.esr_cert.specs.Problem.{is_sound};
+ghost use Rattle.esr_cert.specs.Starts.{starts_from, owners_from};
 
 use crate::network::Arc;
 use crate::problem::Chain;
@@ -44,13 +47,6 @@ pub struct Arcs<'a> {
 }
 
 impl<'a> Model for Arcs<'a> {
-    ghost use Rattle.std.specs.Prelude.{◌≡◌, List, map, true};
-    ghost use Rattle.esr_cert.specs.declared.network.Arc.{Arc};
-    ghost use Rattle.esr_cert.specs.Network.{network};
-    ghost use Rattle.esr_cert.specs.Problem.{is_sound};
-    ghost use Rattle.esr_cert.specs.Starts.{starts_from, owners_from};
-    ghost use Rattle.esr_cert.specs.Views.{chain_of, problem_of};
-
     ghost Value = { List Arc };
 
     ghost view = { λ a. (network (problem_of a.updates.now a.before.now a.chains.now a.must.now)).arcs };

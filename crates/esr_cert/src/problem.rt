@@ -6,6 +6,7 @@ ghost use Rattle.esr_cert.specs.Network.{arc_at, network};
 ghost use Rattle.esr_cert.specs.Rows.{AreLaid};
 ghost use Rattle.esr_cert.specs.Starts.{starts_from, owners_from};
 ghost use Rattle.esr_cert.specs.Views.{chain_of, posed_by, problem_of};
+ghost use Rattle.esr_cert.specs.Problem as spec;
 
 use crate::arcs::{Arcs, arc_count};
 use crate::network::Arc;
@@ -129,15 +130,7 @@ fn network_of(alloc: Global, parts: &ProblemParts) -> Result<(Vec<u32>, Vec<u16>
 }
 
 impl Model for Problem {
-    ghost use Rattle.std.specs.Prelude.{◌≡◌, true};
-    ghost use Rattle.esr_cert.specs.Problem as spec;
-
     ghost Value = { spec.Problem };
-
-    ghost use Rattle.esr_cert.specs.Network.{network};
-    ghost use Rattle.esr_cert.specs.Rows.{AreLaid};
-    ghost use Rattle.esr_cert.specs.Starts.{starts_from, owners_from};
-    ghost use Rattle.esr_cert.specs.Views.{posed_by};
 
     ghost view = { λ p. posed_by p.parts };
 

@@ -1,5 +1,11 @@
 //! Residual arcs, of which paths are made.
 
+ghost use Rattle.std.specs.Prelude.{◌≡◌, ◌<◌};
+ghost use Rattle.std.proofs.Common.{ap};
+ghost use Rattle.esr_cert.specs.declared.residual.ResidualArc.{ResidualArc};
+ghost use Rattle.esr_cert.specs.Steps.{arc_of, order_of, opposite};
+ghost use Rattle.esr_cert.specs.Short.{step_of, packed_arc, packed_arc-step_of};
+
 use std::marker::Model;
 
 /// A residual arc, one step of a path: forward over the arc with a number, or backward over it.
@@ -10,9 +16,6 @@ pub enum ResidualArc {
 }
 
 impl ResidualArc {
-    ghost use Rattle.std.specs.Prelude.{◌≡◌};
-    ghost use Rattle.esr_cert.specs.Steps.{arc_of, order_of, opposite};
-
     /// The number of the arc that it goes over.
     pub fn arc(self) -> u32
         ensures { result ≡ arc_of self }
@@ -51,12 +54,7 @@ pub struct ShortArc {
 }
 
 impl Model for ShortArc {
-    ghost use Rattle.esr_cert.specs.declared.residual.ResidualArc.{ResidualArc};
-
     ghost Value = { ResidualArc };
-
-    ghost use Rattle.std.proofs.Common.{ap};
-    ghost use Rattle.esr_cert.specs.Short.{step_of, packed_arc, packed_arc-step_of};
 
     ghost view = { λ s. step_of s.number };
 
@@ -66,9 +64,6 @@ impl Model for ShortArc {
 }
 
 impl ShortArc {
-    ghost use Rattle.std.specs.Prelude.{◌≡◌, ◌<◌};
-    ghost use Rattle.esr_cert.specs.Steps.{arc_of};
-
     /// The same residual arc in four bytes.
     pub fn of(step: ResidualArc) -> ShortArc
         requires { arc_of step < 2147483648 }

@@ -5,7 +5,8 @@ ghost use Rattle.esr_cert.specs.Flow.{within};
 ghost use Rattle.esr_cert.specs.Network.{network};
 ghost use Rattle.esr_flow.specs.Residual.{left_of, residual_capacity, finish};
 ghost use Rattle.esr_cert.specs.Steps.{arc_of, step_at};
-ghost use Rattle.esr_cert.specs.Rows.{span_at};
+ghost use Rattle.esr_cert.specs.Rows.{span_at, row_in};
+ghost use Rattle.esr_flow.specs.Graph.{IsGraph, AreEntries, arcs_of};
 
 use crate::entry::{AdjacencyEntry, ShortEntry};
 use esr_cert::{Arc, Problem, ResidualArc, Rows, ShortArc};
@@ -22,9 +23,6 @@ pub struct Graph<'a> {
 }
 
 impl<'a> Graph<'a> {
-    ghost use Rattle.esr_flow.specs.Graph.{IsGraph, AreEntries, arcs_of};
-    ghost use Rattle.esr_cert.specs.Rows.{row_in, span_at};
-
     /// The steps that start at a node.
     pub fn steps_at(&self, v: usize) -> &[ShortArc]
         requires graph { IsGraph self.now }

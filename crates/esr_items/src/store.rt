@@ -1,5 +1,7 @@
-ghost use Rattle.std.specs.Prelude.{◌≡◌, ◌<◌, ◌≤◌, ◌⊎◌, length, map, IfOk, OnOk, IfErr, IsErrOf, All, Any, IsTrue, ◌↔◌};
-ghost use Rattle.esr_items.specs.Values.{IsValue, both_versions, committed_at, current_at, current_set, kept, undone};
+ghost use Rattle.std.specs.Prelude.{◌≡◌, ◌<◌, ◌≤◌, ◌⊎◌, length, map, IfOk, OnOk, IfErr, IsErrOf, All, Any, IsTrue, ◌↔◌, List};
+ghost use Rattle.esr_items.specs.Values.{IsValue, both_versions, committed_at, current_at, current_set, kept, undone, AreValues};
+ghost use Rattle.esr_items.specs.declared.TheConstants.{MOST_ITEMS};
+ghost use Rattle.esr_items.specs.declared.store.Versions.{Versions};
 
 use crate::metric::ItemId;
 use crate::{LARGEST_VALUE, MOST_ITEMS};
@@ -39,11 +41,6 @@ pub struct Store {
 }
 
 impl Model for Store {
-    ghost use Rattle.esr_items.specs.declared.TheConstants.{MOST_ITEMS};
-    ghost use Rattle.std.specs.Prelude.{List, ◌≤◌, length, All};
-    ghost use Rattle.esr_items.specs.declared.store.Versions.{Versions};
-    ghost use Rattle.esr_items.specs.Values.{AreValues};
-
     ghost Value = { List Versions };
 
     ghost view = { λ s. s.items.items };

@@ -1,8 +1,10 @@
-ghost use Rattle.std.specs.Prelude.{◌≡◌, ℕ, ◌<◌, ◌≤◌, ◌==◌, Bool, false, ◌||◌, map, not, All, OnOk, OnErr, unwrap_or, None, if◌then◌else◌, option_map};
+ghost use Rattle.std.specs.Prelude.{◌≡◌, ℕ, ◌<◌, ◌≤◌, ◌==◌, Bool, false, ◌||◌, map, not, All, OnOk, OnErr, unwrap_or, None, if◌then◌else◌, option_map, min, ◌-◌, length};
 ghost use Rattle.esr_history.specs.declared.limits.TheConstants.{MOST_READS};
 ghost use Rattle.esr_history.specs.Ascending.{IsAscendingBy, IsSmallest};
-ghost use Rattle.esr_locks.specs.Rows.{query_and_count, with_lock, has_such};
+ghost use Rattle.esr_locks.specs.Rows.{query_and_count, with_lock, has_such, RowOf};
 ghost use Rattle.esr_locks.specs.Tables.{no_locks, has_update_lock, has_query_lock, keeps_from_reading, keeps_from_writing, with_reader, with_writer, with_query_read, released};
+ghost use Rattle.std.specs.List.{AllByRecursion};
+ghost use Rattle.std.specs.Option.{option_map};
 
 use crate::lists::{
     Queries, QueryReads, Readers, add_reader, count_read, drop_row, is_reader, other_reader,
@@ -30,13 +32,6 @@ pub struct Row {
 }
 
 impl Model for Row {
-    ghost use Rattle.std.specs.Prelude.{map, min, ◌-◌, ◌≤◌, length};
-    ghost use Rattle.std.specs.List.{AllByRecursion};
-    ghost use Rattle.std.specs.Option.{option_map};
-    ghost use Rattle.esr_history.specs.declared.limits.TheConstants.{MOST_READS};
-    ghost use Rattle.esr_history.specs.Ascending.{IsAscendingBy};
-    ghost use Rattle.esr_locks.specs.Rows.{RowOf, query_and_count};
-
     ghost Value = { RowOf };
 
     ghost view = { λ r. record {

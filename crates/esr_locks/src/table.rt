@@ -2,8 +2,8 @@ ghost use Rattle.std.specs.Prelude.{◌≡◌, ℕ, ◌<◌, ◌≤◌, ◌==◌
 ghost use Rattle.std.specs.List.{range_with_len};
 ghost use Rattle.esr_history.specs.declared.limits.TheConstants.{MOST_READS};
 ghost use Rattle.esr_history.specs.Ascending.{IsAscendingBy, IsSmallest};
-ghost use Rattle.esr_locks.specs.Rows.{query_and_count, row_at, held_at, with_lock};
-ghost use Rattle.esr_locks.specs.Tables.{no_locks, locks_at, room_for, has_lock, lists_item, keeps_from_reading, keeps_from_writing, with_reader, with_writer, with_query_read, released};
+ghost use Rattle.esr_locks.specs.Rows.{query_and_count, row_at, held_at, with_lock, IsTable};
+ghost use Rattle.esr_locks.specs.Tables.{no_locks, locks_at, room_for, has_lock, lists_item, keeps_from_reading, keeps_from_writing, with_reader, with_writer, with_query_read, released, Table};
 
 use crate::lists::QueryReads;
 use crate::locked_items::LockedItems;
@@ -28,10 +28,6 @@ pub struct LockTable {
 }
 
 impl Model for LockTable {
-    ghost use Rattle.std.specs.Prelude.{map};
-    ghost use Rattle.esr_locks.specs.Tables.{Table};
-    ghost use Rattle.esr_locks.specs.Rows.{IsTable};
-
     ghost Value = { Table };
 
     ghost view = { λ t. record {

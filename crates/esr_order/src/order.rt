@@ -3,7 +3,8 @@ ghost use Rattle.std.specs.List.{range_with_len};
 ghost use Rattle.esr_history.specs.declared.limits.TheConstants.{MOST_TRANSACTIONS};
 ghost use Rattle.esr_history.specs.Queries.{is_committed_query, must};
 ghost use Rattle.esr_order.specs.Chains.{seen_links, nth};
-ghost use Rattle.esr_order.specs.Orders.{IsOrderOf, IsOrderAmong, chain_at, operations_of};
+ghost use Rattle.esr_order.specs.declared.order.OrderError.TheVariants.{NoMemory};
+ghost use Rattle.esr_order.specs.Orders.{Ordered, IsOrderOf, IsOrderAmong, chain_at, operations_of};
 ghost use Rattle.esr_order.specs.Near.{AreNear};
 ghost use Rattle.esr_order.specs.Placements.{is_among};
 ghost use Rattle.esr_history.specs.Serial.{is_before};
@@ -33,9 +34,6 @@ pub enum OrderError {
 }
 
 impl From<AllocError> for OrderError {
-    ghost use Rattle.std.specs.Prelude.{◌≡◌};
-    ghost use Rattle.esr_order.specs.declared.order.OrderError.TheVariants.{NoMemory};
-
     ghost from_gives = { λ _ e. e ≡ NoMemory };
 
     fn from(_: AllocError) -> OrderError {
@@ -55,10 +53,6 @@ pub struct Order {
 }
 
 impl Model for Order {
-    ghost use Rattle.std.specs.Prelude.{map};
-    ghost use Rattle.esr_order.specs.Chains.{seen_links};
-    ghost use Rattle.esr_order.specs.Orders.{Ordered};
-
     ghost Value = { Ordered };
 
     ghost view = { λ o. record {

@@ -19,8 +19,6 @@ pub struct BegunNames<'a> {
 }
 
 impl<'a> TransactionNames for BegunNames<'a> {
-    ghost use Rattle.esr_plan.specs.Tables.{names_in};
-
     ghost names = { names_in };
 
     fn name_at(&self, position: u32) -> Option<&str> {

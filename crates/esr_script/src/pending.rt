@@ -1,6 +1,6 @@
 //! Bytes that were read and are not yet used.
 
-ghost use Rattle.esr_line.specs.declared.limits.TheConstants.{MAX_LINE_BYTES};
+ghost use Rattle.esr_line.specs.declared.limits.TheConstants.{MAX_LINE_BYTES, INPUT_ROOM};
 ghost use Rattle.std.specs.Prelude.{◌≡◌, ℕ, ◌<◌, ◌≤◌, List, [], ◌++◌, IfOk, IfErr, drop, take, ◌-◌, length, ◌||◌};
 ghost use Rattle.std.specs.Io.KnownBytes.{Consumes, Keeps, IsAtEnd};
 ghost use Rattle.esr_history.specs.Watch.{inner, failed};
@@ -23,9 +23,6 @@ pub struct Pending {
 }
 
 impl Model for Pending {
-    ghost use Rattle.esr_line.specs.declared.limits.TheConstants.{INPUT_ROOM};
-    ghost use Rattle.std.specs.Prelude.{◌≡◌, ◌≤◌, ◌-◌, ℕ, List, drop, take, length};
-
     ghost Value = { List ℕ };
 
     ghost view = { λ p. take (p.end - p.start) (drop p.start p.buffer.items) };

@@ -4,13 +4,16 @@ ghost use Rattle.esr_board.specs.declared.board.TheConstants.{MOST_SEATS};
 ghost use Rattle.std.specs.Prelude.{◌≡◌, ◌≢◌, ℕ, List, ◌+◌, ◌<◌, ◌≤◌, ◌⊎◌, [], ◌++◌, Ok, Err, None, OnErr, OnOk, IfOk, IfErr, IsErrOf, IsOk, true, false, ◌↔◌, length, pos};
 ghost use Rattle.esr_report.specs.Names.{position_of};
 ghost use Rattle.esr_report.specs.Subjects.{named_by};
-ghost use Rattle.esr_script.specs.Text.{start, closed, transaction_called, item_called, item_error, with_item, begin, ask, obey, answer};
+ghost use Rattle.esr_script.specs.Text.{start, closed, transaction_called, item_called, item_error, with_item, begin, ask, obey, answer, ScriptState};
 ghost use Rattle.esr_line.specs.Command as command;
-ghost use Rattle.esr_script.specs.Stages.{IsBegin};
+ghost use Rattle.esr_script.specs.Stages.{IsBegin, is_running, history_of};
 ghost use Rattle.esr_script.specs.Ask.{IsAnswered, IsFoundOf};
 ghost use Rattle.esr_script.specs.Audit.{audit_output};
 ghost use Rattle.esr_history.specs.Queries.{is_committed_query};
 ghost use Rattle.esr_line.specs.Command.{view};
+ghost use Rattle.esr_history.specs.declared.limits.TheConstants.{MOST_ENTRIES};
+ghost use Rattle.esr_items.specs.declared.TheConstants.{MOST_ITEMS};
+ghost use Rattle.esr_line.specs.Command as command;
 
 use crate::asked::Asked;
 use crate::book::push_audit;
@@ -38,13 +41,6 @@ pub struct Script {
 }
 
 impl Model for Script {
-    ghost use Rattle.esr_history.specs.declared.limits.TheConstants.{MOST_ENTRIES};
-    ghost use Rattle.esr_items.specs.declared.TheConstants.{MOST_ITEMS};
-    ghost use Rattle.std.specs.Prelude.{◌≤◌, length};
-    ghost use Rattle.esr_script.specs.Text.{ScriptState};
-    ghost use Rattle.esr_line.specs.Command as command;
-    ghost use Rattle.esr_script.specs.Stages.{is_running, history_of};
-
     ghost Value = { ScriptState };
 
     ghost view = { λ s. record {

@@ -3,7 +3,8 @@ ghost use Rattle.esr_session.specs.declared.naming.TheConstants.{LEDGER_PARTS, M
 ghost use Rattle.std.specs.Prelude.{◌≡◌, ◌+◌, ◌<◌, ◌≤◌, [], true, length, Some, None, All, IfOk, OnOk, IfErr, OnErr, vec_len, map, vec_capacity};
 ghost use Rattle.esr_history.specs.Machine.{IsLegal};
 ghost use Rattle.esr_session.specs.Receipts.{Matches, count_in};
-ghost use Rattle.esr_session.specs.Engine.{is_missing};
+ghost use Rattle.esr_session.specs.Engine.{is_missing, Sessions};
+ghost use Rattle.esr_session.specs.declared.engine.TheConstants.{SEAL};
 
 use crate::locked::{Locked, Pocket};
 use crate::matching::match_all;
@@ -32,11 +33,6 @@ pub struct Engine<M: Metric + Drop, N: Naming> {
 }
 
 impl<M: Metric + Drop, N: Naming> Model for Engine<M, N> {
-    ghost use Rattle.std.specs.Prelude.{◌≡◌, ◌+◌, ◌≤◌};
-    ghost use Rattle.esr_session.specs.declared.engine.TheConstants.{SEAL};
-    ghost use Rattle.esr_session.specs.declared.naming.TheConstants.{LEDGER_PARTS, MOST_SESSIONS};
-    ghost use Rattle.esr_session.specs.Engine.{Sessions};
-
     ghost Value = { Sessions };
 
     ghost view = { λ e. record { opened = e.opened } };

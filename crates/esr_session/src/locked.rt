@@ -1,7 +1,10 @@
 //! What an engine's lock holds, and one call under it.
-ghost use Rattle.std.specs.Prelude.{◌≡◌, ◌+◌, ◌↔◌, [], ◌∷◌, ◌++◌, length, Some, None, IfOk, OnOk, OnErr, IsErrOf, IsSomeAnd};
-ghost use Rattle.esr_history.specs.Machine.{IsLegal, reply_to, extended};
+ghost use Rattle.std.specs.Prelude.{◌≡◌, ◌+◌, ◌↔◌, [], ◌∷◌, ◌++◌, length, Some, None, IfOk, OnOk, OnErr, IsErrOf, IsSomeAnd, ◌≤◌, Option, MatchOption, List};
+ghost use Rattle.esr_history.specs.Machine.{IsLegal, reply_to, extended, Schedule};
 ghost use Rattle.esr_session.specs.Receipts.{IsReceipt, receipt};
+ghost use Rattle.esr_history.specs.declared.limits.TheConstants.{MOST_ENTRIES};
+ghost use Rattle.esr_session.specs.declared.engine.TheConstants.{SEAL};
+ghost use Rattle.esr_session.specs.declared.receipt.Receipt.{Receipt};
 
 use crate::naming::Naming;
 use crate::receipt::Receipt;
@@ -23,11 +26,6 @@ pub struct Locked<M: Metric, N: Naming> {
 }
 
 impl<M: Metric, N: Naming> Model for Locked<M, N> {
-    ghost use Rattle.esr_history.specs.declared.limits.TheConstants.{MOST_ENTRIES};
-    ghost use Rattle.esr_session.specs.declared.engine.TheConstants.{SEAL};
-    ghost use Rattle.std.specs.Prelude.{◌≡◌, ◌+◌, ◌≤◌, Option, MatchOption, length};
-    ghost use Rattle.esr_history.specs.Machine.{Schedule};
-
     ghost Value = { Option Schedule };
 
     ghost view = { λ l. l.machine };
@@ -44,9 +42,6 @@ pub struct Pocket<N: Naming> {
 }
 
 impl<N: Naming> Model for Pocket<N> {
-    ghost use Rattle.std.specs.Prelude.{◌≡◌, List, length};
-    ghost use Rattle.esr_session.specs.declared.receipt.Receipt.{Receipt};
-
     ghost Value = { List Receipt };
 
     ghost view = { λ p. p.receipts.items };

@@ -23,9 +23,6 @@ pub struct Session<M: Metric + Drop, N: Naming> {
 }
 
 impl<M: Metric + Drop, N: Naming> Model for Session<M, N> {
-    ghost use Rattle.std.specs.Prelude.{List};
-    ghost use Rattle.esr_session.specs.declared.receipt.Receipt.{Receipt};
-
     ghost Value = { List Receipt };
 
     ghost view = { λ s. s.pocket };

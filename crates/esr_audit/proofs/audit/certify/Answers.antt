@@ -1,4 +1,4 @@
-use Rattle.std.proofs.Common.{subst}
+use Rattle.std.proofs.Common.{subst, rules}
 use Rattle.esr_cert.specs.Problem.{Problem}
 use Rattle.esr_cert.specs.Network.{network}
 use Rattle.esr_cert.specs.Certificate.{amounts}
@@ -10,3 +10,9 @@ pub returns-clause-counted : goal.returns-clause-counted
 returns-clause-counted c =
     let s = c.in_ok-solve.field-0 in
     (s.augmentations, c.in_ok-solve.ensures.count, subst (λ (p : Problem). Takes (network p) s.augmentations (amounts (certificate_of s.certificate))) c.in_ok-network.ensures c.in_ok-solve.ensures.takes)
+
+pub returns-clause-certifies : goal.returns-clause-certifies
+returns-clause-certifies c = search rules
+
+pub returns-clause-least : goal.returns-clause-least
+returns-clause-least c = search rules

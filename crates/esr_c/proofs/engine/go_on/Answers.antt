@@ -1,4 +1,4 @@
-use Rattle.std.proofs.Common.{List, subst}
+use Rattle.std.proofs.Common.{List, subst, rules}
 use Rattle.esr_history.specs.declared.event.Entry.{Entry}
 use Rattle.esr_history.specs.Legal.{along}
 use Rattle.esr_history.specs.Machine.{Schedule, IsLegal}
@@ -10,3 +10,6 @@ pub returns-in-Ok-clause-serializable : goal.returns-in-Ok-clause-serializable
 returns-in-Ok-clause-serializable g c =
     let law = λ (k : Schedule). (later : List Entry) → IsLegal plain (along k later) → AreSerializableAsOne g.args.machine.now (along k later) in
     record { as_one = subst law g.in-Ok.ensures.ok g.in-Ok.ensures.serializable }
+
+pub returns-in-Err-TransactionActive-clause-active : goal.returns-in-Err-TransactionActive-clause-active
+returns-in-Err-TransactionActive-clause-active c = search rules

@@ -1,4 +1,5 @@
-use Rattle.std.proofs.Common.{◌≡◌, ℕ, List, ◌∷◌, ◌++◌, map, sym, ap, ◌∙◌}
+use Rattle.std.proofs.Common.{◌≡◌, ℕ, List, ◌∷◌, ◌++◌, map, sym, ap, ◌∙◌, arith}
+use Rattle.std.proofs.lemmas.Grind.{common_steps}
 use Rattle.std.specs.List.{join_with_byte}
 use Rattle.std.proofs.lemmas.Simd.{map-map}
 use Rattle.esr_history.specs.declared.event.TxnId.{TxnId}
@@ -28,3 +29,6 @@ returns-clause-ok g c =
     let so_far = c.loop-txn.invariant in
     all_listed (g.N.TransactionNames.names c.args.names.now) c.args.out.now.items so_far.0 _ _ _ so_far.1
     (all_joined (λ (t : TxnId). name_of_transaction (g.N.TransactionNames.names c.args.names.now) t.0) 44 _ _ _ _ _ c.loop-txn-test.false so_far.2)
+
+pub returns-in_err-push_behind-clause-kept : goal.returns-in_err-push_behind-clause-kept
+returns-in_err-push_behind-clause-kept g c = grind (arith, common_steps)

@@ -1,4 +1,4 @@
-use Rattle.std.proofs.Common.{ℕ, List, [], ◌++◌, Option, None, Some, sym, ◌∙◌, append-nil}
+use Rattle.std.proofs.Common.{ℕ, List, [], Option, None, Some, sym, ◌∙◌, append-nil}
 use Rattle.std.specs.Io.KnownBytes.{Appends, Keeps}
 use Rattle.esr_history.proofs.watched.Watched.send_all.Goals as goal
 
