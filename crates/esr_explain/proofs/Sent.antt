@@ -3,9 +3,9 @@ use Rattle.std.proofs.Common.{◌≡◌, ◌++◌, ℕ, List, ◌∙◌, ap, ari
 use Rattle.esr_items.specs.Weights.{weighted}
 use Rattle.esr_history.specs.Machine.{Schedule}
 use Rattle.esr_audit.specs.Findings.{summary, summary_of}
-use Rattle.esr_script.specs.declared.asked.Asked.{Asked}
-use Rattle.esr_script.specs.Ask.{IsAnswered}
-use Rattle.esr_script.specs.Text.{ScriptState, transaction_called}
+use Rattle.esr_telling.specs.declared.asked.Asked.{Asked}
+use Rattle.esr_telling.specs.Ask.{IsAnswered}
+use Rattle.esr_telling.specs.State.{ScriptState, transaction_called}
 use Rattle.esr_explain.specs.Explain.{explanation}
 use Rattle.esr_explain.specs.Written.{explained}
 use Rattle.std.proofs.lemmas.Grind.{common_steps}

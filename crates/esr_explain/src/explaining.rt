@@ -4,7 +4,7 @@ ghost use Rattle.std.specs.Prelude.{◌≡◌};
 ghost use Rattle.esr_explain.specs.Written.{explained};
 
 use crate::text::explanation;
-use esr_script::{Asked, Telling};
+use esr_telling::{Asked, Telling};
 use std::alloc::{AllocError, Global};
 
 /// The explanation of a query: what it read, beside the values of the nearest placement; what it was charged, by which

@@ -4,7 +4,7 @@ ghost use Rattle.std.specs.Prelude.{IfOk};
 ghost use Rattle.esr_picture.specs.Picture.{IsSvg};
 
 use esr_scene::body_of;
-use esr_script::{Asked, Telling};
+use esr_telling::{Asked, Telling};
 use std::alloc::{AllocError, Global};
 
 /// The SVG of what a script tells of one of its queries.

@@ -6,7 +6,7 @@ use crate::order::{Arrow, Slots, arrows};
 use esr_cert::Chain;
 use esr_items::ItemId;
 use esr_report::name_of_transaction;
-use esr_script::Asked;
+use esr_telling::Asked;
 use std::alloc::{AllocError, Global};
 
 /// A stretch of a lane, from a slot to the next stretch: one version of the item, or several where updates between

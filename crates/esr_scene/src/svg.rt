@@ -9,7 +9,7 @@ use crate::head::push_head;
 use crate::lanes::push_audit;
 use crate::scene::{Scene, scene_of};
 use crate::words::{push_heading, push_legend, push_others};
-use esr_script::Asked;
+use esr_telling::Asked;
 use std::alloc::{AllocError, Global};
 
 /// The text of a scene, without the ends of its element.

@@ -8,8 +8,7 @@ use Rattle.esr_cert.specs.Views.{certificate_of}
 use Rattle.esr_order.specs.Least.{least_set, least_cost}
 use Rattle.esr_audit.specs.Findings.{IsShown, summary, summary_of}
 use Rattle.esr_audit.specs.declared.finding.Finding.{Finding}
-use Rattle.esr_script.specs.Ask.{IsFoundOf}
-use Rattle.esr_script.specs.Certify.{IsFound}
+use Rattle.esr_telling.specs.Ask.{IsFound, IsFoundOf}
 use Rattle.esr_script.specs.Text.{ScriptState, transaction_called}
 use Rattle.std.proofs.lemmas.Grind.{common_steps}
 

@@ -13,7 +13,7 @@ use Rattle.esr_audit.specs.declared.finding.AuditError.TheVariants.{NotACommitte
 use Rattle.esr_audit.specs.Findings.{IsShown, IsFindingOf}
 use Rattle.esr_report.specs.Lines.{audit_line}
 use Rattle.esr_items.specs.Weights.{weighted}
-use Rattle.esr_script.specs.Ask.{IsFoundOf}
+use Rattle.esr_telling.specs.Ask.{IsFoundOf}
 use Rattle.esr_script.specs.Text.{ScriptState, transaction_called, audit_text, closed, RunFault}
 use Rattle.std.proofs.lemmas.Grind.{common_steps}
 

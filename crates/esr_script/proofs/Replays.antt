@@ -11,8 +11,9 @@ use Rattle.esr_line.specs.declared.next.Next.TheVariants as next
 use Rattle.esr_line.specs.declared.limits.TheConstants.{MAX_LINES, MAX_LINE_BYTES}
 use Rattle.esr_script.specs.Text.{ScriptState, transaction_called, Outcome, answer, RunFault}
 use Rattle.esr_cert.specs.Views.{certificate_of}
-use Rattle.esr_script.specs.Ask.{IsAnswered, Asked}
-use Rattle.esr_script.specs.Certify.{IsFound, IsBundleOf, IsBundleLine}
+use Rattle.esr_telling.specs.declared.asked.Asked.{Asked}
+use Rattle.esr_telling.specs.Ask.{IsFound, IsAnswered}
+use Rattle.esr_script.specs.Certify.{IsBundleOf, IsBundleLine}
 use Rattle.esr_script.specs.Ends.{EndsBy}
 use Rattle.esr_script.specs.Replays.{IsReplay, with_count, bundle_line}
 use Rattle.esr_line.specs.Lines.{line_len, IsNext}

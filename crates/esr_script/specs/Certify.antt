@@ -11,14 +11,6 @@ use Rattle.esr_bundle.specs.Bundle.{bundle}
 use Rattle.esr_script.specs.Text.{final, RunFault}
 use Rattle.esr_script.specs.Ends.{query_of, IsToldBy}
 
--- The problem stands for the query of the history; the certificate certifies it, with the smallest least set, and tells
--- how many augmentations lead to its flow.
-pub record IsFound (h : Schedule) (q : ℕ) (problem : Problem) (certificate : Certificate) : Type 0 where
-  pub stands : StandsFor weighted h q problem
-  pub certified : Certifies problem certificate
-  pub set_is : filter_map (slice_get problem.updates) certificate.set ≡ least_set weighted h q
-  pub counted : IsCounted problem certificate
-
 -- the certificate tells the count of augmentations, or does not
 abbrev pub IsTold : Bool → Problem → Certificate → Type 0
 IsTold true p c = IsCounted p c

@@ -1,17 +1,15 @@
 -- The text of a script: what a run over its lines writes, and how it ends.
-use Rattle.std.specs.Prelude.{ℕ, ◌+◌, ◌==◌, ℤ, pos, List, [], ◌∷◌, ◌++◌, Bool, true, false, not, nat_lt, nat_eq, cond, Option, Some, None, Result, Ok, Err, length, unwrap_or, if◌then◌else◌}
-use Rattle.std.specs.Option.{option_map_or}
+use Rattle.std.specs.Prelude.{ℕ, ◌+◌, ◌==◌, ℤ, pos, List, [], ◌∷◌, ◌++◌, true, false, not, nat_lt, nat_eq, cond, Option, Some, None, Result, Ok, Err, length, unwrap_or, if◌then◌else◌}
 use Rattle.esr_items.specs.Values.{is_value}
 use Rattle.esr_items.specs.Weights.{is_weight, weighted}
 use Rattle.esr_items.specs.declared.TheConstants.{MOST_ITEMS}
 use Rattle.esr_items.specs.declared.metric.ItemId.{ItemId}
 use Rattle.esr_history.specs.declared.limits.TheConstants.{MOST_ENTRIES}
-use Rattle.esr_history.specs.declared.event.TxnId.{TxnId}
 use Rattle.esr_history.specs.declared.event.Event.{Event}
 use Rattle.esr_history.specs.declared.event.Event.TheVariants as event
 use Rattle.esr_history.specs.declared.event.Reply.{Reply}
 use Rattle.esr_history.specs.declared.event.Reply.TheVariants as reply
-use Rattle.esr_history.specs.Machine.{Schedule, reply_to, extended, charges_in, import_in}
+use Rattle.esr_history.specs.Machine.{reply_to, extended, charges_in, import_in}
 use Rattle.esr_history.specs.Queries.{is_committed_query}
 use Rattle.esr_history.specs.Totals.{all_imports, all_exports}
 use Rattle.esr_order.specs.Least.{least_set, least_cost}
@@ -20,19 +18,11 @@ use Rattle.esr_report.specs.declared.lines.LineError.TheVariants.{NotACommand, I
 use Rattle.esr_report.specs.Names.{position_of, is_bound}
 use Rattle.esr_report.specs.Lines.{Named, item_line, weighted_item_line, reply_line, totals_line, audit_line, error_line}
 use Rattle.esr_line.specs.declared.limits.TheConstants.{MAX_LINES, MAX_LINE_BYTES}
+pub use Rattle.esr_telling.specs.State.{ScriptState, transaction_called}
 pub use Rattle.esr_script.specs.declared.fault.RunFault.{RunFault}
 use Rattle.esr_script.specs.declared.fault.RunFault.TheVariants as fault
 use Rattle.esr_line.specs.Lines.{lines}
 use Rattle.esr_line.specs.Command.{Command, item, weighted_item, begin_update, begin_query, begin_strict_query, read, write, commit, abort, audit, totals, is_skipped, reading}
-
--- what a run keeps of the lines so far
-pub record ScriptState : Type 0 where
-  -- the names of the items, and of the transactions, in the order of their numbers
-  pub items : List (List ℕ)
-  pub transactions : List (List ℕ)
-  -- whether a line came that spells another command than an item
-  pub closed : Bool
-  pub history : Schedule
 
 abbrev pub start : ScriptState
 start = record {
@@ -45,10 +35,6 @@ start = record {
 -- where no more items may be declared
 abbrev pub closed : ScriptState → ScriptState
 closed s = record s { closed = true }
-
--- transactions are numbered from 1; a name that is not bound stands for 0
-abbrev pub transaction_called : ScriptState → List ℕ → TxnId
-transaction_called s name = record { 0 = option_map_or (λ n. n + 1) (position_of s.transactions name) 0 }
 
 -- items are numbered from 0; a name that is not bound stands for a number that no item has
 abbrev pub item_called : ScriptState → List ℕ → ItemId

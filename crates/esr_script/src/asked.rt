@@ -7,25 +7,10 @@ ghost use Rattle.esr_script.specs.Parts.{is_read_fault, is_write_fault};
 
 use crate::fault::RunFault;
 use crate::replaying::replay;
-use esr_audit::Finding;
-use esr_history::{History, Watched};
-use esr_items::Weighted;
-use esr_report::Names;
+use esr_history::Watched;
+use esr_telling::Asked;
 use std::alloc::Global;
 use std::io::Read;
-
-/// What a script tells of one of its queries.
-#[derive(Drop)]
-pub struct Asked {
-    /// The names of the items, in the order of their numbers, from 0.
-    pub items: Names,
-    /// The names of the transactions, in the order of their numbers, from 1.
-    pub transactions: Names,
-    /// The history after the whole script.
-    pub history: History<Weighted>,
-    /// What the audit finds of the query.
-    pub finding: Finding,
-}
 
 /// Runs a script without writing its output, and tells of its query of that name.
 ///

@@ -7,12 +7,12 @@ ghost use Rattle.esr_script.specs.Replays.{bundle_line};
 ghost use Rattle.esr_script.specs.ReaderToWriter.{ReadsAndWrites};
 ghost use Rattle.esr_script.specs.Text.{transaction_called};
 
-use crate::asked::Asked;
 use crate::fault::RunFault;
-use crate::telling::{Telling, tell};
+use crate::telling::tell;
 use esr_audit::Finding;
 use esr_bundle::to_json;
 use esr_history::Watched;
+use esr_telling::{Asked, Telling};
 use std::alloc::{AllocError, Global};
 use std::io::{Read, Write};
 

@@ -15,11 +15,11 @@ mod sending;
 mod stage;
 mod telling;
 
-pub use asked::{Asked, ask};
+pub use asked::ask;
 pub use auditing::audit;
 pub use certifying::{certify, certify_steps};
 pub use esr_line::{INPUT_ROOM, Line, MAX_LINE_BYTES, MAX_LINES, Parsed, parse_line};
 pub use fault::RunFault;
 pub use runs::run;
 pub use sending::send_all;
-pub use telling::{Telling, tell};
+pub use telling::tell;

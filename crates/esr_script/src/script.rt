@@ -7,7 +7,7 @@ ghost use Rattle.esr_report.specs.Subjects.{named_by};
 ghost use Rattle.esr_script.specs.Text.{start, closed, transaction_called, item_called, item_error, with_item, begin, ask, obey, answer, ScriptState};
 ghost use Rattle.esr_line.specs.Command as command;
 ghost use Rattle.esr_script.specs.Stages.{IsBegin, is_running, history_of};
-ghost use Rattle.esr_script.specs.Ask.{IsAnswered, IsFoundOf};
+ghost use Rattle.esr_telling.specs.Ask.{IsAnswered, IsFoundOf};
 ghost use Rattle.esr_script.specs.Audit.{audit_output};
 ghost use Rattle.esr_history.specs.Queries.{is_committed_query};
 ghost use Rattle.esr_line.specs.Command.{view};
@@ -15,7 +15,6 @@ ghost use Rattle.esr_history.specs.declared.limits.TheConstants.{MOST_ENTRIES};
 ghost use Rattle.esr_items.specs.declared.TheConstants.{MOST_ITEMS};
 ghost use Rattle.esr_line.specs.Command as command;
 
-use crate::asked::Asked;
 use crate::book::push_audit;
 use crate::fault::RunFault;
 use crate::stage::Stage;
@@ -27,6 +26,7 @@ use esr_report::{
     LineError, Names, Subject, audit_line, error_line, item_line, reply_line, totals_line,
     weighted_item_line,
 };
+use esr_telling::Asked;
 use std::alloc::{AllocError, Global};
 use std::marker::Model;
 use std::thread::Threads;

@@ -7,26 +7,13 @@ ghost use Rattle.esr_script.specs.Parts.{is_read_fault, is_write_fault};
 ghost use Rattle.esr_script.specs.ReaderToWriter.{ReadsAndWrites};
 ghost use Rattle.esr_script.specs.Text.{final};
 
-use crate::asked::{Asked, ask};
+use crate::asked::ask;
 use crate::fault::RunFault;
 use crate::sending::send_all;
 use esr_history::Watched;
+use esr_telling::Telling;
 use std::alloc::{AllocError, Global};
 use std::io::{Read, Write};
-
-/// A text that is told of a query of a script.
-pub trait Telling {
-    ghost use Rattle.esr_script.specs.Ask.{IsAnswered};
-    ghost use Rattle.esr_script.specs.Text.{ScriptState};
-
-    /// Whether it is the text of the query of that name after a script.
-    ghost IsTextOf: { Self → ScriptState → List ℕ → List ℕ → Type 0 };
-
-    /// The text of the query that was asked for. The answer may be used up for it.
-    fn text_of(&self, alloc: Global, asked: &mut Asked) -> Result<Vec<u8>, AllocError>
-        ensures { (s : ScriptState) (name : List ℕ) → IsAnswered s name asked.old
-            → IfOk result (λ text. IsTextOf self.now s name text.items) };
-}
 
 /// What was made, with the fault of the run where it was not.
 fn made(text: Result<Vec<u8>, AllocError>) -> Result<Vec<u8>, RunFault>

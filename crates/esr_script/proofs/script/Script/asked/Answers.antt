@@ -1,5 +1,5 @@
 use Rattle.std.proofs.Common.{◌∙◌, ap, sym, subst}
-use Rattle.esr_script.specs.Ask.{IsFoundOf}
+use Rattle.esr_telling.specs.Ask.{IsFoundOf}
 use Rattle.esr_script.specs.Text.{ScriptState}
 use Rattle.esr_script.proofs.script.Script.asked.Goals as goal
 
