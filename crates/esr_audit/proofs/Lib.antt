@@ -14,3 +14,4 @@ pub mod ItemReads
 pub mod Posed
 pub mod Committed
 pub mod Summaries
+pub mod SameSet

@@ -1,5 +1,5 @@
 -- What an audit finds of a committed query.
-use Rattle.std.specs.Prelude.{◌≡◌, ◌≤◌, ℕ, List, All, filter, map, Some, filter_map, slice_get}
+use Rattle.std.specs.Prelude.{◌≡◌, ◌≤◌, ℕ, List, All, filter, map, Some, None, filter_map, slice_get}
 use Rattle.esr_history.specs.Events.{is_query}
 use Rattle.esr_history.specs.Machine.{Distance, Schedule, done, charges_in, import_in}
 use Rattle.esr_history.specs.Operations.{commit_order}
@@ -8,7 +8,7 @@ use Rattle.esr_history.specs.Serial.{committed_updates}
 use Rattle.esr_order.specs.Placements.{is_among, IsLeastDistance, IsSmallestLeastSet}
 use Rattle.esr_order.specs.Near.{AreNear}
 use Rattle.esr_order.specs.Least.{least_set, least_cost}
-use Rattle.esr_cert.specs.Problem.{Problem}
+use Rattle.esr_cert.specs.Problem.{Problem, in_set, IsSmallestLeast}
 use Rattle.esr_cert.specs.Certificate.{Certificate, Certifies, amounts}
 use Rattle.esr_cert.specs.Network.{network}
 use Rattle.esr_flow.specs.Augmentation.{Takes}
@@ -40,14 +40,16 @@ pub record IsAnswer (d : Distance) (h : Schedule) (q distance import : ℕ) (bef
 abbrev pub IsCounted : Problem → Certificate → Type 0
 IsCounted p c = (n : ℕ) × (c.augmentations ≡ Some n) × Takes (network p) n (amounts c)
 
--- The distance is shown by a closed set and a flow of equal worth, of a problem that stands for q.
+-- The distance is shown by a closed set and a flow of equal worth, of a problem that stands for q. The set is the smallest
+-- of those of least cost.
 pub record IsShown (d : Distance) (h : Schedule) (q distance : ℕ) (before : List ℕ) (problem : Problem)
     (certificate : Certificate) : Type 0 where
   pub stands : StandsFor d h q problem
   pub certified : Certifies problem certificate
   pub set_is : before ≡ filter_map (slice_get problem.updates) certificate.set
   pub worth_is : certificate.worth ≡ distance
-  pub counted : IsCounted problem certificate
+  pub smallest : IsSmallestLeast problem (in_set certificate.set)
+  pub untold : certificate.augmentations ≡ None
 
 -- what is found of query q
 pub record IsFindingOf (d : Distance) (h : Schedule) (q : ℕ) (f : Finding) : Type 0 where

@@ -1,5 +1,5 @@
 //! Audits: what is found of the committed queries of a history.
-ghost use Rattle.std.specs.Prelude.{◌≡◌, ◌↔◌, false, List, map, All, IfOk, IfErr, IsErrOf, IsTrue, filter_map, slice_get};
+ghost use Rattle.std.specs.Prelude.{◌≡◌, ◌↔◌, false, List, None, map, All, IfOk, IfErr, IsErrOf, IsTrue, filter_map, slice_get};
 ghost use Rattle.esr_history.specs.declared.event.Entry.{Entry};
 ghost use Rattle.esr_history.specs.Legal.{along};
 ghost use Rattle.esr_history.specs.Machine.{IsLegal, done};
@@ -18,7 +18,7 @@ use crate::commits::{CommitLists, commit_lists};
 use crate::finding::{AuditError, Book, Finding};
 use crate::problem::problem_of;
 use esr_cert::{Certificate, Problem};
-use esr_flow::{Network, solve};
+use esr_flow::{Network, find_certificate, solve};
 use esr_history::{History, NoMemory, TxnId};
 use esr_items::Metric;
 use esr_order::Order;
@@ -40,8 +40,20 @@ fn updates_at(alloc: Global, updates: &[TxnId], set: &[u32]) -> Result<Vec<TxnId
         .collect(alloc)
 }
 
-/// A certificate of the problem, with its smallest closed set of least cost.
+/// A certificate of the problem, with its smallest closed set of least cost, and with no count of augmentations.
 fn certify(alloc: Global, problem: &Problem) -> Result<Certificate, NoMemory>
+    ensures certifies { IfOk result (λ c. Certifies problem.now (certificate_of c)) }
+    ensures least { IfOk result (λ c. IsSmallestLeast problem.now (in_set c.set.items)) }
+    ensures untold { IfOk result (λ c. c.augmentations ≡ None) }
+{
+    let network = Network::build(alloc, problem)?;
+    let certificate = find_certificate(alloc, &network)?;
+    Ok(certificate)
+}
+
+/// A certificate of the problem, with its smallest closed set of least cost, that tells how many augmentations along
+/// shortest paths led to its flow.
+pub fn certify_with_steps(alloc: Global, problem: &Problem) -> Result<Certificate, NoMemory>
     ensures certifies { IfOk result (λ c. Certifies problem.now (certificate_of c)) }
     ensures least { IfOk result (λ c. IsSmallestLeast problem.now (in_set c.set.items)) }
     ensures counted { IfOk result (λ c. IsCounted problem.now (certificate_of c)) }

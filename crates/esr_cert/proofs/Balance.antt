@@ -59,7 +59,7 @@ module _ (arcs : List Arc) (flow : List ℕ) (same : length flow ≡ length arcs
   in_is : sum_by (amount_in flow) (row_of arcs v) ≡ inflow arcs flow v
   in_is = whole (amount_in flow) (λ arc. eqb arc.to v) (λ i. omega (arith, pick_zero (eqb (arc_at arcs i).from v)))
 
-  out_is : sum_by (amount_out flow) (row_of arcs v) ≡ outflow arcs flow v
+  pub out_is : sum_by (amount_out flow) (row_of arcs v) ≡ outflow arcs flow v
   out_is = whole (amount_out flow) (λ arc. eqb arc.from v) (λ i. omega (arith, pick_zero (eqb (arc_at arcs i).to v)))
 
   pub balanced_is : is_balanced flow (row_of arcs v) ≡ is_conserved_at arcs flow v

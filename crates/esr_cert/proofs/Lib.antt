@@ -13,6 +13,6 @@ pub mod RowsLaws
 pub mod Laid
 pub mod ArcsLaws
 mod StartsLaws
-mod Balance
+pub mod Balance
 mod Within
 pub mod Worth

@@ -1,5 +1,5 @@
 -- The certificate of a maximum flow.
-use Rattle.std.proofs.Common.{◌≡◌, ℕ, ◌+◌, ◌-◌, ◌*◌, ◌≤◌, Bool, true, false, List, [], ◌∷◌, ◌++◌, length, take, drop, map, flat_map, sum_by, Contains, Vec, Global, Some, refl, sym, ap, ◌∙◌, subst, arith, eq-eqb, le-leb, append-nil, length-append, length-take, length-drop, take-add, take-append-drop, ◌==◌, nat_lt}
+use Rattle.std.proofs.Common.{◌≡◌, ℕ, ◌+◌, ◌-◌, ◌≤◌, Bool, true, false, List, [], ◌∷◌, ◌++◌, length, take, drop, map, flat_map, sum_by, Contains, Vec, Global, refl, sym, ap, ◌∙◌, subst, arith, eq-eqb, append-nil, length-append, length-take, length-drop, take-add, take-append-drop, ◌==◌, nat_lt}
 use Rattle.std.specs.List.{concat, list_all}
 use Rattle.std.proofs.lemmas.Bool.{and_parts, and_from}
 use Rattle.std.proofs.lemmas.List.{length-map, map-append, take_rest}
@@ -10,7 +10,7 @@ use Rattle.esr_cert.specs.declared.problem.Chain as code
 use Rattle.esr_cert.specs.Problem.{Chain, Problem, size, in_set, is_ascending, cost, IsSmallestLeast}
 use Rattle.esr_cert.specs.Network.{links, chain_links, chain_arcs, back_arcs, must_arcs, back_arc, must_arc, network}
 use Rattle.esr_cert.specs.Flow.{are_within, IsFlow, worth}
-use Rattle.esr_cert.specs.Certificate.{Certificate, amounts, are_rows_matched, Certifies}
+use Rattle.esr_cert.specs.Certificate.{Certificate, amounts, are_rows_matched, is_count_in_bound, Certifies}
 use Rattle.esr_cert.specs.Views.{chain_of, rows_of}
 use Rattle.esr_cert.proofs.Sound.{here, there, IsChain, IsProblem}
 use Rattle.esr_cert.proofs.Flows.{within_from, conserved_from}
@@ -109,8 +109,8 @@ least_set p ok flow f marks r s set e =
 
 pub certified : (p : Problem) → IsProblem p → (flow : List ℕ) → IsFlow (network p) flow → (marks : List Bool) → IsReach (network p) flow (is_marked marks) → is_marked marks (size p + 1) ≡ false
     → (c : Certificate) → c.set ≡ positions (is_marked marks) (size p) → Parts p flow (concat c.chain_flow) c.back_flow c.must_flow → are_rows_matched p.chains c.chain_flow ≡ true
-    → c.worth ≡ worth (network p) flow → (n : ℕ) → c.augmentations ≡ Some n → n ≤ (size p + 2) * length (network p).arcs → Certifies p c
-certified p ok flow f marks r s c set_is parts rows worth_is n count few =
+    → c.worth ≡ worth (network p) flow → is_count_in_bound p c.augmentations ≡ true → Certifies p c
+certified p ok flow f marks r s c set_is parts rows worth_is short =
     let smallest : IsSmallestLeast p (in_set c.set) = least_set p ok flow f marks r s c.set set_is in
     let same : cost p (is_marked marks) ≡ cost p (in_set c.set) =
     same_cost p ok (is_marked marks) (in_set c.set) (λ u l. sym (positions_at (is_marked marks) (size p) u l) ∙ ap (λ xs. in_set xs u) (sym set_is)) in
@@ -125,5 +125,5 @@ certified p ok flow f marks r s c set_is parts rows worth_is n count few =
       within = and_from _ _ (and_from _ _ (and_from _ _ rows (eq-eqb _ _ parts.backs)) (eq-eqb _ _ parts.musts)) inside;
       conserved = conserved_from (network p) (amounts c) g.conserved;
       tight = and_from _ _ (eq-eqb _ _ tight) (eq-eqb _ _ dear);
-      short = rw count (le-leb n ((size p + 2) * length (network p).arcs) few);
+      short = short;
     })

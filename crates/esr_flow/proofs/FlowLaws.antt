@@ -8,7 +8,8 @@ use Rattle.esr_cert.specs.Steps.{arc_of, start}
 use Rattle.esr_cert.specs.Flow.{within, amount_at, carried, inflow, outflow, IsFlow, worth}
 use Rattle.esr_cert.specs.Network.{arc_at, Network, IsNetwork}
 use Rattle.esr_cert.proofs.Cut.{pick, pick_add, pick_zero, nothing_into_source}
-use Rattle.esr_flow.specs.Augmentation.{Augments, Takes}
+use Rattle.esr_flow.specs.Augmentation.{Augments, TakesFrom}
+use Rattle.esr_flow.specs.Maximum.{IsStart}
 use Rattle.esr_flow.proofs.Labels.{Levels, Rooms, rooms_kept, above_step, untouched, shift_other, length-shift, levels_from}
 use Rattle.esr_flow.proofs.Distance.{distance, distance_sink, distance_falls, distance_limit}
 use Rattle.esr_flow.proofs.Phases.{rooms_from, bottle_from, amount_pos, length-raise}
@@ -167,10 +168,10 @@ no_flow net = record {
   conserved = λ v l ns nt. zero_carried (λ arc. eqb arc.to v) net.arcs ∙ sym (zero_carried (λ arc. eqb arc.from v) net.arcs);
 }
 
--- a flow that takes n augmentations: n is at most its worth, and so is each amount
-pub record Taken (net : Network) (n : ℕ) (flow : List ℕ) : Type 0 where
+-- a flow that takes n augmentations from another: each raises the worth, and no amount is above that
+pub record Taken (net : Network) (first : List ℕ) (n : ℕ) (flow : List ℕ) : Type 0 where
   pub is_flow : IsFlow net flow
-  pub count_small : n ≤ worth net flow
+  pub count_small : n + worth net first ≤ worth net flow
   pub amounts_small : (i : ℕ) → amount_at flow i ≤ worth net flow
 
 zero_amount : (n i : ℕ) → amount_at (replicate n 0) i ≡ 0
@@ -178,11 +179,13 @@ zero_amount zero i = refl
 zero_amount (suc n) zero = refl
 zero_amount (suc n) (suc i) = zero_amount n i
 
-pub taken : (net : Network) → IsNetwork net → (n : ℕ) (flow : List ℕ) → Takes net n flow → Taken net n flow
-taken net ok zero flow h =
-    subst (Taken net 0) (sym h) (record { is_flow = no_flow net; count_small = omega arith; amounts_small = λ i. omega (arith, zero_amount (length net.arcs) i) })
-taken net ok (suc n) flow h =
-    let t : Taken net n h.0 = taken net ok n h.0 h.1 in
+pub zero_start : (net : Network) → IsStart net (replicate (length net.arcs) 0)
+zero_start net = record { is_flow = no_flow net; amounts = λ i. omega (arith, zero_amount (length net.arcs) i) }
+
+pub taken : (net : Network) → IsNetwork net → (first : List ℕ) → IsStart net first → (n : ℕ) (flow : List ℕ) → TakesFrom net first n flow → Taken net first n flow
+taken net ok first s zero flow h = subst (Taken net first 0) (sym h) (record { is_flow = s.is_flow; count_small = omega arith; amounts_small = s.amounts })
+taken net ok first s (suc n) flow h =
+    let t : Taken net first n h.0 = taken net ok first s n h.0 h.1 in
     let a : After net h.0 flow h.2.amount = augmented net ok h.0 flow t.is_flow h.2 in
     record {
       is_flow = a.is_flow;

@@ -1,9 +1,10 @@
 -- What an augmentation along a guided path keeps.
-use Rattle.std.proofs.Common.{◌≡◌, ℕ, ◌+◌, ◌*◌, ◌≤◌, List, length, sym, subst, arith}
+use Rattle.std.proofs.Common.{◌≡◌, ℕ, ◌+◌, ◌-◌, ◌*◌, ◌≤◌, List, length, sym, subst, arith}
 use Rattle.esr_flow.specs.Words.{ResidualArc}
 use Rattle.esr_cert.specs.Network.{Network, IsNetwork}
 use Rattle.esr_flow.specs.Residual.{Falls, raise}
-use Rattle.esr_flow.specs.Augmentation.{Augments, Takes}
+use Rattle.esr_flow.specs.Augmentation.{Augments, TakesFrom}
+use Rattle.esr_flow.specs.Maximum.{IsStart}
 use Rattle.esr_cert.specs.Flow.{worth}
 use Rattle.esr_flow.specs.Search.{label_at, Guides, IsGuided}
 use Rattle.esr_flow.proofs.Labels.{Levels, Rooms, levels_from, falls_after}
@@ -11,9 +12,11 @@ use Rattle.esr_flow.proofs.Phases.{rooms_from, bottle_from, amount_pos, few_augm
 use Rattle.esr_flow.proofs.FlowLaws.{Taken, taken}
 use Rattle.esr_flow.proofs.MaximumLaws.{takes_more}
 
--- a flow that took n augmentations, with labels that guide
-pub record Running (net : Network) (flow labels : List ℕ) (n value : ℕ) : Type 0 where
-  pub takes : Takes net n flow
+-- a flow that took augmentations from another, from a count of them to n, with labels that guide
+pub record Running (net : Network) (first flow labels : List ℕ) (base n value : ℕ) : Type 0 where
+  pub start : IsStart net first
+  pub since : base ≤ n
+  pub takes : TakesFrom net first (n - base) flow
   pub value_is : value ≡ worth net flow
   pub guides : Guides net flow labels
 
@@ -27,15 +30,21 @@ guides_after net flow after labels path g p a =
     let f : Falls net.arcs (raise flow a.amount a.path) (label_at labels) = falls_after (label_at labels) net.arcs flow a.amount a.path (label_at labels net.source) x h r g.falls in
     record { count = g.count; falls = subst (λ fl. Falls net.arcs fl (label_at labels)) (sym a.is_raised) f; at_sink = g.at_sink }
 
-pub run_more : (net : Network) → (flow after labels : List ℕ) (path : List ResidualArc) (n value x : ℕ) → Running net flow labels n value → IsGuided net flow labels path → Augments net flow after → worth net after ≡ worth net flow + x → Running net after labels (n + 1) (value + x)
-run_more net flow after labels path n value x r p a e = record {
-  takes = takes_more net n flow after r.takes a;
+pub run_more : (net : Network) → (first flow after labels : List ℕ) (path : List ResidualArc) (base n value x : ℕ) → Running net first flow labels base n value → IsGuided net flow labels path → Augments net flow after → worth net after ≡ worth net flow + x
+    → Running net first after labels base (n + 1) (value + x)
+run_more net first flow after labels path base n value x r p a e = record {
+  start = r.start;
+  since = omega (arith, r.since);
+  takes =
+      let same : (n - base) + 1 ≡ (n + 1) - base = omega (arith, r.since) in
+      subst (λ k. TakesFrom net first k after) same (takes_more net first (n - base) flow after r.takes a);
   value_is = omega (arith, r.value_is, e);
   guides = guides_after net flow after labels path r.guides p a;
 }
 
-pub running_flow : (net : Network) → IsNetwork net → (flow labels : List ℕ) (n value : ℕ) → Running net flow labels n value → Taken net n flow
-running_flow net ok flow labels n value r = taken net ok n flow r.takes
+pub running_flow : (net : Network) → IsNetwork net → (first flow labels : List ℕ) (base n value : ℕ) → Running net first flow labels base n value → Taken net first (n - base) flow
+running_flow net ok first flow labels base n value r = taken net ok first r.start (n - base) flow r.takes
 
-pub running_few : (net : Network) → IsNetwork net → (flow labels : List ℕ) (n value : ℕ) → Running net flow labels n value → n ≤ net.nodes * length net.arcs
-running_few net ok flow labels n value r = few_augmentations net ok n flow r.takes
+pub running_few : (net : Network) → IsNetwork net → (first flow labels : List ℕ) (base n value : ℕ) → Running net first flow labels base n value → n ≤ net.nodes * length net.arcs + base
+running_few net ok first flow labels base n value r =
+    omega (arith, few_augmentations net ok first r.start.is_flow.same_length (n - base) flow r.takes)

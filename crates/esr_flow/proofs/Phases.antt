@@ -1,13 +1,12 @@
 -- The number of augmentations: in a phase the sink's distance stays, and each augmentation leaves fewer tight arcs;
 -- each further phase has a greater distance.
-use Rattle.std.proofs.Common.{◌≡◌, ℕ, zero, suc, ◌+◌, ◌*◌, ◌<◌, ◌≤◌, true, false, ◌⊎◌, leb, min, List, [], ◌∷◌, length, replicate, Option, Some, None, refl, sym, ap, ◌∙◌, subst, inl, inr, arith, le-leb, leb-true, mul-le-mul_right, ne_eqb}
+use Rattle.std.proofs.Common.{◌≡◌, ℕ, zero, suc, ◌+◌, ◌*◌, ◌<◌, ◌≤◌, true, false, ◌⊎◌, leb, min, List, [], ◌∷◌, length, Option, Some, None, refl, sym, ap, ◌∙◌, subst, inl, inr, arith, le-leb, leb-true, mul-le-mul_right, ne_eqb}
 use Rattle.std.proofs.lemmas.Bool.{or_from, and_right}
-use Rattle.std.proofs.lemmas.List.{length-replicate}
 use Rattle.esr_flow.specs.Words.{Arc, ResidualArc}
 use Rattle.esr_flow.specs.Residual.{Falls, finish, residual_capacity, IsPath, smaller, bottleneck, shift, raise}
 use Rattle.esr_cert.specs.Flow.{within}
 use Rattle.esr_cert.specs.Network.{arc_at, Network, IsNetwork}
-use Rattle.esr_flow.specs.Augmentation.{Augments, Takes}
+use Rattle.esr_flow.specs.Augmentation.{Augments, TakesFrom}
 use Rattle.esr_flow.proofs.Count.{count_below, count_le, count_none_lem, count_fewer}
 use Rattle.esr_flow.proofs.Labels.{Levels, Rooms, Bottle, levels_from, tight, tight_at, outcome, bottleneck_full, falls_after, length-shift}
 use Rattle.esr_flow.proofs.Distance.{distance, distance_sink, distance_falls, distance_limit, steps_le_nodes}
@@ -76,14 +75,14 @@ pub record Phase (net : Network) (n : ℕ) (flow : List ℕ) : Type 0 where
   pub spent : n + count_below (tight label net.arcs flow) (length net.arcs) ≤ label net.source * length net.arcs
   pub same_length : length flow ≡ length net.arcs
 
-first_phase : (net : Network) → Phase net 0 (replicate (length net.arcs) 0)
-first_phase net = record {
+first_phase : (net : Network) (first : List ℕ) → length first ≡ length net.arcs → Phase net 0 first
+first_phase net first e = record {
   label = λ v. 0;
   at_sink = refl;
   falls = λ s res. omega arith;
   few = omega arith;
-  spent = omega (arith, count_none_lem (tight (λ v. 0) net.arcs (replicate (length net.arcs) 0)) (length net.arcs) (λ i. or_from _ _ (and_right _ _ (ne_eqb 0 1 (λ (e : 0 ≡ 1). omega arith))) (and_right _ _ (ne_eqb 0 1 (λ (e : 0 ≡ 1). omega arith)))));
-  same_length = length-replicate (length net.arcs) 0;
+  spent = omega (arith, count_none_lem (tight (λ v. 0) net.arcs first) (length net.arcs) (λ i. or_from _ _ (and_right _ _ (ne_eqb 0 1 (λ (e : 0 ≡ 1). omega arith))) (and_right _ _ (ne_eqb 0 1 (λ (e : 0 ≡ 1). omega arith)))));
+  same_length = e;
 }
 
 -- the augmentation within a phase: the path is as long as the source's label
@@ -127,13 +126,13 @@ phase_step net ok n flow after p a =
           within_phase net ok n flow after q.0 a q.1
     ]
 
-pub phases : (net : Network) → IsNetwork net → (n : ℕ) (flow : List ℕ) → Takes net n flow → Phase net n flow
-phases net ok zero flow h = subst (Phase net 0) (sym h) (first_phase net)
-phases net ok (suc n) flow h = phase_step net ok n h.0 flow (phases net ok n h.0 h.1) h.2
+pub phases : (net : Network) → IsNetwork net → (first : List ℕ) → length first ≡ length net.arcs → (n : ℕ) (flow : List ℕ) → TakesFrom net first n flow → Phase net n flow
+phases net ok first e zero flow h = subst (Phase net 0) (sym h) (first_phase net first e)
+phases net ok first e (suc n) flow h = phase_step net ok n h.0 flow (phases net ok first e n h.0 h.1) h.2
 
 -- at most nodes times arcs
-pub few_augmentations : (net : Network) → IsNetwork net → (n : ℕ) (flow : List ℕ) → Takes net n flow → n ≤ net.nodes * length net.arcs
-few_augmentations net ok n flow h =
-    let p : Phase net n flow = phases net ok n flow h in
+pub few_augmentations : (net : Network) → IsNetwork net → (first : List ℕ) → length first ≡ length net.arcs → (n : ℕ) (flow : List ℕ) → TakesFrom net first n flow → n ≤ net.nodes * length net.arcs
+few_augmentations net ok first e n flow h =
+    let p : Phase net n flow = phases net ok first e n flow h in
     let rows : p.label net.source * length net.arcs ≤ net.nodes * length net.arcs = mul-le-mul_right (length net.arcs) p.few in
     omega (arith, p.spent, rows)

@@ -20,6 +20,11 @@ abbrev pub Takes : Network → ℕ → List ℕ → Type 0
 Takes net zero flow = flow ≡ replicate (length net.arcs) 0
 Takes net (suc n) flow = (before : List ℕ) × Takes net n before × Augments net before flow
 
+-- n augmentations lead from a flow to another
+abbrev pub TakesFrom : Network → List ℕ → ℕ → List ℕ → Type 0
+TakesFrom net first zero flow = flow ≡ first
+TakesFrom net first (suc n) flow = (before : List ℕ) × TakesFrom net first n before × Augments net before flow
+
 -- the nodes that the source reaches in the residual network: the source, what a residual step leads to, and no others
 pub record IsReach (net : Network) (flow : List ℕ) (has : ℕ → Bool) : Type 0 where
   pub source : has net.source ≡ true

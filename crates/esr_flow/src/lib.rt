@@ -2,12 +2,14 @@
 #![tactic(auto)]
 
 mod entry;
+mod flows;
 mod graph;
 mod maximum;
 mod network;
 mod paths;
 mod search;
 mod solver;
+mod sweep;
 
 pub use network::Network;
-pub use solver::{Solved, solve};
+pub use solver::{Solved, find_certificate, solve};

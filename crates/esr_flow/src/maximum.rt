@@ -1,19 +1,21 @@
 //! A maximum flow, by shortest augmenting paths.
-ghost use Rattle.std.specs.Prelude.{◌≡◌, ℕ, ◌+◌, ◌*◌, ◌^◌, ◌<◌, ◌≤◌, false, length, set, take, IfOk, List};
+ghost use Rattle.std.specs.Prelude.{◌≡◌, ℕ, ◌+◌, ◌-◌, ◌*◌, ◌^◌, ◌<◌, ◌≤◌, false, length, set, take, IfOk, List};
 ghost use Rattle.esr_cert.specs.declared.range.TheConstants.{MAX_COST};
 ghost use Rattle.esr_cert.specs.Network.{network};
 ghost use Rattle.esr_cert.specs.Steps.{arc_of};
 ghost use Rattle.esr_flow.specs.Residual.{smaller, bottleneck, shift, raise};
 ghost use Rattle.esr_cert.specs.Flow.{amount_at, IsFlow, worth};
-ghost use Rattle.esr_flow.specs.Augmentation.{IsReach, Augments, Takes};
+ghost use Rattle.esr_flow.specs.Augmentation.{IsReach, Augments, Takes, TakesFrom};
 ghost use Rattle.esr_flow.specs.Graph.{arcs_of, net_of, IsGraph, AreEntries};
 ghost use Rattle.esr_flow.specs.Search.{IsShortestPath, Guides, IsGuided, ReachesNoSink, is_marked};
-ghost use Rattle.esr_flow.specs.Maximum.{InArcs, HasLimit};
+ghost use Rattle.esr_flow.specs.Maximum.{InArcs, HasLimit, IsStart};
 
 use crate::entry::ShortEntry;
+use crate::flows::worth_if_flow;
 use crate::graph::{Graph, residual_capacity_of};
 use crate::paths::{next_path, put_back};
 use crate::search::{Found, search};
+use crate::sweep::draft;
 use esr_cert::{Problem, ResidualArc};
 use std::alloc::{AllocError, Global};
 
@@ -122,10 +124,12 @@ fn run_phase(
     requires entries { AreEntries graph.now flow.old entries.old }
     requires guides { Guides (net_of graph.now) flow.old labels.now }
     requires first { IsGuided (net_of graph.now) flow.old labels.now first.items }
-    requires takes { Takes (net_of graph.now) before.augmentations flow.old }
+    requires start { IsStart (net_of graph.now) flow.old }
+    requires count { before.augmentations ≤ before.worth }
     requires worth { before.worth ≡ worth (net_of graph.now) flow.old }
     requires phases { before.phases ≤ before.augmentations }
-    ensures takes { IfOk result (λ p. Takes (net_of graph.now) p.augmentations flow.new) }
+    ensures takes { IfOk result (λ p. TakesFrom (net_of graph.now) flow.old (p.augmentations - before.augmentations)
+        flow.new) }
     ensures worth { IfOk result (λ p. p.worth ≡ worth (net_of graph.now) flow.new) }
     ensures entries { IfOk result (λ p. AreEntries graph.now flow.new entries.new) }
     ensures more { IfOk result (λ p. before.augmentations < p.augmentations) }
@@ -150,20 +154,22 @@ fn run_phase(
     }
 }
 
-/// Augments a flow of zeros along shortest paths until there is none. It answers how many augmentations that took, and
+/// Augments a flow along shortest paths until there is none. It answers how many augmentations that took, the worth, and
 /// marks of what the source reaches then.
 fn run_phases(
     alloc: Global,
     graph: &Graph,
     flow: &mut [u64],
     entries: &mut [ShortEntry],
+    value: u64,
 ) -> Result<(FlowSoFar, Vec<bool>), AllocError>
     requires graph { IsGraph graph.now }
     requires small { (f : List ℕ) → IsFlow (net_of graph.now) f → worth (net_of graph.now) f ≤ MAX_COST }
     requires limited { HasLimit (net_of graph.now) }
-    requires none { Takes (net_of graph.now) 0 flow.old }
+    requires start { IsStart (net_of graph.now) flow.old }
+    requires value { value ≡ worth (net_of graph.now) flow.old }
     requires entries { AreEntries graph.now flow.old entries.old }
-    ensures takes { IfOk result (λ r. Takes (net_of graph.now) r.0.augmentations flow.new) }
+    ensures takes { IfOk result (λ r. TakesFrom (net_of graph.now) flow.old r.0.augmentations flow.new) }
     ensures worth { IfOk result (λ r. r.0.worth ≡ worth (net_of graph.now) flow.new) }
     ensures phases { IfOk result (λ r. r.0.phases ≤ r.0.augmentations) }
     ensures reach { IfOk result (λ r. ReachesNoSink (net_of graph.now) flow.new r.1.items) }
@@ -171,7 +177,7 @@ fn run_phases(
     let mut progress = FlowSoFar {
         augmentations: 0,
         phases: 0,
-        worth: 0,
+        worth: value,
     };
     loop {
         match search(alloc, graph, flow, entries)? {
@@ -193,6 +199,38 @@ pub struct MaximumFlow {
     pub marks: Vec<bool>,
 }
 
+/// Augments a flow, of which the worth is given, along shortest paths until there is none.
+fn maximum_from(
+    alloc: Global,
+    graph: &Graph,
+    mut flow: Vec<u64>,
+    value: u64,
+) -> Result<MaximumFlow, AllocError>
+    requires graph { IsGraph graph.now }
+    requires small { (f : List ℕ) → IsFlow (net_of graph.now) f → worth (net_of graph.now) f ≤ MAX_COST }
+    requires limited { HasLimit (net_of graph.now) }
+    requires start { IsStart (net_of graph.now) flow.items }
+    requires value { value ≡ worth (net_of graph.now) flow.items }
+    ensures takes { IfOk result (λ m. TakesFrom (net_of graph.now) flow.items m.augmentations m.flow.items) }
+    ensures flow { IfOk result (λ m. IsFlow (net_of graph.now) m.flow.items) }
+    ensures worth_is { IfOk result (λ m. m.worth ≡ worth (net_of graph.now) m.flow.items) }
+    ensures amounts { IfOk result (λ m. (i : ℕ) → amount_at m.flow.items i ≤ m.worth) }
+    ensures phases { IfOk result (λ m. m.phases ≤ m.augmentations) }
+    ensures reach { IfOk result (λ m. IsReach (net_of graph.now) m.flow.items (is_marked m.marks.items)) }
+    ensures end { IfOk result (λ m. (is_marked m.marks.items graph.now.sink ≡ false)
+        × (length m.marks.items ≡ graph.now.nodes)) }
+{
+    let mut entries = graph.entries(alloc, &flow)?;
+    let (taken, marks) = run_phases(alloc, graph, &mut flow, &mut entries, value)?;
+    Ok(MaximumFlow {
+        flow,
+        augmentations: taken.augmentations,
+        phases: taken.phases,
+        worth: taken.worth,
+        marks,
+    })
+}
+
 /// Augments the flow of zeros along shortest paths until there is none.
 pub fn find_maximum(alloc: Global, graph: &Graph) -> Result<MaximumFlow, AllocError>
     requires graph { IsGraph graph.now }
@@ -209,14 +247,26 @@ pub fn find_maximum(alloc: Global, graph: &Graph) -> Result<MaximumFlow, AllocEr
     ensures end { IfOk result (λ m. (is_marked m.marks.items graph.now.sink ≡ false)
         × (length m.marks.items ≡ graph.now.nodes)) }
 {
-    let mut flow = vec![in alloc; 0u64; graph.rows.steps.len() / 2]?;
-    let mut entries = graph.entries(alloc, &flow)?;
-    let (taken, marks) = run_phases(alloc, graph, &mut flow, &mut entries)?;
-    Ok(MaximumFlow {
-        flow,
-        augmentations: taken.augmentations,
-        phases: taken.phases,
-        worth: taken.worth,
-        marks,
-    })
+    let none = vec![in alloc; 0u64; graph.rows.steps.len() / 2]?;
+    let maximum = maximum_from(alloc, graph, none, 0)?;
+    Ok(maximum)
+}
+
+/// A maximum flow, by augmentations of a draft of one where that is a flow, and else of the flow of zeros.
+pub fn find_swiftly(alloc: Global, graph: &Graph) -> Result<MaximumFlow, AllocError>
+    requires graph { IsGraph graph.now }
+    requires small { (f : List ℕ) → IsFlow (net_of graph.now) f → worth (net_of graph.now) f ≤ MAX_COST }
+    requires limited { HasLimit (net_of graph.now) }
+    ensures flow { IfOk result (λ m. IsFlow (net_of graph.now) m.flow.items) }
+    ensures worth_is { IfOk result (λ m. m.worth ≡ worth (net_of graph.now) m.flow.items) }
+    ensures amounts { IfOk result (λ m. (i : ℕ) → amount_at m.flow.items i ≤ m.worth) }
+    ensures reach { IfOk result (λ m. IsReach (net_of graph.now) m.flow.items (is_marked m.marks.items)) }
+    ensures end { IfOk result (λ m. (is_marked m.marks.items graph.now.sink ≡ false)
+        × (length m.marks.items ≡ graph.now.nodes)) }
+{
+    let flow = draft(alloc, graph)?;
+    match worth_if_flow(graph, &flow) {
+        Some(worth) => maximum_from(alloc, graph, flow, worth),
+        None => find_maximum(alloc, graph),
+    }
 }

@@ -1,17 +1,17 @@
 //! Problems solved: a certificate with the smallest least set.
-ghost use Rattle.std.specs.Prelude.{◌≡◌, ℕ, ◌+◌, ◌*◌, ◌≤◌, true, false, Some, length, map, sum_by, get_or, IfOk};
+ghost use Rattle.std.specs.Prelude.{◌≡◌, ℕ, ◌+◌, ◌*◌, ◌≤◌, true, false, Some, None, length, map, sum_by, get_or, IfOk};
 ghost use Rattle.std.specs.List.{concat};
 ghost use Rattle.esr_history.specs.declared.limits.TheConstants.{MOST_TRANSACTIONS};
 ghost use Rattle.esr_cert.specs.Problem.{size, in_set, IsSmallestLeast};
 ghost use Rattle.esr_cert.specs.Network.{network};
 ghost use Rattle.esr_cert.specs.Flow as flows;
-ghost use Rattle.esr_cert.specs.Certificate.{amounts, are_rows_matched, Certifies};
+ghost use Rattle.esr_cert.specs.Certificate.{amounts, are_rows_matched, is_count_in_bound, Certifies};
 ghost use Rattle.esr_cert.specs.Views.{chain_of, rows_of, certificate_of};
 ghost use Rattle.esr_flow.specs.Augmentation.{IsReach, Takes};
 ghost use Rattle.esr_flow.specs.Search.{is_marked};
 ghost use Rattle.esr_flow.specs.Certificate.{positions};
 
-use crate::maximum::{MaximumFlow, find_maximum};
+use crate::maximum::{MaximumFlow, find_maximum, find_swiftly};
 use crate::network::Network;
 use esr_cert::{Certificate, Chain, Problem};
 use esr_history::NoMemory;
@@ -49,21 +49,22 @@ fn chain_rows(alloc: Global, flow: &[u64], chains: &[Chain]) -> Result<Vec<Vec<u
     Ok(rows)
 }
 
-/// The certificate of a maximum flow, by the nodes that the source still reaches.
+/// The certificate of a maximum flow, by the nodes that the source still reaches, with this count of augmentations.
 fn certify(
     alloc: Global,
     problem: &Problem,
     maximum: &MaximumFlow,
+    augmentations: Option<u64>,
 ) -> Result<Certificate, AllocError>
     requires flow { flows.IsFlow (network problem.now) maximum.now.flow.items }
     requires reach { IsReach (network problem.now) maximum.now.flow.items (is_marked maximum.now.marks.items) }
     requires sink { is_marked maximum.now.marks.items (size problem.now + 1) ≡ false }
     requires marks { length maximum.now.marks.items ≡ size problem.now + 2 }
     requires worth { maximum.now.worth ≡ flows.worth (network problem.now) maximum.now.flow.items }
-    requires short { maximum.now.augmentations ≤ (size problem.now + 2) * length (network problem.now).arcs }
+    requires short { is_count_in_bound problem.now augmentations ≡ true }
     ensures amounts { IfOk result (λ c. amounts (certificate_of c) ≡ maximum.now.flow.items) }
     ensures worth { IfOk result (λ c. c.worth ≡ maximum.now.worth) }
-    ensures count { IfOk result (λ c. c.augmentations ≡ Some maximum.now.augmentations) }
+    ensures count { IfOk result (λ c. c.augmentations ≡ augmentations) }
     ensures certifies { IfOk result (λ c. Certifies problem.now (certificate_of c)) }
     ensures least { IfOk result (λ c. IsSmallestLeast problem.now (in_set c.set.items)) }
 {
@@ -81,7 +82,7 @@ fn certify(
         back_flow,
         must_flow,
         worth: maximum.worth,
-        augmentations: Some(maximum.augmentations),
+        augmentations,
     })
 }
 
@@ -114,10 +115,25 @@ pub fn solve(alloc: Global, net: &Network) -> Result<Solved, NoMemory>
     ensures phases { IfOk result (λ s. s.phases ≤ s.augmentations) }
 {
     let maximum = find_maximum(alloc, &net.graph)?;
-    let certificate = certify(alloc, net.problem, &maximum)?;
+    let certificate = certify(alloc, net.problem, &maximum, Some(maximum.augmentations))?;
     Ok(Solved {
         certificate,
         augmentations: maximum.augmentations,
         phases: maximum.phases,
     })
+}
+
+/// A certificate of the least cost of a network's problem, which does not tell how many augmentations led to its flow:
+/// that may be any maximum flow, and is found sooner than by shortest paths alone.
+///
+/// The certificate's set is the smallest of the closed sets of least cost.
+pub fn find_certificate(alloc: Global, net: &Network) -> Result<Certificate, NoMemory>
+    ensures certifies { IfOk result (λ c. Certifies net.now.problem.now (certificate_of c)) }
+    ensures least { IfOk result (λ c. IsSmallestLeast net.now.problem.now (in_set c.set.items)) }
+    ensures amounts { IfOk result (λ c. (i : ℕ) → get_or (amounts (certificate_of c)) i 0 ≤ c.worth) }
+    ensures count { IfOk result (λ c. c.augmentations ≡ None) }
+{
+    let maximum = find_swiftly(alloc, &net.graph)?;
+    let certificate = certify(alloc, net.problem, &maximum, None)?;
+    Ok(certificate)
 }

@@ -1,21 +1,20 @@
 -- Each end of a run whose text is dropped, and what is certified after it.
-use Rattle.std.proofs.Common.{◌≡◌, ◌≢◌, ℕ, ◌+◌, ◌<◌, ◌≤◌, List, ◌++◌, ◌⊎◌, inl, inr, Bool, true, false, length, take, drop, refl, sym, ◌∙◌, ap, arith, Option, None, Result, Ok, Err, OnOk, IfErr}
+use Rattle.std.proofs.Common.{◌≡◌, ◌≢◌, ℕ, ◌+◌, ◌<◌, ◌≤◌, List, ◌++◌, ◌⊎◌, inl, inr, Bool, true, false, length, take, drop, refl, sym, ◌∙◌, ap, arith, Option, Result, Ok, Err, OnOk, IfErr, filter_map, slice_get}
 use Rattle.std.specs.Io.KnownBytes.{IsAtEnd}
 use Rattle.esr_history.specs.Machine.{Schedule}
-use Rattle.esr_cert.specs.Problem.{Problem}
-use Rattle.esr_cert.specs.Certificate.{Certificate, Certifies}
-use Rattle.esr_cert.proofs.Certified.{faultless, certifies_from}
 use Rattle.esr_bundle.specs.Bundle.{bundle}
 use Rattle.esr_script.specs.declared.fault.RunFault.TheVariants as fault
 use Rattle.esr_line.specs.declared.next.Next.TheVariants as next
 use Rattle.esr_line.specs.declared.limits.TheConstants.{MAX_LINES, MAX_LINE_BYTES}
 use Rattle.esr_script.specs.Text.{ScriptState, transaction_called, Outcome, answer, RunFault}
 use Rattle.esr_cert.specs.Views.{certificate_of}
+use Rattle.esr_audit.specs.declared.finding.Finding.{Finding}
+use Rattle.esr_audit.proofs.SameSet.{same_set}
 use Rattle.esr_telling.specs.declared.asked.Asked.{Asked}
 use Rattle.esr_telling.specs.Ask.{IsFound, IsAnswered}
-use Rattle.esr_script.specs.Certify.{IsBundleOf, IsBundleLine}
+use Rattle.esr_script.specs.Certify.{IsBundleLine}
 use Rattle.esr_script.specs.Ends.{EndsBy}
-use Rattle.esr_script.specs.Replays.{IsReplay, with_count, bundle_line}
+use Rattle.esr_script.specs.Replays.{IsReplay, IsLineOf}
 use Rattle.esr_line.specs.Lines.{line_len, IsNext}
 use Rattle.esr_script.specs.Parts.{Standing}
 use Rattle.esr_script.proofs.Steps.{all_read, step_line, at_long, at_many, at_last, at_fault_line, at_fault_last, state_at_last}
@@ -48,20 +47,18 @@ module _ (input : List ℕ) (left : Option (List ℕ)) (bytes : List ℕ) (n : �
     | inr h ↦ rw h.0 (ap fault_of (at_fault_last input left bytes n s w here end plain some short few fault.HistoryFull h.1))
   ]
 
--- a certificate without its count
-
-without_count : (p : Problem) (c : Certificate) → Certifies p c → Certifies p (record c { augmentations = None })
-without_count p c h = grind (arith, faultless p c h, certifies_from)
-
 -- ---- what is certified
 
-bundled : (steps : Bool) (h : Schedule) (q : ℕ) (p : Problem) (c : Certificate) → IsFound h q p c → IsBundleOf steps h q (bundle p (with_count steps c))
-bundled true h q p c f = record { problem = p; certificate = c; stands = f.stands; certified = f.certified; set_is = f.set_is; told = f.counted; text_is = refl }
-bundled false h q p c f = record { problem = p; certificate = record c { augmentations = None }; stands = f.stands; certified = without_count p c f.certified; set_is = f.set_is; told = refl; text_is = refl }
+-- another certificate of the problem with its smallest closed set of least cost has the set of the finding
+bundled : (steps : Bool) (h : Schedule) (q : ℕ) (f : Finding) → IsFound h q f.problem (certificate_of f.certificate) → (line : List ℕ) → IsLineOf steps f line → IsBundleLine steps h q line
+bundled false h q f found line is =
+    let c = certificate_of f.certificate in
+    (bundle f.problem c, record { problem = f.problem; certificate = c; stands = found.stands; certified = found.certified; set_is = found.set_is; told = found.untold; text_is = refl }, is)
+bundled true h q f found line (c, certified, smallest, counted, is) =
+    let same : c.set ≡ (certificate_of f.certificate).set = same_set f.problem c (certificate_of f.certificate) certified found.certified smallest found.smallest in
+    (bundle f.problem c, record { problem = f.problem; certificate = c; stands = found.stands; certified = certified; set_is = ap (filter_map (slice_get f.problem.updates)) same ∙ found.set_is; told = counted; text_is = refl }, is)
 
 -- the bundle of what was asked for, with a line feed
 pub bundle_told : (steps : Bool) (s : ScriptState) (name : List ℕ) (a : Asked) → IsAnswered s name a → (line : List ℕ)
-    → line ≡ bundle_line steps a.finding → IsBundleLine steps s.history (transaction_called s name).0 line
-bundle_told steps s name a h line is =
-    let p = a.finding.problem in let c = certificate_of a.finding.certificate in
-    (bundle p (with_count steps c), bundled steps s.history (transaction_called s name).0 p c h.finding.found, is)
+    → IsLineOf steps a.finding line → IsBundleLine steps s.history (transaction_called s name).0 line
+bundle_told steps s name a h line is = bundled steps s.history (transaction_called s name).0 a.finding h.finding.found line is

@@ -1,8 +1,10 @@
 -- What the private parts of certifying and of auditing speak of.
-use Rattle.std.specs.Prelude.{◌≡◌, List, [], ◌∷◌, ◌++◌, ℕ, Bool, true, false, Option, None, Result}
-use Rattle.esr_cert.specs.Certificate.{Certificate}
+use Rattle.std.specs.Prelude.{◌≡◌, List, [], ◌∷◌, ◌++◌, ℕ, Bool, true, false, Option, Result}
+use Rattle.esr_cert.specs.Problem.{in_set, IsSmallestLeast}
+use Rattle.esr_cert.specs.Certificate.{Certificate, Certifies}
 use Rattle.esr_cert.specs.Views.{certificate_of}
 use Rattle.esr_audit.specs.declared.finding.Finding.{Finding}
+use Rattle.esr_audit.specs.Findings.{IsCounted}
 use Rattle.esr_bundle.specs.Bundle.{bundle}
 use Rattle.esr_script.specs.Text.{ScriptState, final, RunFault}
 use Rattle.esr_script.specs.Ends.{IsReachedBy}
@@ -11,11 +13,10 @@ use Rattle.esr_script.specs.Ends.{IsReachedBy}
 abbrev pub IsReplay : List ℕ → Option (List ℕ) → Result (Unit {0}) RunFault → ScriptState → Type 0
 IsReplay input left r s = IsReachedBy (λ done. final input ≡ s) ⊥ input left r
 
--- with or without the count of augmentations
-abbrev pub with_count : Bool → Certificate → Certificate
-with_count true c = c
-with_count false c = record c { augmentations = None }
-
--- the bundle of a finding, and a line feed
-abbrev pub bundle_line : Bool → Finding → List ℕ
-bundle_line steps f = bundle f.problem (with_count steps (certificate_of f.certificate)) ++ 10 ∷ []
+-- The bundle of a finding's problem, and a line feed: with its certificate, or with one that tells the count of
+-- augmentations.
+abbrev pub IsLineOf : Bool → Finding → List ℕ → Type 0
+IsLineOf false f line = line ≡ bundle f.problem (certificate_of f.certificate) ++ 10 ∷ []
+IsLineOf true f line =
+    (c : Certificate) × Certifies f.problem c × IsSmallestLeast f.problem (in_set c.set) × IsCounted f.problem c
+    × (line ≡ bundle f.problem c ++ 10 ∷ [])

@@ -1,33 +1,52 @@
 //! Certifies a query of a script: the whole script is run without its output, and the query's bundle is written.
 
-ghost use Rattle.std.specs.Prelude.{◌≡◌, true, false, IfOk};
+ghost use Rattle.std.specs.Prelude.{◌≡◌, ◌++◌, ◌∷◌, [], true, false, IfOk};
+ghost use Rattle.esr_bundle.specs.Bundle.{bundle};
+ghost use Rattle.esr_cert.specs.Views.{certificate_of};
 ghost use Rattle.esr_history.specs.Watch.{failed};
 ghost use Rattle.esr_script.specs.Certify.{IsBundleLine, IsCertifiedBy};
-ghost use Rattle.esr_script.specs.Replays.{bundle_line};
+ghost use Rattle.esr_script.specs.Replays.{IsLineOf};
 ghost use Rattle.esr_script.specs.ReaderToWriter.{ReadsAndWrites};
 ghost use Rattle.esr_script.specs.Text.{transaction_called};
 
 use crate::fault::RunFault;
 use crate::telling::tell;
-use esr_audit::Finding;
+use esr_audit::{Finding, certify_with_steps};
 use esr_bundle::to_json;
+use esr_cert::{Certificate, Problem};
 use esr_history::Watched;
 use esr_telling::{Asked, Telling};
 use std::alloc::{AllocError, Global};
 use std::io::{Read, Write};
 
-/// The bundle of a finding, and a line feed. The certificate loses its count of augmentations unless `steps`.
-fn bundle_line(alloc: Global, finding: &mut Finding, steps: bool) -> Result<Vec<u8>, AllocError>
-    ensures { IfOk result (λ v. v.items ≡ bundle_line steps finding.old) }
+/// The bundle of a problem and a certificate, and a line feed.
+fn line_of(
+    alloc: Global,
+    problem: &Problem,
+    certificate: &Certificate,
+) -> Result<Vec<u8>, AllocError>
+    ensures { IfOk result (λ v. v.items ≡ bundle problem.now (certificate_of certificate.now) ++ 10 ∷ []) }
 {
-    if !steps {
-        finding.certificate.augmentations = None;
-    }
-    let Ok(mut text) = to_json(alloc, &finding.problem, &finding.certificate) else {
+    let Ok(mut text) = to_json(alloc, problem, certificate) else {
         return Err(AllocError);
     };
     text.push(b'\n')?;
     Ok(text)
+}
+
+/// The same of a finding's problem: with its certificate, or with one that tells the count of augmentations if `steps`,
+/// for which the problem is solved again.
+fn bundle_line(alloc: Global, finding: &Finding, steps: bool) -> Result<Vec<u8>, AllocError>
+    ensures { IfOk result (λ v. IsLineOf steps finding.now v.items) }
+{
+    if !steps {
+        return line_of(alloc, &finding.problem, &finding.certificate);
+    }
+    let Ok(certificate) = certify_with_steps(alloc, &finding.problem) else {
+        return Err(AllocError);
+    };
+    let line = line_of(alloc, &finding.problem, &certificate)?;
+    Ok(line)
 }
 
 /// The bundle of a query, with the count of augmentations if `steps`, and a line feed.
@@ -39,7 +58,7 @@ impl Telling for Bundling {
     ghost IsTextOf = { λ b s name text. IsBundleLine b.steps s.history (transaction_called s name).0 text };
 
     fn text_of(&self, alloc: Global, asked: &mut Asked) -> Result<Vec<u8>, AllocError> {
-        bundle_line(alloc, &mut asked.finding, self.steps)
+        bundle_line(alloc, &asked.finding, self.steps)
     }
 }
 

@@ -1,31 +1,37 @@
-use Rattle.std.proofs.Common.{arith, ◌≡◌, ◌∙◌, ◌++◌, append-nil, length, take, drop, sym, ap, subst}
-use Rattle.std.proofs.lemmas.List.{drop_all, take_all}
-use Rattle.esr_cert.specs.Flow.{amount_at, IsFlow, worth}
-use Rattle.esr_flow.specs.Graph.{net_of}
-use Rattle.esr_flow.proofs.FlowLaws.{Taken, taken}
+use Rattle.std.proofs.Common.{arith, ◌≡◌, length, replicate, rules, sym, subst, ap, ◌∙◌}
+use Rattle.esr_cert.specs.Flow.{worth}
+use Rattle.esr_flow.specs.Augmentation.{TakesFrom}
+use Rattle.esr_flow.specs.Graph.{arcs_of, net_of}
+use Rattle.esr_flow.specs.Maximum.{IsStart}
+use Rattle.esr_flow.proofs.FlowLaws.{Taken, taken, zero_worth, zero_start}
+use Rattle.esr_flow.proofs.MaximumLaws.{takes_zeros}
 use Rattle.esr_flow.proofs.Phases.{few_augmentations}
 use Rattle.esr_flow.proofs.maximum.find_maximum.Goals as goal
 
--- the flow is what the phases left, of which this is known
-kept : (c : goal.After-drop-entries-2) → take c.in_ok-flow.flow.len (c.run_phases.new.flow ++ drop (length c.run_phases.new.flow) c.in_ok-flow.flow.items) ≡ c.run_phases.new.flow
-kept c =
-    let flow = c.in_ok-flow.flow in
-    let same : length c.run_phases.new.flow ≡ length flow.items = omega (arith, c.run_phases.auto.flow, ap length c.deref_mut.ensures.value) in
-    ap (λ rest. take flow.len (c.run_phases.new.flow ++ rest)) (drop_all (length c.run_phases.new.flow) flow.items (omega arith))
-    ∙ ap (take flow.len) (append-nil c.run_phases.new.flow)
-    ∙ take_all flow.len c.run_phases.new.flow (omega (arith, flow.ok.0))
+pub maximum_from-requires-clause-start : goal.maximum_from-requires-clause-start
+maximum_from-requires-clause-start c =
+    let zeros : c.in_ok-none.none.items ≡ replicate (length (arcs_of c.args.graph.now)) 0 = search rules in
+    subst (IsStart (net_of c.args.graph.now)) (sym zeros) (zero_start (net_of c.args.graph.now))
 
-known : (c : goal.After-drop-entries-2) → Taken (net_of c.args.graph.now) c.in_ok-taken.taken.augmentations c.run_phases.new.flow
-known c = taken (net_of c.args.graph.now) c.requires.graph.is_network c.in_ok-taken.taken.augmentations c.run_phases.new.flow c.in_ok-taken.ensures.takes
+pub maximum_from-requires-clause-value : goal.maximum_from-requires-clause-value
+maximum_from-requires-clause-value c =
+    let zeros : c.in_ok-none.none.items ≡ replicate (length (arcs_of c.args.graph.now)) 0 = search rules in
+    sym (ap (worth (net_of c.args.graph.now)) zeros ∙ zero_worth (net_of c.args.graph.now))
+
+-- the augmentations are from the flow of zeros
+from_zeros : (c : goal.In_ok-maximum) → TakesFrom (net_of c.args.graph.now) (replicate (length (arcs_of c.args.graph.now)) 0) c.in_ok-maximum.maximum.augmentations c.in_ok-maximum.maximum.flow.items
+from_zeros c =
+    let zeros : c.in_ok-none.none.items ≡ replicate (length (arcs_of c.args.graph.now)) 0 = search rules in
+    subst (λ first. TakesFrom (net_of c.args.graph.now) first c.in_ok-maximum.maximum.augmentations c.in_ok-maximum.maximum.flow.items) zeros c.in_ok-maximum.ensures.takes
+
+pub returns-clause-takes : goal.returns-clause-takes
+returns-clause-takes c = takes_zeros (net_of c.args.graph.now) c.in_ok-maximum.maximum.augmentations c.in_ok-maximum.maximum.flow.items (from_zeros c)
 
 pub returns-clause-few : goal.returns-clause-few
-returns-clause-few c = few_augmentations (net_of c.args.graph.now) c.requires.graph.is_network c.in_ok-taken.taken.augmentations c.run_phases.new.flow c.in_ok-taken.ensures.takes
-
-pub returns-clause-flow : goal.returns-clause-flow
-returns-clause-flow c = subst (IsFlow (net_of c.args.graph.now)) (sym (kept c)) (known c).is_flow
+returns-clause-few c =
+    few_augmentations (net_of c.args.graph.now) c.requires.graph.is_network (replicate (length (arcs_of c.args.graph.now)) 0) (zero_start (net_of c.args.graph.now)).is_flow.same_length c.in_ok-maximum.maximum.augmentations c.in_ok-maximum.maximum.flow.items (from_zeros c)
 
 pub returns-clause-worth : goal.returns-clause-worth
-returns-clause-worth c = omega (arith, (known c).count_small, ap (worth (net_of c.args.graph.now)) (kept c))
-
-pub returns-clause-amounts : goal.returns-clause-amounts
-returns-clause-amounts c i = omega (arith, (known c).amounts_small i, ap (λ f. amount_at f i) (kept c), c.in_ok-taken.ensures.worth)
+returns-clause-worth c =
+    let t : Taken (net_of c.args.graph.now) (replicate (length (arcs_of c.args.graph.now)) 0) c.in_ok-maximum.maximum.augmentations c.in_ok-maximum.maximum.flow.items = taken (net_of c.args.graph.now) c.requires.graph.is_network (replicate (length (arcs_of c.args.graph.now)) 0) (zero_start (net_of c.args.graph.now)) c.in_ok-maximum.maximum.augmentations c.in_ok-maximum.maximum.flow.items (from_zeros c) in
+    omega (arith, t.count_small)

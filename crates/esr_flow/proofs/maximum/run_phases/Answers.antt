@@ -1,15 +1,37 @@
-use Rattle.std.proofs.Common.{arith, ◌*◌, ◌≤◌, length, sym, ◌∙◌, ap}
-use Rattle.esr_cert.specs.Flow.{worth}
+use Rattle.std.proofs.Common.{arith, ◌*◌, ◌≤◌, length, refl}
+use Rattle.esr_flow.specs.Augmentation.{TakesFrom}
 use Rattle.esr_flow.specs.Graph.{arcs_of, net_of}
-use Rattle.esr_flow.proofs.FlowLaws.{zero_worth}
+use Rattle.esr_flow.proofs.FlowLaws.{Taken, taken}
+use Rattle.esr_flow.proofs.MaximumLaws.{takes_on}
 use Rattle.esr_flow.proofs.Phases.{few_augmentations}
 use Rattle.esr_flow.proofs.maximum.run_phases.Goals as goal
 
 pub loop-marks-init : goal.loop-marks-init
-loop-marks-init c = (c.requires.none, sym (ap (worth (net_of c.args.graph.now)) c.requires.none ∙ zero_worth (net_of c.args.graph.now)), omega arith, c.requires.entries)
+loop-marks-init c = (refl, c.requires.value, omega arith, c.requires.entries)
+
+pub run_phase-requires-clause-start : goal.run_phase-requires-clause-start
+run_phase-requires-clause-start c =
+    let t : Taken (net_of c.args.graph.now) c.args.flow.now c.loop-marks.progress.augmentations c.loop-marks.flow = taken (net_of c.args.graph.now) c.requires.graph.is_network c.args.flow.now c.requires.start c.loop-marks.progress.augmentations c.loop-marks.flow c.loop-marks.invariant.0 in
+    record { is_flow = t.is_flow; amounts = t.amounts_small }
+
+pub run_phase-requires-clause-count : goal.run_phase-requires-clause-count
+run_phase-requires-clause-count c =
+    let t : Taken (net_of c.args.graph.now) c.args.flow.now c.loop-marks.progress.augmentations c.loop-marks.flow = taken (net_of c.args.graph.now) c.requires.graph.is_network c.args.flow.now c.requires.start c.loop-marks.progress.augmentations c.loop-marks.flow c.loop-marks.invariant.0 in
+    omega (arith, t.count_small, c.loop-marks.invariant.1)
 
 pub loop-marks-smaller : goal.loop-marks-smaller
 loop-marks-smaller c =
-    let few : c.in_ok-progress-in-Path.progress.augmentations ≤ c.args.graph.now.nodes * length (arcs_of c.args.graph.now) =
-    few_augmentations (net_of c.args.graph.now) c.requires.graph.is_network c.in_ok-progress-in-Path.progress.augmentations c.run_phase.new.flow c.in_ok-progress-in-Path.ensures.takes in
+    let p = c.in_ok-progress-in-Path.progress in
+    let joined : TakesFrom (net_of c.args.graph.now) c.args.flow.now p.augmentations c.run_phase.new.flow = takes_on (net_of c.args.graph.now) c.args.flow.now c.loop-marks.flow c.run_phase.new.flow c.loop-marks.progress.augmentations p.augmentations c.in_ok-progress-in-Path.ensures.more c.loop-marks.invariant.0 c.in_ok-progress-in-Path.ensures.takes in
+    let few : p.augmentations ≤ c.args.graph.now.nodes * length (arcs_of c.args.graph.now) =
+    few_augmentations (net_of c.args.graph.now) c.requires.graph.is_network c.args.flow.now c.requires.start.is_flow.same_length p.augmentations c.run_phase.new.flow joined in
     omega (arith, few, c.in_ok-progress-in-Path.ensures.more)
+
+pub loop-marks-preserved : goal.loop-marks-preserved
+loop-marks-preserved c =
+    let p = c.in_ok-progress-in-Path.progress in (
+      takes_on (net_of c.args.graph.now) c.args.flow.now c.loop-marks.flow c.run_phase.new.flow c.loop-marks.progress.augmentations p.augmentations c.in_ok-progress-in-Path.ensures.more c.loop-marks.invariant.0 c.in_ok-progress-in-Path.ensures.takes,
+      c.in_ok-progress-in-Path.ensures.worth,
+      c.in_ok-progress-in-Path.ensures.phases,
+      c.in_ok-progress-in-Path.ensures.entries,
+    )

@@ -1,4 +1,4 @@
-use Rattle.std.proofs.Common.{arith, ◌≡◌, ℕ, ◌+◌, ◌-◌, true, Some, List, length, take, drop, sum_by, sym, refl, ◌∙◌, ap, length-take, length-drop}
+use Rattle.std.proofs.Common.{arith, ◌≡◌, ℕ, ◌+◌, ◌-◌, true, List, length, take, drop, sum_by, sym, ◌∙◌, ap, length-take, length-drop}
 use Rattle.std.specs.List.{concat}
 use Rattle.std.proofs.lemmas.List.{length-map}
 use Rattle.esr_cert.specs.declared.problem.Chain as code
@@ -78,8 +78,8 @@ returns-clause-certifies c =
     let p = c.args.problem.now in
     let rows : are_rows_matched p.chains (rows_of c.in_ok-chain_flow.chain_flow.items) ≡ true = ap (λ cs. are_rows_matched cs (rows_of c.in_ok-chain_flow.chain_flow.items)) (sym c.chains.ensures.list) ∙ c.in_ok-chain_flow.ensures.matched in
     certified p (facts p c.chains.ensures.sound) c.args.maximum.now.flow.items c.requires.flow c.args.maximum.now.marks.items c.requires.reach c.requires.sink
-    (certificate_of (record { set = c.in_ok-set.set; chain_flow = c.in_ok-chain_flow.chain_flow; back_flow = c.in_ok-back_flow.back_flow; must_flow = c.in_ok-must_flow.must_flow; worth = c.args.maximum.now.worth; augmentations = Some c.args.maximum.now.augmentations }))
-    (members_are c) (parts c) rows c.requires.worth c.args.maximum.now.augmentations refl c.requires.short
+    (certificate_of (record { set = c.in_ok-set.set; chain_flow = c.in_ok-chain_flow.chain_flow; back_flow = c.in_ok-back_flow.back_flow; must_flow = c.in_ok-must_flow.must_flow; worth = c.args.maximum.now.worth; augmentations = c.args.augmentations }))
+    (members_are c) (parts c) rows c.requires.worth c.requires.short
 
 pub returns-clause-least : goal.returns-clause-least
 returns-clause-least c =
