@@ -1,6 +1,11 @@
 //! The audit of a whole history by several workers.
-ghost use Rattle.std.specs.Prelude.{◌≡◌, ℕ, ◌<◌, ◌≤◌, ◌↔◌, ◌⊎◌, [], length, map, All, IfOk, IfErr, vec_len, slice_index_or, slice_set, Some, None};
-ghost use Rattle.esr_audit.specs.Findings.{IsFinding, IsBook};
+ghost use Rattle.std.specs.Prelude.{◌≡◌, ℕ, ◌<◌, ◌≤◌, ◌↔◌, ◌⊎◌, [], length, map, All, IfOk, IfErr, List, vec_len, slice_index_or, slice_set, Some, None};
+ghost use Rattle.esr_history.specs.declared.event.Entry.{Entry};
+ghost use Rattle.esr_history.specs.Legal.{along};
+ghost use Rattle.esr_history.specs.Machine.{IsLegal};
+ghost use Rattle.esr_history.specs.Serial.{IsSerializable};
+ghost use Rattle.esr_history.specs.Totals.{IsWithinLimits};
+ghost use Rattle.esr_audit.specs.Findings.{IsAnswer, IsFinding, IsBook};
 ghost use Rattle.esr_board.specs.declared.board.TheConstants.{MOST_JOBS};
 ghost use Rattle.esr_board.specs.Claims.{times, count_past};
 ghost use Rattle.esr_board.specs.Boards.{IsSeatOf, drawn, all_drawn, jobs_of};
@@ -184,14 +189,8 @@ fn findings_by<M: Metric + Sync, R: Threads + Sync, G: Gate + Sync>(
     }
 }
 
-/// The audit of a history by so many workers, each on a thread of its own: what `audit_history`
-/// finds, up to the choice of a flow in the certificates. It calls `enter` of the gate before the
-/// audit of the k-th committed query, with k, counted from 0.
-///
-/// # Errors
-/// `WorkersOutOfRange` exactly where there are no workers or more than 64. `NoMemory` if allocation
-/// fails or a thread cannot be started.
-pub fn audit_parallel<M: Metric + Sync, R: Threads + Sync, G: Gate + Sync>(
+/// The committed updates of a history, and what so many workers find of its committed queries.
+fn book_by<M: Metric + Sync, R: Threads + Sync, G: Gate + Sync>(
     rt: &R,
     alloc: Global,
     history: &History<M>,
@@ -222,4 +221,33 @@ pub fn audit_parallel<M: Metric + Sync, R: Threads + Sync, G: Gate + Sync>(
         }),
         Err(failed) => Err(failed),
     }
+}
+
+/// The audit of a history by so many workers, each on a thread of its own: what `audit_history`
+/// finds, up to the choice of a flow in the certificates. It calls `enter` of the gate before the
+/// audit of the k-th committed query, with k, counted from 0.
+///
+/// # Errors
+/// `WorkersOutOfRange` exactly where there are no workers or more than 64. `NoMemory` if allocation
+/// fails or a thread cannot be started.
+#[tactic(auto, using(esr_history::proofs::Laws::legal_serializable, esr_history::proofs::Charges::legal_within_limits))]
+pub fn audit_parallel<M: Metric + Sync, R: Threads + Sync, G: Gate + Sync>(
+    rt: &R,
+    alloc: Global,
+    history: &History<M>,
+    workers: u64,
+    gate: &G,
+) -> Result<Book, AuditError>
+    ensures legal { IsLegal M.distance_by history.now.schedule }
+    ensures serializable { IsSerializable history.now.schedule }
+    ensures limits { IsWithinLimits M.distance_by history.now.schedule }
+    ensures book { IfOk result (IsBook M.distance_by history.now.schedule) }
+    ensures workers { (result ≡ Err AuditError.WorkersOutOfRange) ↔ ((workers ≡ 0) ⊎ (MOST_SEATS < workers)) }
+    ensures err { IfErr result (λ e. (e ≡ AuditError.NoMemory) ⊎ (e ≡ AuditError.WorkersOutOfRange)) }
+    ensures stays { IfOk result (λ b. (rest : List Entry) → IsLegal M.distance_by (along history.now.schedule rest)
+        → All (λ f. IsAnswer M.distance_by (along history.now.schedule rest) f.query.0 f.distance f.import
+        (map (λ t. t.0) f.before.items)) b.findings.items) }
+{
+    let _legal = history.log(); // brings the invariant into the proof
+    book_by(rt, alloc, history, workers, gate)
 }
