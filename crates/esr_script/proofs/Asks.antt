@@ -1,9 +1,9 @@
 -- An event with the numbers of the names that it was given by.
-use Rattle.std.proofs.Common.{◌≡◌, ℕ, List, ◌++◌, Result, Ok, OnOk}
+use Rattle.std.proofs.Common.{◌≡◌, ℕ, List, Result}
 use Rattle.esr_history.specs.declared.event.Event.{Event}
 use Rattle.esr_report.specs.Lines.{Named}
-use Rattle.esr_script.specs.Text.{ScriptState, ask, RunFault}
+use Rattle.esr_script.specs.Text.{ScriptState, Obeys, ask, RunFault}
 
 pub asked : (r : Result (Unit {0}) RunFault) (s after : ScriptState) (n m : Named) (e f : Event) (out grown : List ℕ) → n ≡ m → e ≡ f
-    → OnOk r ((t : List ℕ) × (ask s n e ≡ Ok (after, t)) × (grown ≡ out ++ t)) → OnOk r ((t : List ℕ) × (ask s m f ≡ Ok (after, t)) × (grown ≡ out ++ t))
+    → Obeys (ask s n e) after out grown r → Obeys (ask s m f) after out grown r
 asked r s after n m e f out grown names event h = rw (← names, ← event) h

@@ -1,5 +1,5 @@
 -- The text of a script: what a run over its lines writes, and how it ends.
-use Rattle.std.specs.Prelude.{ℕ, ◌+◌, ◌==◌, ℤ, pos, List, [], ◌∷◌, ◌++◌, true, false, not, nat_lt, nat_eq, cond, Option, Some, None, Result, Ok, Err, length, unwrap_or, if◌then◌else◌}
+use Rattle.std.specs.Prelude.{◌≡◌, ◌⊎◌, OnOk, OnErr, IfErr, ℕ, ◌+◌, ◌==◌, ℤ, pos, List, [], ◌∷◌, ◌++◌, true, false, not, nat_lt, nat_eq, cond, Option, Some, None, Result, Ok, Err, length, unwrap_or, if◌then◌else◌}
 use Rattle.esr_items.specs.Values.{is_value}
 use Rattle.esr_items.specs.Weights.{is_weight, weighted}
 use Rattle.esr_items.specs.declared.TheConstants.{MOST_ITEMS}
@@ -124,6 +124,14 @@ answer s line =
       | Some command ↦ obey s command
       | None ↦ Ok (s, error_line NotACommand)
     ])
+
+-- A line was to be answered so, and was: the state is that, and the text is behind the output. An error leaves the
+-- output, and is out of memory, or the full history that was to come.
+pub record Obeys (due : Result (ScriptState × List ℕ) RunFault) (new : ScriptState) (out_old out_new : List ℕ)
+    (result : Result (Unit {0}) RunFault) : Type 0 where
+  pub ok : OnOk result ((text : List ℕ) × (due ≡ Ok (new, text)) × (out_new ≡ out_old ++ text))
+  pub err : OnErr result (out_new ≡ out_old)
+  pub faults : IfErr result (λ e. (e ≡ fault.NoMemory) ⊎ ((e ≡ fault.HistoryFull) × (due ≡ Err fault.HistoryFull)))
 
 -- the text of the answered lines, and the fault of the line that ends the run, if one does
 pub record Outcome : Type 0 where

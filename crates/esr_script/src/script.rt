@@ -4,8 +4,7 @@ ghost use Rattle.esr_board.specs.declared.board.TheConstants.{MOST_SEATS};
 ghost use Rattle.std.specs.Prelude.{◌≡◌, ◌≢◌, ℕ, List, ◌+◌, ◌<◌, ◌≤◌, ◌⊎◌, [], ◌++◌, Ok, Err, None, OnErr, OnOk, IfOk, IfErr, IsErrOf, IsOk, true, false, ◌↔◌, length, pos};
 ghost use Rattle.esr_report.specs.Names.{position_of};
 ghost use Rattle.esr_report.specs.Subjects.{named_by};
-ghost use Rattle.esr_script.specs.Text.{start, closed, transaction_called, item_called, item_error, with_item, begin, ask, obey, answer, ScriptState};
-ghost use Rattle.esr_line.specs.Command as command;
+ghost use Rattle.esr_script.specs.Text.{Obeys, start, closed, transaction_called, item_called, item_error, with_item, begin, ask, obey, answer, ScriptState};
 ghost use Rattle.esr_script.specs.Stages.{IsBegin, is_running, history_of};
 ghost use Rattle.esr_telling.specs.Ask.{IsAnswered, IsFoundOf};
 ghost use Rattle.esr_script.specs.Audit.{audit_output};
@@ -132,10 +131,7 @@ impl Script {
 
     /// Declares an item of weight 1.
     fn declare(&mut self, name: &str, value: i64, out: &mut Vec<u8>) -> Result<(), RunFault>
-        ensures ok { OnOk result ((text : List ℕ) × (obey self.old (command.item name.now value) ≡ Ok (self.new, text))
-            × (out.new.items ≡ out.old.items ++ text)) }
-        ensures err { OnErr result (out.new.items ≡ out.old.items) }
-        ensures faults { IfErr result (λ e. e ≡ RunFault.NoMemory) }
+        ensures { Obeys (obey self.old (command.item name.now value)) self.new out.old.items out.new.items result }
     {
         if let Some(error) = self.item_error(name, value, 1) {
             return said(error_line(out, error));
@@ -152,10 +148,8 @@ impl Script {
         weight: u64,
         out: &mut Vec<u8>,
     ) -> Result<(), RunFault>
-        ensures ok { OnOk result ((text : List ℕ) × (obey self.old (command.weighted_item name.now value weight)
-            ≡ Ok (self.new, text)) × (out.new.items ≡ out.old.items ++ text)) }
-        ensures err { OnErr result (out.new.items ≡ out.old.items) }
-        ensures faults { IfErr result (λ e. e ≡ RunFault.NoMemory) }
+        ensures { Obeys (obey self.old (command.weighted_item name.now value weight))
+            self.new out.old.items out.new.items result }
     {
         if let Some(error) = self.item_error(name, value, weight) {
             return said(error_line(out, error));
@@ -167,11 +161,7 @@ impl Script {
     /// Gives the machine an event, and answers with its reply.
     fn ask(&mut self, subject: Subject<'_>, event: Event, out: &mut Vec<u8>) -> Result<(), RunFault>
         requires { IsBegin event → position_of self.old.transactions subject.txn.now ≡ None }
-        ensures ok { OnOk result ((text : List ℕ) × (ask self.old (named_by subject.entry) event ≡ Ok (self.new, text))
-            × (out.new.items ≡ out.old.items ++ text)) }
-        ensures err { OnErr result (out.new.items ≡ out.old.items) }
-        ensures faults { IfErr result (λ e. (e ≡ RunFault.NoMemory)
-            ⊎ ((e ≡ RunFault.HistoryFull) × (ask self.old (named_by subject.entry) event ≡ Err RunFault.HistoryFull))) }
+        ensures { Obeys (ask self.old (named_by subject.entry) event) self.new out.old.items out.new.items result }
     {
         self.stage.close(self.alloc)?;
         let reply = self.stage.step(event)?;
@@ -185,11 +175,7 @@ impl Script {
 
     /// Begins a transaction, whose name may not be bound already.
     fn begin(&mut self, name: &str, event: Event, out: &mut Vec<u8>) -> Result<(), RunFault>
-        ensures ok { OnOk result ((text : List ℕ) × (begin self.old name.now event ≡ Ok (self.new, text))
-            × (out.new.items ≡ out.old.items ++ text)) }
-        ensures err { OnErr result (out.new.items ≡ out.old.items) }
-        ensures faults { IfErr result (λ e. (e ≡ RunFault.NoMemory)
-            ⊎ ((e ≡ RunFault.HistoryFull) × (begin self.old name.now event ≡ Err RunFault.HistoryFull))) }
+        ensures { Obeys (begin self.old name.now event) self.new out.old.items out.new.items result }
     {
         if self.transactions.number_of(name).is_some() {
             return said(error_line(out, LineError::NameInUse));
@@ -199,12 +185,7 @@ impl Script {
 
     /// Reads an item.
     fn read(&mut self, txn: &str, item: &str, out: &mut Vec<u8>) -> Result<(), RunFault>
-        ensures ok { OnOk result ((text : List ℕ) × (obey self.old (command.read txn.now item.now)
-            ≡ Ok (self.new, text)) × (out.new.items ≡ out.old.items ++ text)) }
-        ensures err { OnErr result (out.new.items ≡ out.old.items) }
-        ensures faults { IfErr result (λ e. (e ≡ RunFault.NoMemory)
-            ⊎ ((e ≡ RunFault.HistoryFull) × (obey self.old (command.read txn.now item.now)
-            ≡ Err RunFault.HistoryFull))) }
+        ensures { Obeys (obey self.old (command.read txn.now item.now)) self.new out.old.items out.new.items result }
     {
         let event = Event::Read {
             txn: self.transaction(txn),
@@ -226,12 +207,8 @@ impl Script {
         value: i64,
         out: &mut Vec<u8>,
     ) -> Result<(), RunFault>
-        ensures ok { OnOk result ((text : List ℕ) × (obey self.old (command.write txn.now item.now value)
-            ≡ Ok (self.new, text)) × (out.new.items ≡ out.old.items ++ text)) }
-        ensures err { OnErr result (out.new.items ≡ out.old.items) }
-        ensures faults { IfErr result (λ e. (e ≡ RunFault.NoMemory)
-            ⊎ ((e ≡ RunFault.HistoryFull) × (obey self.old (command.write txn.now item.now value)
-            ≡ Err RunFault.HistoryFull))) }
+        ensures { Obeys (obey self.old (command.write txn.now item.now value))
+            self.new out.old.items out.new.items result }
     {
         let event = Event::Write {
             txn: self.transaction(txn),
@@ -244,11 +221,7 @@ impl Script {
 
     /// Commits a transaction.
     fn commit(&mut self, txn: &str, out: &mut Vec<u8>) -> Result<(), RunFault>
-        ensures ok { OnOk result ((text : List ℕ) × (obey self.old (command.commit txn.now) ≡ Ok (self.new, text))
-            × (out.new.items ≡ out.old.items ++ text)) }
-        ensures err { OnErr result (out.new.items ≡ out.old.items) }
-        ensures faults { IfErr result (λ e. (e ≡ RunFault.NoMemory)
-            ⊎ ((e ≡ RunFault.HistoryFull) × (obey self.old (command.commit txn.now) ≡ Err RunFault.HistoryFull))) }
+        ensures { Obeys (obey self.old (command.commit txn.now)) self.new out.old.items out.new.items result }
     {
         let event = Event::Commit {
             txn: self.transaction(txn),
@@ -258,11 +231,7 @@ impl Script {
 
     /// Aborts a transaction.
     fn abort(&mut self, txn: &str, out: &mut Vec<u8>) -> Result<(), RunFault>
-        ensures ok { OnOk result ((text : List ℕ) × (obey self.old (command.abort txn.now) ≡ Ok (self.new, text))
-            × (out.new.items ≡ out.old.items ++ text)) }
-        ensures err { OnErr result (out.new.items ≡ out.old.items) }
-        ensures faults { IfErr result (λ e. (e ≡ RunFault.NoMemory)
-            ⊎ ((e ≡ RunFault.HistoryFull) × (obey self.old (command.abort txn.now) ≡ Err RunFault.HistoryFull))) }
+        ensures { Obeys (obey self.old (command.abort txn.now)) self.new out.old.items out.new.items result }
     {
         let event = Event::Abort {
             txn: self.transaction(txn),
@@ -272,10 +241,7 @@ impl Script {
 
     /// Sums the charges so far.
     fn totals(&mut self, out: &mut Vec<u8>) -> Result<(), RunFault>
-        ensures ok { OnOk result ((text : List ℕ) × (obey self.old command.totals ≡ Ok (self.new, text))
-            × (out.new.items ≡ out.old.items ++ text)) }
-        ensures err { OnErr result (out.new.items ≡ out.old.items) }
-        ensures faults { IfErr result (λ e. e ≡ RunFault.NoMemory) }
+        ensures { Obeys (obey self.old command.totals) self.new out.old.items out.new.items result }
     {
         self.stage.close(self.alloc)?;
         let totals = self.stage.totals();
@@ -300,10 +266,7 @@ impl Script {
 
     /// Audits a query.
     fn audit(&mut self, txn: &str, out: &mut Vec<u8>) -> Result<(), RunFault>
-        ensures ok { OnOk result ((text : List ℕ) × (obey self.old (command.audit txn.now) ≡ Ok (self.new, text))
-            × (out.new.items ≡ out.old.items ++ text)) }
-        ensures err { OnErr result (out.new.items ≡ out.old.items) }
-        ensures faults { IfErr result (λ e. e ≡ RunFault.NoMemory) }
+        ensures { Obeys (obey self.old (command.audit txn.now)) self.new out.old.items out.new.items result }
     {
         let found = match self.find(txn) {
             Ok(found) => found,
@@ -382,11 +345,7 @@ impl Script {
 
     /// Obeys a command.
     fn obey(&mut self, line: Line<'_>, out: &mut Vec<u8>) -> Result<(), RunFault>
-        ensures ok { OnOk result ((text : List ℕ) × (obey self.old (view line.entry) ≡ Ok (self.new, text))
-            × (out.new.items ≡ out.old.items ++ text)) }
-        ensures err { OnErr result (out.new.items ≡ out.old.items) }
-        ensures faults { IfErr result (λ e. (e ≡ RunFault.NoMemory)
-            ⊎ ((e ≡ RunFault.HistoryFull) × (obey self.old (view line.entry) ≡ Err RunFault.HistoryFull))) }
+        ensures { Obeys (obey self.old (view line.entry)) self.new out.old.items out.new.items result }
     {
         match line {
             Line::Item { name, value } => self.declare(name, value, out),
@@ -425,11 +384,7 @@ impl Script {
 
     /// Answers a line at the end of the output. An error leaves the output as it was.
     pub fn answer(&mut self, line: &[u8], out: &mut Vec<u8>) -> Result<(), RunFault>
-        ensures ok { OnOk result ((text : List ℕ) × (answer self.old line.now ≡ Ok (self.new, text))
-            × (out.new.items ≡ out.old.items ++ text)) }
-        ensures err { OnErr result (out.new.items ≡ out.old.items) }
-        ensures faults { IfErr result (λ e. (e ≡ RunFault.NoMemory)
-            ⊎ ((e ≡ RunFault.HistoryFull) × (answer self.old line.now ≡ Err RunFault.HistoryFull))) }
+        ensures { Obeys (answer self.old line.now) self.new out.old.items out.new.items result }
     {
         match parse_line(line) {
             Parsed::Skipped => Ok(()),
