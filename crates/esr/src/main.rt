@@ -1,6 +1,8 @@
-//! The program `esr`: reads its words, does the job that they ask for, and maps
-//! what came of it to a status: 0 done (for `check`: valid), 1 invalid, bad or a
-//! fault, 2 a mistake in the words.
+//! The program `esr`: reads its words, does the job that they ask for, and maps what came of it to a status: 0 done
+//! (for `check`: valid), 1 invalid, bad or a fault, 2 a mistake in the words.
+//!
+//! Help and the version that were asked for end with 0, and with 1 where they cannot be written. A status does not
+//! depend on standard error: the line `esr: ..` is written where it can be, and the status is the same where it cannot.
 #![tactic(auto)]
 
 ghost use Rattle.esr_cli.specs.Job.{request_of, HasWorkers};

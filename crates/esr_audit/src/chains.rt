@@ -1,4 +1,8 @@
-//! The chains of a query's problem.
+//! The chains of a query's problem: for each item that it read, the writers in commit order, and what the reads of it
+//! cost after none of them, after one, and so on.
+//!
+//! The writers move out of the order into the chain, and the values that they left are let go as soon as their
+//! distances are summed, so that the next item's costs may lie where they lay.
 ghost use Rattle.std.specs.Prelude.{◌≡◌, ◌<◌, ◌≤◌, ◌∷◌, ◌==◌, ℕ, length, map, All, IfOk, option_map};
 ghost use Rattle.std.specs.List.{list_any};
 ghost use Rattle.esr_items.specs.Values.{IsValue};

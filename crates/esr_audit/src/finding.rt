@@ -1,4 +1,5 @@
-//! What audits find.
+//! What audits find, and why one gives no answer. The certificate's set names positions among the problem's updates;
+//! the finding gives transactions.
 
 ghost use Rattle.std.specs.Prelude.{◌≡◌};
 ghost use Rattle.esr_audit.specs.declared.finding.AuditError.TheVariants.{NoMemory};

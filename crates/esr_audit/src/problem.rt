@@ -1,4 +1,5 @@
-//! The problem that stands for a committed query.
+//! The problem that stands for a committed query: near updates, pairs, what it must have seen, and the chains of what
+//! it read. It is made by `Problem::of_sound`, since by proof it breaks no rule.
 ghost use Rattle.std.specs.Prelude.{map, IfOk, IsTrue};
 ghost use Rattle.esr_history.specs.Events.{is_query};
 ghost use Rattle.esr_history.specs.Machine.{done};

@@ -1,5 +1,5 @@
-//! Measures the check, the solver, the reading and writing of bundles, and sessions. What
-//! came of them goes to standard output, how long they took to standard error.
+//! Measures the check, the solver, the reading and writing of bundles, and sessions. What is measured is read as
+//! bundles that `bench/problems` writes, so this program has no generators to prove.
 #![tactic(auto)]
 
 mod draws;

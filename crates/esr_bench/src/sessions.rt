@@ -1,5 +1,4 @@
-//! Measures the calls of sessions on one engine, beside the steps of a machine that one thread has
-//! for itself.
+//! Measures the calls of sessions on one engine, beside the steps of a machine that one thread has to itself.
 
 ghost use Rattle.std.specs.Prelude.{◌≡◌, ◌<◌, [], map};
 ghost use Rattle.esr_session.specs.declared.naming.TheConstants.{LEDGER_PARTS};

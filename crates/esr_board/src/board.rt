@@ -1,4 +1,8 @@
 //! The board and its seats.
+//!
+//! The rule of the board speaks of how many jobs and seats there are. Two words of the table hold them as well, but no
+//! clause can read a word without a step on it; the key of a table is fixed when it is made and can be read in a proof
+//! at any time, so it is what ties the rule to the board's own fields.
 ghost use Rattle.std.specs.Prelude.{◌≡◌, ◌≤◌, [], length, nat_eq};
 ghost use Rattle.esr_board.specs.declared.board.TheConstants.{MOST_JOBS, MOST_SEATS};
 ghost use Rattle.esr_board.specs.Claims.{passes_of};

@@ -1,3 +1,6 @@
+//! A gate that each worker calls before each job. It does nothing in the program, and lets a test hold one worker until
+//! another has come: no contract can say that two threads run side by side.
+
 /// What is called before a job of a number is begun. A call of it returns.
 pub trait Gate {
     fn enter(&self, job: u64);

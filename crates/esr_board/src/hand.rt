@@ -1,4 +1,4 @@
-//! What a seat knows, and what the table is told when it is made.
+//! What a seat knows (the numbers that it drew, and whether it has a pass), and what the table is told when it is made.
 
 use std::collections::LinkedList;
 

@@ -1,4 +1,8 @@
 //! The audit of a whole history by several workers.
+//!
+//! The history is shared by reference, and nothing else but the word of the board. Each finding is put at the place of
+//! its job, so the book is in the order of the jobs. The workers are joined and give all seats back, so the board
+//! always closes: `unreachable!()` says so, and is proved, in place of a second audit that never runs.
 ghost use Rattle.std.specs.Prelude.{◌≡◌, ℕ, ◌<◌, ◌≤◌, ◌↔◌, ◌⊎◌, [], length, map, All, IfOk, IfErr, List, vec_len, slice_index_or, slice_set, Some, None};
 ghost use Rattle.esr_history.specs.declared.event.Entry.{Entry};
 ghost use Rattle.esr_history.specs.Legal.{along};

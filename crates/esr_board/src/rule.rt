@@ -1,4 +1,5 @@
-//! The rule of a board's table, and what its steps tell.
+//! The rule of a board's table, and what its steps tell: the word is the count of numbers handed out, and each number
+//! below it is in one seat's list.
 ghost use Rattle.esr_board.specs.Claims.{IsKept, first_hand, Claimed, with_one_less, one_pass, joined, spent};
 
 use crate::hand::{BoardSize, Hand};

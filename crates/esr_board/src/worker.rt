@@ -1,4 +1,4 @@
-//! The share of one worker.
+//! The share of one worker: the jobs that it drew, each with what was found.
 
 use crate::board::BoardSeat;
 use esr_audit::{AuditError, Finding};

@@ -1,4 +1,4 @@
-//! The numbers of a certificate as they were read.
+//! The numbers of a certificate as they were read, before any rule was tried.
 
 /// A certificate as it was read.
 #[derive(Drop)]

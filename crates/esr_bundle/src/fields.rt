@@ -1,4 +1,7 @@
 //! Fields of a JSON tree: numbers and lists of them, and the members of an object.
+//!
+//! One loop reads a list whatever its elements are: a trait says how one element is read and has as a ghost member what
+//! it stands for, and each kind of element is an `impl` of a few lines. So the loop is proved once.
 ghost use Rattle.std.specs.Prelude.{◌≡◌, ◌≢◌, ◌≤◌, ℕ, List, Option, Some, None, IfOk, IfErr, map};
 ghost use Rattle.serde_json.specs.Data.{Data};
 ghost use Rattle.serde_json.specs.Find.{get};

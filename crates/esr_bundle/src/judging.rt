@@ -1,4 +1,5 @@
-//! The judgement of a bundle: bytes in, one line out.
+//! The judgement of a bundle: bytes in, one line out. `valid` comes just where the check finds no fault, so it says
+//! what the check says, of the file's own problem; which report that is, it does not say.
 ghost use Rattle.std.specs.Prelude.{◌≡◌, ◌≢◌, ◌⊎◌, ◌↔◌, ◌+◌, ◌++◌, ◌≤◌, ◌<◌, ℕ, List, IsOk, IfOk, IfErr, IsErrOf, IsTrue, false, length, Some};
 ghost use Rattle.std.specs.Io.KnownBytes.{Appends, Consumes, IsAtEnd};
 ghost use Rattle.esr_history.specs.Watch.{inner, failed};

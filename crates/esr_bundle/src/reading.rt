@@ -1,4 +1,5 @@
-//! From bytes to a problem and a certificate.
+//! From bytes to a problem and a certificate: the lowest fault over the whole is told, not JSON at all before shape,
+//! and shape before range.
 ghost use Rattle.std.specs.Prelude.{◌≡◌, ◌≢◌, Some, None, IfOk, IfErr};
 ghost use Rattle.serde_json.specs.View.{view};
 ghost use Rattle.esr_bundle.specs.Bundle.{chain_of, problem_of, certificate_of, parts_of};

@@ -1,4 +1,4 @@
-//! From drafts to a problem and a certificate.
+//! From drafts to a problem and a certificate: the rules of shape over all numbers, then those of range, once each.
 ghost use Rattle.std.specs.Prelude.{◌≡◌, ◌≢◌, ℕ, Bool, map, true, false, Some, None, Ok, Err, IsOk, IfOk, IfErr};
 ghost use Rattle.std.specs.List.{list_all};
 ghost use Rattle.esr_cert.specs.Problem as spec;

@@ -1,4 +1,5 @@
-//! From a problem and a certificate to bytes.
+//! From a problem and a certificate to bytes: the one text that means them. One loop writes a list, whatever its
+//! elements are, as one reads it.
 ghost use Rattle.std.specs.Prelude.{◌≡◌, IfOk, OnOk, Ok, map, true};
 ghost use Rattle.serde_json.specs.Data.{Data, array};
 ghost use Rattle.serde_json.specs.View.{view, members_view, items_of};

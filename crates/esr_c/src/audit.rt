@@ -1,4 +1,6 @@
-// Totals, values, audits and bundles as C reads them.
+//! Totals, values, audits and bundles as C reads them. A bundle goes out as its JSON, in place of a handle to the
+//! certificate.
+
 ghost use Rattle.std.specs.Prelude.{◌↔◌, ◌⊎◌, ◌<◌, ◌≤◌, IfOk, IfErr, IsErrOf, IsTrue, true, false, ◌≡◌, ◌≢◌, length, map, take};
 ghost use Rattle.esr_history.specs.Queries.{is_committed_query};
 ghost use Rattle.esr_history.specs.Totals.{IsWithinLimits};

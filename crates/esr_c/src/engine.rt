@@ -1,4 +1,9 @@
-// Engines as C holds them.
+//! Engines as C holds them, and the statuses of its calls.
+//!
+//! A call takes the machine out of the variable and puts it back; in between it is safe code, which the prover does by
+//! itself. Opening values are looked at before memory is asked for, so that 1 and 2 come exactly where the values are
+//! at fault.
+
 ghost use Rattle.std.specs.Prelude.{◌⊎◌, ◌<◌, ◌≤◌, All, Any, IsTrue, true, IsErrOf, ◌≡◌, ◌≢◌, IfOk, IfErr, ◌↔◌, length, is_some, None, Some, IsSome, MatchOption};
 ghost use Rattle.esr_items.specs.Values.{IsValue};
 ghost use Rattle.esr_core.specs.Renewed.{committed_values, has_active};

@@ -1,4 +1,6 @@
-// A machine that is handed to C, as its pointer.
+//! A machine that is handed to C, as its pointer: the few functions at the machine's own type whose proofs are by hand
+//! (`wrap`, `unwrap`, `nothing`). They make no call but those of `loose`.
+
 ghost use Rattle.std.specs.Prelude.{◌≡◌, Option, Some, None, IsSome};
 ghost use Rattle.esr_history.specs.Machine.{Schedule};
 

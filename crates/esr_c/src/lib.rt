@@ -1,5 +1,10 @@
 //! Engines for C programs. An engine lives in a variable of its caller, who gives it to one call at a time: closed, or
 //! holds a machine. `bindings/c/esr.h` declares what is here.
+//!
+//! The variable is two words that begin as zeros, so an engine has a closed state that each call can answer, and
+//! contracts speak of the history behind the variable in place of memory. No export has a premise, since a premise that
+//! C breaks is undefined behaviour: what can be asked is answered by a status. Lists go into a room of the caller's,
+//! with the count told where the room is too small, so C frees nothing that the library made.
 #![tactic(auto)]
 
 ghost use Rattle.esr_items.specs.declared.TheConstants.{MOST_ITEMS};

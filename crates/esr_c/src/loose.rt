@@ -1,4 +1,5 @@
-// A box as its pointer, and back.
+//! A box as its pointer, and back, at any type of value: since there no drop of the machine's parts enters the proof.
+
 ghost use Rattle.std.specs.Prelude.{◌≡◌};
 
 use std::alloc::Global;

@@ -1,4 +1,8 @@
-//! The arcs of a problem's network.
+//! The arcs of a problem's network by their numbers: first those of the chains, then those of the pairs, then those
+//! into what a set must hold.
+//!
+//! Where the arcs of each chain begin is a list; the chain of an arc is kept in two bytes an arc, since the solver asks
+//! often: with a binary search there too a solve took 1.4 to 1.7 times as long.
 ghost use Rattle.std.specs.Prelude.{◌≡◌, ◌+◌, ◌^◌, ◌<◌, ◌≤◌, length, map, sum_by, List, true};
 ghost use Rattle.esr_items.specs.declared.TheConstants.{MOST_ITEMS};
 ghost use Rattle.esr_history.specs.declared.limits.TheConstants.{MOST_TRANSACTIONS};

@@ -1,3 +1,9 @@
+//! A certificate, and the faults of one in the order in which they are looked for.
+//!
+//! It may tell how many augmentations led to its flow. A count above nodes times arcs is refused, last of all faults,
+//! since it says nothing of the least cost; a count below cannot be verified, so a bundle for a stranger is better
+//! without.
+
 ghost use Rattle.std.specs.Prelude.{◌≡◌};
 ghost use Rattle.esr_cert.specs.Faults.{fault_number};
 

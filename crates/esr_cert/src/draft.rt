@@ -1,4 +1,6 @@
-//! The numbers of a problem, of any size that fits 64 bits, so that shape can be judged before range.
+//! The numbers of a problem, of any size that fits 64 bits. A bundle's numbers are judged in shape before range, and a
+//! position above 32 bits is out of range, the higher fault; so the rules of shape go over these, in one place for
+//! bundles and for parts.
 
 /// The numbers of a chain.
 #[derive(Debug, Drop)]

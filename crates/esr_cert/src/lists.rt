@@ -1,4 +1,4 @@
-//! Tests of lists of positions.
+//! Tests of lists of positions: whether they ascend, are below a bound, and hold a number.
 ghost use Rattle.std.specs.Prelude.{◌≡◌, nat_lt, true};
 ghost use Rattle.std.specs.List.{list_all};
 ghost use Rattle.esr_cert.specs.Problem.{in_set, is_ascending};

@@ -1,3 +1,11 @@
+//! A problem: updates, pairs, what a set must hold, and a chain of costs for each item, with the rows of its network.
+//!
+//! `new` tries the rules of shape and then of range over the whole, so that who learns "range" knows that the shape is
+//! right; `of_sound` asks its caller that they hold, since an audit's own problem keeps them by the limits of the
+//! engine, and to try them again took a fifth of an audit. The rows are made with the problem, so the check needs no
+//! memory. A problem of more than 2,147,483,647 arcs is out of memory: a step is one number of 32 bits, its arc and its
+//! direction.
+
 ghost use Rattle.std.specs.Prelude.{◌≡◌, ◌≢◌, ◌<◌, ◌≤◌, length, map, true, IsOk, IfOk, IfErr, Some, None};
 ghost use Rattle.esr_history.specs.declared.limits.TheConstants.{MOST_TRANSACTIONS};
 ghost use Rattle.esr_cert.specs.Problem.{size, has_shape, is_sound};

@@ -1,4 +1,5 @@
-//! The rules of range.
+//! The rules of range: how many there may be of each, and how large. They are those of a history, so that the bundle of
+//! any query is in range.
 ghost use Rattle.std.specs.Prelude.{◌≡◌, ◌&&◌, map, nat_lt, nat_le};
 ghost use Rattle.std.specs.List.{list_all, sum_by};
 ghost use Rattle.esr_cert.specs.Problem.{greatest, chain_is_in_range, is_in_range};

@@ -1,4 +1,4 @@
-//! Residual arcs, of which paths are made.
+//! Residual arcs, the steps of paths: forward or backward over an arc, and the same in four bytes, as rows keep them.
 
 ghost use Rattle.std.specs.Prelude.{◌≡◌, ◌<◌};
 ghost use Rattle.std.proofs.Common.{ap};

@@ -1,4 +1,4 @@
-//! The rules of shape, over the numbers of a draft.
+//! The rules of shape, over the numbers of a draft: lists ascend, pairs go forward, neighbours of a chain are a pair.
 ghost use Rattle.std.specs.Prelude.{◌≡◌, map, nat_lt, true, IfOk};
 ghost use Rattle.std.specs.List.{list_all};
 ghost use Rattle.esr_cert.specs.Problem.{pair_lt, is_ascending, is_distinct, are_pairs_ascending, has_pair, are_linked, chain_has_shape, has_shape};

@@ -1,4 +1,5 @@
-//! Where the arcs of each chain begin.
+//! Where the arcs of each chain begin, and which chain an arc is of. A certificate has a list of amounts for each
+//! chain, and the check finds an arc's amount by these starts.
 ghost use Rattle.std.specs.Prelude.{◌≡◌, ◌+◌, ◌<◌, ◌≤◌, ◌++◌, length, get_or, map, replicate, sum_by, IfOk};
 ghost use Rattle.std.specs.List.Sorted.{IsNonDecreasingBy};
 ghost use Rattle.esr_items.specs.declared.TheConstants.{MOST_ITEMS};

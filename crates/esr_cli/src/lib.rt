@@ -1,4 +1,8 @@
-//! The command line of the program `esr`.
+//! The command line of the program `esr`: the job that its words ask for.
+//!
+//! What is promised is proved over the whole program that `clap` reads, so each further subcommand touches every proof
+//! here. A name after `certify` may be any word that `clap` takes for one; one that begins with `-` needs `--` before
+//! it.
 #![tactic(auto)]
 
 ghost use Rattle.std.specs.Prelude.{◌≡◌, IfOk, MatchResult, Some, codes, option_map};

@@ -1,4 +1,8 @@
 //! The commands of the program `esr`, and what help says of each.
+//!
+//! The contract says which commands, arguments and ranges `clap` is told of, all at once. A command is added to the
+//! program by a function that takes both, and each is made with one `?`: where two commands are in hand at once, each
+//! `?` may drop both, and a proof takes three times as long.
 #![tactic(auto)]
 
 ghost use Rattle.std.specs.Prelude.{◌≡◌, IfOk, false};

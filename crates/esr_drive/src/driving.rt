@@ -1,4 +1,4 @@
-//! A drive, from its reader to its writer.
+//! A drive, from its reader to its writer. Where a read or a write has failed, the drive ends so, whatever else came.
 
 ghost use Rattle.esr_board.specs.declared.board.TheConstants.{MOST_SEATS};
 ghost use Rattle.std.specs.Prelude.{◌≡◌, ℕ, List, ◌≤◌, ◌↔◌, true, false, None, map, IfOk, IfErr, IfSome, IsErrOf, IsTrue};

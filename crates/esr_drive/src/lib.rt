@@ -1,4 +1,7 @@
 //! Drive files: sessions on threads of their own, one for each block, and the text of what came of them.
+//!
+//! It shows what threads do to one engine: which answers come differs from run to run, and they are always those of one
+//! legal history.
 #![tactic(auto)]
 
 mod driven;

@@ -1,4 +1,5 @@
-//! Runs the blocks of a plan, each by a session on a thread of its own.
+//! Runs the blocks of a plan, each by a session on a thread of its own. A line that is blocked is given again, up to
+//! 100 times in all, and its last answer counts.
 
 ghost use Rattle.std.specs.Prelude.{◌≡◌, ◌<◌, ◌+◌, List, [], ◌∷◌, ◌++◌, true, IfOk, length};
 ghost use Rattle.esr_items.specs.Weights.{weighted};

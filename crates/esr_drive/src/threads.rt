@@ -1,4 +1,5 @@
-//! Blocks on threads of their own.
+//! Blocks on threads of their own, joined, and what came of them taken apart. Where blocks were not run to their ends,
+//! one fault is told, in a fixed order.
 
 ghost use Rattle.std.specs.Prelude.{◌≡◌, ◌⊎◌, [], true, Ok, Some, IfOk, IfErr, All, map, vec_len};
 ghost use Rattle.esr_drive.specs.Faults.{is_engine_fault, told_fault, worse};

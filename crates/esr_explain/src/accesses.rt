@@ -1,4 +1,5 @@
-//! The values that updates leave.
+//! The values that updates leave, run one after another: the opening values taken through their accepted writes, found
+//! by the links of each. It is the state by which distances are defined.
 ghost use Rattle.std.specs.Prelude.{◌≡◌, ◌<◌, ℕ, All, IfOk, map, length};
 ghost use Rattle.esr_items.specs.Values.{value_at, IsValue};
 ghost use Rattle.esr_history.specs.Serial.{state};

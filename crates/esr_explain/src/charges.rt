@@ -1,4 +1,10 @@
 //! What a query was charged: the history is made again, entry by entry, by a machine.
+//!
+//! A history keeps of each query only what it imported all together. So each entry is given to a fresh machine, and
+//! what the query has imported before and after it is looked up there, with the writer of the item and the update's
+//! export. It takes the time and memory of a second run, and its definition is short: the import of a prefix less that
+//! of the prefix before. A charge of 0 has no line, since it has no part in the sums. A charge is named by its entry
+//! and not by its line: the history knows no lines.
 ghost use Rattle.std.specs.Prelude.{◌≡◌, ◌<◌, ◌+◌, ◌++◌, Some, IfOk, OnOk, slice_get, length};
 ghost use Rattle.esr_history.specs.Events.{limit_of};
 ghost use Rattle.esr_history.specs.Machine.{blank, done};

@@ -1,4 +1,4 @@
-//! A metric that is lent.
+//! A metric that is lent: the machine that makes a history again borrows the history's own.
 use esr_items::{ItemId, Metric, Weighted};
 
 /// The distances of a metric that another owns.

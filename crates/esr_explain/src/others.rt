@@ -1,4 +1,6 @@
-//! The updates of a query that are not before its nearest placement.
+//! The updates of a query that are not before its nearest placement: all others that committed before it. The audit
+//! itself looks at fewer, those that matter; but which those are is a relation and no list that a definition computes,
+//! and a line of them would be one more promise on how the audit works.
 ghost use Rattle.std.specs.Prelude.{◌≡◌, ℕ, not, IfOk, map, filter};
 ghost use Rattle.std.specs.List.Sorted.{IsNonDecreasing};
 ghost use Rattle.esr_order.specs.Placements.{is_among};

@@ -1,4 +1,4 @@
-//! The text of an explanation.
+//! The text of an explanation, in its order: reads, charges, before, after, sums.
 ghost use Rattle.std.specs.Prelude.{◌≡◌, ◌++◌, IfOk, OnOk};
 ghost use Rattle.esr_items.specs.Weights.{weighted};
 ghost use Rattle.esr_audit.specs.Findings.{summary, summary_of};

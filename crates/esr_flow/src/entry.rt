@@ -1,4 +1,9 @@
-//! What a search has to know of a step.
+//! What a search has to know of a step, in four bytes: the node that it leads to, and whether it and its opposite have
+//! residual capacity.
+//!
+//! A search tests each step that it looks at, and the search back its opposite, so both answers lie beside the node.
+//! Entries of 40 bytes in place of 4 took half as long again for an audit of many updates. An entry does not name its
+//! step: the network has the steps in the same order, and they are looked up only where a search visits a node.
 
 use std::marker::Model;
 

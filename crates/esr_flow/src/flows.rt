@@ -1,4 +1,6 @@
-//! Whether amounts are a flow.
+//! Whether amounts are a flow, and what it is worth: the test that stands between the draft, of which nothing is
+//! promised, and the phases, which start from a flow. It also asks that no amount is above the worth, since
+//! certificates promise that. It is linear in the arcs.
 ghost use Rattle.std.specs.Prelude.{◌≡◌, ◌≢◌, ℕ, ◌<◌, ◌≤◌, true, length, get_or, sum_by, IfSome};
 ghost use Rattle.esr_cert.specs.Network.{arc_at};
 ghost use Rattle.esr_cert.specs.Flow.{within, amount_at, is_conserved_at, IsFlow, worth};

@@ -1,5 +1,9 @@
 //! A problem's network, the steps that start at each node, and for each step an adjacency entry: where it leads, and
 //! what has residual capacity.
+//!
+//! The amounts themselves are in a list by arcs, of which the laws speak, and which is written only in augmentations.
+//! Where one changes which of an arc's two steps have residual capacity, the entries of both are written anew; they lie
+//! where the steps do, in rows that ascend by arcs, so a binary search finds them.
 ghost use Rattle.std.specs.Prelude.{◌≡◌, ◌+◌, ◌<◌, length, get_or, set, IfOk, Some};
 ghost use Rattle.esr_cert.specs.Flow.{within};
 ghost use Rattle.esr_cert.specs.Network.{network};

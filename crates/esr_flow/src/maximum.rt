@@ -1,4 +1,9 @@
-//! A maximum flow, by shortest augmenting paths.
+//! A maximum flow by augmentations along shortest paths, from the flow of zeros or from a flow that is given.
+//!
+//! The law is over labels and not over phases: labels that fall by at most one along each residual arc guide to
+//! shortest paths, and stay so after an augmentation along one. So "takes n augmentations along shortest paths" is said
+//! as if each had been searched for alone, and the bound by nodes times arcs follows. Every path to the sink has an arc
+//! with a limit, so each has a bottleneck, and no amount passes the value of the flow.
 ghost use Rattle.std.specs.Prelude.{◌≡◌, ℕ, ◌+◌, ◌-◌, ◌*◌, ◌^◌, ◌<◌, ◌≤◌, false, length, set, take, IfOk, List};
 ghost use Rattle.esr_cert.specs.declared.range.TheConstants.{MAX_COST};
 ghost use Rattle.esr_cert.specs.Network.{network};

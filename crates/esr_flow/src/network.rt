@@ -1,4 +1,4 @@
-//! The network of a problem, ready to be solved.
+//! The network of a problem, ready to be solved: the problem keeps its rows, so this allocates nothing.
 ghost use Rattle.std.specs.Prelude.{◌≡◌, ◌<◌, true, IfOk};
 ghost use Rattle.esr_cert.specs.Problem.{is_sound};
 ghost use Rattle.esr_cert.specs.Network as networks;

@@ -1,4 +1,9 @@
 //! Further shortest paths of a phase, searched depth-first from the sink back to the source.
+//!
+//! Each node that the search has labelled can be reached from the source, but from many of them the sink cannot be
+//! reached: a search for paths from the source runs into these, and one back from the sink seldom meets a dead end.
+//! Each node has a pointer to the next step to try in a phase. Nothing promised rests on finding a path here: that the
+//! flow is a maximum rests on the last breadth-first search.
 ghost use Rattle.std.specs.Prelude.{◌≡◌, ◌<◌, ◌≤◌, true, length, IfOk, IfSome};
 ghost use Rattle.esr_cert.specs.Flow.{within};
 ghost use Rattle.esr_flow.specs.Residual.{residual_capacity};

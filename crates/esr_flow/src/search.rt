@@ -1,4 +1,6 @@
-//! Breadth-first search of the residual network.
+//! Breadth-first search of the residual network, the nearest nodes first, until the sink is visited. It answers a
+//! shortest path with labels that guide to further ones of its length, or marks of what the source reaches: the
+//! smallest least set.
 ghost use Rattle.std.specs.Prelude.{◌≡◌, ℕ, List, ◌-◌, ◌<◌, ◌≤◌, false, length, IfOk};
 ghost use Rattle.esr_cert.specs.Network.{Network};
 ghost use Rattle.esr_flow.specs.Graph.{arcs_of, net_of, IsGraph, AreEntries, Lists};

@@ -1,4 +1,7 @@
-//! Problems solved: a certificate with the smallest least set.
+//! Problems solved: a certificate with the smallest set of least cost, from a maximum flow.
+//!
+//! The set is what the source still reaches. Which of several maximum flows is found is not promised, and the set is
+//! the same for all of them.
 ghost use Rattle.std.specs.Prelude.{◌≡◌, ℕ, ◌+◌, ◌*◌, ◌≤◌, true, false, Some, None, length, map, sum_by, get_or, IfOk};
 ghost use Rattle.std.specs.List.{concat};
 ghost use Rattle.esr_history.specs.declared.limits.TheConstants.{MOST_TRANSACTIONS};

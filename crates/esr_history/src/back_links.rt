@@ -1,4 +1,11 @@
-//! Places of earlier entries: of the same item, and of the same transaction.
+//! Places of earlier entries: of the same item, and of the same transaction, each found in one step.
+//!
+//! For each entry two places, for each item and transaction the last one, for each transaction how it began and where
+//! it ended. They are what a scan of the log would find, by the type of `History`, and they are why neither a step nor
+//! an audit grows with what is far away. Links lead to accepted entries alone.
+//!
+//! In a table 0 stands for no place and each place for one more, in 32 bits: `reserve` refuses an entry past
+//! 4,294,967,294, as where allocation fails, far above what a machine's history can have.
 ghost use Rattle.esr_items.specs.declared.TheConstants.{MOST_ITEMS};
 ghost use Rattle.std.specs.Prelude.{◌≡◌, ◌+◌, ◌^◌, ◌<◌, ◌≤◌, ◌++◌, ◌∷◌, [], ℕ, List, length, slice_index_or, slice_set, IfOk, OnOk, vec_capacity};
 ghost use Rattle.esr_history.specs.declared.event.Entry.{Entry};

@@ -1,4 +1,8 @@
 //! What each transaction has imported, summed as charges come.
+//!
+//! The machine has computed an event's charges when it hands the event to the history, so the sums cost nothing more.
+//! The other way, to add up distances along the links of the items that a query read, would cost each audit the
+//! operations on these items.
 ghost use Rattle.std.specs.Prelude.{◌≡◌, ◌+◌, ◌<◌, ◌≤◌, ◌^◌, ◌∷◌, [], ℕ, false, length, slice_index_or, vec_capacity, IfOk};
 ghost use Rattle.esr_history.specs.Events.{is_refusal};
 ghost use Rattle.esr_history.specs.Imports.{imported, with_number, AreImports, AreDue};

@@ -1,4 +1,5 @@
-//! The limits of a history.
+//! The limits of a history, each once: code and definitions name these constants. What follows from several is made of
+//! them where it is used.
 
 /// The most entries of a machine's history.
 pub const MOST_ENTRIES: usize = 1_000_000;

@@ -1,4 +1,7 @@
-//! Writes all of some bytes.
+//! Writes all of some bytes, or tells that a prefix was written.
+//!
+//! The standard library's `write_all` says nothing of the bytes after an error, so texts that promise "after a fault
+//! just this was written" need a loop over `write` whose failure leaves a prefix.
 ghost use Rattle.std.specs.Prelude.{◌≡◌, ℕ, List, OnOk, OnErr, ◌||◌, is_err};
 ghost use Rattle.std.specs.Io.KnownBytes.{Appends};
 ghost use Rattle.esr_history.specs.Watch.{inner, failed, BeginsWith};

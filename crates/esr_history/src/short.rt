@@ -1,4 +1,8 @@
-//! Entries in 16 bytes.
+//! Entries in 16 bytes: the short form of an accepted or blocked event, and the entry that it stands for.
+//!
+//! Transactions and items that exist have numbers that fit 16 bits, and a reply adds one value or number to what the
+//! event has. What does not fit has no short form, and is kept whole by the log. That `entry` gives back what `of` was
+//! given is all that anything rests on: a body that found no short form would cost memory and nothing else.
 
 ghost use Rattle.std.specs.Prelude.{◌≡◌, List, IfSome};
 ghost use Rattle.esr_history.specs.declared.event.Entry.{Entry};

@@ -1,3 +1,10 @@
+//! Readers and writers that remember whether one of their calls has failed.
+//!
+//! A run promises that it passes over no failed read or write; a contract can say that only if the device tells. Every
+//! error counts, `Interrupted` too, and so does a write that took none of some bytes: a run that tried again after some
+//! errors and not after others would need a rule for which, and could hide a failure. That the device is asked at all
+//! no clause can say; tests count the calls.
+
 ghost use Rattle.std.specs.Prelude.{◌≡◌, ◌||◌, false, is_err, length};
 ghost use Rattle.std.specs.Io.{ReadsAtMost, WritesAtMost};
 ghost use Rattle.std.specs.Io.KnownBytes.{ReadConsumes, WriteAppends, Keeps};

@@ -1,3 +1,10 @@
+//! The committed and the current value of each item.
+//!
+//! Both values of an item lie side by side, so a read, a write, a commit and an abort of an item touch one place. A
+//! write changes the current value in place: there is one copy of each value that reports and updates share, and that
+//! is the point of the whole engine. Who may call when is not decided here: the store keeps values, and the machine the
+//! rules.
+
 ghost use Rattle.std.specs.Prelude.{◌≡◌, ◌<◌, ◌≤◌, ◌⊎◌, length, map, IfOk, OnOk, IfErr, IsErrOf, All, Any, IsTrue, ◌↔◌, List};
 ghost use Rattle.esr_items.specs.Values.{IsValue, both_versions, committed_at, current_at, current_set, kept, undone, AreValues};
 ghost use Rattle.esr_items.specs.declared.TheConstants.{MOST_ITEMS};

@@ -1,3 +1,8 @@
+//! One row for each transaction: its limit, what it has been charged, and which side it is on.
+//!
+//! Accounts carry their numbers and ascend, and are found by them and not by their places, so ledgers need not be
+//! opened for 1, 2, 3 without gaps. Where they are, as in the machine, the first look finds the account.
+
 ghost use Rattle.std.specs.Prelude.{◌≡◌, ◌+◌, ◌<◌, ◌^◌, true, Some, IfOk, IfErr, IsTrue, length};
 ghost use Rattle.esr_history.specs.Ascending.{IsAscendingBy, IsPlaceOf, IsGapFor};
 ghost use Rattle.esr_ledgers.specs.Books.{number, account_of, is_open, account_amount, raised};

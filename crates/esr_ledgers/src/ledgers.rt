@@ -1,3 +1,8 @@
+//! The accounts together, their quotes and their charges.
+//!
+//! The totals are one number: imports and exports are equal by the type, so one sum is both. Sums that could pass 64
+//! bits are taken in 128.
+
 ghost use Rattle.std.specs.Prelude.{◌≡◌, ◌+◌, ◌<◌, ◌≤◌, ◌^◌, [], true, false, All, OnOk, OnErr, find};
 ghost use Rattle.esr_history.specs.Ascending.{IsAscendingBy};
 ghost use Rattle.esr_ledgers.specs.Books.{number, is_open, is_open_query, is_open_update, account_amount, new_account, with_account, total_of, would_pass, quote_of, charged_to_queries, charged, AreCharges, imports, exports};

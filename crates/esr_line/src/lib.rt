@@ -1,4 +1,9 @@
 //! Lines: how bytes are cut into them, and what one of a script spells.
+//!
+//! It asks for nothing of the engine, so it is proved without any library of ours, and first: a wrong reading of a line
+//! is refused in a small crate, and drives read lines without waiting for scripts. Each command has one spelling:
+//! single blanks, no leading zeros, line feeds alone. What is read back is then what was written, and a contract can
+//! say "exactly where".
 #![tactic(auto)]
 
 mod limits;

@@ -1,3 +1,5 @@
+//! The limits of lines, and how much is read at once.
+
 /// The most bytes that are asked for at once: many lines, so that reads are few.
 pub const INPUT_ROOM: usize = 65536;
 

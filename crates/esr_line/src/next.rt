@@ -1,4 +1,4 @@
-//! What comes next in bytes that are cut into lines.
+//! What comes next in bytes that are cut into lines: a whole line, none yet, or one that is too long whatever follows.
 
 ghost use Rattle.std.specs.Prelude.{◌≡◌, nat_eq, position};
 ghost use Rattle.esr_line.specs.Lines.{line_len, IsNext};

@@ -1,4 +1,8 @@
-//! The lines of a script.
+//! The lines of a script: which command a line is, exactly where it is the one spelling of it.
+//!
+//! A weight is a second form of the line `item`, and `strict` a second form of the line `begin`: each form has one
+//! spelling and one case in each definition, so no word is optional. Names are text of the line itself; nothing is
+//! allocated.
 
 ghost use Rattle.std.specs.Prelude.{◌≡◌, ◌↔◌, Option, Some, option_map, IsTrue};
 ghost use Rattle.esr_line.specs.Command.{Command, is_skipped, Spells, words_of, words_after, totals_command, plain_item_command, weighted_item_command, item_command, plain_begin_command, strict_query_command, begin_command, read_command, write_command, one_name_command, reading, view, command_in, IsReadingOf};

@@ -1,4 +1,4 @@
-//! The words of a line, and what each may be.
+//! The words of a line, and what each may be: names, limits and whole numbers, in their one decimal form.
 
 ghost use Rattle.esr_line.specs.declared.words.TheConstants.{INT_END};
 ghost use Rattle.std.specs.Prelude.{◌≡◌, ◌∷◌, ◌<◌, ◌≤◌, ◌^◌, Option, option_map, length, IfSome, IfNone, true, false};

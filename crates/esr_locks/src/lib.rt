@@ -1,4 +1,7 @@
 //! The lock table: which transactions hold which locks on each item.
+//!
+//! Strict two-phase locking among updates: a read shares, a write excludes, and all locks go together at the end.
+//! Queries take locks that exclude nobody: they are there so that a write knows whom to charge.
 #![tactic(auto)]
 
 mod lists;

@@ -1,3 +1,9 @@
+//! Lists that ascend by the numbers of transactions, found by binary search.
+//!
+//! Most items never have more than a few readers, and the first lock on each item would otherwise ask for memory twice:
+//! so up to four readers and two queries lie in the row itself, which takes no more place than what would point to an
+//! allocation.
+
 ghost use Rattle.std.specs.Prelude.{◌≡◌, ℕ, ◌<◌, ◌≤◌, ◌==◌, length, filter, find, not, All, IfOk, IfErr, option_map};
 ghost use Rattle.std.specs.List.{list_any, insert, AllByRecursion};
 ghost use Rattle.smallvec.specs.SmallVec.{HasRoomFor};

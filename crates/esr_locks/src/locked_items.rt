@@ -1,3 +1,6 @@
+//! The items that one transaction has locked, in the order of its locks: what a release goes over. Up to six lie in the
+//! list itself.
+
 ghost use Rattle.std.specs.Prelude.{◌≡◌, ◌<◌, [], ◌∷◌, ◌++◌, OnOk, OnErr};
 
 use crate::lists::reserve_one;

@@ -1,4 +1,5 @@
-//! What transactions read and wrote.
+//! What transactions read and wrote, found along the links of the transaction and never by a scan of the log. The
+//! search for near updates, the audit and explanations each take from this one list what they need.
 ghost use Rattle.std.specs.Prelude.{◌≡◌, IfOk, OnOk};
 ghost use Rattle.esr_history.specs.Operations.{answer};
 ghost use Rattle.esr_order.specs.Scans.{access_in, access_at, accesses_in};

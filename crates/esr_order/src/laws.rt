@@ -1,3 +1,6 @@
+//! Laws of placements and closed sets. A law is the contract of a function with an empty body, since what stands in
+//! `specs/` alone is not proved.
+
 ghost use Rattle.esr_order.specs.Statements.{LawOfLeastSets, LawOfListedSets, LawOfLongerHistories, LawOfPlacements};
 
 /// The closed sets of a query's updates are the parts before its placements, so that

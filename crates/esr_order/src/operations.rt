@@ -1,4 +1,13 @@
-//! What updates did, gone through from the last update to the first.
+//! What updates did, gone through from the last update to the first: the pairs that tie them, and the chains.
+//!
+//! It keeps for each item its writers so far and the readers until the next of them. An operation is paired with the
+//! next write of its item, and a write with the reads until then. Two operations that conflict are in the log in the
+//! order in which their updates are in commit order, so update by update gives the pairs of the whole log. On the way
+//! back an update's pairs are those in which it comes first: they are made together, only they are sorted, and in the
+//! end the list is turned round; forward, all pairs would have to be sorted.
+//!
+//! Room is made once, by counts of the search: where a thousand lists grew side by side, each smaller list that one had
+//! been was left behind in the heap. Nothing rests on the counts.
 ghost use Rattle.std.specs.Prelude.{◌≡◌, ◌<◌, ◌≤◌, ◌++◌, [], ℕ, List, IfOk, OnOk, All, AllPairs, filter, length, map};
 ghost use Rattle.std.specs.List.{range_with_len};
 ghost use Rattle.esr_history.specs.declared.limits.TheConstants.{MOST_TRANSACTIONS};

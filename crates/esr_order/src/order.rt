@@ -1,3 +1,11 @@
+//! The order of a query's updates: who they are, few pairs that tie them, and the writers of each item with the values
+//! that they left.
+//!
+//! `of` has all updates that committed before the query, for tests and for whoever wants them; `near` those alone that
+//! matter to what it read, which have the same closed sets of least cost; the audit takes that. The pairs have the same
+//! closed sets as the whole conflict order, and there are at most two for each operation. Chains leave an order one by
+//! one (`take_chain`), so that an audit's costs may lie where the values lay.
+
 ghost use Rattle.std.specs.Prelude.{◌≡◌, ◌↔◌, ◌<◌, ◌≤◌, ◌*◌, ◌^◌, length, map, filter, ℕ, AllPairs, ◌≢◌, false, IfOk, IsErrOf, option_map};
 ghost use Rattle.std.specs.List.{range_with_len};
 ghost use Rattle.esr_history.specs.declared.limits.TheConstants.{MOST_TRANSACTIONS};

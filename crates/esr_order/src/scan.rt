@@ -1,4 +1,5 @@
-//! What the entries of a history give, found by its links.
+//! What the entries of a history give, found by its links: who committed, which of them before a query, and what a
+//! strict query must have seen.
 ghost use Rattle.std.specs.Prelude.{◌≡◌, ◌++◌, ◌∷◌, ℕ, List, true, ◌==◌, IfOk, OnOk, slice_get, length, map, filter, count_by, reverse, take};
 ghost use Rattle.std.specs.List.{filter_map, before_first};
 ghost use Rattle.std.specs.List.Sorted.{IsStrictlyIncreasing};

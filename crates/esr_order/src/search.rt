@@ -1,4 +1,13 @@
 //! The search for the near updates of a query, back from what it read.
+//!
+//! Whoever is before an update has a lower position, so one pass back over the query's updates serves. It keeps which
+//! items the query and the near updates found so far have read, and which these updates have written: an update is near
+//! where one of its operations conflicts with one of those.
+//!
+//! Rejected: to follow the links of items from those that the query read (it looks at less where few updates are near,
+//! but comes by the entries of queries too, all over the log, and where all are near takes several times as long); and
+//! the connected part of the history first, of which an order is then cut (a second order, and a list of what is still
+//! to be visited).
 ghost use Rattle.std.specs.Prelude.{◌≡◌, ◌<◌, ◌||◌, ℕ, true, false, IfOk, All, length, map};
 ghost use Rattle.std.specs.List.{list_any};
 ghost use Rattle.esr_history.specs.Queries.{updates_of, must};

@@ -1,4 +1,5 @@
-//! Few pairs of updates that tie them like the whole conflict order.
+//! Few pairs of updates that tie them like the whole conflict order: two for each operation at most, where all
+//! conflicting pairs grow with the square of the writers of an item.
 ghost use Rattle.std.specs.Prelude.{◌≡◌, ◌≤◌, ◌<◌, ◌++◌, ℕ, OnOk, AllPairs, Contains, length, reverse};
 ghost use Rattle.esr_order.specs.Ties.{pair_of, pairs_from};
 

@@ -1,4 +1,4 @@
-//! Walks along the links of a history.
+//! Walks along the links of a history, from the last entry of a transaction to its first.
 ghost use Rattle.std.specs.Prelude.{◌≡◌, reverse, IfOk};
 ghost use Rattle.esr_history.specs.BackLinks.{accepted_txn, places_from};
 

@@ -1,4 +1,9 @@
 //! What a session is to call, line by line.
+//!
+//! What may be in a block is a type of its own and not a line of a script, so the code that runs a block has no case
+//! that cannot come. A begin is one variant with a kind: its event alone depends on it. Names are resolved when the
+//! plan is made: a call holds the place of its transaction's begin in the block, so to run a line takes one look into
+//! the replies.
 
 ghost use Rattle.std.specs.Prelude.{◌≡◌, option_map};
 ghost use Rattle.esr_report.specs.Subjects.{named_by};

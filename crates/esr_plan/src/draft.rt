@@ -1,4 +1,7 @@
-//! Makes the plan of a drive file, line after line.
+//! Makes the plan of a drive file, line after line, or tells what is wrong with the first line at fault, by the lowest
+//! of its numbers.
+//!
+//! The weight that was given, or that none was, stays in the plan: an item's line is answered as it was written.
 
 ghost use Rattle.esr_line.specs.declared.limits.TheConstants.{MAX_LINES};
 ghost use Rattle.std.specs.Prelude.{◌≡◌, ◌+◌, ◌<◌, ◌≤◌, ◌⊎◌, ◌^◌, true, false, Ok, Err, Some, None, OnOk, IfOk, IfErr, length};

@@ -1,3 +1,5 @@
+//! Why a drive ended without its whole text.
+
 use thiserror::Error;
 
 /// Why a drive ended without its whole text.

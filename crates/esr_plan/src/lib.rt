@@ -1,4 +1,5 @@
-//! Plans: what a drive file asks for, and the text of what came of it.
+//! Plans: what a drive file asks for, and the text of what came of it. Neither needs a thread, and both are most of
+//! what a drive has to prove, so they are apart from what runs the blocks.
 #![tactic(auto)]
 
 mod call;

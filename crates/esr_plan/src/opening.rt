@@ -1,4 +1,4 @@
-//! The items of a plan, as a machine opens with them.
+//! The items of a plan, as a machine opens with them: weight 1 where none was given.
 
 ghost use Rattle.esr_items.specs.declared.TheConstants.{MOST_ITEMS};
 ghost use Rattle.std.specs.Prelude.{◌≡◌, ◌≤◌, All, IfOk, length, map};

@@ -1,4 +1,6 @@
-//! Reads a drive file, and cuts it into lines. Reading stops at the first line that is too long, or is one too many.
+//! Reads a drive file, and cuts it into lines. Reading stops at the first line that is too long, or is one too many:
+//! the fault of a line is that of the file, whatever follows, so a stream that does not end does not take memory
+//! without end.
 
 ghost use Rattle.esr_line.specs.declared.limits.TheConstants.{MAX_LINES, MAX_LINE_BYTES};
 ghost use Rattle.std.specs.Prelude.{◌≡◌, ℕ, List, false, ◌<◌, ◌≤◌, ◌↔◌, [], ◌∷◌, ◌++◌, None, Some, IfOk, IfErr, IsErrOf, IsTrue, MatchOption, MatchResult, length, nat_eq, position};

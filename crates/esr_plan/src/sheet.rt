@@ -1,4 +1,4 @@
-//! The plan of a drive file.
+//! The plan of a drive file: its items, its blocks, and for each transaction the name by which it may begin.
 
 ghost use Rattle.std.specs.Prelude.{◌≡◌, ◌⊎◌, None, Ok, Err, IfOk, IfErr};
 ghost use Rattle.esr_line.specs.Lines.{lines};

@@ -1,4 +1,5 @@
-//! Which name each transaction of a history began by.
+//! Which name each transaction of a history began by. The table is filled from the last line on, so that the first line
+//! of a number decides, as in the definition; so it needs no proof that no two lines have one number.
 
 ghost use Rattle.std.specs.Prelude.{◌≡◌, ◌<◌, IfOk, length, map};
 ghost use Rattle.esr_history.specs.BackLinks.{begun_count};

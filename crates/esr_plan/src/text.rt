@@ -1,4 +1,4 @@
-//! The text of a drive, part by part.
+//! The text of a drive, part by part: items, blocks, what was found of each query, totals.
 
 ghost use Rattle.esr_history.specs.declared.limits.TheConstants.{MOST_ENTRIES};
 ghost use Rattle.esr_items.specs.declared.TheConstants.{MOST_ITEMS};

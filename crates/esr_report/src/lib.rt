@@ -1,4 +1,5 @@
-//! Tables of names, and the lines of a report.
+//! Tables of names, and the lines of a report: the bytes of every line of output, each defined once for scripts, audits
+//! and drives.
 #![tactic(auto)]
 
 mod lines;

@@ -1,3 +1,5 @@
+//! The lines of a report. A line is appended whole or not at all, so what is written after a fault is whole lines.
+
 ghost use Rattle.std.specs.Prelude.{◌≡◌, ◌≤◌, [], ◌++◌, ◌∷◌, OnOk, OnErr, IsOk, map, take, length};
 ghost use Rattle.std.specs.List.{join_with_byte};
 ghost use Rattle.esr_history.specs.Watch.{BeginsWith};

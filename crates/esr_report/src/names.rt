@@ -1,3 +1,8 @@
+//! A table of names, in the order in which they were bound; none is bound twice.
+//!
+//! A spelling has at most 16 bytes, so each name lies in the table itself, in 24 bytes; as a `String` its text would be
+//! a block of 32 bytes besides. A longer name, which no line spells, has no room and is refused as where memory is.
+
 ghost use Rattle.std.specs.Prelude.{◌≡◌, ℕ, ◌+◌, ◌<◌, ◌≤◌, ◌^◌, List, [], ◌∷◌, ◌++◌, map, length, All, IfOk, OnOk, OnErr, slice_get, option_map, Option, None, true};
 ghost use Rattle.esr_report.specs.Names.{position_of, all_distinct};
 

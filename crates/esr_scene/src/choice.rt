@@ -1,4 +1,6 @@
-//! Which lanes and which updates are drawn.
+//! Which lanes and which updates are drawn. Of a large audit only what is off is drawn, and of a lane only the version
+//! at the line and the one nearest to what was read, between the updates that bound them; what is between is one dotted
+//! piece with a count.
 
 use esr_cert::{Chain, Problem};
 use std::alloc::{AllocError, Global};

@@ -1,4 +1,5 @@
-//! Where everything is drawn, in pixels.
+//! Where everything is drawn, in pixels. Names and numbers are in a font of one width, none wider than 0.61 of its
+//! height, so how much room they need is known without measuring, and no two texts meet at any length.
 
 ghost use Rattle.std.specs.Prelude.{◌≤◌};
 

@@ -1,4 +1,6 @@
-//! The head of a picture: its size, its words for whoever cannot see it, and its colours.
+//! The head of a picture: its size, its words for whoever cannot see it, and its colours. These are in a `<style>` with
+//! `prefers-color-scheme`, and the picture brings its own background, so that it can be read wherever it is put. What
+//! is green is also thick, and what is off has a circle and words, for those who do not see colours.
 
 use crate::frame::Frame;
 use crate::scene::{Lane, Scene, Update};

@@ -1,4 +1,6 @@
-//! The arrows between the updates that are drawn.
+//! The arrows between the updates that are drawn. Those that follow from others are left out, also those that go
+//! through updates that are not drawn: one pass over the pairs finds for each update which of those drawn come before
+//! it, as the bits of one number, since the pairs ascend. That is why at most 30 updates are drawn.
 
 use crate::choice::Choice;
 use esr_cert::Problem;

@@ -1,4 +1,5 @@
-//! Answers the lines in the bytes ahead, whether their text is to be written or dropped.
+//! Answers the lines in the bytes ahead, whether their text is to be written or dropped. A line is looked at where it
+//! lies in the input buffer; none is copied.
 
 ghost use Rattle.esr_line.specs.declared.limits.TheConstants.{MAX_LINES, MAX_LINE_BYTES};
 ghost use Rattle.std.specs.Prelude.{◌≡◌, ◌≢◌, ℕ, List, ◌+◌, ◌++◌, ◌≤◌, ◌⊎◌, Option, Err, OnOk, IfOk, IfErr, IsErrOf, false, length};

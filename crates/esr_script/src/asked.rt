@@ -1,4 +1,6 @@
-//! Asks a script for one of its queries: the whole script is run without its output, and the query is audited.
+//! Asks a script for one of its queries: the whole script is run without its output, and the query is audited. A name
+//! that is bound to nothing stands for transaction 0, as in a script, so it is no committed query, and no rule for the
+//! spelling of an argument is needed.
 
 ghost use Rattle.std.specs.Prelude.{◌≡◌, ℕ, List, Some, false};
 ghost use Rattle.esr_history.specs.Watch.{inner, failed};

@@ -1,4 +1,4 @@
-//! The lines of the audit of a whole history.
+//! The lines of the audit of a whole history, in the words that the lines `audit` and `totals` of a script have.
 
 ghost use Rattle.std.specs.Prelude.{◌≡◌, ◌++◌, OnOk, map, flat_map};
 ghost use Rattle.esr_report.specs.Lines.{order_line, totals_line};

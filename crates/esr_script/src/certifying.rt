@@ -1,4 +1,8 @@
 //! Certifies a query of a script: the whole script is run without its output, and the query's bundle is written.
+//!
+//! The count of augmentations is told only where it is asked for: the check can bound it and not verify it, so a bundle
+//! for a stranger is better without. The audit's own certificate has none, so with `--steps` the problem is solved
+//! again from the flow of zeros; its set is the same, since the smallest least set is one alone.
 
 ghost use Rattle.std.specs.Prelude.{◌≡◌, ◌++◌, ◌∷◌, [], true, false, IfOk};
 ghost use Rattle.esr_bundle.specs.Bundle.{bundle};

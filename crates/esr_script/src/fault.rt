@@ -1,3 +1,5 @@
+//! Why a run ended before the end of its input, or a query was not told of.
+
 use thiserror::Error;
 
 /// Why a run ended before the end of its input, or a query was not certified.

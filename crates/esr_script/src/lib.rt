@@ -1,4 +1,8 @@
 //! Runs a script: bytes to bytes, line by line.
+//!
+//! What a run writes is a definition over all bytes (`specs/Text`: `outcome`), with one clause for each variant of a
+//! reply and of a refusal and none for "any other", so that no line can be left out unseen. The same loop over lines
+//! serves those whose lines are dropped: audits of whole scripts, and all that is told of one query.
 #![tactic(auto)]
 
 mod ahead;

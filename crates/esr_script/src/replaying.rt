@@ -1,4 +1,5 @@
-//! Goes over a whole script without its output.
+//! Goes over a whole script without its output. A fault at the last line leaves nothing written, since the lines are
+//! made and dropped by the code that writes them in a run.
 
 ghost use Rattle.std.specs.Prelude.{◌≡◌, ℕ, List, [], Some, false};
 ghost use Rattle.esr_history.specs.Watch.{inner, failed};

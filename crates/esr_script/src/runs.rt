@@ -1,4 +1,7 @@
 //! A run over a script, from its reader to its writer.
+//!
+//! What is answered is written before the run waits for more input, so the program can be used at a terminal and as a
+//! coprocess; the last flush is checked, so an Ok means that the last bytes were taken too.
 
 ghost use Rattle.esr_line.specs.declared.limits.TheConstants.{MAX_LINE_BYTES};
 ghost use Rattle.std.specs.Prelude.{◌≡◌, ℕ, List, [], ◌++◌, Option, Some, Ok, Err, IsErrOf, IfErr, IfOk, false, ◌≤◌, ◌⊎◌, length, ◌||◌};

@@ -1,4 +1,7 @@
 //! What a run keeps of the lines so far, and its answer to a line.
+//!
+//! A name that is not bound is asked of the machine all the same, as a transaction and an item that do not exist: so
+//! there is one order of refusals, and the refusal is an entry like any other.
 
 ghost use Rattle.esr_board.specs.declared.board.TheConstants.{MOST_SEATS};
 ghost use Rattle.std.specs.Prelude.{◌≡◌, ◌≢◌, ℕ, List, ◌+◌, ◌<◌, ◌≤◌, ◌⊎◌, [], ◌++◌, Ok, Err, None, OnErr, OnOk, IfOk, IfErr, IsErrOf, IsOk, true, false, ◌↔◌, length, pos};

@@ -1,4 +1,5 @@
-//! Writes out what a run has answered.
+//! Writes out what a run has answered. The line of an audit names all updates before the query, half a megabyte where
+//! there are 65,000, so a buffer that was written out gives back what it has beyond its usual room.
 
 ghost use Rattle.std.specs.Prelude.{◌≡◌, ℕ, List, [], OnOk, IfErr, ◌||◌};
 ghost use Rattle.std.specs.Io.KnownBytes.{Appends};

@@ -1,4 +1,5 @@
-//! Either items still being declared, or the running machine.
+//! Either items still being declared, or the running machine: the first line that is no item makes the machine, and
+//! closes the items. So no call has a case that cannot come.
 
 ghost use Rattle.esr_board.specs.declared.board.TheConstants.{MOST_SEATS};
 ghost use Rattle.esr_history.specs.declared.limits.TheConstants.{MOST_ENTRIES};

@@ -1,4 +1,5 @@
-//! Tells of a query of a script: the whole script is run without its output, and a text of the query is written.
+//! Tells of a query of a script: the whole script is run without its output, and a text of the query is written,
+//! whatever the telling. After a fault other than a failed write nothing was written.
 
 ghost use Rattle.std.specs.Prelude.{◌≡◌, ℕ, List, IfOk, IfErr, Ok, true, false, Some};
 ghost use Rattle.esr_history.specs.Watch.{inner, failed};

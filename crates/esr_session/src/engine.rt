@@ -1,4 +1,12 @@
 //! An engine: one machine behind a lock, opened for its sessions and closed with them.
+//!
+//! The type of what is behind a lock allows both an open and a closed engine, and a close must not meet a closed one.
+//! So the engine holds a share of a ledger of its own, 1,000,001 while it is open: an open engine's total is above what
+//! a closed one can have, and whoever has that share knows which it is. The ledger is seen by contracts alone and costs
+//! nothing.
+//!
+//! A close counts the receipts before it compares them: where there are too few it is refused for that, and needs no
+//! memory to see it. Receipts are compared where they lie; none is copied.
 ghost use Rattle.esr_session.specs.declared.naming.TheConstants.{LEDGER_PARTS, MOST_SESSIONS};
 ghost use Rattle.std.specs.Prelude.{◌≡◌, ◌+◌, ◌<◌, ◌≤◌, [], true, length, Some, None, All, IfOk, OnOk, IfErr, OnErr, vec_len, map, vec_capacity};
 ghost use Rattle.esr_history.specs.Machine.{IsLegal};

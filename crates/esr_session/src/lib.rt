@@ -1,5 +1,8 @@
-//! One machine behind a lock, and sessions through which threads call it. Each answered call is one entry of
-//! one history, and leaves a receipt; a close compares all receipts with the history.
+//! One machine behind a lock, and sessions through which threads call it. Each answered call is one entry of one
+//! history, and leaves a receipt; a close compares all receipts with the history.
+//!
+//! A step takes less than a microsecond, so finer locks would cost more than they save, and one hold of one lock is
+//! what makes the steps of all threads one list.
 #![tactic(auto)]
 
 mod engine;

@@ -1,4 +1,7 @@
-//! Receipts against a history.
+//! Receipts against a history: each entry is named by just one receipt, with its event and reply.
+//!
+//! Lists are gone over in order with a mark for each place, so the time is that of the receipts. What has lists of
+//! receipts is a trait, so that a close compares those of its sessions where they are.
 ghost use Rattle.std.specs.Prelude.{◌≡◌, List, ◌+◌, ◌<◌, ◌≤◌, ◌↔◌, ◌++◌, [], false, IsTrue, length, map, slice_index_or, vec_len, MatchOption, OnOk, IfOk, IfErr, IfSome, IfNone};
 ghost use Rattle.esr_session.specs.Receipts.{IsVerdict, count_in, receipts_in, GoodFrom, IsForeignIn, Matches, Names};
 ghost use Rattle.esr_session.specs.declared.receipt.Receipt.{Receipt};

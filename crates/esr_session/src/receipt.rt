@@ -1,4 +1,4 @@
-//! Receipts of answered calls.
+//! Receipts of answered calls, and why receipts do not match a history.
 
 use esr_history::{Event, Reply};
 use thiserror::Error;

@@ -1,4 +1,7 @@
 //! Sessions, each of which one thread at a time calls an engine through.
+//!
+//! A session knows nothing of its engine between two calls, since others call it too; so its contract speaks of the
+//! receipt that a call leaves, and `step_on`, under the lock, says the rest.
 ghost use Rattle.std.specs.Prelude.{◌≡◌, ◌+◌, ◌<◌, ◌≤◌, List, [], ◌∷◌, ◌++◌, true, length, IfOk, OnErr, IfErr};
 ghost use Rattle.esr_history.specs.declared.limits.TheConstants.{MOST_ENTRIES};
 ghost use Rattle.esr_session.specs.Receipts.{IsReceipt, AreBlocked, is_blocked, is_block};

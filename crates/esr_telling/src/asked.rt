@@ -1,4 +1,4 @@
-//! What a script answers to one who asks for one of its queries.
+//! What a script answers to one who asks for one of its queries: its names, its history, and what the audit finds.
 
 use esr_audit::Finding;
 use esr_history::History;

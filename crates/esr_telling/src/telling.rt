@@ -1,4 +1,9 @@
-//! A text of a query that was asked for.
+//! A text of a query that was asked for: a bundle, an explanation, a picture.
+//!
+//! What is told states its own promise: a ghost member says which text it may be, given the state after a script and a
+//! name, and one method makes that text of what the script answers, which is lent to it. So `tell` is written and
+//! proved once for all of them. Before, each gave it a closure that owned the answer and repeated its contract; a
+//! closure is proved as three functions, and each return of one that owns an answer drops every part of it.
 
 ghost use Rattle.std.specs.Prelude.{ℕ, List, IfOk};
 

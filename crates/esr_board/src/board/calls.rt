@@ -1,4 +1,9 @@
-//! What can be done with a board.
+//! What can be done with a board: making one, a claim, and a close that shows that each number was drawn once.
+//!
+//! No field tells the board's word, and a clause can name no value that nothing holds. So `close` says that there is a
+//! word, with lists of seats that were not given back, at which the rule holds, and that the answer is Ok where as many
+//! numbers were drawn as this word tells. Who has no pass has an empty list: with that fact it can be said where a
+//! close may refuse, only where fewer seats are given than the board has.
 ghost use Rattle.std.specs.Prelude.{◌≡◌, ℕ, ◌+◌, ◌<◌, ◌≤◌, ◌↔◌, ◌⊎◌, [], ◌∷◌, ◌++◌, map, All, IfSome, IfNone, IfOk, OnOk, OnErr, MatchResult, length, vec_len};
 ghost use Rattle.esr_board.specs.Claims.{count_past, Drew, hand, EachOnceBelow, IsBoardAt};
 ghost use Rattle.esr_board.specs.Boards.{IsSeatOf, drawn, hand_of, all_drawn, jobs_of, seats_of};

@@ -1,4 +1,6 @@
-//! What one worker does.
+//! What one worker does: claims a job, audits its query, until no job is left. A worker that draws a job which is no
+//! committed query stops, and keeps what it drew; `audit_parallel` gives it none, but `work` is a public call with a
+//! list of its own.
 ghost use Rattle.std.specs.Prelude.{[], ◌≡◌, ◌≢◌, ℕ, ◌<◌, length, map, IfOk, IfErr, List, Any, false};
 ghost use Rattle.esr_history.specs.Queries.{is_committed_query};
 ghost use Rattle.esr_board.specs.Claims.{count_past, Drew};

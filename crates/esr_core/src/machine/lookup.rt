@@ -1,4 +1,5 @@
-//! Who has written an item, and what an update has exported.
+//! Who has written an item, and what an update has exported: what an explanation asks of a machine that makes a history
+//! again.
 ghost use Rattle.std.specs.Prelude.{◌≡◌, ◌<◌, length, option_map};
 ghost use Rattle.esr_history.specs.Machine.{charges_in, done, export_in, writer};
 

@@ -1,4 +1,9 @@
-//! The committed values of a machine, and going on from them with an empty history.
+//! Going on from the committed values with an empty history, where that of a long-lived engine is full.
+//!
+//! What may fail comes before anything is changed, so an error leaves all as it was. The new history keeps the memory
+//! of the old one and has room for as many transactions: without it the lists grow again from nothing, and two
+//! histories of 30 MB take turns in the processor's cache. A history owns its metric and does not hand it out, so the
+//! caller gives it anew. An audit rests on a whole history, so there is no call that forgets a part of one.
 ghost use Rattle.esr_items.specs.declared.TheConstants.{MOST_ITEMS};
 ghost use Rattle.std.specs.Prelude.{◌≡◌, ◌<◌, ◌≤◌, ◌↔◌, true, [], length, map, List, All, IfOk, OnOk, OnErr, IsErrOf};
 ghost use Rattle.std.specs.List.{list_any};
