@@ -32,7 +32,8 @@
 extern "C" {
 #endif
 
-/* What a call answers. Unless it is ESR_DONE nothing has changed; ESR_TOO_SMALL has told the count. */
+/* What a call answers. Unless it is ESR_DONE nothing has changed, but for ESR_TOO_SMALL: esr_values and esr_bundle have
+ * told the count then, esr_audit the whole finding, and the room is as it was. */
 typedef uint32_t esr_status;
 enum {
     ESR_DONE = 0,

@@ -89,6 +89,7 @@ pub(crate) fn show_values(
     ensures small { result ≡ Status.TooSmall → (length values.old < count.new)
         × (count.new ≡ length machine.now.opening) }
     ensures kept { result ≢ Status.Done → values.new ≡ values.old }
+    ensures untold { result ≢ Status.Done → result ≢ Status.TooSmall → count.new ≡ count.old }
 {
     match machine.committed_values(alloc) {
         Ok(list) => hand_out(values, count, &list),
@@ -129,6 +130,7 @@ pub(crate) fn show_finding(
     ensures small { result ≡ Status.TooSmall → (length before.old < finding.new.count)
         × IsCounted machine.now query finding.new }
     ensures kept { result ≢ Status.Done → before.new ≡ before.old }
+    ensures untold { result ≢ Status.Done → result ≢ Status.TooSmall → finding.new ≡ finding.old }
 {
     let found = match found(alloc, machine, query) {
         Ok(found) => found,
@@ -170,6 +172,7 @@ pub(crate) fn show_bundle(
     ensures small { result ≡ Status.TooSmall → (length bytes.old < count.new)
         × IsBundleLong machine.now query count.new }
     ensures kept { result ≢ Status.Done → bytes.new ≡ bytes.old }
+    ensures untold { result ≢ Status.Done → result ≢ Status.TooSmall → count.new ≡ count.old }
 {
     match bundled(alloc, machine, query) {
         Ok(text) => hand_out(bytes, count, &text),

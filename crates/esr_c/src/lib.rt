@@ -189,6 +189,7 @@ pub extern "C" fn esr_values(
     ensures small { result ≡ 7 → (length values.old < count.new)
         × IfSome engine.old.held.machine (λ h. count.new ≡ length h.opening) }
     ensures kept { result ≢ 0 → values.new ≡ values.old }
+    ensures untold { result ≢ 0 → result ≢ 7 → count.new ≡ count.old }
 {
     let Some(machine) = out_of(alloc, engine) else {
         return Status::Closed.number();
@@ -218,6 +219,7 @@ pub extern "C" fn esr_audit(
     ensures small { result ≡ 7 → (length before.old < finding.new.count)
         × IfSome engine.old.held.machine (λ h. IsCounted h query finding.new) }
     ensures kept { result ≢ 0 → before.new ≡ before.old }
+    ensures untold { result ≢ 0 → result ≢ 7 → finding.new ≡ finding.old }
 {
     let Some(machine) = out_of(alloc, engine) else {
         return Status::Closed.number();
@@ -247,6 +249,7 @@ pub extern "C" fn esr_bundle(
     ensures small { result ≡ 7 → (length bytes.old < count.new)
         × IfSome engine.old.held.machine (λ h. IsBundleLong h query count.new) }
     ensures kept { result ≢ 0 → bytes.new ≡ bytes.old }
+    ensures untold { result ≢ 0 → result ≢ 7 → count.new ≡ count.old }
 {
     let Some(machine) = out_of(alloc, engine) else {
         return Status::Closed.number();

@@ -107,6 +107,53 @@ fn queries_that_read_little_are_certified(rt: HostRuntime) {
     );
 }
 
+/// An update that wrote nothing that matters to what was read is in no list of the bundle; the next one is number 0 there.
+#[test]
+fn an_update_without_a_part_is_left_out(rt: HostRuntime) {
+    certified(
+        &rt,
+        rt.alloc(),
+        "item a 0\n\
+            item z 0\n\
+            begin q query 9\n\
+            begin u update 9\n\
+            begin w update 9\n\
+            write w z 1\n\
+            commit w\n\
+            read q a\n\
+            write u a 4\n\
+            commit u\n\
+            commit q\n",
+        "q",
+        false,
+        Ok(()),
+        "{\"certificate\":{\"back_flow\":[],\"chain_flow\":[[0,0]],\"set\":[],\"worth\":0},\"problem\":{\"before\":[],\"chains\":[{\"costs\":[0,4],\"item\":0,\"writers\":[0]}],\"updates\":[2]}}\n",
+    );
+}
+
+/// A strict query's bundle says what its set must hold, and what flows to that.
+#[test]
+fn strict_report_is_certified(rt: HostRuntime) {
+    certified(
+        &rt,
+        rt.alloc(),
+        "item a 0\n\
+            begin u update 0\n\
+            write u a 5\n\
+            commit u\n\
+            begin q query 9 strict\n\
+            begin v update 9\n\
+            write v a 0\n\
+            read q a\n\
+            abort v\n\
+            commit q\n",
+        "q",
+        false,
+        Ok(()),
+        "{\"certificate\":{\"back_flow\":[],\"chain_flow\":[[0,5]],\"must_flow\":[5],\"set\":[0],\"worth\":5},\"problem\":{\"before\":[],\"chains\":[{\"costs\":[0,5],\"item\":0,\"writers\":[0]}],\"must\":[0],\"updates\":[1]}}\n",
+    );
+}
+
 #[test]
 fn what_is_no_committed_query_is_refused(rt: HostRuntime) {
     let refused = Err(RunFault::NotACommittedQuery);
