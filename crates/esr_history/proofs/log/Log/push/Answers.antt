@@ -1,4 +1,5 @@
 use Rattle.std.proofs.Common.{◌≡◌, [], ◌∷◌, ◌++◌, length, map, ap, ◌∙◌, arith}
+use Rattle.std.proofs.lemmas.Grind.{common_steps}
 use Rattle.std.proofs.lemmas.List.{map-append, get_or_push}
 use Rattle.std.proofs.lemmas.List.Elements.{All-push}
 use Rattle.esr_history.specs.declared.short.Short.TheVariants.{Long}
@@ -25,3 +26,6 @@ pub invariant_of-self-2 : goal.invariant_of-self-2
 invariant_of-self-2 c =
     let long = c.self.inside.long.items in
     rw c.push_reserved-2.ensures.items (All-push (IsWithin long) c.self.inside.list.items c.in-Some.short c.self.invariant (c.in-Some.ensures long).1)
+
+pub returns-clause-entries : goal.returns-clause-entries
+returns-clause-entries c = grind (arith, common_steps)

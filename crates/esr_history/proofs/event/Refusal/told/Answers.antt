@@ -1,0 +1,8 @@
+use Rattle.std.proofs.Common.{rules}
+use Rattle.esr_history.proofs.event.Refusal.told.Goals as goal
+
+pub returns-in-LimitOutOfRange-clause-number : goal.returns-in-LimitOutOfRange-clause-number
+returns-in-LimitOutOfRange-clause-number c = search rules
+
+pub returns-in-BlockedByLock-clause-named : goal.returns-in-BlockedByLock-clause-named
+returns-in-BlockedByLock-clause-named c = search rules
