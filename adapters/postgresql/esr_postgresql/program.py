@@ -1,0 +1,119 @@
+"""The program `esr`: it runs a script, audits it, explains and draws a report.
+
+The idea: nothing of the engine or of the audit is done here. What the program answers to each line is compared with
+what the record says, so that a script that tells something else than the record is found, whatever the reason.
+
+Rejected: to take over the distances from a run without looking at its answers. A line that was blocked or refused
+would silently be missing from the history that the audit is about.
+"""
+
+from __future__ import annotations
+
+import os
+import pathlib
+import shutil
+import subprocess
+from dataclasses import dataclass
+from itertools import zip_longest
+from typing import Optional
+
+from .script import Script
+
+REPOSITORY = pathlib.Path(__file__).resolve().parents[3]
+
+
+class ProgramError(Exception):
+    """The program is not there, or it ended with a fault, or it answered something else than the record says."""
+
+
+@dataclass(frozen=True)
+class Finding:
+    """What the audit found of a report: its least distance, and what the engine would have charged it."""
+
+    name: str
+    distance: int
+    charged: int
+
+
+@dataclass(frozen=True)
+class OffRead:
+    """A read that is not as in the nearest placement."""
+
+    item: str
+    value: int
+    nearest: int
+    off: int
+
+
+def found(given: Optional[str] = None) -> str:
+    """The program: the one given, or that of the variable ESR, or the repository's, or the one on PATH."""
+    for path in (given, os.environ.get("ESR")):
+        if path:
+            if not os.access(path, os.X_OK):
+                raise ProgramError(f"{path} cannot be run: give the program esr by --esr or in the variable ESR")
+            return os.path.abspath(path)
+    own = REPOSITORY / "esr"
+    path = str(own) if os.access(own, os.X_OK) else shutil.which("esr")
+    if path is None:
+        raise ProgramError("the program esr was not found: give it by --esr or in the variable ESR")
+    return path
+
+
+class Program:
+    """The program `esr` at a path."""
+
+    def __init__(self, path: str) -> None:
+        self.path = path
+
+    def output(self, words: list[str], script: str) -> str:
+        """What it writes, of a script in a file."""
+        with open(script, "rb") as file:
+            done = subprocess.run([self.path, *words], stdin=file, capture_output=True, check=False)
+        if done.returncode:
+            said = done.stderr.decode(errors="replace").strip() or f"status {done.returncode}"
+            raise ProgramError(f"{self.path} {' '.join(words)} < {script}: {said}")
+        return done.stdout.decode()
+
+    def check_answers(self, script: Script, path: str) -> None:
+        """Runs a script, and compares the answer to each line with what the record says."""
+        answers = self.output(["run"], path).splitlines()
+        for line, expected, answer in zip_longest(script.lines, script.answers, answers):
+            if answer != expected:
+                raise ProgramError(f"{path}: the line '{line}' was answered '{answer}' and not '{expected}'")
+
+    def audit(self, path: str, workers: int) -> list[Finding]:
+        """What the audit finds of each report."""
+        findings = []
+        command = [self.path, "audit", "--workers", str(workers)]
+        with open(path, "rb") as file, subprocess.Popen(
+            command, stdin=file, stdout=subprocess.PIPE, stderr=subprocess.PIPE
+        ) as done:
+            assert done.stdout is not None and done.stderr is not None
+            for line in done.stdout:
+                # (the list of updates at the end of a line may be long, and is not needed)
+                words = line[:120].decode().split(" ", 7)
+                if words[0] == "audit":
+                    findings.append(Finding(words[1], int(words[3]), int(words[5])))
+            said = done.stderr.read().decode(errors="replace").strip()
+        if done.returncode:
+            raise ProgramError(f"{' '.join(command)} < {path}: {said or f'status {done.returncode}'}")
+        return findings
+
+    def explanation(self, name: str, path: str) -> str:
+        return self.output(["explain", name], path)
+
+    def picture(self, name: str, path: str) -> str:
+        return self.output(["picture", name], path)
+
+    def bundle(self, name: str, path: str) -> str:
+        return self.output(["certify", name], path)
+
+
+def off_reads(explanation: str) -> list[OffRead]:
+    """The reads of an explanation that are off, the worst first."""
+    reads = []
+    for line in explanation.splitlines():
+        words = line[:200].split(" ")
+        if words[0] == "read" and words[6] != "0":
+            reads.append(OffRead(words[1], int(words[2]), int(words[4]), int(words[6])))
+    return sorted(reads, key=lambda read: -read.off)
