@@ -13,5 +13,5 @@ pub mod Within
 pub mod ItemReads
 pub mod Posed
 pub mod Committed
-pub mod Summaries
+pub mod SummaryLaws
 pub mod SameSet

@@ -1,6 +1,6 @@
 -- The answer of an audit stays in longer histories.
 use Rattle.std.proofs.Common.{◌≡◌, ℕ, ◌≤◌, Bool, true, List, [], ◌∷◌, sym, ap, ◌∙◌, subst, arith, filter, map, Contains, Ok, Err, inl, inr, ⊎_elim, All, IsTrue, Result, IfOk}
-use Rattle.std.proofs.lemmas.List.Elements.{All-from_recursion, recursion_from_All}
+use Rattle.std.proofs.lemmas.List.Elements.{All-from_recursion, recursion_from_All, All-nil, All-cons, All-head, All-tail, All-same, All-map}
 use Rattle.esr_history.specs.declared.event.TxnId.{TxnId}
 use Rattle.esr_history.specs.declared.event.Entry.{Entry}
 use Rattle.esr_history.specs.Events.{is_committed}
@@ -13,7 +13,9 @@ use Rattle.esr_order.specs.Placements.{is_among, IsClosed, IsLeastSet, IsSmalles
 use Rattle.esr_order.specs.Statements.{ClosedSetsAreParts}
 use Rattle.esr_order.proofs.Ordered.{law_of_placements}
 use Rattle.esr_audit.specs.declared.finding.Book.{Book}
-use Rattle.esr_audit.specs.Findings.{IsAnswer, IsFinding, IsBook, Finding, AuditError}
+use Rattle.esr_audit.specs.declared.finding.Summary.{Summary}
+use Rattle.esr_audit.specs.declared.finding.Summaries.{Summaries}
+use Rattle.esr_audit.specs.Findings.{IsAnswer, IsFinding, IsBook, AreSummaries, Finding, AuditError, committed_queries, summary, seen_summary}
 use Rattle.esr_audit.proofs.Committed.{query_committed}
 
 module _ (d : Distance) (h longer : Schedule) (q : ℕ) (alike : IsAlike d h longer q) where
@@ -69,17 +71,38 @@ pub stays : (d : Distance) (h : Schedule) (q distance import : ℕ) (before : Li
     → (rest : List Entry) → IsLegal d (along h rest) → IsAnswer d (along h rest) q distance import before
 stays d h q distance import before committed a = λ rest legal. answer_stays d h (along h rest) q (audit_stays d h rest q legal committed) legal distance import before a
 
--- and what is found of each committed query
-pub findings_stay : (d : Distance) (h : Schedule) (r : Result Book AuditError)
-    → IfOk r (IsBook d h)
-    → IfOk r (λ b. (rest : List Entry) → IsLegal d (along h rest) → All (λ (f : Finding). IsAnswer d (along h rest) f.query.0 f.distance f.import (map (λ (t : TxnId). t.0) f.before.items)) b.findings.items)
-findings_stay d h (Err e) book = tt
-findings_stay d h (Ok b) book = λ rest legal.
-    All-from_recursion (λ (f : Finding). IsAnswer d (along h rest) f.query.0 f.distance f.import (map (λ (t : TxnId). t.0) f.before.items)) b.findings.items
-    (each_in (λ (f : Finding). IsAnswer d (along h rest) f.query.0 f.distance f.import (map (λ (t : TxnId). t.0) f.before.items)) b.findings.items (λ f i.
-    let finding : IsFinding d h f = each_at (IsFinding d h) b.findings.items f (recursion_from_All (IsFinding d h) b.findings.items book.findings) i in
-    stays d h f.query.0 f.distance f.import (map (λ (t : TxnId). t.0) f.before.items) (query_committed h f.query.0 (subst (In f.query.0) book.queries (listed b.findings.items f i))) finding.answer rest legal))
+-- and to each query of which there is a finding
+findings_answer : (d : Distance) (h : Schedule) (fs : List Finding) → map (λ (f : Finding). f.query.0) fs ≡ committed_queries h → All (IsFinding d h) fs
+    → (rest : List Entry) → IsLegal d (along h rest) → All (λ (f : Finding). IsAnswer d (along h rest) f.query.0 f.distance f.import (map (λ (t : TxnId). t.0) f.before.items)) fs
+findings_answer d h fs queries found rest legal =
+    All-from_recursion (λ (f : Finding). IsAnswer d (along h rest) f.query.0 f.distance f.import (map (λ (t : TxnId). t.0) f.before.items)) fs
+    (each_in (λ (f : Finding). IsAnswer d (along h rest) f.query.0 f.distance f.import (map (λ (t : TxnId). t.0) f.before.items)) fs (λ f i.
+    let finding : IsFinding d h f = each_at (IsFinding d h) fs f (recursion_from_All (IsFinding d h) fs found) i in
+    stays d h f.query.0 f.distance f.import (map (λ (t : TxnId). t.0) f.before.items) (query_committed h f.query.0 (subst (In f.query.0) queries (listed fs f i))) finding.answer rest legal))
   where
     listed : (fs : List Finding) (f : Finding) → In f fs → In f.query.0 (map (λ (f : Finding). f.query.0) fs)
     listed [] f i = absurd i
     listed (g ∷ fs) f i = ⊎_elim (λ e. inl (ap (λ (f : Finding). f.query.0) e)) (λ j. inr (listed fs f j)) i
+
+pub findings_stay : (d : Distance) (h : Schedule) (r : Result Book AuditError)
+    → IfOk r (IsBook d h)
+    → IfOk r (λ b. (rest : List Entry) → IsLegal d (along h rest) → All (λ (f : Finding). IsAnswer d (along h rest) f.query.0 f.distance f.import (map (λ (t : TxnId). t.0) f.before.items)) b.findings.items)
+findings_stay d h (Err e) book = tt
+findings_stay d h (Ok b) book = findings_answer d h b.findings.items book.queries book.findings
+
+-- the answers of summaries are those of the findings
+abbrev IsAnswerIn : Distance → Schedule → ℕ × ℕ × ℕ × List ℕ → Type 0
+IsAnswerIn d h t = IsAnswer d h t.0 t.1 t.2 t.3
+
+pub summaries_stay : (d : Distance) (h : Schedule) (r : Result Summaries AuditError)
+    → IfOk r (AreSummaries d h)
+    → IfOk r (λ b. (rest : List Entry) → IsLegal d (along h rest) → All (λ (s : Summary). IsAnswer d (along h rest) s.query.0 s.distance s.import (map (λ (t : TxnId). t.0) s.before.items)) b.summaries.items)
+summaries_stay d h (Err e) are = tt
+summaries_stay d h (Ok b) are = λ rest legal.
+    each_of (IsAnswerIn d (along h rest)) b.summaries.items
+    (All-same (IsAnswerIn d (along h rest)) (map seen_summary b.summaries.items) (map summary are.findings) are.of_findings
+    (All-map (IsAnswerIn d (along h rest)) summary are.findings (findings_answer d h are.findings are.queries are.found rest legal)))
+  where
+    each_of : (P : ℕ × ℕ × ℕ × List ℕ → Type 0) (ss : List Summary) → All P (map seen_summary ss) → All (λ (s : Summary). P (seen_summary s)) ss
+    each_of P [] a = All-nil (λ (s : Summary). P (seen_summary s))
+    each_of P (s ∷ ss) a = All-cons (λ (s : Summary). P (seen_summary s)) s ss (All-head P (seen_summary s) (map seen_summary ss) a) (each_of P ss (All-tail P (seen_summary s) (map seen_summary ss) a))

@@ -16,7 +16,9 @@ use Rattle.esr_order.specs.declared.order.OrderError.{OrderError}
 use Rattle.esr_order.specs.declared.order.OrderError.TheVariants.{NotACommittedQuery, NoMemory}
 use Rattle.esr_cert.specs.Views.{certificate_of}
 pub use Rattle.esr_audit.specs.declared.finding.Finding.{Finding}
+use Rattle.esr_audit.specs.declared.finding.Summary.{Summary}
 use Rattle.esr_audit.specs.declared.finding.Book.{Book}
+use Rattle.esr_audit.specs.declared.finding.Summaries.{Summaries}
 pub use Rattle.esr_audit.specs.declared.finding.AuditError.{AuditError}
 use Rattle.esr_audit.specs.declared.finding.AuditError.TheVariants as refusals
 use Rattle.esr_audit.specs.Problems.{StandsFor}
@@ -69,6 +71,10 @@ committed_queries h = filter (is_query (done h)) (commit_order (done h))
 abbrev pub summary : Finding → ℕ × ℕ × ℕ × List ℕ
 summary f = (f.query.0, f.distance, f.import, map (λ t. t.0) f.before.items)
 
+-- the same, as it is kept
+abbrev pub seen_summary : Summary → ℕ × ℕ × ℕ × List ℕ
+seen_summary s = (s.query.0, s.distance, s.import, map (λ t. t.0) s.before.items)
+
 -- the summary of a committed query: all of it is fixed by the history
 abbrev pub summary_of : Distance → Schedule → ℕ → ℕ × ℕ × ℕ × List ℕ
 summary_of d h q = (q, least_cost d h q, import_in (charges_in d h) q, least_set d h q)
@@ -80,3 +86,13 @@ pub record IsBook (d : Distance) (h : Schedule) (b : Book) : Type 0 where
   pub queries : map (λ f. f.query.0) b.findings.items ≡ committed_queries h
   pub findings : All (IsFinding d h) b.findings.items
   pub summaries : map summary b.findings.items ≡ map (summary_of d h) (committed_queries h)
+
+-- what is found of a history, in summaries: its committed updates, in commit order, and the summaries of findings of the
+-- committed queries, as a book has them, which are the queries'
+pub record AreSummaries (d : Distance) (h : Schedule) (s : Summaries) : Type 0 where
+  pub order : map (λ t. t.0) s.order.items ≡ committed_updates h
+  pub findings : List Finding
+  pub queries : map (λ f. f.query.0) findings ≡ committed_queries h
+  pub found : All (IsFinding d h) findings
+  pub of_findings : map seen_summary s.summaries.items ≡ map summary findings
+  pub summaries : map seen_summary s.summaries.items ≡ map (summary_of d h) (committed_queries h)

@@ -3,7 +3,7 @@
 
 ghost use Rattle.std.specs.Prelude.{◌≡◌};
 ghost use Rattle.esr_audit.specs.declared.finding.AuditError.TheVariants.{NoMemory};
-ghost use Rattle.esr_audit.specs.Findings.{refusal_of};
+ghost use Rattle.esr_audit.specs.Findings.{refusal_of, seen_summary, summary};
 
 use esr_cert::{Certificate, Problem};
 use esr_history::{NoMemory, TxnId};
@@ -31,6 +31,33 @@ pub struct Finding {
     pub certificate: Certificate,
 }
 
+/// What is told of a committed query: a finding without its problem and its certificate, which take the most memory.
+/// All of it is fixed by the history.
+#[derive(Drop)]
+pub struct Summary {
+    pub query: TxnId,
+    /// The least distance of all placements.
+    pub distance: u64,
+    /// What the query was charged: at least the distance.
+    pub import: u64,
+    /// The smallest set of updates before the position of a placement of that
+    /// distance, in commit order.
+    pub before: Vec<TxnId>,
+}
+
+impl From<Finding> for Summary {
+    ghost from_gives = { λ f s. seen_summary s ≡ summary f };
+
+    fn from(finding: Finding) -> Summary {
+        Summary {
+            query: finding.query,
+            distance: finding.distance,
+            import: finding.import,
+            before: finding.before,
+        }
+    }
+}
+
 /// What the audit of a history finds.
 #[derive(Drop)]
 pub struct Book {
@@ -38,6 +65,15 @@ pub struct Book {
     pub order: Vec<TxnId>,
     /// What is found of each committed query, in the order of their commits.
     pub findings: Vec<Finding>,
+}
+
+/// What the audit of a history finds, in summaries.
+#[derive(Drop)]
+pub struct Summaries {
+    /// The committed updates, in the order of their commits, which is a serial order of them.
+    pub order: Vec<TxnId>,
+    /// The summary of each committed query, in the order of their commits.
+    pub summaries: Vec<Summary>,
 }
 
 /// Why an audit gives no answer.

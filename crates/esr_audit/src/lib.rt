@@ -14,4 +14,4 @@ mod reads;
 
 pub use audit::{audit_history, audit_query, certify_with_steps};
 pub use commits::{CommitLists, commit_lists};
-pub use finding::{AuditError, Book, Finding};
+pub use finding::{AuditError, Book, Finding, Summaries, Summary};

@@ -1,11 +1,9 @@
--- Where the seats hold each number once, each job has its finding.
+-- Where the seats hold each number once, there is something for each job.
 use Rattle.std.proofs.Common.{◌≡◌, ℕ, zero, suc, ◌+◌, ◌<◌, ◌≤◌, ◌⊎◌, cond, eqb, leb, ltb, List, [], ◌∷◌, ◌++◌, map, length, sym, refl, ap, ◌∙◌, subst, inl, inr, ⊎_elim, arith, sum_by, filter, All, Option, lt-ltb, le-ltb, eq-eqb}
 use Rattle.std.proofs.lemmas.Bool.{cases_lt}
 use Rattle.std.proofs.lemmas.List.Sums.{sum_by-cons, sum_by_push}
 use Rattle.std.proofs.lemmas.List.Elements.{All-append}
 use borrow.Author.Tests.{lt-leb}
-use Rattle.esr_history.specs.declared.event.TxnId.{TxnId}
-use Rattle.esr_audit.specs.declared.finding.Finding.{Finding}
 use Rattle.esr_board.specs.Claims.{times, count_past, Drew, EachOnceBelow}
 use Rattle.esr_board.specs.Boards.{drawn, all_drawn, BoardSeat}
 use Rattle.esr_board.specs.Shares.{IsFilled}
@@ -60,7 +58,7 @@ past_there jobs (x ∷ xs) h = let c = sum_by-cons (λ y. cond {A = ℕ} (leb jo
     (λ (past : jobs ≤ x). let t = times_cons x x xs in let one : cond {A = ℕ} (eqb x x) 1 0 ≡ 1 = ap (λ b. cond {A = ℕ} b 1 0) (eq-eqb x x refl) in (x, past, omega arith))
     (cases_lt x jobs)
 
-pub all_filled : (jobs : ℕ) (seats : List BoardSeat) (slots : List (Option Finding)) → 0 < length seats → All (λ s. 0 < count_past jobs (drawn s)) seats → EachOnceBelow (length (all_drawn seats)) (all_drawn seats)
+pub all_filled : {T : Type 0} (jobs : ℕ) (seats : List BoardSeat) (slots : List (Option T)) → 0 < length seats → All (λ s. 0 < count_past jobs (drawn s)) seats → EachOnceBelow (length (all_drawn seats)) (all_drawn seats)
     → ((k : ℕ) → k < jobs → 0 < times k (all_drawn seats) → IsFilled slots k) → (k : ℕ) → k < jobs → IsFilled slots k
 all_filled jobs [] slots some_seat past once filled k l = absurd (omega arith)
 all_filled jobs (s ∷ ss) slots some_seat past once filled k l =
@@ -74,11 +72,3 @@ all_filled jobs (s ∷ ss) slots some_seat past once filled k l =
     let low : k < word = (let q = m.1 in omega arith) in
     let one : cond {A = ℕ} (ltb k word) 1 0 ≡ 1 = ap (λ b. cond {A = ℕ} b 1 0) (lt-ltb k word low) in
     filled k l (omega arith)
-
--- the findings of a list of queries, by number
-pub queries_by_number : (fs : List Finding) (ts : List TxnId) (qs : List ℕ) → map (λ (f : Finding). f.query) fs ≡ ts → map (λ (t : TxnId). t.0) ts ≡ qs → map (λ (f : Finding). f.query.0) fs ≡ qs
-queries_by_number fs ts qs queries numbers = each fs ∙ ap (map (λ (t : TxnId). t.0)) queries ∙ numbers
-  where
-    each : (fs : List Finding) → map (λ (f : Finding). f.query.0) fs ≡ map (λ (t : TxnId). t.0) (map (λ (f : Finding). f.query) fs)
-    each [] = refl
-    each (f ∷ fs) = ap (λ ns. f.query.0 ∷ ns) (each fs)

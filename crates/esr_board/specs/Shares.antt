@@ -1,5 +1,6 @@
--- What workers find, and how it is put back in the order of the jobs.
+-- What workers find, what they keep of it, and how that is put back in the order of the jobs.
 use Rattle.std.specs.Prelude.{◌≡◌, ℕ, ◌<◌, List, length, slice_index_or, map, All, Option, None, IsSome, IfSome, IsTrue, MatchResult, []}
+use Rattle.std.specs.List.{AllZip}
 use Rattle.esr_history.specs.declared.event.TxnId.{TxnId}
 use Rattle.esr_history.specs.Machine.{Distance, Schedule}
 use Rattle.esr_history.specs.Queries.{is_committed_query}
@@ -28,23 +29,42 @@ AreCommitted h queries = All (λ t. IsTrue (is_committed_query h t.0)) queries
 abbrev pub AreFound : Distance → Schedule → List TxnId → ℕ → List (ℕ × Finding) → Type 0
 AreFound d h queries jobs found = All (λ p. (p.0 < jobs) × IsFindingFor d h queries p.0 p.1) found
 
--- the jobs of a share are those that the seat drew, each with its finding, and the seat drew to the end
-abbrev pub IsShareOf : Distance → Schedule → List TxnId → ℕ → List ℕ → Share → Type 0
-IsShareOf d h queries jobs numbers s =
-    Drew jobs [] numbers (map (λ p. p.0) s.found.items) × AreFound d h queries jobs s.found.items
+-- What is kept of findings is told by a relation of a finding and what is kept of it.
+
+-- what is kept of what is found of a query
+abbrev pub IsKeptOf : {T : Type 0} → (Finding → T → Type 0) → Distance → Schedule → TxnId → T → Type 0
+IsKeptOf keeps d h q kept = (f : Finding) × (f.query ≡ q) × IsFinding d h f × keeps f kept
+
+-- of each query, in order, something is kept of what is found of it
+pub record KeepsFindings {T : Type 0} (keeps : Finding → T → Type 0) (d : Distance) (h : Schedule) (asked : List ℕ)
+    (things : List T) : Type 0 where
+  pub findings : List Finding
+  pub queries : map (λ f. f.query.0) findings ≡ asked
+  pub found : All (IsFinding d h) findings
+  pub kept : AllZip keeps findings things
+
+-- each job that was found is one of the board's, with what is kept of what is found of its query
+abbrev pub AreKept : {T : Type 0} → (Finding → T → Type 0) → Distance → Schedule → List TxnId → ℕ → List (ℕ × T) → Type 0
+AreKept keeps d h queries jobs found = All (λ p. (p.0 < jobs) × IsKeptOf keeps d h (query_of queries p.0) p.1) found
+
+-- the jobs of a share are those that the seat drew, each with what is kept of its finding, and the seat drew to the end
+abbrev pub IsShareOf : {T : Type 0} → (Finding → T → Type 0) → Distance → Schedule → List TxnId → ℕ → List ℕ → Share T
+    → Type 0
+IsShareOf keeps d h queries jobs numbers s =
+    Drew jobs [] numbers (map (λ p. p.0) s.found.items) × AreKept keeps d h queries jobs s.found.items
     × (0 < count_past jobs numbers)
 
 -- a worker gave its seat back, with its share, or out of memory
-abbrev pub IsWorked : Distance → Schedule → List TxnId → Board → Worked → Type 0
-IsWorked d h queries board w =
-    IsSeatOf board w.seat × MatchResult w.share (IsShareOf d h queries (jobs_of board) (drawn w.seat))
+abbrev pub IsWorked : {T : Type 0} → (Finding → T → Type 0) → Distance → Schedule → List TxnId → Board → Worked T → Type 0
+IsWorked keeps d h queries board w =
+    IsSeatOf board w.seat × MatchResult w.share (IsShareOf keeps d h queries (jobs_of board) (drawn w.seat))
     (λ e. e ≡ NoMemory)
 
--- there is a finding for a job
-abbrev pub IsFilled : List (Option Finding) → ℕ → Type 0
+-- there is something for a job
+abbrev pub IsFilled : {T : Type 0} → List (Option T) → ℕ → Type 0
 IsFilled slots k = IsSome (slice_index_or slots k None)
 
--- each finding that is there is that of its job
-abbrev pub AreRight : Distance → Schedule → List TxnId → List (Option Finding) → Type 0
-AreRight d h queries slots =
-    (k : ℕ) → k < length slots → IfSome (slice_index_or slots k None) (IsFindingFor d h queries k)
+-- all that is there is kept of what is found of the query of its job
+abbrev pub AreRight : {T : Type 0} → (Finding → T → Type 0) → Distance → Schedule → List TxnId → List (Option T) → Type 0
+AreRight keeps d h queries slots =
+    (k : ℕ) → k < length slots → IfSome (slice_index_or slots k None) (IsKeptOf keeps d h (query_of queries k))

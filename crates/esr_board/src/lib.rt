@@ -14,5 +14,5 @@ mod worker;
 
 pub use board::{Board, BoardError, BoardSeat, ClaimsMissing};
 pub use gate::{Gate, NoGate};
-pub use parallel::audit_parallel;
+pub use parallel::{audit_parallel, summarize_parallel};
 pub use worker::{Share, work};

@@ -1,60 +1,67 @@
 //! The audit of a whole history by several workers.
 //!
+//! A board hands out one job for each committed query. Each worker keeps of each finding what `T` is of it (`From`): the
+//! finding itself for a book, or its summary, a line of it. All functions up to `pages_by` are about any such `T`, and
+//! what they promise is said by the relation of the conversion, `from_gives`.
+//!
 //! The history is shared by reference, and nothing else but the word of the board. Each finding is put at the place of
 //! its job, so the book is in the order of the jobs. The workers are joined and give all seats back, so the board
 //! always closes: `unreachable!()` says so, and is proved, in place of a second audit that never runs.
+
 ghost use Rattle.std.specs.Prelude.{◌≡◌, ℕ, ◌<◌, ◌≤◌, ◌↔◌, ◌⊎◌, [], length, map, All, IfOk, IfErr, List, vec_len, slice_index_or, slice_set, Some, None};
+ghost use Rattle.std.specs.List.{AllZip};
 ghost use Rattle.esr_history.specs.declared.event.Entry.{Entry};
 ghost use Rattle.esr_history.specs.Legal.{along};
 ghost use Rattle.esr_history.specs.Machine.{IsLegal};
-ghost use Rattle.esr_history.specs.Serial.{IsSerializable};
+ghost use Rattle.esr_history.specs.Serial.{IsSerializable, committed_updates};
 ghost use Rattle.esr_history.specs.Totals.{IsWithinLimits};
-ghost use Rattle.esr_audit.specs.Findings.{IsAnswer, IsFinding, IsBook};
+ghost use Rattle.esr_audit.specs.Findings.{IsAnswer, IsBook, AreSummaries, committed_queries};
 ghost use Rattle.esr_board.specs.declared.board.TheConstants.{MOST_JOBS};
 ghost use Rattle.esr_board.specs.Claims.{times, count_past};
 ghost use Rattle.esr_board.specs.Boards.{IsSeatOf, drawn, all_drawn, jobs_of};
-ghost use Rattle.esr_board.specs.Shares.{AreCommitted, AreFound, IsWorked, IsFilled, AreRight};
+ghost use Rattle.esr_board.specs.Shares.{AreCommitted, AreKept, IsWorked, IsFilled, AreRight, IsKeptOf, KeepsFindings};
 
 use crate::board::{Board, BoardError, BoardSeat, MOST_SEATS};
 use crate::gate::Gate;
 use crate::worker::{Share, Worked, worked};
-use esr_audit::{AuditError, Book, CommitLists, Finding, commit_lists};
+use esr_audit::{AuditError, Book, CommitLists, Finding, Summaries, commit_lists};
 use esr_history::{History, TxnId};
 use esr_items::Metric;
 use std::alloc::{AllocError, Global};
 use std::thread;
 use std::thread::Threads;
 
-/// Puts a finding at the place of its job.
-fn put(slots: &mut Vec<Option<Finding>>, job: usize, finding: Finding)
+/// Puts what is kept of a finding at the place of its job.
+fn put<T: Drop>(slots: &mut Vec<Option<T>>, job: usize, kept: T)
     requires { job < vec_len slots.old }
-    ensures { slots.new.items ≡ slice_set slots.old.items job (Some finding) }
+    ensures { slots.new.items ≡ slice_set slots.old.items job (Some kept) }
 {
-    slots[job] = Some(finding);
+    slots[job] = Some(kept);
 }
 
-/// Puts each finding of a share at the place of its job.
-fn put_in_order<M: Metric>(
+/// Puts all of a share at the places of its jobs.
+fn put_in_order<M: Metric, T: From<Finding> + Drop>(
     history: &History<M>,
     jobs: &[TxnId],
-    slots: &mut Vec<Option<Finding>>,
-    share: Share,
+    slots: &mut Vec<Option<T>>,
+    share: Share<T>,
 )
-    requires share { AreFound M.distance_by history.now.schedule jobs.now (vec_len slots.old) share.found.items }
-    requires right { AreRight M.distance_by history.now.schedule jobs.now slots.old.items }
+    requires share { AreKept T.from_gives M.distance_by history.now.schedule jobs.now (vec_len slots.old)
+        share.found.items }
+    requires right { AreRight T.from_gives M.distance_by history.now.schedule jobs.now slots.old.items }
     ensures len { vec_len slots.new ≡ vec_len slots.old }
-    ensures right { AreRight M.distance_by history.now.schedule jobs.now slots.new.items }
+    ensures right { AreRight T.from_gives M.distance_by history.now.schedule jobs.now slots.new.items }
     ensures kept { (k : ℕ) → IsFilled slots.old.items k → IsFilled slots.new.items k }
     ensures filled { (k : ℕ) → 0 < times k (map (λ p. p.0) share.found.items) → IsFilled slots.new.items k }
 {
     let Share { mut found } = share;
-    while let Some((job, finding)) = found.pop() {
-        put(slots, job as usize, finding);
+    while let Some((job, kept)) = found.pop() {
+        put(slots, job as usize, kept);
     }
 }
 
 /// The share of each worker, on a thread of its own.
-fn shares<M: Metric + Sync, R: Threads + Sync, G: Gate + Sync>(
+fn shares<M: Metric + Sync, R: Threads + Sync, G: Gate + Sync, T: From<Finding> + Send + Drop>(
     rt: &R,
     alloc: Global,
     history: &History<M>,
@@ -62,32 +69,32 @@ fn shares<M: Metric + Sync, R: Threads + Sync, G: Gate + Sync>(
     board: &Board,
     seats: Vec<BoardSeat>,
     gate: &G,
-) -> Result<Vec<Worked>, AllocError>
+) -> Result<Vec<Worked<T>>, AllocError>
     requires seats { All (λ s. IsSeatOf board.now s × (drawn s ≡ [])) seats.items }
     requires jobs { (length jobs.now ≡ jobs_of board.now) × AreCommitted history.now.schedule jobs.now }
     ensures { IfOk result (λ v. (vec_len v ≡ vec_len seats)
-        × All (IsWorked M.distance_by history.now.schedule jobs.now board.now) v.items) }
+        × All (IsWorked T.from_gives M.distance_by history.now.schedule jobs.now board.now) v.items) }
 {
     thread::map_vec(
         rt,
         seats,
-        &|seat: BoardSeat| -> Worked
+        &|seat: BoardSeat| -> Worked<T>
             requires { IsSeatOf board.now seat × (drawn seat ≡ []) × (length jobs.now ≡ jobs_of board.now)
                 × AreCommitted history.now.schedule jobs.now }
-            ensures { IsWorked M.distance_by history.entry.now.schedule jobs.entry.now board.entry.now result }
+            ensures { IsWorked T.from_gives M.distance_by history.entry.now.schedule jobs.entry.now board.entry.now result }
         { worked(alloc, history, jobs, board, seat, gate) },
     )
 }
 
-/// The findings at the places of their jobs, and the seats.
+/// What is kept of findings at the places of their jobs, and the seats.
 #[derive(Drop)]
-struct FindingsAndSeats {
-    slots: Vec<Option<Finding>>,
+struct KeptAndSeats<T> {
+    slots: Vec<Option<T>>,
     seats: Vec<BoardSeat>,
 }
 
 /// So many places with nothing in them.
-fn vacant(alloc: Global, count: usize) -> Result<Vec<Option<Finding>>, AllocError>
+fn vacant<T: Drop>(alloc: Global, count: usize) -> Result<Vec<Option<T>>, AllocError>
     ensures { IfOk result (λ v. (vec_len v ≡ count) × ((k : ℕ) → slice_index_or v.items k None ≡ None)) }
 {
     let mut slots = Vec::with_capacity(alloc, count)?;
@@ -97,20 +104,20 @@ fn vacant(alloc: Global, count: usize) -> Result<Vec<Option<Finding>>, AllocErro
     Ok(slots)
 }
 
-/// Puts the findings of all shares at the places of their jobs, and collects the seats.
-fn gather<M: Metric>(
+/// Puts all shares at the places of their jobs, and collects the seats.
+fn gather<M: Metric, T: From<Finding> + Drop>(
     alloc: Global,
     history: &History<M>,
     jobs: &[TxnId],
     board: &Board,
-    mut all: Vec<Worked>,
-) -> Result<FindingsAndSeats, AuditError>
-    requires all { All (IsWorked M.distance_by history.now.schedule jobs.now board.now) all.items }
+    mut all: Vec<Worked<T>>,
+) -> Result<KeptAndSeats<T>, AuditError>
+    requires all { All (IsWorked T.from_gives M.distance_by history.now.schedule jobs.now board.now) all.items }
     requires len { length jobs.now ≡ jobs_of board.now }
     ensures seats { IfOk result (λ g. (vec_len g.seats ≡ vec_len all)
         × All (λ s. IsSeatOf board.now s × (0 < count_past (jobs_of board.now) (drawn s))) g.seats.items) }
     ensures slots { IfOk result (λ g. (vec_len g.slots ≡ length jobs.now)
-        × AreRight M.distance_by history.now.schedule jobs.now g.slots.items) }
+        × AreRight T.from_gives M.distance_by history.now.schedule jobs.now g.slots.items) }
     ensures filled { IfOk result (λ g. (k : ℕ) → k < jobs_of board.now → 0 < times k (all_drawn g.seats.items)
         → IsFilled g.slots.items k) }
     ensures err { IfErr result (λ e. e ≡ AuditError.NoMemory) }
@@ -130,48 +137,48 @@ fn gather<M: Metric>(
             return Err(AuditError::NoMemory);
         }
     }
-    Ok(FindingsAndSeats { slots, seats })
+    Ok(KeptAndSeats { slots, seats })
 }
 
-/// The findings out of their places, which are all filled.
-fn unwrapped<M: Metric>(
+/// What is kept out of its places, which are all filled.
+fn unwrapped<M: Metric, T: From<Finding> + Drop>(
     alloc: Global,
     history: &History<M>,
     jobs: &[TxnId],
-    mut slots: Vec<Option<Finding>>,
-) -> Result<Vec<Finding>, AuditError>
+    mut slots: Vec<Option<T>>,
+) -> Result<Vec<T>, AuditError>
     requires len { vec_len slots ≡ length jobs.now }
-    requires right { AreRight M.distance_by history.now.schedule jobs.now slots.items }
+    requires right { AreRight T.from_gives M.distance_by history.now.schedule jobs.now slots.items }
     requires filled { (k : ℕ) → k < vec_len slots → IsFilled slots.items k }
-    ensures queries { IfOk result (λ v. map (λ f. f.query) v.items ≡ jobs.now) }
-    ensures findings { IfOk result (λ v. All (IsFinding M.distance_by history.now.schedule) v.items) }
+    ensures kept { IfOk result (λ v. AllZip (IsKeptOf T.from_gives M.distance_by history.now.schedule)
+        jobs.now v.items) }
     ensures err { IfErr result (λ e. e ≡ AuditError.NoMemory) }
 {
-    let mut found = Vec::new(alloc);
+    let mut kept = Vec::new(alloc);
     for k in 0..slots.len() {
-        let Some(finding) = slots[k].take() else {
+        let Some(one) = slots[k].take() else {
             unreachable!()
         };
-        if found.push(finding).is_err() {
+        if kept.push(one).is_err() {
             return Err(AuditError::NoMemory);
         }
     }
-    Ok(found)
+    Ok(kept)
 }
 
-/// What is found of each of these committed queries, by so many workers, in order.
-fn findings_by<M: Metric + Sync, R: Threads + Sync, G: Gate + Sync>(
+/// What so many workers keep of what they find of each of these committed queries, in order.
+fn kept_by<M: Metric + Sync, R: Threads + Sync, G: Gate + Sync, T: From<Finding> + Send + Drop>(
     rt: &R,
     alloc: Global,
     history: &History<M>,
     jobs: &[TxnId],
     workers: u64,
     gate: &G,
-) -> Result<Vec<Finding>, AuditError>
+) -> Result<Vec<T>, AuditError>
     requires jobs { (length jobs.now ≤ MOST_JOBS) × AreCommitted history.now.schedule jobs.now }
     requires workers { (1 ≤ workers) × (workers ≤ MOST_SEATS) }
-    ensures queries { IfOk result (λ v. map (λ f. f.query) v.items ≡ jobs.now) }
-    ensures findings { IfOk result (λ v. All (IsFinding M.distance_by history.now.schedule) v.items) }
+    ensures kept { IfOk result (λ v. AllZip (IsKeptOf T.from_gives M.distance_by history.now.schedule)
+        jobs.now v.items) }
     ensures err { IfErr result (λ e. e ≡ AuditError.NoMemory) }
 {
     let (board, seats) = match Board::new(alloc, jobs.len() as u64, workers) {
@@ -183,7 +190,7 @@ fn findings_by<M: Metric + Sync, R: Threads + Sync, G: Gate + Sync>(
     let Ok(all) = shares(rt, alloc, history, jobs, &board, seats, gate) else {
         return Err(AuditError::NoMemory);
     };
-    let FindingsAndSeats { slots, seats } = match gather(alloc, history, jobs, &board, all) {
+    let KeptAndSeats { slots, seats } = match gather(alloc, history, jobs, &board, all) {
         Ok(gathered) => gathered,
         Err(failed) => return Err(failed),
     };
@@ -193,15 +200,24 @@ fn findings_by<M: Metric + Sync, R: Threads + Sync, G: Gate + Sync>(
     }
 }
 
-/// The committed updates of a history, and what so many workers find of its committed queries.
-fn book_by<M: Metric + Sync, R: Threads + Sync, G: Gate + Sync>(
+/// The committed updates of a history, and what is kept of what is found of each committed query.
+#[derive(Drop)]
+struct Pages<T> {
+    order: Vec<TxnId>,
+    kept: Vec<T>,
+}
+
+/// The committed updates of a history, and what so many workers keep of what they find of its committed queries.
+fn pages_by<M: Metric + Sync, R: Threads + Sync, G: Gate + Sync, T: From<Finding> + Send + Drop>(
     rt: &R,
     alloc: Global,
     history: &History<M>,
     workers: u64,
     gate: &G,
-) -> Result<Book, AuditError>
-    ensures book { IfOk result (IsBook M.distance_by history.now.schedule) }
+) -> Result<Pages<T>, AuditError>
+    ensures order { IfOk result (λ p. map (λ t. t.0) p.order.items ≡ committed_updates history.now.schedule) }
+    ensures kept { IfOk result (λ p. KeepsFindings T.from_gives M.distance_by history.now.schedule
+        (committed_queries history.now.schedule) p.kept.items) }
     ensures workers { (result ≡ Err AuditError.WorkersOutOfRange) ↔ ((workers ≡ 0) ⊎ (MOST_SEATS < workers)) }
     ensures err { IfErr result (λ e. (e ≡ AuditError.NoMemory) ⊎ (e ≡ AuditError.WorkersOutOfRange)) }
 {
@@ -218,10 +234,52 @@ fn book_by<M: Metric + Sync, R: Threads + Sync, G: Gate + Sync>(
     else {
         return Err(AuditError::NoMemory);
     };
-    match findings_by(rt, alloc, history, &queries, workers, gate) {
-        Ok(findings) => Ok(Book {
+    match kept_by(rt, alloc, history, &queries, workers, gate) {
+        Ok(kept) => Ok(Pages {
             order: updates,
-            findings,
+            kept,
+        }),
+        Err(failed) => Err(failed),
+    }
+}
+
+/// The committed updates of a history, and what so many workers find of its committed queries.
+fn book_by<M: Metric + Sync, R: Threads + Sync, G: Gate + Sync>(
+    rt: &R,
+    alloc: Global,
+    history: &History<M>,
+    workers: u64,
+    gate: &G,
+) -> Result<Book, AuditError>
+    ensures book { IfOk result (IsBook M.distance_by history.now.schedule) }
+    ensures workers { (result ≡ Err AuditError.WorkersOutOfRange) ↔ ((workers ≡ 0) ⊎ (MOST_SEATS < workers)) }
+    ensures err { IfErr result (λ e. (e ≡ AuditError.NoMemory) ⊎ (e ≡ AuditError.WorkersOutOfRange)) }
+{
+    match pages_by(rt, alloc, history, workers, gate) {
+        Ok(Pages { order, kept }) => Ok(Book {
+            order,
+            findings: kept,
+        }),
+        Err(failed) => Err(failed),
+    }
+}
+
+/// The same in summaries.
+fn summaries_by<M: Metric + Sync, R: Threads + Sync, G: Gate + Sync>(
+    rt: &R,
+    alloc: Global,
+    history: &History<M>,
+    workers: u64,
+    gate: &G,
+) -> Result<Summaries, AuditError>
+    ensures summaries { IfOk result (AreSummaries M.distance_by history.now.schedule) }
+    ensures workers { (result ≡ Err AuditError.WorkersOutOfRange) ↔ ((workers ≡ 0) ⊎ (MOST_SEATS < workers)) }
+    ensures err { IfErr result (λ e. (e ≡ AuditError.NoMemory) ⊎ (e ≡ AuditError.WorkersOutOfRange)) }
+{
+    match pages_by(rt, alloc, history, workers, gate) {
+        Ok(Pages { order, kept }) => Ok(Summaries {
+            order,
+            summaries: kept,
         }),
         Err(failed) => Err(failed),
     }
@@ -254,4 +312,31 @@ pub fn audit_parallel<M: Metric + Sync, R: Threads + Sync, G: Gate + Sync>(
 {
     let _legal = history.log(); // brings the invariant into the proof
     book_by(rt, alloc, history, workers, gate)
+}
+
+/// The same in summaries, for which each worker keeps no problem and no certificate: they take the most memory of a
+/// finding.
+///
+/// # Errors
+/// Those of `audit_parallel`.
+#[tactic(auto, using(esr_history::proofs::Laws::legal_serializable, esr_history::proofs::Charges::legal_within_limits))]
+pub fn summarize_parallel<M: Metric + Sync, R: Threads + Sync, G: Gate + Sync>(
+    rt: &R,
+    alloc: Global,
+    history: &History<M>,
+    workers: u64,
+    gate: &G,
+) -> Result<Summaries, AuditError>
+    ensures legal { IsLegal M.distance_by history.now.schedule }
+    ensures serializable { IsSerializable history.now.schedule }
+    ensures limits { IsWithinLimits M.distance_by history.now.schedule }
+    ensures summaries { IfOk result (AreSummaries M.distance_by history.now.schedule) }
+    ensures workers { (result ≡ Err AuditError.WorkersOutOfRange) ↔ ((workers ≡ 0) ⊎ (MOST_SEATS < workers)) }
+    ensures err { IfErr result (λ e. (e ≡ AuditError.NoMemory) ⊎ (e ≡ AuditError.WorkersOutOfRange)) }
+    ensures stays { IfOk result (λ b. (rest : List Entry) → IsLegal M.distance_by (along history.now.schedule rest)
+        → All (λ s. IsAnswer M.distance_by (along history.now.schedule rest) s.query.0 s.distance s.import
+        (map (λ t. t.0) s.before.items)) b.summaries.items) }
+{
+    let _legal = history.log(); // brings the invariant into the proof
+    summaries_by(rt, alloc, history, workers, gate)
 }

@@ -8,15 +8,15 @@ mod turns;
 pub use turns::work;
 pub(crate) use turns::worked;
 
-/// The jobs that one worker did, each with its finding, in the order of its claims.
+/// The jobs that one worker did, each with its finding or with what is kept of it, in the order of its claims.
 #[derive(Drop)]
-pub struct Share {
-    pub found: Vec<(u64, Finding)>,
+pub struct Share<T = Finding> {
+    pub found: Vec<(u64, T)>,
 }
 
 /// What a worker gives back.
 #[derive(Drop)]
-pub(crate) struct Worked {
-    pub(crate) share: Result<Share, AuditError>,
+pub(crate) struct Worked<T> {
+    pub(crate) share: Result<Share<T>, AuditError>,
     pub(crate) seat: BoardSeat,
 }

@@ -2,35 +2,36 @@
 
 ghost use Rattle.std.specs.Prelude.{◌≡◌, ◌++◌, OnOk, map, flat_map};
 ghost use Rattle.esr_report.specs.Lines.{order_line, totals_line};
-ghost use Rattle.esr_audit.specs.Findings.{summary};
+ghost use Rattle.esr_audit.specs.Findings.{seen_summary};
 ghost use Rattle.esr_script.specs.Audit.{told_line};
 
-use esr_audit::{Book, Finding};
+use esr_audit::{Summaries, Summary};
 use esr_core::Totals;
 use esr_report::{Names, audit_line, name_of_transaction, order_line, totals_line};
 use std::alloc::AllocError;
 
 /// Appends the line of what was found of a query.
-fn push_finding(out: &mut Vec<u8>, names: &Names, finding: &Finding) -> Result<(), AllocError>
-    ensures { OnOk result (out.new.items ≡ out.old.items ++ told_line names.now (summary finding.now)) }
+fn push_summary(out: &mut Vec<u8>, names: &Names, summary: &Summary) -> Result<(), AllocError>
+    ensures { OnOk result (out.new.items ≡ out.old.items ++ told_line names.now (seen_summary summary.now)) }
 {
     audit_line(
         out,
         names,
-        name_of_transaction(names, finding.query),
-        finding.distance,
-        finding.import,
-        &finding.before,
+        name_of_transaction(names, summary.query),
+        summary.distance,
+        summary.import,
+        &summary.before,
     )
 }
 
 /// Appends the lines of what was found of queries.
 #[tactic(auto, using(crate::proofs::Audited::lines_more))]
-fn push_findings(out: &mut Vec<u8>, names: &Names, findings: &[Finding]) -> Result<(), AllocError>
-    ensures { OnOk result (out.new.items ≡ out.old.items ++ flat_map (told_line names.now) (map summary findings.now)) }
+fn push_summaries(out: &mut Vec<u8>, names: &Names, summaries: &[Summary]) -> Result<(), AllocError>
+    ensures { OnOk result (out.new.items ≡ out.old.items
+        ++ flat_map (told_line names.now) (map seen_summary summaries.now)) }
 {
-    for finding in findings {
-        push_finding(out, names, finding)?;
+    for summary in summaries {
+        push_summary(out, names, summary)?;
     }
     Ok(())
 }
@@ -39,15 +40,15 @@ fn push_findings(out: &mut Vec<u8>, names: &Names, findings: &[Finding]) -> Resu
 pub fn push_audit(
     out: &mut Vec<u8>,
     names: &Names,
-    book: &Book,
+    found: &Summaries,
     totals: Totals,
 ) -> Result<(), AllocError>
     ensures { OnOk result (out.new.items ≡ out.old.items
-        ++ order_line names.now (map (λ t. t.0) book.now.order.items)
-        ++ flat_map (told_line names.now) (map summary book.now.findings.items)
+        ++ order_line names.now (map (λ t. t.0) found.now.order.items)
+        ++ flat_map (told_line names.now) (map seen_summary found.now.summaries.items)
         ++ totals_line totals.import totals.export totals.entries) }
 {
-    order_line(out, names, &book.order)?;
-    push_findings(out, names, &book.findings)?;
+    order_line(out, names, &found.order)?;
+    push_summaries(out, names, &found.summaries)?;
     totals_line(out, totals.import, totals.export, totals.entries)
 }

@@ -337,10 +337,10 @@ impl Script {
         ensures faults { IfErr result (λ e. e ≡ RunFault.NoMemory) }
     {
         self.stage.close(self.alloc)?;
-        let book = self.stage.audit_all(rt, self.alloc, workers)?;
+        let found = self.stage.audit_all(rt, self.alloc, workers)?;
         let totals = self.stage.totals();
         let mut out = Vec::new(self.alloc);
-        match push_audit(&mut out, &self.transactions, &book, totals) {
+        match push_audit(&mut out, &self.transactions, &found, totals) {
             Ok(()) => Ok(out),
             Err(_) => Err(RunFault::NoMemory),
         }

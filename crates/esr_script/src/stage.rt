@@ -9,12 +9,12 @@ ghost use Rattle.esr_history.specs.Totals.{all_imports, all_exports};
 ghost use Rattle.esr_history.specs.Queries.{is_committed_query};
 ghost use Rattle.esr_cert.specs.Views.{certificate_of};
 ghost use Rattle.esr_order.specs.Least.{least_set, least_cost};
-ghost use Rattle.esr_audit.specs.Findings.{IsShown, IsBook};
+ghost use Rattle.esr_audit.specs.Findings.{IsShown, AreSummaries};
 ghost use Rattle.esr_items.specs.Weights.{weighted};
 
 use crate::fault::RunFault;
-use esr_audit::{AuditError, Book, Finding, audit_query};
-use esr_board::{NoGate, audit_parallel};
+use esr_audit::{AuditError, Finding, Summaries, audit_query};
+use esr_board::{NoGate, summarize_parallel};
 use esr_core::{Machine, StepError, Totals};
 use esr_history::{Event, History, Reply, TxnId};
 use esr_items::{Store, Weighted};
@@ -127,23 +127,23 @@ impl Stage {
         }
     }
 
-    /// What the audit of the whole history by so many workers finds.
+    /// What the audit of the whole history by so many workers finds, in summaries: of each finding a line is told.
     pub fn audit_all<T: Threads + Sync>(
         &self,
         rt: &T,
         alloc: Global,
         workers: u64,
-    ) -> Result<Book, RunFault>
+    ) -> Result<Summaries, RunFault>
         requires running { is_running self.now ≡ true }
         requires workers { (1 ≤ workers) × (workers ≤ MOST_SEATS) }
-        ensures book { IfOk result (IsBook weighted (history_of self.now)) }
+        ensures summaries { IfOk result (AreSummaries weighted (history_of self.now)) }
         ensures faults { IfErr result (λ e. e ≡ RunFault.NoMemory) }
     {
         let Stage::Running(machine) = self else {
             unreachable!()
         };
-        match audit_parallel(rt, alloc, machine.history(), workers, &NoGate) {
-            Ok(book) => Ok(book),
+        match summarize_parallel(rt, alloc, machine.history(), workers, &NoGate) {
+            Ok(found) => Ok(found),
             Err(AuditError::NoMemory) => Err(RunFault::NoMemory),
             Err(AuditError::NotACommittedQuery) => unreachable!(),
             Err(AuditError::WorkersOutOfRange) => unreachable!(),

@@ -1,19 +1,61 @@
 //! What one worker does: claims a job, audits its query, until no job is left. A worker that draws a job which is no
 //! committed query stops, and keeps what it drew; `audit_parallel` gives it none, but `work` is a public call with a
 //! list of its own.
+//!
+//! A finding is large, since its problem and its certificate are, and who audits a whole history may want a line of each.
+//! So there is one loop of claims and audits, `draw`, for all that may be kept of a finding: what `T::from` makes of it.
+
 ghost use Rattle.std.specs.Prelude.{[], ◌≡◌, ◌≢◌, ℕ, ◌<◌, length, map, IfOk, IfErr, List, Any, false};
 ghost use Rattle.esr_history.specs.Queries.{is_committed_query};
 ghost use Rattle.esr_board.specs.Claims.{count_past, Drew};
 ghost use Rattle.esr_board.specs.Boards.{IsSeatOf, drawn, jobs_of};
-ghost use Rattle.esr_board.specs.Shares.{AreCommitted, AreFound, IsWorked, query_of};
+ghost use Rattle.esr_board.specs.Shares.{AreCommitted, AreFound, AreKept, IsWorked, query_of};
 
 use super::{Share, Worked};
 use crate::board::{Board, BoardSeat};
 use crate::gate::Gate;
-use esr_audit::{AuditError, audit_query};
+use esr_audit::{AuditError, Finding, audit_query};
 use esr_history::{History, TxnId};
 use esr_items::Metric;
 use std::alloc::Global;
+
+/// Claims jobs and audits their queries until no job is left, and keeps of each finding what `T` is of it.
+fn draw<M: Metric, G: Gate, T: From<Finding> + Drop>(
+    alloc: Global,
+    history: &History<M>,
+    jobs: &[TxnId],
+    board: &Board,
+    seat: &mut BoardSeat,
+    gate: &G,
+) -> Result<Share<T>, AuditError>
+    requires seat { IsSeatOf board.now seat.old }
+    requires jobs { length jobs.now ≡ jobs_of board.now }
+    ensures seat { IsSeatOf board.now seat.new }
+    ensures jobs { IfOk result (λ s. Drew (jobs_of board.now) (drawn seat.old) (drawn seat.new)
+        (map (λ p. p.0) s.found.items)) }
+    ensures kept { IfOk result (λ s. AreKept T.from_gives M.distance_by history.now.schedule jobs.now
+        (jobs_of board.now) s.found.items) }
+    ensures ended { IfOk result (λ _. 0 < count_past (jobs_of board.now) (drawn seat.new)) }
+    ensures err { IfErr result (λ e. (js : List ℕ) × Drew (jobs_of board.now) (drawn seat.old) (drawn seat.new) js
+        × (e ≡ AuditError.NotACommittedQuery
+        → Any (λ n. (n < jobs_of board.now) × (is_committed_query history.now.schedule (query_of jobs.now n).0
+        ≡ false)) js)) }
+    ensures other { IfErr result (λ e. e ≢ AuditError.WorkersOutOfRange) }
+{
+    let mut found = Vec::new(alloc);
+    while let Some(job) = board.claim(seat) {
+        gate.enter(job);
+        let finding = match audit_query(alloc, history, jobs[job as usize]) {
+            Ok(finding) => finding,
+            Err(failed) => return Err(failed),
+        };
+        let kept = T::from(finding);
+        if found.push((job, kept)).is_err() {
+            return Err(AuditError::NoMemory);
+        }
+    }
+    Ok(Share { found })
+}
 
 /// Claims jobs and audits their queries until no job is left. The share has exactly the jobs that
 /// the seat drew in this call, in order, each with what is found of its query. It calls `enter` of
@@ -44,33 +86,22 @@ pub fn work<M: Metric, G: Gate>(
         ≡ false)) js)) }
     ensures other { IfErr result (λ e. e ≢ AuditError.WorkersOutOfRange) }
 {
-    let mut found = Vec::new(alloc);
-    while let Some(job) = board.claim(seat) {
-        gate.enter(job);
-        let finding = match audit_query(alloc, history, jobs[job as usize]) {
-            Ok(finding) => finding,
-            Err(failed) => return Err(failed),
-        };
-        if found.push((job, finding)).is_err() {
-            return Err(AuditError::NoMemory);
-        }
-    }
-    Ok(Share { found })
+    draw::<M, G, Finding>(alloc, history, jobs, board, seat, gate)
 }
 
 /// All turns of one worker, with a seat that has drawn nothing.
-pub(crate) fn worked<M: Metric, G: Gate>(
+pub(crate) fn worked<M: Metric, G: Gate, T: From<Finding> + Drop>(
     alloc: Global,
     history: &History<M>,
     jobs: &[TxnId],
     board: &Board,
     mut seat: BoardSeat,
     gate: &G,
-) -> Worked
+) -> Worked<T>
     requires seat { IsSeatOf board.now seat × (drawn seat ≡ []) }
     requires jobs { (length jobs.now ≡ jobs_of board.now) × AreCommitted history.now.schedule jobs.now }
-    ensures { IsWorked M.distance_by history.now.schedule jobs.now board.now result }
+    ensures { IsWorked T.from_gives M.distance_by history.now.schedule jobs.now board.now result }
 {
-    let share = work(alloc, history, jobs, board, &mut seat, gate);
+    let share = draw(alloc, history, jobs, board, &mut seat, gate);
     Worked { share, seat }
 }

@@ -1,26 +1,24 @@
-use Rattle.std.proofs.Common.{rules, arith, ◌≡◌, ◌++◌, [], ◌∷◌, List, map, take, get_or, get_or-set_other, None, Some, sym, ap, ◌∙◌, subst, Option, IfSome}
-use Rattle.std.proofs.lemmas.List.{map-append, take_more, take_all, get_or_default}
+use Rattle.std.proofs.Common.{rules, arith, ◌≡◌, ◌+◌, ◌++◌, [], ◌∷◌, List, take, get_or, get_or-set_other, None, Some, sym, ◌∙◌, subst, Option, IfSome}
+use Rattle.std.specs.List.{AllZip}
+use Rattle.std.proofs.lemmas.List.{take_more, take_all, get_or_default}
 use Rattle.esr_history.specs.declared.event.TxnId.{TxnId}
-use Rattle.esr_audit.specs.declared.finding.Finding.{Finding}
-use Rattle.esr_audit.specs.Findings.{IsFinding}
-use Rattle.esr_board.specs.Shares.{IsFindingFor}
-use Rattle.esr_board.proofs.Whole.{all_pushed}
+use Rattle.esr_board.specs.Shares.{IsKeptOf, query_of}
+use Rattle.esr_board.proofs.Keeping.{all_zip_push}
 use Rattle.esr_board.proofs.parallel.unwrapped.Goals as goal
 
 pub loop-k-preserved : goal.loop-k-preserved
-loop-k-preserved g c = let was = c.loop-k.invariant in let k = c.loop-k.k in let f = c.in-Some.finding in
-    let d = g.M.Metric.distance_by in let h = c.args.history.now.schedule in let q = c.args.jobs.now in
+loop-k-preserved g c = let was = c.loop-k.invariant in let k = c.loop-k.k in let x = c.in-Some.one in
+    let P = IsKeptOf g.T.From.from_gives g.M.Metric.distance_by c.args.history.now.schedule in let q = c.args.jobs.now in
     let same : get_or c.loop-k.slots.items k None ≡ get_or c.args.slots.items k None = was.rest k (omega arith) in
-    let there : get_or c.loop-k.slots.items k None ≡ Some f = get_or_default c.loop-k.slots.items k None c.index_mut.result.now (search rules) ∙ sym c.index_mut.ensures.value ∙ sym c.in-Some.ensures.value in
-    let here : get_or c.args.slots.items k None ≡ Some f = sym same ∙ there in
-    let more : c.push.new.self.items ≡ c.loop-k.found.items ++ f ∷ [] = search rules in
-    let is : IsFindingFor d h q k f = subst (λ (o : Option Finding). IfSome o (IsFindingFor d h q k)) here (c.requires.right k (search rules)) in record {
+    let there : get_or c.loop-k.slots.items k None ≡ Some x = get_or_default c.loop-k.slots.items k None c.index_mut.result.now (search rules) ∙ sym c.index_mut.ensures.value ∙ sym c.in-Some.ensures.value in
+    let here : get_or c.args.slots.items k None ≡ Some x = sym same ∙ there in
+    let more : c.push.new.self.items ≡ c.loop-k.kept.items ++ x ∷ [] = search rules in
+    let is : P (query_of q k) x = subst (λ (o : Option g.row.T.Denot). IfSome o (P (query_of q k))) here (c.requires.right k (search rules)) in
+    let jobs : take (k + 1) q ≡ take k q ++ query_of q k ∷ [] = take_more q k (record { 0 = 0 }) (search rules) in record {
       len = search rules;
       rest = (λ j l. let ne : ¬ (j ≡ k) = λ e. omega arith in get_or-set_other c.loop-k.slots.items k j c.take.new.self None ne ∙ was.rest j (omega arith));
-      queries = ap (map (λ (f : Finding). f.query)) more ∙ map-append (λ (f : Finding). f.query) c.loop-k.found.items (f ∷ [])
-          ∙ ap (λ (qs : List TxnId). qs ++ f.query ∷ []) was.queries ∙ ap (λ (t : TxnId). take k q ++ t ∷ []) is.0 ∙ sym (take_more q k (record { 0 = 0 }) (search rules));
-      findings = all_pushed (IsFinding d h) _ _ f more was.findings is.1;
+      kept = subst (λ (qs : List TxnId). AllZip P qs c.push.new.self.items) (sym jobs) (subst (λ (xs : List g.row.T.Denot). AllZip P (take k q ++ query_of q k ∷ []) xs) (sym more) (all_zip_push P (take k q) c.loop-k.kept.items (query_of q k) x was.kept is));
     }
 
-pub returns-clause-queries : goal.returns-clause-queries
-returns-clause-queries g c = c.loop-k.invariant.queries ∙ take_all c.loop-k.k c.args.jobs.now (search rules)
+pub returns-clause-kept : goal.returns-clause-kept
+returns-clause-kept g c = subst (λ (qs : List TxnId). AllZip (IsKeptOf g.T.From.from_gives g.M.Metric.distance_by c.args.history.now.schedule) qs c.loop-k.kept.items) (take_all c.loop-k.k c.args.jobs.now (search rules)) c.loop-k.invariant.kept

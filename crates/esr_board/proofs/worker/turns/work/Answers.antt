@@ -1,39 +1,6 @@
-use Rattle.std.proofs.Common.{rules, false, sym, subst, ◌∙◌, ◌≡◌, ◌<◌, ◌++◌, [], ◌∷◌, ℕ, map, length, arith}
-use Rattle.std.proofs.lemmas.List.{get_or_default}
-use Rattle.esr_history.specs.Queries.{is_committed_query}
-use Rattle.esr_history.specs.declared.event.TxnId.{TxnId}
-use Rattle.esr_audit.specs.declared.finding.Finding.{Finding}
-use Rattle.esr_audit.specs.Findings.{IsFindingOf}
-use Rattle.esr_board.specs.Shares.{IsFindingFor, query_of}
-use Rattle.esr_board.proofs.Whole.{all_pushed}
-use Rattle.esr_board.proofs.Draws.{drew_then, drew_job, drew_more, drew_last, any_last}
+use Rattle.std.proofs.Common.{Result, Ok, Err, IfOk}
+use Rattle.esr_board.proofs.Keeping.{found_if_ok}
 use Rattle.esr_board.proofs.worker.turns.work.Goals as goal
 
-pub returns-in-Err-clause-err : goal.returns-in-Err-clause-err
-returns-in-Err-clause-err g c = let job = c.in-Some.job in let js = map (λ (p : ℕ × Finding). p.0) c.loop-job.found.items in (
-  js ++ job ∷ [],
-  drew_then _ _ _ _ js (job ∷ []) c.loop-job.invariant.drew (drew_job _ _ _ job c.in-Some.ensures.job.1 c.in-Some.ensures.job.0),
-  λ e. any_last (λ n. (n < c.args.board.now.jobs) × (is_committed_query c.args.history.now.schedule (query_of c.args.jobs.now n).0 ≡ false)) js job (c.in-Some.ensures.job.0, c.in-Err.ensures.refused.0 (search rules)),
-)
-
-pub returns-then-is_err-clause-err : goal.returns-then-is_err-clause-err
-returns-then-is_err-clause-err g c = let job = c.in-Some.job in let js = map (λ (p : ℕ × Finding). p.0) c.loop-job.found.items in (
-  js ++ job ∷ [],
-  drew_then _ _ _ _ js (job ∷ []) c.loop-job.invariant.drew (drew_job _ _ _ job c.in-Some.ensures.job.1 c.in-Some.ensures.job.0),
-  λ e. cc,
-)
-
-pub returns-clause-jobs : goal.returns-clause-jobs
-returns-clause-jobs g c = drew_last _ _ _ _ _ c.loop-job.invariant.drew c.in_default.ensures.none.1
-
-pub loop-job-preserved : goal.loop-job-preserved
-loop-job-preserved g c = let job = c.in-Some.job in let f = c.in-Ok.finding in
-    let d = g.M.Metric.distance_by in let h = c.args.history.now.schedule in let q = c.args.jobs.now in
-    let more : c.push.new.self.items ≡ c.loop-job.found.items ++ (job, f) ∷ [] = search rules in
-    let below : job < length q = omega (arith, c.in-Some.ensures.job.0, c.requires.jobs) in
-    let e = c.in-Ok.ensures in
-    let is : IsFindingFor d h q job f = (e.query ∙ get_or_default q job _ (record { 0 = 0 }) below, subst (λ (t : TxnId). IsFindingOf d h t.0 f) (sym e.query) e.finding) in record {
-      seat = search rules;
-      drew = drew_more _ _ _ _ c.loop-job.found.items c.push.new.self.items job f c.loop-job.invariant.drew c.in-Some.ensures.job.1 c.in-Some.ensures.job.0 more;
-      found = all_pushed (λ (p : ℕ × Finding). (p.0 < c.args.board.now.jobs) × IsFindingFor d h q p.0 p.1) _ _ (job, f) more c.loop-job.invariant.found (c.in-Some.ensures.job.0, is);
-    }
+pub returns-clause-found : goal.returns-clause-found
+returns-clause-found g c = found_if_ok g.M.Metric.distance_by c.args.history.now.schedule c.args.jobs.now c.args.board.now.jobs c.draw.result c.draw.ensures.kept

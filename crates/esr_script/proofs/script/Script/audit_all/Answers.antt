@@ -1,14 +1,14 @@
 use Rattle.std.proofs.Common.{map, ◌∙◌}
-use Rattle.esr_audit.specs.Findings.{summary}
+use Rattle.esr_audit.specs.Findings.{seen_summary}
 use Rattle.esr_script.specs.Stages.{is_running, history_of}
 use Rattle.esr_script.proofs.Audited.{book_lines}
 use Rattle.esr_script.proofs.script.Script.audit_all.Goals as goal
 
 pub returns-in-Ok-clause-ok : goal.returns-in-Ok-clause-ok
 returns-in-Ok-clause-ok g c =
-    let book = c.in_ok-book.book in let totals = c.totals-totals in
+    let found = c.in_ok-found.found in let totals = c.totals-totals in
     let lines = book_lines c.self.inside.items c.self.inside.transactions (is_running c.self.inside.stage)
     (history_of c.self.inside.stage) (history_of c.close.new.self) c.args.self.now
-    (map (λ t. t.0) book.order.items) (map summary book.findings.items) totals.result.import totals.result.export totals.result.entries
-    c.self.view_is c.in_ok-close.ensures.ok.1 c.in_ok-book.ensures.book.order c.in_ok-book.ensures.book.summaries totals.ensures.import totals.ensures.export totals.ensures.entries in
+    (map (λ t. t.0) found.order.items) (map seen_summary found.summaries.items) totals.result.import totals.result.export totals.result.entries
+    c.self.view_is c.in_ok-close.ensures.ok.1 c.in_ok-found.ensures.summaries.order c.in_ok-found.ensures.summaries.summaries totals.ensures.import totals.ensures.export totals.ensures.entries in
     c.in-Ok.ensures ∙ rw c.new-out.ensures.items lines

@@ -1,6 +1,6 @@
 use Rattle.std.proofs.Common.{rules, ◌<◌, length}
 use Rattle.esr_board.proofs.Whole.{all_filled}
-use Rattle.esr_board.proofs.parallel.findings_by.Goals as goal
+use Rattle.esr_board.proofs.parallel.kept_by.Goals as goal
 
 pub unwrapped-requires-clause-filled : goal.unwrapped-requires-clause-filled
 unwrapped-requires-clause-filled g c = let e = c.in-Ok-gather.ensures in let seats = c.in-Ok-gather.gathered.seats.items in
