@@ -29,264 +29,308 @@ pub fn table() -> &'static [Row] {
 }
 
 static ROWS: [Row; 44] = [
+    // As it was written.
     Row {
         bundle: TWO_UPDATES,
         old: "",
         new: "",
         line: "valid 1\n",
     },
+    // The set does not ascend.
     Row {
         bundle: TWO_UPDATES,
         old: r#""set":[0,1]"#,
         new: r#""set":[1,0]"#,
         line: "invalid 1\n",
     },
+    // The set has a position at which there is no update.
     Row {
         bundle: TWO_UPDATES,
         old: r#""set":[0,1]"#,
         new: r#""set":[0,2]"#,
         line: "invalid 2\n",
     },
+    // The set lacks an update that comes before one of its own.
     Row {
         bundle: TWO_UPDATES,
         old: r#""set":[0,1]"#,
         new: r#""set":[1]"#,
         line: "invalid 3\n",
     },
+    // An amount is above its arc's capacity.
     Row {
         bundle: TWO_UPDATES,
         old: "[0,0,1],[1,0]",
         new: "[0,0,2],[1,0]",
         line: "invalid 4\n",
     },
+    // A list of amounts is too short.
     Row {
         bundle: TWO_UPDATES,
         old: r#""back_flow":[0]"#,
         new: r#""back_flow":[]"#,
         line: "invalid 4\n",
     },
+    // At an update more comes in than leaves.
     Row {
         bundle: TWO_UPDATES,
         old: "[0,0,1],[1,0]",
         new: "[0,0,0],[1,0]",
         line: "invalid 5\n",
     },
+    // The worth is not the flow's.
     Row {
         bundle: TWO_UPDATES,
         old: r#""worth":1"#,
         new: r#""worth":0"#,
         line: "invalid 6\n",
     },
+    // The flow shows the worth, and the set costs more.
     Row {
         bundle: TWO_UPDATES,
         old: r#""set":[0,1]"#,
         new: r#""set":[]"#,
         line: "invalid 6\n",
     },
+    // It is no JSON.
     Row {
         bundle: TWO_UPDATES,
         old: "[2,3]}}",
         new: "[2,3]}",
         line: "bad 1\n",
     },
+    // Neighbours of a chain are no pair.
     Row {
         bundle: TWO_UPDATES,
         old: r#""before":[[0,1]]"#,
         new: r#""before":[]"#,
         line: "bad 2\n",
     },
+    // A negative number is none of these.
     Row {
         bundle: TWO_UPDATES,
         old: r#""worth":1"#,
         new: r#""worth":-1"#,
         line: "bad 2\n",
     },
+    // 0 is no transaction.
     Row {
         bundle: TWO_UPDATES,
         old: "[2,3]}}",
         new: "[2,0]}}",
         line: "bad 3\n",
     },
+    // A cost is above what reads can cost.
     Row {
         bundle: TWO_UPDATES,
         old: "[8,0]",
         new: "[2000000000000000001,0]",
         line: "bad 3\n",
     },
+    // Pairs stand twice: the shape.
     Row {
         bundle: TWO_UPDATES,
         old: r#""before":[[0,1]]"#,
         new: r#""before":[[0,1],[0,1]]"#,
         line: "bad 2\n",
     },
+    // A position of 64 bits is out of range, and of the right shape.
     Row {
         bundle: TWO_UPDATES,
         old: r#""before":[[0,1]]"#,
         new: r#""before":[[0,1],[1,18446744073709551615]]"#,
         line: "bad 3\n",
     },
+    // One of more than 64 bits is no number of a bundle.
     Row {
         bundle: TWO_UPDATES,
         old: r#""before":[[0,1]]"#,
         new: r#""before":[[0,1],[1,18446744073709551616]]"#,
         line: "bad 2\n",
     },
+    // A pair has two positions.
     Row {
         bundle: TWO_UPDATES,
         old: r#""before":[[0,1]]"#,
         new: r#""before":[[0,1,1]]"#,
         line: "bad 2\n",
     },
+    // A pair goes forward.
     Row {
         bundle: TWO_UPDATES,
         old: r#""before":[[0,1]]"#,
         new: r#""before":[[1,0]]"#,
         line: "bad 2\n",
     },
+    // A position of 33 bits is out of range.
     Row {
         bundle: TWO_UPDATES,
         old: r#""set":[0,1]"#,
         new: r#""set":[4294967296]"#,
         line: "bad 3\n",
     },
+    // One of 32 bits is known to no problem.
     Row {
         bundle: TWO_UPDATES,
         old: r#""set":[0,1]"#,
         new: r#""set":[4294967295]"#,
         line: "invalid 2\n",
     },
+    // What has no name here is not passed over.
     Row {
         bundle: TWO_UPDATES,
         old: r#""updates":[2,3]"#,
         new: r#""updates":[2,3],"x":0"#,
         line: "bad 2\n",
     },
+    // No update is there twice.
     Row {
         bundle: TWO_UPDATES,
         old: r#""updates":[2,3]"#,
         new: r#""updates":[2,2]"#,
         line: "bad 2\n",
     },
+    // There are at most 65,535 transactions.
     Row {
         bundle: TWO_UPDATES,
         old: r#""updates":[2,3]"#,
         new: r#""updates":[65536,3]"#,
         line: "bad 3\n",
     },
+    // There are at most 4,096 items.
     Row {
         bundle: TWO_UPDATES,
         old: r#""item":1"#,
         new: r#""item":4096"#,
         line: "bad 3\n",
     },
+    // A number has no point.
     Row {
         bundle: TWO_UPDATES,
         old: r#""item":1"#,
         new: r#""item":1.0"#,
         line: "bad 2\n",
     },
+    // Items ascend.
     Row {
         bundle: TWO_UPDATES,
         old: r#""item":1"#,
         new: r#""item":0"#,
         line: "bad 2\n",
     },
+    // A writer is one of the updates.
     Row {
         bundle: TWO_UPDATES,
         old: r#""writers":[1]"#,
         new: r#""writers":[2]"#,
         line: "bad 3\n",
     },
+    // A list that must be there is missing.
     Row {
         bundle: TWO_UPDATES,
         old: r#""set":[0,1],"#,
         new: "",
         line: "bad 2\n",
     },
+    // As it was written, with an amount on the arc of a pair.
     Row {
         bundle: BACK_FLOW,
         old: "",
         new: "",
         line: "valid 2\n",
     },
+    // A count of augmentations that may be.
     Row {
         bundle: BACK_FLOW,
         old: r#""back_flow""#,
         new: r#""augmentations":1,"back_flow""#,
         line: "valid 2\n",
     },
+    // The largest that may be: nodes times arcs.
     Row {
         bundle: BACK_FLOW,
         old: r#""back_flow""#,
         new: r#""augmentations":20,"back_flow""#,
         line: "valid 2\n",
     },
+    // One more.
     Row {
         bundle: BACK_FLOW,
         old: r#""back_flow""#,
         new: r#""augmentations":21,"back_flow""#,
         line: "invalid 7\n",
     },
+    // A count is a number.
     Row {
         bundle: BACK_FLOW,
         old: r#""back_flow""#,
         new: r#""augmentations":"1","back_flow""#,
         line: "bad 2\n",
     },
+    // A problem of nothing costs nothing.
     Row {
         bundle: EMPTY,
         old: "",
         new: "",
         line: "valid 0\n",
     },
+    // No augmentation is none.
     Row {
         bundle: EMPTY,
         old: r#""back_flow""#,
         new: r#""augmentations":0,"back_flow""#,
         line: "valid 0\n",
     },
+    // Where there is no arc there is none.
     Row {
         bundle: EMPTY,
         old: r#""back_flow""#,
         new: r#""augmentations":1,"back_flow""#,
         line: "invalid 7\n",
     },
+    // An empty list may stand there all the same.
     Row {
         bundle: EMPTY,
         old: r#""set""#,
         new: r#""must_flow":[],"set""#,
         line: "valid 0\n",
     },
+    // As it was written, with what a set has to hold.
     Row {
         bundle: STRICT,
         old: "",
         new: "",
         line: "valid 5\n",
     },
+    // The set lacks it.
     Row {
         bundle: STRICT,
         old: r#""set":[0]"#,
         new: r#""set":[]"#,
         line: "invalid 3\n",
     },
+    // Its amount is missing.
     Row {
         bundle: STRICT,
         old: r#""must_flow":[5]"#,
         new: r#""must_flow":[]"#,
         line: "invalid 4\n",
     },
+    // Its amount is not what leaves there.
     Row {
         bundle: STRICT,
         old: r#""must_flow":[5]"#,
         new: r#""must_flow":[4]"#,
         line: "invalid 5\n",
     },
+    // The worth is not the flow's.
     Row {
         bundle: STRICT,
         old: r#""worth":5"#,
         new: r#""worth":4"#,
         line: "invalid 6\n",
     },
+    // What must be held is one of the updates.
     Row {
         bundle: STRICT,
         old: r#""must":[0]"#,

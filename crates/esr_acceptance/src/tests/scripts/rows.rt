@@ -14,24 +14,28 @@ pub fn table() -> &'static [Row] {
 }
 
 static ROWS: [Row; 39] = [
+    // Nothing asked, nothing answered, and no fault.
     Row {
         name: "empty_input",
         script: "",
         text: "",
         ended: Ok(()),
     },
+    // An update reads what it wrote itself, before it commits.
     Row {
         name: "own_write_read_back",
         script: "item a 100\nbegin u update 0\nwrite u a 105\nread u a\ncommit u\n",
         text: "item a 100\nbegun u 1\nwrote u a 105\nu a 105\ncommitted u\n",
         ended: Ok(()),
     },
+    // A last line without its line feed is a line like any other.
     Row {
         name: "last_line_without_feed",
         script: "item a 100\nbegin u update 0\nwrite u a 105\nread u a\ncommit u",
         text: "item a 100\nbegun u 1\nwrote u a 105\nu a 105\ncommitted u\n",
         ended: Ok(()),
     },
+    // Two readers of an item, one of which wants to write it: it is blocked until the other has ended.
     Row {
         name: "upgrade_waits_for_a_reader",
         script: "item a 0\n\
@@ -54,12 +58,14 @@ static ROWS: [Row; 39] = [
             committed u\n",
         ended: Ok(()),
     },
+    // An abort puts the committed value back, for whoever reads next.
     Row {
         name: "abort_puts_back",
         script: "item a 1\nbegin u update 0\nwrite u a 5\nabort u\nbegin v update 0\nread v a\n",
         text: "item a 1\nbegun u 1\nwrote u a 5\naborted u\nbegun v 2\nv a 1\n",
         ended: Ok(()),
     },
+    // What an update may not do, each by its own number.
     Row {
         name: "refusals_of_updates",
         script: "item a 0\n\
@@ -84,6 +90,7 @@ static ROWS: [Row; 39] = [
             refused 2 already ended\n",
         ended: Ok(()),
     },
+    // Who has ended can do nothing more.
     Row {
         name: "ended_transactions",
         script: "item a 1\n\
@@ -110,18 +117,21 @@ static ROWS: [Row; 39] = [
             refused 2 already ended\n",
         ended: Ok(()),
     },
+    // Comments and empty lines have no answer, so answers and lines count apart.
     Row {
         name: "lines_that_are_skipped",
         script: "# a note\n\nitem a 1\n#\nbegin u update 0\n # no note\n",
         text: "item a 1\nbegun u 1\nerror 1 not a command\n",
         ended: Ok(()),
     },
+    // A line that is no command closes nothing: items may still be declared.
     Row {
         name: "an_unknown_line_leaves_the_items_open",
         script: "item a 1\nhello\nitem b 2\nbegin u update 0\nitem c 3\n",
         text: "item a 1\nerror 1 not a command\nitem b 2\nbegun u 1\nerror 2 items are closed\n",
         ended: Ok(()),
     },
+    // The first command that is no item closes the items, whatever it is answered.
     Row {
         name: "any_other_command_closes_the_items",
         script: "item a 1\ncommit u\nitem b 2\nitem a 2\n",
@@ -131,6 +141,7 @@ static ROWS: [Row; 39] = [
             error 2 items are closed\n",
         ended: Ok(()),
     },
+    // Each fault of a declaration, and the lowest where several apply.
     Row {
         name: "items_at_fault",
         script: "item a 1000000000000\n\
@@ -145,6 +156,7 @@ static ROWS: [Row; 39] = [
             error 3 name in use\n",
         ended: Ok(()),
     },
+    // One spelling for each line: doubled blanks, tabs and carriage returns are none.
     Row {
         name: "blanks_and_endings",
         script: "item a 1\r\n\
@@ -168,6 +180,7 @@ static ROWS: [Row; 39] = [
             error 1 not a command\n",
         ended: Ok(()),
     },
+    // One spelling for each number: no leading zero, no sign of plus, no minus zero.
     Row {
         name: "numbers_that_are_no_spelling",
         script: "item a -0\n\
@@ -194,6 +207,7 @@ static ROWS: [Row; 39] = [
             error 1 not a command\n",
         ended: Ok(()),
     },
+    // A name has up to sixteen letters.
     Row {
         name: "names_of_sixteen_and_seventeen",
         script: "item abcdefghijklmno_ 1\n\
@@ -212,6 +226,7 @@ static ROWS: [Row; 39] = [
             error 1 not a command\n",
         ended: Ok(()),
     },
+    // A read whose charge alone would pass the import limit is refused, and changes nothing.
     Row {
         name: "import_limit_reached_at_once",
         script: "item a 100\n\
@@ -230,6 +245,7 @@ static ROWS: [Row; 39] = [
             totals import 0 export 0 entries 5\n",
         ended: Ok(()),
     },
+    // Charges add up: the second read passes the limit that the first left.
     Row {
         name: "import_limit_reached_by_the_second_read",
         script: "item a 100\n\
@@ -248,6 +264,7 @@ static ROWS: [Row; 39] = [
             totals import 7 export 7 entries 5\n",
         ended: Ok(()),
     },
+    // An update's limit is on what it exports to all queries together.
     Row {
         name: "export_limit_over_queries",
         script: "item a 0\n\
@@ -274,6 +291,7 @@ static ROWS: [Row; 39] = [
             totals import 15 export 15 entries 9\n",
         ended: Ok(()),
     },
+    // Where several reasons apply, the first of their order is told.
     Row {
         name: "every_refusal_in_order",
         script: "item a 0\n\
@@ -304,6 +322,7 @@ static ROWS: [Row; 39] = [
             refused 1 no such transaction\n",
         ended: Ok(()),
     },
+    // Names are told apart by case, and each stands for one thing.
     Row {
         name: "lines_and_names",
         script: "item a 1\n\
@@ -327,6 +346,7 @@ static ROWS: [Row; 39] = [
             totals import 0 export 0 entries 2\n",
         ended: Ok(()),
     },
+    // The bank of the first page: a report reads half of a transfer.
     Row {
         name: "report_beside_a_writer",
         script: "item a 100\n\
@@ -349,6 +369,7 @@ static ROWS: [Row; 39] = [
             totals import 7 export 7 entries 6\n",
         ended: Ok(()),
     },
+    // A report read what was then taken back: no placement has it.
     Row {
         name: "aborted_write_was_read",
         script: "item a 100\n\
@@ -371,6 +392,7 @@ static ROWS: [Row; 39] = [
             totals import 7 export 7 entries 6\n",
         ended: Ok(()),
     },
+    // The largest values, and one past them.
     Row {
         name: "values_at_the_edge",
         script: "item a -1000000000000\n\
@@ -395,6 +417,7 @@ static ROWS: [Row; 39] = [
             totals import 2000000000000 export 2000000000000 entries 7\n",
         ended: Ok(()),
     },
+    // The largest distance fits a limit exactly, and passes one that is smaller by one.
     Row {
         name: "values_at_the_edge_of_the_import",
         script: "item a -1000000000000\n\
@@ -419,6 +442,7 @@ static ROWS: [Row; 39] = [
             totals import 0 export 0 entries 7\n",
         ended: Ok(()),
     },
+    // The same on the side of the update.
     Row {
         name: "values_at_the_edge_of_the_export",
         script: "item a -1000000000000\n\
@@ -443,6 +467,7 @@ static ROWS: [Row; 39] = [
             totals import 0 export 0 entries 7\n",
         ended: Ok(()),
     },
+    // What was read is nearer to the state before an update than behind it.
     Row {
         name: "nearer_before_the_update",
         script: "item x 0\n\
@@ -469,6 +494,7 @@ static ROWS: [Row; 39] = [
             audit q distance 3 import 5 before -\n",
         ended: Ok(()),
     },
+    // Two sets cost the same: the smaller is told.
     Row {
         name: "smaller_of_two_sets",
         script: "item a 0\n\
@@ -491,6 +517,7 @@ static ROWS: [Row; 39] = [
             audit q distance 4 import 4 before -\n",
         ended: Ok(()),
     },
+    // Two updates over one report: each placement is off somewhere.
     Row {
         name: "two_updates_over_a_report",
         script: "item a 0\n\
@@ -523,6 +550,7 @@ static ROWS: [Row; 39] = [
             audit q distance 1 import 19 before u1,u2\n",
         ended: Ok(()),
     },
+    // Updates that share no item that was read are ordered by one that was not.
     Row {
         name: "order_through_a_third_item",
         script: "item a 0\n\
@@ -559,6 +587,7 @@ static ROWS: [Row; 39] = [
             audit q distance 2 import 6 before -\n",
         ended: Ok(()),
     },
+    // Who read nothing, or nothing that was written, is exact.
     Row {
         name: "queries_that_read_little",
         script: "item a 7\n\
@@ -581,6 +610,7 @@ static ROWS: [Row; 39] = [
             error 6 not a committed query\n",
         ended: Ok(()),
     },
+    // Only a committed query has an audit.
     Row {
         name: "no_audit_before_a_commit",
         script: "item a 0\nbegin q query 0\naudit q\nabort q\naudit q\n",
@@ -591,6 +621,7 @@ static ROWS: [Row; 39] = [
             error 6 not a committed query\n",
         ended: Ok(()),
     },
+    // An audit is a command like any other, and closes the items.
     Row {
         name: "audits_close_the_items",
         script: "item a 0\n\
@@ -611,6 +642,7 @@ static ROWS: [Row; 39] = [
             error 6 not a committed query\n",
         ended: Ok(()),
     },
+    // So are totals.
     Row {
         name: "totals_close_the_items",
         script: "item a 1\ntotals\nitem b 2\ntotals now\nbegin q query 1 strict\nweight a 2\n",
@@ -622,6 +654,7 @@ static ROWS: [Row; 39] = [
             error 1 not a command\n",
         ended: Ok(()),
     },
+    // The same bank with weights: charges and distances are multiplied.
     Row {
         name: "weighted_report_beside_a_writer",
         script: "item a 100 weight 3\n\
@@ -644,6 +677,7 @@ static ROWS: [Row; 39] = [
             totals import 21 export 21 entries 6\n",
         ended: Ok(()),
     },
+    // A read of what was taken back, with a weight.
     Row {
         name: "weighted_aborted_write_was_read",
         script: "item a 100 weight 3\n\
@@ -666,6 +700,7 @@ static ROWS: [Row; 39] = [
             totals import 21 export 21 entries 6\n",
         ended: Ok(()),
     },
+    // Limits are in weighted amounts.
     Row {
         name: "weighted_import_limit",
         script: "item a 100 weight 3\n\
@@ -676,6 +711,7 @@ static ROWS: [Row; 39] = [
         text: "item a 100 weight 3\nbegun u 1\nbegun q 2\nwrote u a 107\nblocked 10 import q\n",
         ended: Ok(()),
     },
+    // A weight of 0 and one above 1,000 are refused.
     Row {
         name: "weights_at_fault",
         script: "item a 0 weight 0\n\
@@ -700,6 +736,7 @@ static ROWS: [Row; 39] = [
             error 1 not a command\n",
         ended: Ok(()),
     },
+    // A report that is not strict may be placed before what had committed when it began.
     Row {
         name: "report_that_is_not_strict",
         script: "item a 0\n\
@@ -726,6 +763,7 @@ static ROWS: [Row; 39] = [
             audit q distance 0 import 5 before -\n",
         ended: Ok(()),
     },
+    // The same report, strict: it may not, and is off.
     Row {
         name: "strict_report",
         script: "item a 0\n\
@@ -752,6 +790,7 @@ static ROWS: [Row; 39] = [
             audit q distance 5 import 5 before u\n",
         ended: Ok(()),
     },
+    // The word stands behind a query's limit, once.
     Row {
         name: "words_that_are_not_strict",
         script: "item a 0\n\
