@@ -1,4 +1,4 @@
-use Rattle.std.proofs.Common.{◌≡◌, ◌∙◌, ◌||◌, ◌==◌, sym, ap, subst, refl, not}
+use Rattle.std.proofs.Common.{rules, ◌≡◌, ◌∙◌, ◌||◌, ◌==◌, sym, ap, subst, refl, not}
 use Rattle.std.specs.List.{list_any}
 use Rattle.esr_history.proofs.Ascending.{any-map}
 use Rattle.esr_locks.specs.Rows.{RowOf}
@@ -14,3 +14,6 @@ returns-clause-fresh c =
     let has_written = c.writer_is-has_written.ensures ∙ wrote c.self.inside.writer c.args.t.0 in
     subst (λ (v : RowOf). not (c.writer_is-has_written.result || c.is_reader-has_read.result) ≡ not (has_update_lock v.locks c.args.t.0)) c.self.view_is
     (rw has_written (rw has_read refl))
+
+pub returns-clause-locks : goal.returns-clause-locks
+returns-clause-locks c = search rules
