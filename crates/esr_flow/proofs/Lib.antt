@@ -16,4 +16,6 @@ pub mod PhaseLaws
 pub mod EntriesLaws
 pub mod FillLaws
 pub mod GraphLaws
+pub mod SumLaws
+pub mod ReachLaws
 pub mod CertificateLaws

@@ -25,7 +25,7 @@ module _ (net : Network) (flow : List ℕ) (visits : List Visit) (f : FoundSink 
         steps = omega (arith, length_push path (visit_at visits at).step, c.next_level, b.steps);
       }
 
-none_marked : (n v : ℕ) → is_marked (replicate n false) v ≡ false
+pub none_marked : (n v : ℕ) → is_marked (replicate n false) v ≡ false
 none_marked zero v = refl
 none_marked (suc n) zero = refl
 none_marked (suc n) (suc v) = none_marked n v

@@ -4,5 +4,6 @@ pub mod Augmentation
 pub mod Graph
 pub mod ShortEntry
 pub mod Search
+pub mod Reached
 pub mod Maximum
 pub mod Certificate

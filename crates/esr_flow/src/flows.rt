@@ -1,75 +1,29 @@
-//! Whether amounts are a flow, and what it is worth: the test that stands between the draft, of which nothing is
-//! promised, and the phases, which start from a flow. It also asks that no amount is above the worth, since
-//! certificates promise that. It is linear in the arcs.
-ghost use Rattle.std.specs.Prelude.{◌≡◌, ◌≢◌, ℕ, ◌<◌, ◌≤◌, true, length, get_or, sum_by, IfSome};
+//! Whether amounts are a flow.
+//!
+//! It is one pass over the arcs, in the order of their numbers: those of a chain lie together, and what each node is
+//! given and gives is summed beside it. By the rows of the nodes each amount would be read twice, and no two that lie
+//! together.
+ghost use Rattle.std.specs.Prelude.{◌≡◌, ◌≢◌, ℕ, ◌+◌, ◌<◌, ◌≤◌, true, length, get_or, set, IfOk, IfSome};
 ghost use Rattle.esr_cert.specs.Network.{arc_at};
-ghost use Rattle.esr_cert.specs.Flow.{within, amount_at, is_conserved_at, IsFlow, worth};
-ghost use Rattle.esr_cert.specs.Balance.{amount_in, amount_out};
+ghost use Rattle.esr_cert.specs.Flow.{within, amount_at, inflow, outflow, IsFlow, worth};
 ghost use Rattle.esr_flow.specs.Graph.{arcs_of, net_of, IsGraph};
 
 use crate::graph::Graph;
-use esr_cert::{Arc, ResidualArc, ShortArc};
+use esr_cert::Arc;
+use std::alloc::{AllocError, Global};
 
-/// The amount on an arc, by its number.
-fn amount_on(flow: &[u64], arc: u32) -> u64
-    ensures { result ≡ amount_at flow.now arc }
+/// Adds to the sum of a node, where the new sum fits.
+fn add_to(sums: &mut [u64], node: usize, amount: u64) -> bool
+    requires { node < length sums.old }
+    ensures { result ≡ true → sums.new ≡ set sums.old node (get_or sums.old node 0 + amount) }
 {
-    match flow.get(arc as usize) {
-        Some(amount) => *amount,
-        None => 0,
-    }
-}
-
-/// What comes to a node, and what leaves it, by the steps that start there.
-fn in_and_out(flow: &[u64], steps: &[ShortArc]) -> (u128, u128)
-    ensures into { result.0 ≡ sum_by (amount_in flow.now) steps.now }
-    ensures from { result.1 ≡ sum_by (amount_out flow.now) steps.now }
-{
-    let mut into: u128 = 0;
-    let mut from: u128 = 0;
-    for step in steps {
-        match step.step() {
-            ResidualArc::Forward(arc) => from += u128::from(amount_on(flow, arc)),
-            ResidualArc::Backward(arc) => into += u128::from(amount_on(flow, arc)),
+    match sums[node].checked_add(amount) {
+        None => false,
+        Some(sum) => {
+            sums[node] = sum;
+            true
         }
     }
-    (into, from)
-}
-
-/// Whether as much comes to a node as leaves it.
-fn is_conserved_at(graph: &Graph, flow: &[u64], v: usize) -> bool
-    requires graph { IsGraph graph.now }
-    requires flow { length flow.now ≡ length (arcs_of graph.now) }
-    requires node { v < graph.now.nodes }
-    ensures { result ≡ is_conserved_at (arcs_of graph.now) flow.now v }
-{
-    let (into, from) = in_and_out(flow, graph.steps_at(v));
-    into == from
-}
-
-/// Whether it does so at each node but the source and the sink.
-fn is_conserved(graph: &Graph, flow: &[u64]) -> bool
-    requires graph { IsGraph graph.now }
-    requires flow { length flow.now ≡ length (arcs_of graph.now) }
-    ensures { result ≡ true → (v : ℕ) → v < graph.now.nodes → v ≢ graph.now.source → v ≢ graph.now.sink
-        → is_conserved_at (arcs_of graph.now) flow.now v ≡ true }
-{
-    for v in 0..graph.nodes {
-        if v != graph.source && v != graph.sink && !is_conserved_at(graph, flow, v) {
-            return false;
-        }
-    }
-    true
-}
-
-/// What leaves the source.
-fn worth_of(graph: &Graph, flow: &[u64]) -> u128
-    requires graph { IsGraph graph.now }
-    requires flow { length flow.now ≡ length (arcs_of graph.now) }
-    ensures { result ≡ worth (net_of graph.now) flow.now }
-{
-    let (_, from) = in_and_out(flow, graph.steps_at(graph.source));
-    from
 }
 
 /// Whether an amount is within the capacity of an arc.
@@ -82,17 +36,57 @@ fn is_within(arc: Arc, amount: u64) -> bool
     }
 }
 
-/// Whether each amount is within the capacity of its arc, and at most so much.
-fn are_within(graph: &Graph, flow: &[u64], most: u64) -> bool
+/// Adds the amount on an arc to what comes to its one end and to what leaves the other. Whether it is within the
+/// capacity, and the new sums fit.
+fn add_on(arc: Arc, amount: u64, into: &mut [u64], from: &mut [u64]) -> bool
+    requires to { arc.to < length into.old }
+    requires from { arc.from < length from.old }
+    ensures within { result ≡ true → within amount arc.capacity ≡ true }
+    ensures into { result ≡ true → into.new ≡ set into.old arc.to (get_or into.old arc.to 0 + amount) }
+    ensures from { result ≡ true → from.new ≡ set from.old arc.from (get_or from.old arc.from 0 + amount) }
+{
+    is_within(arc, amount)
+        && add_to(into, arc.to as usize, amount)
+        && add_to(from, arc.from as usize, amount)
+}
+
+/// Sums what comes to each node and what leaves it, and answers the greatest amount, if each is within the capacity of
+/// its arc and all sums fit.
+fn sum_up(graph: &Graph, flow: &[u64], into: &mut [u64], from: &mut [u64]) -> Option<u64>
     requires graph { IsGraph graph.now }
     requires flow { length flow.now ≡ length (arcs_of graph.now) }
-    ensures capacities { result ≡ true → (i : ℕ) → i < length flow.now
-        → within (get_or flow.now i 0) (arc_at (arcs_of graph.now) i).capacity ≡ true }
-    ensures most { result ≡ true → (i : ℕ) → i < length flow.now → get_or flow.now i 0 ≤ most }
+    requires into { length into.old ≡ graph.now.nodes }
+    requires from { length from.old ≡ graph.now.nodes }
+    requires nothing { (v : ℕ) → (get_or into.old v 0 ≡ 0) × (get_or from.old v 0 ≡ 0) }
+    ensures within { IfSome result (λ most. (i : ℕ) → i < length flow.now
+        → within (get_or flow.now i 0) (arc_at (arcs_of graph.now) i).capacity ≡ true) }
+    ensures most { IfSome result (λ most. (i : ℕ) → i < length flow.now → get_or flow.now i 0 ≤ most) }
+    ensures into { IfSome result (λ most. (v : ℕ) → v < graph.now.nodes
+        → get_or into.new v 0 ≡ inflow (arcs_of graph.now) flow.now v) }
+    ensures from { IfSome result (λ most. (v : ℕ) → v < graph.now.nodes
+        → get_or from.new v 0 ≡ outflow (arcs_of graph.now) flow.now v) }
 {
+    let mut greatest = 0;
     for i in 0..flow.len() {
         let amount = flow[i];
-        if amount > most || !is_within(graph.problem.arc(i as u32), amount) {
+        let arc = graph.problem.arc(i as u32);
+        if !add_on(arc, amount, into, from) {
+            return None;
+        }
+        greatest = amount.max(greatest);
+    }
+    Some(greatest)
+}
+
+/// Whether as much comes to each node as leaves it, but the source and the sink.
+fn are_equal(graph: &Graph, into: &[u64], from: &[u64]) -> bool
+    requires into { length into.now ≡ graph.now.nodes }
+    requires from { length from.now ≡ graph.now.nodes }
+    ensures { result ≡ true → (v : ℕ) → v < graph.now.nodes → v ≢ graph.now.source → v ≢ graph.now.sink
+        → get_or into.now v 0 ≡ get_or from.now v 0 }
+{
+    for v in 0..graph.nodes {
+        if v != graph.source && v != graph.sink && into[v] != from[v] {
             return false;
         }
     }
@@ -100,19 +94,22 @@ fn are_within(graph: &Graph, flow: &[u64], most: u64) -> bool
 }
 
 /// The worth of amounts, if they are a flow none of whose amounts is above it.
-pub fn worth_if_flow(graph: &Graph, flow: &[u64]) -> Option<u64>
+pub fn worth_if_flow(alloc: Global, graph: &Graph, flow: &[u64]) -> Result<Option<u64>, AllocError>
     requires graph { IsGraph graph.now }
-    ensures flow { IfSome result (λ value. IsFlow (net_of graph.now) flow.now) }
-    ensures worth { IfSome result (λ value. value ≡ worth (net_of graph.now) flow.now) }
-    ensures amounts { IfSome result (λ value. (i : ℕ) → amount_at flow.now i ≤ value) }
+    requires flow { length flow.now ≡ length (arcs_of graph.now) }
+    ensures flow { IfOk result (λ r. IfSome r (λ value. IsFlow (net_of graph.now) flow.now)) }
+    ensures worth { IfOk result (λ r. IfSome r (λ value. value ≡ worth (net_of graph.now) flow.now)) }
+    ensures amounts { IfOk result (λ r. IfSome r (λ value. (i : ℕ) → amount_at flow.now i ≤ value)) }
 {
-    if flow.len() != graph.rows.steps.len() / 2 {
-        return None;
-    }
-    let worth = u64::try_from(worth_of(graph, flow)).ok()?;
-    if are_within(graph, flow, worth) && is_conserved(graph, flow) {
-        Some(worth)
+    let mut into = vec![in alloc; 0u64; graph.nodes]?;
+    let mut from = vec![in alloc; 0u64; graph.nodes]?;
+    let Some(greatest) = sum_up(graph, flow, &mut into, &mut from) else {
+        return Ok(None);
+    };
+    let worth = from[graph.source];
+    if greatest <= worth && are_equal(graph, &into, &from) {
+        Ok(Some(worth))
     } else {
-        None
+        Ok(None)
     }
 }

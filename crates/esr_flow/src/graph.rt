@@ -106,7 +106,7 @@ impl<'a> Graph<'a> {
 
 /// Whether the forward step over an arc of a capacity has residual capacity, and whether the backward step has, where
 /// the arc carries an amount.
-fn have_capacity(capacity: Option<u64>, amount: u64) -> (bool, bool)
+pub fn have_capacity(capacity: Option<u64>, amount: u64) -> (bool, bool)
     ensures ahead { result.0 ≡ within 1 (left_of capacity amount) }
     ensures back { result.1 ≡ within 1 (Some amount) }
 {

@@ -12,9 +12,11 @@ mod graph;
 mod maximum;
 mod network;
 mod paths;
+mod reach;
 mod search;
 mod solver;
 mod sweep;
 
+pub use maximum::DraftOutcome;
 pub use network::Network;
-pub use solver::{Solved, find_certificate, solve};
+pub use solver::{FromDraft, Solved, find_certificate, find_from_draft, solve};

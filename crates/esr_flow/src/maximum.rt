@@ -19,6 +19,7 @@ use crate::entry::ShortEntry;
 use crate::flows::worth_if_flow;
 use crate::graph::{Graph, residual_capacity_of};
 use crate::paths::{next_path, put_back};
+use crate::reach::reach;
 use crate::search::{Found, search};
 use crate::sweep::draft;
 use esr_cert::{Problem, ResidualArc};
@@ -257,21 +258,45 @@ pub fn find_maximum(alloc: Global, graph: &Graph) -> Result<MaximumFlow, AllocEr
     Ok(maximum)
 }
 
-/// A maximum flow, by augmentations of a draft of one where that is a flow, and else of the flow of zeros.
-pub fn find_swiftly(alloc: Global, graph: &Graph) -> Result<MaximumFlow, AllocError>
+/// What became of a draft of a flow.
+#[derive(Clone, Copy, PartialEq, Eq, Debug)]
+pub enum DraftOutcome {
+    /// It was a maximum flow.
+    Maximum,
+    /// It was a flow, which was raised to a maximum one.
+    Raised,
+    /// It was no flow, and a maximum one was found from the flow of zeros.
+    NoFlow,
+}
+
+/// A maximum flow, and what became of the draft that it began with: a draft that is a maximum flow is taken, another
+/// flow is raised by augmentations, and else the search begins from the flow of zeros.
+pub fn find_swiftly(alloc: Global, graph: &Graph) -> Result<(MaximumFlow, DraftOutcome), AllocError>
     requires graph { IsGraph graph.now }
     requires small { (f : List ℕ) → IsFlow (net_of graph.now) f → worth (net_of graph.now) f ≤ MAX_COST }
     requires limited { HasLimit (net_of graph.now) }
-    ensures flow { IfOk result (λ m. IsFlow (net_of graph.now) m.flow.items) }
-    ensures worth_is { IfOk result (λ m. m.worth ≡ worth (net_of graph.now) m.flow.items) }
-    ensures amounts { IfOk result (λ m. (i : ℕ) → amount_at m.flow.items i ≤ m.worth) }
-    ensures reach { IfOk result (λ m. IsReach (net_of graph.now) m.flow.items (is_marked m.marks.items)) }
-    ensures end { IfOk result (λ m. (is_marked m.marks.items graph.now.sink ≡ false)
-        × (length m.marks.items ≡ graph.now.nodes)) }
+    ensures flow { IfOk result (λ m. IsFlow (net_of graph.now) m.0.flow.items) }
+    ensures worth_is { IfOk result (λ m. m.0.worth ≡ worth (net_of graph.now) m.0.flow.items) }
+    ensures amounts { IfOk result (λ m. (i : ℕ) → amount_at m.0.flow.items i ≤ m.0.worth) }
+    ensures reach { IfOk result (λ m. IsReach (net_of graph.now) m.0.flow.items (is_marked m.0.marks.items)) }
+    ensures end { IfOk result (λ m. (is_marked m.0.marks.items graph.now.sink ≡ false)
+        × (length m.0.marks.items ≡ graph.now.nodes)) }
 {
     let flow = draft(alloc, graph)?;
-    match worth_if_flow(graph, &flow) {
-        Some(worth) => maximum_from(alloc, graph, flow, worth),
-        None => find_maximum(alloc, graph),
-    }
+    let Some(worth) = worth_if_flow(alloc, graph, &flow)? else {
+        let maximum = find_maximum(alloc, graph)?;
+        return Ok((maximum, DraftOutcome::NoFlow));
+    };
+    let Some(marks) = reach(alloc, graph, &flow)? else {
+        let maximum = maximum_from(alloc, graph, flow, worth)?;
+        return Ok((maximum, DraftOutcome::Raised));
+    };
+    let maximum = MaximumFlow {
+        flow,
+        augmentations: 0,
+        phases: 0,
+        worth,
+        marks,
+    };
+    Ok((maximum, DraftOutcome::Maximum))
 }

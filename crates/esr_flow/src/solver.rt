@@ -14,7 +14,7 @@ ghost use Rattle.esr_flow.specs.Augmentation.{IsReach, Takes};
 ghost use Rattle.esr_flow.specs.Search.{is_marked};
 ghost use Rattle.esr_flow.specs.Certificate.{positions};
 
-use crate::maximum::{MaximumFlow, find_maximum, find_swiftly};
+use crate::maximum::{DraftOutcome, MaximumFlow, find_maximum, find_swiftly};
 use crate::network::Network;
 use esr_cert::{Certificate, Chain, Problem};
 use esr_history::NoMemory;
@@ -126,17 +126,37 @@ pub fn solve(alloc: Global, net: &Network) -> Result<Solved, NoMemory>
     })
 }
 
+/// A certificate, and what became of the draft of its flow.
+#[derive(Drop)]
+pub struct FromDraft {
+    pub certificate: Certificate,
+    pub draft: DraftOutcome,
+}
+
 /// A certificate of the least cost of a network's problem, which does not tell how many augmentations led to its flow:
-/// that may be any maximum flow, and is found sooner than by shortest paths alone.
+/// that may be any maximum flow, and is found sooner than by shortest paths alone. Beside it there is what became of the
+/// draft of a flow that it began with.
 ///
 /// The certificate's set is the smallest of the closed sets of least cost.
+pub fn find_from_draft(alloc: Global, net: &Network) -> Result<FromDraft, NoMemory>
+    ensures certifies { IfOk result (λ d. Certifies net.now.problem.now (certificate_of d.certificate)) }
+    ensures least { IfOk result (λ d. IsSmallestLeast net.now.problem.now (in_set d.certificate.set.items)) }
+    ensures amounts { IfOk result (λ d. (i : ℕ) → get_or (amounts (certificate_of d.certificate)) i 0
+        ≤ d.certificate.worth) }
+    ensures count { IfOk result (λ d. d.certificate.augmentations ≡ None) }
+{
+    let (maximum, draft) = find_swiftly(alloc, &net.graph)?;
+    let certificate = certify(alloc, net.problem, &maximum, None)?;
+    Ok(FromDraft { certificate, draft })
+}
+
+/// The same certificate alone.
 pub fn find_certificate(alloc: Global, net: &Network) -> Result<Certificate, NoMemory>
     ensures certifies { IfOk result (λ c. Certifies net.now.problem.now (certificate_of c)) }
     ensures least { IfOk result (λ c. IsSmallestLeast net.now.problem.now (in_set c.set.items)) }
     ensures amounts { IfOk result (λ c. (i : ℕ) → get_or (amounts (certificate_of c)) i 0 ≤ c.worth) }
     ensures count { IfOk result (λ c. c.augmentations ≡ None) }
 {
-    let maximum = find_swiftly(alloc, &net.graph)?;
-    let certificate = certify(alloc, net.problem, &maximum, None)?;
-    Ok(certificate)
+    let found = find_from_draft(alloc, net)?;
+    Ok(found.certificate)
 }

@@ -14,7 +14,7 @@ ghost use Rattle.esr_cert.specs.Network.{network};
 ghost use Rattle.esr_flow.specs.Graph.{arcs_of, IsGraph};
 
 use crate::graph::Graph;
-use esr_cert::{Arc, ResidualArc, ShortArc};
+use esr_cert::{Arc, Chain, ResidualArc, ShortArc};
 use std::alloc::{AllocError, Global};
 
 /// How many rows all searches look at, for each node.
@@ -56,11 +56,46 @@ struct Searches {
     sights: Vec<Sight>,
 }
 
-/// What may still be added on an arc.
-fn room_on(arc: Arc, amount: u64) -> u64 {
-    match arc.capacity {
+/// What may still be added on an arc of a capacity.
+fn room_on(capacity: Option<u64>, amount: u64) -> u64 {
+    match capacity {
         None => u64::MAX.saturating_sub(amount),
         Some(limit) => limit.saturating_sub(amount),
+    }
+}
+
+/// A graph, and the capacities of the arcs of chains, by number: these are numbered first, and looked at most.
+#[derive(Drop)]
+struct Field<'a> {
+    graph: &'a Graph<'a>,
+    limits: Vec<u64>,
+    ghost is_graph: { IsGraph graph.now },
+}
+
+impl<'a> Field<'a> {
+    fn of(alloc: Global, graph: &'a Graph<'a>) -> Result<Field<'a>, AllocError>
+        requires { IsGraph graph.now }
+    {
+        let chains = graph.problem.chains();
+        let mut count = 0usize;
+        for chain in chains {
+            count = count.saturating_add(chain.costs.len());
+        }
+        let mut limits = Vec::with_capacity(alloc, count)?;
+        for chain in chains {
+            limits.extend_from_slice(&chain.costs)?;
+        }
+        Ok(Field { graph, limits })
+    }
+
+    /// The capacity of an arc; none where that is not one of a chain.
+    fn limit(&self, number: u32) -> Option<u64> {
+        self.limits.get(number as usize).copied()
+    }
+
+    /// Whether an arc is one of a chain.
+    fn is_of_chain(&self, number: u32) -> bool {
+        (number as usize) < self.limits.len()
     }
 }
 
@@ -93,22 +128,18 @@ fn take_at(numbers: &mut [u64], place: usize, most: u64) -> u64
 }
 
 /// The steps that start at a node, none where there is no such node.
-fn row_of<'a>(graph: &'a Graph, node: usize) -> &'a [ShortArc]
-    requires graph { IsGraph graph.now }
-{
-    if node < graph.nodes {
-        graph.steps_at(node)
+fn row_of<'a>(field: &'a Field, node: usize) -> &'a [ShortArc] {
+    if node < field.graph.nodes {
+        field.graph.steps_at(node)
     } else {
         &[]
     }
 }
 
 /// The arc with a number; without ends and capacity where there is none.
-fn arc_at(graph: &Graph, number: u32) -> Arc
-    requires graph { IsGraph graph.now }
-{
-    if (number as usize) < graph.rows.steps.len() / 2 {
-        graph.problem.arc(number)
+fn arc_at(field: &Field, number: u32) -> Arc {
+    if (number as usize) < field.graph.rows.steps.len() / 2 {
+        field.graph.problem.arc(number)
     } else {
         Arc {
             from: 0,
@@ -119,31 +150,18 @@ fn arc_at(graph: &Graph, number: u32) -> Arc
 }
 
 /// The node of a step that is nearer to where a search of a sweep began, and the most that the step may carry.
-fn end_and_room(graph: &Graph, flow: &[u64], sweep: Sweep, step: ResidualArc) -> (u32, u64)
-    requires graph { IsGraph graph.now }
-{
+fn end_and_room(field: &Field, flow: &[u64], sweep: Sweep, step: ResidualArc) -> (u32, u64) {
     let number = step.arc();
-    let arc = arc_at(graph, number);
+    let arc = arc_at(field, number);
     let amount = number_at(flow, number as usize);
     let (start, finish, room) = match step {
-        ResidualArc::Forward(_) => (arc.from, arc.to, room_on(arc, amount)),
+        ResidualArc::Forward(_) => (arc.from, arc.to, room_on(field.limit(number), amount)),
         ResidualArc::Backward(_) => (arc.to, arc.from, amount),
     };
     match sweep {
         Sweep::Back(_) => (finish, room),
         Sweep::Forward => (start, room),
     }
-}
-
-/// Whether an arc is one of a chain: those are numbered first.
-fn is_of_chain(graph: &Graph, number: u32) -> bool {
-    let arcs = graph.rows.steps.len() / 2;
-    let others = graph
-        .problem
-        .before()
-        .len()
-        .saturating_add(graph.problem.must().len());
-    (number as usize) < arcs.saturating_sub(others)
 }
 
 /// Whether a search of a sweep goes over a step from a node: the way is the step itself, or the one in the other
@@ -158,24 +176,22 @@ fn way_of(sweep: Sweep, step: ResidualArc) -> ResidualArc {
 /// The other end of the arc of a step from a node, and the way over it, if there is one in a sweep. Amounts are taken off
 /// back arcs alone, since for each arc of a chain there is a back arc the other way.
 fn way_over(
-    graph: &Graph,
+    field: &Field,
     flow: &[u64],
     sweep: Sweep,
     step: ResidualArc,
-) -> Option<(u32, ResidualArc)>
-    requires graph { IsGraph graph.now }
-{
+) -> Option<(u32, ResidualArc)> {
     let way = way_of(sweep, step);
     let number = way.arc();
     let amount = number_at(flow, number as usize);
     let is_open = match way {
-        ResidualArc::Forward(_) => 0 < room_on(arc_at(graph, number), amount),
-        ResidualArc::Backward(_) => 0 < amount && !is_of_chain(graph, number),
+        ResidualArc::Forward(_) => 0 < room_on(field.limit(number), amount),
+        ResidualArc::Backward(_) => 0 < amount && !field.is_of_chain(number),
     };
     if !is_open {
         return None;
     }
-    let arc = arc_at(graph, number);
+    let arc = arc_at(field, number);
     match step {
         ResidualArc::Forward(_) => Some((arc.to, way)),
         ResidualArc::Backward(_) => Some((arc.from, way)),
@@ -183,18 +199,18 @@ fn way_over(
 }
 
 /// Whether a node stands for what a sweep comes to last, seen from an update.
-fn is_outside(graph: &Graph, sweep: Sweep, update: u32, node: u32) -> bool {
+fn is_outside(field: &Field, sweep: Sweep, update: u32, node: u32) -> bool {
     match sweep {
-        Sweep::Back(_) => node < update || node as usize == graph.source,
-        Sweep::Forward => update < node && node as usize != graph.source,
+        Sweep::Back(_) => node < update || node as usize == field.graph.source,
+        Sweep::Forward => update < node && node as usize != field.graph.source,
     }
 }
 
 /// Whether a node takes part in a sweep.
-fn takes_part(graph: &Graph, sweep: Sweep, node: u32) -> bool {
+fn takes_part(field: &Field, sweep: Sweep, node: u32) -> bool {
     match sweep {
         Sweep::Back(middle) => node < middle,
-        Sweep::Forward => (node as usize) < graph.source,
+        Sweep::Forward => (node as usize) < field.graph.source,
     }
 }
 
@@ -260,20 +276,18 @@ impl Searches {
     /// Sees the nodes to which there is a way from a node that was seen, until one is outside: the way there.
     fn look_from(
         &mut self,
-        graph: &Graph,
+        field: &Field,
         flow: &[u64],
         update: u32,
         node: u32,
-    ) -> Result<Option<ResidualArc>, AllocError>
-        requires graph { IsGraph graph.now }
-    {
+    ) -> Result<Option<ResidualArc>, AllocError> {
         self.looks = self.looks.saturating_sub(1);
-        for short in row_of(graph, node as usize) {
-            if let Some((next, way)) = way_over(graph, flow, self.sweep, short.step()) {
-                if is_outside(graph, self.sweep, update, next) {
+        for short in row_of(field, node as usize) {
+            if let Some((next, way)) = way_over(field, flow, self.sweep, short.step()) {
+                if is_outside(field, self.sweep, update, next) {
                     return Ok(Some(way));
                 }
-                if takes_part(graph, self.sweep, next) {
+                if takes_part(field, self.sweep, next) {
                     self.see(next, way)?;
                 }
             }
@@ -284,18 +298,16 @@ impl Searches {
     /// Searches for a way between an update and what is outside: the step there.
     fn search(
         &mut self,
-        graph: &Graph,
+        field: &Field,
         flow: &[u64],
         update: u32,
-    ) -> Result<Option<ResidualArc>, AllocError>
-        requires graph { IsGraph graph.now }
-    {
+    ) -> Result<Option<ResidualArc>, AllocError> {
         self.begin(update)?;
-        for head in 0..graph.nodes {
+        for head in 0..field.graph.nodes {
             let Some(node) = self.seen.get(head).copied() else {
                 return Ok(None);
             };
-            let first = self.look_from(graph, flow, update, node)?;
+            let first = self.look_from(field, flow, update, node)?;
             if first.is_some() {
                 return Ok(first);
             }
@@ -306,18 +318,16 @@ impl Searches {
     /// The most that may go on the way that was found, up to what is due; 0 where there is no way.
     fn least_room(
         &self,
-        graph: &Graph,
+        field: &Field,
         flow: &[u64],
         update: u32,
         first: ResidualArc,
         due: u64,
-    ) -> u64
-        requires graph { IsGraph graph.now }
-    {
+    ) -> u64 {
         let mut least = due;
         let mut step = first;
-        for _ in 0..graph.nodes {
-            let (node, room) = end_and_room(graph, flow, self.sweep, step);
+        for _ in 0..field.graph.nodes {
+            let (node, room) = end_and_room(field, flow, self.sweep, step);
             least = least.min(room);
             if node == update {
                 return least;
@@ -328,14 +338,13 @@ impl Searches {
     }
 
     /// Adds an amount on each arc of the way that was found to an update.
-    fn bring(&self, graph: &Graph, flow: &mut [u64], update: u32, first: ResidualArc, amount: u64)
-        requires graph { IsGraph graph.now }
+    fn bring(&self, field: &Field, flow: &mut [u64], update: u32, first: ResidualArc, amount: u64)
         ensures { length flow.new ≡ length flow.old }
     {
         let mut step = first;
-        for _ in 0..graph.nodes {
-            bring_over(graph, flow, step, amount);
-            let (node, _) = end_and_room(graph, flow, self.sweep, step);
+        for _ in 0..field.graph.nodes {
+            bring_over(field, flow, step, amount);
+            let (node, _) = end_and_room(field, flow, self.sweep, step);
             if node == update {
                 return;
             }
@@ -346,12 +355,11 @@ impl Searches {
     /// Brings to an update what is due to it, on the ways that are found, and answers what is still due then.
     fn supply(
         &mut self,
-        graph: &Graph,
+        field: &Field,
         flow: &mut [u64],
         update: u32,
         due: u64,
     ) -> Result<u64, AllocError>
-        requires graph { IsGraph graph.now }
         ensures { length flow.new ≡ length flow.old }
     {
         let mut due = due;
@@ -359,12 +367,12 @@ impl Searches {
             if due == 0 || self.looks == 0 {
                 return Ok(due);
             }
-            let Some(first) = self.search(graph, flow, update)? else {
+            let Some(first) = self.search(field, flow, update)? else {
                 self.end_in_vain();
                 return Ok(due);
             };
-            let amount = self.least_room(graph, flow, update, first, due);
-            self.bring(graph, flow, update, first, amount);
+            let amount = self.least_room(field, flow, update, first, due);
+            self.bring(field, flow, update, first, amount);
             due = due.saturating_sub(amount);
         }
         Ok(due)
@@ -372,17 +380,16 @@ impl Searches {
 }
 
 /// Takes up to so much off the arcs of chains that lead from a node to another, and answers what is left of it.
-fn take_back(graph: &Graph, flow: &mut [u64], from: u32, to: u32, amount: u64) -> u64
-    requires graph { IsGraph graph.now }
+fn take_back(field: &Field, flow: &mut [u64], from: u32, to: u32, amount: u64) -> u64
     ensures { length flow.new ≡ length flow.old }
 {
     let mut left = amount;
-    for short in row_of(graph, from as usize) {
+    for short in row_of(field, from as usize) {
         let number = short.step().arc();
-        let arc = arc_at(graph, number);
-        if left == 0 || arc.capacity.is_none() {
+        if left == 0 || !field.is_of_chain(number) {
             return left;
         }
+        let arc = arc_at(field, number);
         if arc.from == from && arc.to == to {
             left = left.saturating_sub(take_at(flow, number as usize, left));
         }
@@ -392,8 +399,7 @@ fn take_back(graph: &Graph, flow: &mut [u64], from: u32, to: u32, amount: u64) -
 
 /// Adds an amount on the arc of a step, or takes it off where the step goes against the arc. What goes over a back arc
 /// is taken off the arcs of chains the other way first, which keeps ways short.
-fn bring_over(graph: &Graph, flow: &mut [u64], step: ResidualArc, amount: u64)
-    requires graph { IsGraph graph.now }
+fn bring_over(field: &Field, flow: &mut [u64], step: ResidualArc, amount: u64)
     ensures { length flow.new ≡ length flow.old }
 {
     match step {
@@ -401,10 +407,11 @@ fn bring_over(graph: &Graph, flow: &mut [u64], step: ResidualArc, amount: u64)
             take_at(flow, number as usize, amount);
         }
         ResidualArc::Forward(number) => {
-            let arc = arc_at(graph, number);
-            let more = match arc.capacity {
-                Some(_) => amount,
-                None => take_back(graph, flow, arc.to, arc.from, amount),
+            let more = if field.is_of_chain(number) {
+                amount
+            } else {
+                let arc = arc_at(field, number);
+                take_back(field, flow, arc.to, arc.from, amount)
             };
             add_at(flow, number as usize, more);
         }
@@ -421,14 +428,12 @@ fn asks(sweep: Sweep, step: ResidualArc) -> bool {
 }
 
 /// What the arcs of chains on the one side of a node carry, and the most that those on the other may.
-fn due_and_room(graph: &Graph, flow: &[u64], sweep: Sweep, node: usize) -> (u64, u64)
-    requires graph { IsGraph graph.now }
-{
+fn due_and_room(field: &Field, flow: &[u64], sweep: Sweep, node: usize) -> (u64, u64) {
     let mut due: u64 = 0;
     let mut room: u64 = 0;
-    for short in row_of(graph, node) {
+    for short in row_of(field, node) {
         let step = short.step();
-        let Some(limit) = arc_at(graph, step.arc()).capacity else {
+        let Some(limit) = field.limit(step.arc()) else {
             return (due, room);
         };
         if asks(sweep, step) {
@@ -440,29 +445,39 @@ fn due_and_room(graph: &Graph, flow: &[u64], sweep: Sweep, node: usize) -> (u64,
     (due, room)
 }
 
-/// A part of an amount, in the ratio of a weight to the sum of all.
-fn share_of(amount: u64, weight: u64, sum: u64) -> u64 {
-    if sum == 0 {
+/// An amount in the ratio to a larger one, in parts of 2^31, rounded down.
+fn ratio_of(amount: u64, sum: u64) -> u64 {
+    let down = 32u32.saturating_sub(sum.leading_zeros());
+    let parts = (amount >> down).saturating_mul(1 << 31);
+    let Some(whole) = (sum >> down).checked_add(1) else {
         return 0;
-    }
-    let part = u128::from(amount).saturating_mul(u128::from(weight)) / u128::from(sum);
-    part.min(u128::from(weight)) as u64
+    };
+    parts / whole
 }
 
-/// Adds on the arcs of chains on that side of a node parts of what is due, in the ratio of their capacities, and answers what is
-/// left of it.
-fn share(graph: &Graph, flow: &mut [u64], sweep: Sweep, node: usize, due: u64, room: u64) -> u64
-    requires graph { IsGraph graph.now }
+/// A part of a weight, in a ratio, rounded down.
+fn part_of(weight: u64, ratio: u64) -> u64 {
+    if weight < 1 << 32 {
+        weight.saturating_mul(ratio) >> 31
+    } else {
+        (weight >> 31).saturating_mul(ratio)
+    }
+}
+
+/// Adds on the arcs of chains on that side of a node parts of what is due, in the ratio of their capacities, and answers
+/// what is left of it.
+fn share(field: &Field, flow: &mut [u64], sweep: Sweep, node: usize, due: u64, room: u64) -> u64
     ensures { length flow.new ≡ length flow.old }
 {
+    let ratio = ratio_of(due, room);
     let mut left = due;
-    for short in row_of(graph, node) {
+    for short in row_of(field, node) {
         let step = short.step();
-        let Some(limit) = arc_at(graph, step.arc()).capacity else {
+        let Some(limit) = field.limit(step.arc()) else {
             return left;
         };
         if asks(sweep, step) {
-            let part = share_of(due, limit, room).min(left);
+            let part = part_of(limit, ratio).min(left);
             add_at(flow, step.arc() as usize, part);
             left = left.saturating_sub(part);
         }
@@ -470,21 +485,21 @@ fn share(graph: &Graph, flow: &mut [u64], sweep: Sweep, node: usize, due: u64, r
     left
 }
 
-/// Adds on the arcs of chains on that side of a node what is due, in their order, as far as they have room, and answers what is left of it.
-fn fill(graph: &Graph, flow: &mut [u64], sweep: Sweep, node: usize, due: u64) -> u64
-    requires graph { IsGraph graph.now }
+/// Adds on the arcs of chains on that side of a node what is due, in their order, as far as they have room, and answers
+/// what is left of it.
+fn fill(field: &Field, flow: &mut [u64], sweep: Sweep, node: usize, due: u64) -> u64
     ensures { length flow.new ≡ length flow.old }
 {
     let mut left = due;
-    for short in row_of(graph, node) {
+    for short in row_of(field, node) {
         let step = short.step();
-        let arc = arc_at(graph, step.arc());
-        if left == 0 || arc.capacity.is_none() {
+        let limit = field.limit(step.arc());
+        if left == 0 || limit.is_none() {
             return left;
         }
         if asks(sweep, step) {
             let place = step.arc() as usize;
-            let part = room_on(arc, number_at(flow, place)).min(left);
+            let part = room_on(limit, number_at(flow, place)).min(left);
             add_at(flow, place, part);
             left = left.saturating_sub(part);
         }
@@ -493,12 +508,12 @@ fn fill(graph: &Graph, flow: &mut [u64], sweep: Sweep, node: usize, due: u64) ->
 }
 
 /// The arc from the source by which a set has to hold a node: the last of those at the node.
-fn must_arc(graph: &Graph, node: usize) -> Option<u32>
-    requires graph { IsGraph graph.now }
-{
-    let number = row_of(graph, node).last()?.step().arc();
-    let arc = arc_at(graph, number);
-    if arc.capacity.is_none() && arc.from as usize == graph.source {
+fn must_arc(field: &Field, node: usize) -> Option<u32> {
+    if field.graph.problem.must().is_empty() {
+        return None;
+    }
+    let number = row_of(field, node).last()?.step().arc();
+    if !field.is_of_chain(number) && arc_at(field, number).from as usize == field.graph.source {
         Some(number)
     } else {
         None
@@ -507,44 +522,42 @@ fn must_arc(graph: &Graph, node: usize) -> Option<u32>
 
 /// Brings to an update what its later arcs carry away, as far as that can be had, and answers what is still due.
 fn add_update(
-    graph: &Graph,
+    field: &Field,
     flow: &mut [u64],
     searches: &mut Searches,
     update: u32,
 ) -> Result<u64, AllocError>
-    requires graph { IsGraph graph.now }
     ensures { length flow.new ≡ length flow.old }
 {
     let node = update as usize;
-    let (due, room) = due_and_room(graph, flow, searches.sweep, node);
+    let (due, room) = due_and_room(field, flow, searches.sweep, node);
     if due == 0 {
         return Ok(0);
     }
     if searches.sweep != Sweep::Forward {
-        if let Some(number) = must_arc(graph, node) {
+        if let Some(number) = must_arc(field, node) {
             add_at(flow, number as usize, due);
             return Ok(0);
         }
     }
     if due < room {
-        let left = share(graph, flow, searches.sweep, node, due, room);
-        return Ok(fill(graph, flow, searches.sweep, node, left));
+        let left = share(field, flow, searches.sweep, node, due, room);
+        return Ok(fill(field, flow, searches.sweep, node, left));
     }
-    let left = fill(graph, flow, searches.sweep, node, due);
-    searches.supply(graph, flow, update, left)
+    let left = fill(field, flow, searches.sweep, node, due);
+    searches.supply(field, flow, update, left)
 }
 
 /// Takes off the arcs on the other side of a node what it was not given, which the nodes there are not given then.
 /// Whether one of those was gone over before it.
-fn let_go(graph: &Graph, flow: &mut [u64], owed: &mut [u64], sweep: Sweep, node: u32) -> bool
-    requires graph { IsGraph graph.now }
+fn let_go(field: &Field, flow: &mut [u64], owed: &mut [u64], sweep: Sweep, node: u32) -> bool
     ensures flow { length flow.new ≡ length flow.old }
     ensures owed { length owed.new ≡ length owed.old }
 {
     let mut left = number_at(owed, node as usize);
     take_at(owed, node as usize, left);
     let mut is_back = false;
-    for short in row_of(graph, node as usize) {
+    for short in row_of(field, node as usize) {
         let step = short.step();
         if left == 0 {
             return is_back;
@@ -552,12 +565,12 @@ fn let_go(graph: &Graph, flow: &mut [u64], owed: &mut [u64], sweep: Sweep, node:
         if !asks(sweep, step) {
             let taken = take_at(flow, step.arc() as usize, left);
             left = left.saturating_sub(taken);
-            let arc = arc_at(graph, step.arc());
+            let arc = arc_at(field, step.arc());
             let (next, is_before) = match sweep {
                 Sweep::Back(_) => (arc.to, arc.to < node),
                 Sweep::Forward => (arc.from, node < arc.from),
             };
-            if takes_part(graph, sweep, next) {
+            if takes_part(field, sweep, next) {
                 add_at(owed, next as usize, taken);
                 is_back = is_back || (is_before && 0 < taken);
             }
@@ -567,19 +580,19 @@ fn let_go(graph: &Graph, flow: &mut [u64], owed: &mut [u64], sweep: Sweep, node:
 }
 
 /// Lets go of what each update was not given, those that the sweep came to last first. Whether more is to be let go of.
-fn let_all_go(graph: &Graph, flow: &mut [u64], owed: &mut [u64], sweep: Sweep) -> bool
-    requires graph { IsGraph graph.now }
+fn let_all_go(field: &Field, flow: &mut [u64], owed: &mut [u64], sweep: Sweep) -> bool
     ensures flow { length flow.new ≡ length flow.old }
     ensures owed { length owed.new ≡ length owed.old }
 {
     let mut is_back = false;
-    let last = (graph.source as u32).saturating_sub(1);
-    for i in 0..graph.source as u32 {
+    let count = field.graph.source as u32;
+    let last = count.saturating_sub(1);
+    for i in 0..count {
         let node = match sweep {
             Sweep::Back(_) => i,
             Sweep::Forward => last.saturating_sub(i),
         };
-        if 0 < number_at(owed, node as usize) && let_go(graph, flow, owed, sweep, node) {
+        if 0 < number_at(owed, node as usize) && let_go(field, flow, owed, sweep, node) {
             is_back = true;
         }
     }
@@ -589,17 +602,16 @@ fn let_all_go(graph: &Graph, flow: &mut [u64], owed: &mut [u64], sweep: Sweep) -
 /// Adds the updates before a position, from the last to the first, and answers what each was not given.
 fn add_back(
     alloc: Global,
-    graph: &Graph,
+    field: &Field,
     flow: &mut [u64],
     middle: u32,
 ) -> Result<Vec<u64>, AllocError>
-    requires graph { IsGraph graph.now }
     ensures { length flow.new ≡ length flow.old }
 {
-    let mut searches = Searches::none(alloc, graph.nodes, Sweep::Back(middle))?;
-    let mut owed = vec![in alloc; 0u64; graph.nodes]?;
+    let mut searches = Searches::none(alloc, field.graph.nodes, Sweep::Back(middle))?;
+    let mut owed = vec![in alloc; 0u64; field.graph.nodes]?;
     for update in (0..middle).rev() {
-        let left = add_update(graph, flow, &mut searches, update)?;
+        let left = add_update(field, flow, &mut searches, update)?;
         add_at(&mut owed, update as usize, left);
     }
     Ok(owed)
@@ -608,66 +620,76 @@ fn add_back(
 /// Adds the updates from a position on, from the first to the last, and answers what each could not give.
 fn add_forward(
     alloc: Global,
-    graph: &Graph,
+    field: &Field,
     flow: &mut [u64],
     middle: u32,
 ) -> Result<Vec<u64>, AllocError>
-    requires graph { IsGraph graph.now }
     ensures { length flow.new ≡ length flow.old }
 {
-    let mut searches = Searches::none(alloc, graph.nodes, Sweep::Forward)?;
-    let mut owed = vec![in alloc; 0u64; graph.nodes]?;
-    for update in middle..graph.source as u32 {
-        let left = add_update(graph, flow, &mut searches, update)?;
+    let mut searches = Searches::none(alloc, field.graph.nodes, Sweep::Forward)?;
+    let mut owed = vec![in alloc; 0u64; field.graph.nodes]?;
+    for update in middle..field.graph.source as u32 {
+        let left = add_update(field, flow, &mut searches, update)?;
         add_at(&mut owed, update as usize, left);
     }
     Ok(owed)
 }
 
 /// Lets go of all that is owed.
-fn settle(graph: &Graph, flow: &mut [u64], mut owed: Vec<u64>, sweep: Sweep)
-    requires graph { IsGraph graph.now }
+fn settle(field: &Field, flow: &mut [u64], mut owed: Vec<u64>, sweep: Sweep)
     ensures { length flow.new ≡ length flow.old }
 {
     for _ in 0..MOST_ROUNDS {
-        if !let_all_go(graph, flow, &mut owed, sweep) {
+        if !let_all_go(field, flow, &mut owed, sweep) {
             return;
         }
     }
 }
 
+/// Adds to a number at a place, modulo 2^64.
+fn wrap_at(numbers: &mut [u64], place: usize, more: u64)
+    ensures { length numbers.new ≡ length numbers.old }
+{
+    if place < numbers.len() {
+        numbers[place] = numbers[place].wrapping_add(more);
+    }
+}
+
+/// Adds what the versions of a chain cost to what prefixes that end with their writers cost more than those before.
+fn add_costs(changes: &mut [u64], chain: &Chain, source: u32)
+    ensures { length changes.new ≡ length changes.old }
+{
+    let mut from = source;
+    for (j, cost) in chain.costs.iter().enumerate() {
+        wrap_at(changes, from as usize, *cost);
+        from = chain
+            .writers
+            .get(j)
+            .copied()
+            .unwrap_or(source.saturating_add(1));
+        wrap_at(changes, from as usize, cost.wrapping_neg());
+    }
+}
+
 /// How much more the prefix of the updates up to and with each costs than the one before it, modulo 2^64, and at the
 /// source's place what the empty prefix costs.
-fn cost_changes(alloc: Global, graph: &Graph) -> Result<Vec<u64>, AllocError>
-    requires graph { IsGraph graph.now }
-{
-    let mut changes = vec![in alloc; 0u64; graph.nodes]?;
-    for number in 0..(graph.rows.steps.len() / 2) as u32 {
-        let arc = arc_at(graph, number);
-        let Some(limit) = arc.capacity else {
-            return Ok(changes);
-        };
-        let from = arc.from as usize;
-        let to = arc.to as usize;
-        if from < changes.len() && to < changes.len() {
-            changes[from] = changes[from].wrapping_add(limit);
-            changes[to] = changes[to].wrapping_sub(limit);
-        }
+fn cost_changes(alloc: Global, field: &Field) -> Result<Vec<u64>, AllocError> {
+    let mut changes = vec![in alloc; 0u64; field.graph.nodes]?;
+    for chain in field.graph.problem.chains() {
+        add_costs(&mut changes, chain, field.graph.source as u32);
     }
     Ok(changes)
 }
 
 /// The count of updates in the prefix that costs least, of those that hold what each set must; all of them where few
 /// come after it.
-fn find_middle(alloc: Global, graph: &Graph) -> Result<u32, AllocError>
-    requires graph { IsGraph graph.now }
-{
-    let changes = cost_changes(alloc, graph)?;
-    let mut cost = number_at(&changes, graph.source);
+fn find_middle(alloc: Global, field: &Field) -> Result<u32, AllocError> {
+    let changes = cost_changes(alloc, field)?;
+    let mut cost = number_at(&changes, field.graph.source);
     let mut least = cost;
-    let count = graph.source as u32;
+    let count = field.graph.source as u32;
     let mut middle = 0;
-    let first = match graph.problem.must().last() {
+    let first = match field.graph.problem.must().last() {
         Some(update) => update.saturating_add(1),
         None => 0,
     };
@@ -685,35 +707,41 @@ fn find_middle(alloc: Global, graph: &Graph) -> Result<u32, AllocError>
     Ok(middle)
 }
 
-/// Fills the arcs of chains that leave the updates before a position.
-fn fill_middle(graph: &Graph, flow: &mut [u64], middle: u32)
-    requires graph { IsGraph graph.now }
+/// Fills the arc of a chain that leaves the updates before a position. The arcs of the chain begin at a number.
+fn fill_in_chain(flow: &mut [u64], chain: &Chain, begin: usize, middle: u32)
     ensures { length flow.new ≡ length flow.old }
 {
-    for number in 0..(graph.rows.steps.len() / 2) as u32 {
-        let arc = arc_at(graph, number);
-        let Some(limit) = arc.capacity else {
-            return;
-        };
-        if (arc.from < middle || arc.from as usize == graph.source) && middle <= arc.to {
-            add_at(flow, number as usize, limit);
-        }
+    let place = chain.writers.partition_point(|writer| *writer < middle);
+    if let Some(cost) = chain.costs.get(place) {
+        add_at(flow, begin.saturating_add(place), *cost);
+    }
+}
+
+/// Fills the arcs of chains that leave the updates before a position.
+fn fill_middle(field: &Field, flow: &mut [u64], middle: u32)
+    ensures { length flow.new ≡ length flow.old }
+{
+    let mut begin = 0usize;
+    for chain in field.graph.problem.chains() {
+        fill_in_chain(flow, chain, begin, middle);
+        begin = begin.saturating_add(chain.costs.len());
     }
 }
 
 /// Amounts for the arcs of a graph that mostly are a maximum flow.
-pub fn draft(alloc: Global, graph: &Graph) -> Result<Vec<u64>, AllocError>
+pub fn draft<'a>(alloc: Global, graph: &'a Graph<'a>) -> Result<Vec<u64>, AllocError>
     requires graph { IsGraph graph.now }
     ensures { IfOk result (λ flow. length flow.items ≡ length (arcs_of graph.now)) }
 {
     let mut flow = vec![in alloc; 0u64; graph.rows.steps.len() / 2]?;
-    let middle = find_middle(alloc, graph)?;
-    fill_middle(graph, &mut flow, middle);
-    let owed = add_back(alloc, graph, &mut flow, middle)?;
-    settle(graph, &mut flow, owed, Sweep::Back(middle));
+    let field = Field::of(alloc, graph)?;
+    let middle = find_middle(alloc, &field)?;
+    fill_middle(&field, &mut flow, middle);
+    let owed = add_back(alloc, &field, &mut flow, middle)?;
+    settle(&field, &mut flow, owed, Sweep::Back(middle));
     if (middle as usize) < graph.source {
-        let owed = add_forward(alloc, graph, &mut flow, middle)?;
-        settle(graph, &mut flow, owed, Sweep::Forward);
+        let owed = add_forward(alloc, &field, &mut flow, middle)?;
+        settle(&field, &mut flow, owed, Sweep::Forward);
     }
     Ok(flow)
 }

@@ -6,7 +6,7 @@ use Rattle.esr_cert.proofs.Sound.{facts}
 use Rattle.esr_flow.specs.Maximum.{HasLimit}
 use Rattle.esr_flow.proofs.Smallest.{worth_small}
 use Rattle.esr_flow.proofs.SolveLaws.{has_limit}
-use Rattle.esr_flow.proofs.solver.find_certificate.Goals as goal
+use Rattle.esr_flow.proofs.solver.find_from_draft.Goals as goal
 
 pub find_swiftly-requires-clause-small : goal.find_swiftly-requires-clause-small
 find_swiftly-requires-clause-small c =

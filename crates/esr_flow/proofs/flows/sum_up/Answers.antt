@@ -1,0 +1,25 @@
+use Rattle.std.proofs.Common.{rules, arith, ◌≡◌, ◌+◌, ◌∙◌, ◌<◌, true, get_or, length, set, sym, ap, subst, below_more}
+use Rattle.esr_cert.specs.Network.{arc_at}
+use Rattle.esr_cert.specs.Flow.{within, amount_at}
+use Rattle.esr_flow.specs.Words.{Arc}
+use Rattle.esr_flow.specs.Graph.{arcs_of}
+use Rattle.esr_flow.proofs.SumLaws.{sums_more}
+use Rattle.esr_flow.proofs.flows.sum_up.Goals as goal
+
+pub loop-i-preserved : goal.loop-i-preserved
+loop-i-preserved c =
+    let arcs = arcs_of c.args.graph.now in let flow = c.args.flow.now in let i = c.loop-i.i in let nodes = c.args.graph.now.nodes in
+    let is : c.arc-arc.result ≡ arc_at arcs i = c.arc-arc.ensures in
+    let added : c.add_on.result ≡ true = search rules in
+    let in_arcs : i < length arcs = omega (arith, c.loop-i-test.true, c.requires.flow) in
+    let ends = c.requires.graph.is_network.ends i in_arcs in
+    let capacity : within (get_or flow i 0) (arc_at arcs i).capacity ≡ true = ap (λ (a : Arc). within (get_or flow i 0) a.capacity) (sym is) ∙ c.add_on.ensures.within added in
+    let to : c.add_on.new.into ≡ set c.loop-i.into (arc_at arcs i).to (get_or c.loop-i.into (arc_at arcs i).to 0 + amount_at flow i) =
+    subst (λ (a : Arc). c.add_on.new.into ≡ set c.loop-i.into a.to (get_or c.loop-i.into a.to 0 + amount_at flow i)) is (c.add_on.ensures.into added) in
+    let out : c.add_on.new.from ≡ set c.loop-i.from (arc_at arcs i).from (get_or c.loop-i.from (arc_at arcs i).from 0 + amount_at flow i) =
+    subst (λ (a : Arc). c.add_on.new.from ≡ set c.loop-i.from a.from (get_or c.loop-i.from a.from 0 + amount_at flow i)) is (c.add_on.ensures.from added) in record {
+      capacities = below_more _ _ c.loop-i.invariant.capacities capacity;
+      most = below_more _ _ (λ k l. omega (arith, c.loop-i.invariant.most k l, c.max-greatest.ensures)) (omega (arith, c.max-greatest.ensures));
+      to = sums_more arcs flow c.requires.flow i in_arcs (λ a. a.to) c.loop-i.into c.add_on.new.into nodes (omega (arith, c.loop-i.auto.into, c.requires.into)) ends.1 to c.loop-i.invariant.to;
+      out = sums_more arcs flow c.requires.flow i in_arcs (λ a. a.from) c.loop-i.from c.add_on.new.from nodes (omega (arith, c.loop-i.auto.from, c.requires.from)) ends.0 out c.loop-i.invariant.out;
+    }
