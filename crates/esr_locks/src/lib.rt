@@ -3,6 +3,7 @@
 
 mod lists;
 mod locked_items;
+mod mode;
 mod row;
 mod table;
 
