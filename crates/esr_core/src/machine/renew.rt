@@ -1,8 +1,8 @@
 //! The committed values of a machine, and going on from them with an empty history.
 ghost use Rattle.esr_items.specs.declared.TheConstants.{MOST_ITEMS};
-ghost use Rattle.std.specs.Prelude.{◌≡◌, ◌<◌, ◌≤◌, ◌↔◌, true, [], length, map, List, All, IfOk, OnOk, OnErr, IsErrOf};
+ghost use Rattle.std.specs.Prelude.{◌≡◌, ◌<◌, ◌≤◌, ◌↔◌, true, [], length, List, All, IfOk, OnOk, OnErr, IsErrOf};
 ghost use Rattle.std.specs.List.{list_any};
-ghost use Rattle.esr_items.specs.Values.{IsValue, both_versions};
+ghost use Rattle.esr_items.specs.Values.{IsValue};
 ghost use Rattle.esr_history.specs.declared.event.Entry.{Entry};
 ghost use Rattle.esr_history.specs.Events.{committed_value};
 ghost use Rattle.esr_history.specs.Legal.{along};
@@ -26,15 +26,6 @@ pub enum RenewError {
     /// A transaction is active.
     #[error("a transaction is active")]
     TransactionActive = 16,
-}
-
-/// A store of these values.
-fn store_of(alloc: Global, values: Vec<i64>) -> Result<Store, NoMemory>
-    requires few { length values.items ≤ MOST_ITEMS }
-    requires range { All IsValue values.items }
-    ensures { IfOk result (λ s. s ≡ map both_versions values.items) }
-{
-    Store::new(alloc, values).map_err(|_| NoMemory)
 }
 
 /// Whether a row is active.
@@ -79,7 +70,7 @@ impl<M: Metric + Drop> Machine<M> {
     /// its own are serializable as one, and a query is in one history alone.
     ///
     /// # Errors
-    /// `TransactionActive` exactly where a transaction is active, else `NoMemory` where an
+    /// `TransactionActive` exactly where a transaction is active, else `NoMemory` if an
     /// allocation failed. Then nothing has changed.
     pub fn renew(&mut self, alloc: Global, metric: M) -> Result<(), RenewError>
         ensures ok { OnOk result (self.new ≡ renewed self.old (M.weights metric)) }
@@ -112,8 +103,7 @@ impl<M: Metric + Drop> Machine<M> {
     {
         let _legal = self.history.log(); // brings the invariant into the proof
         let opening = self.committed_values(alloc)?;
-        let values = opening.to_vec(alloc)?;
-        let items = store_of(alloc, values)?;
+        let items = Store::of_valid(alloc, &opening)?;
         let mut state = State::new(alloc, items)?;
         state.prepare(self.state.transactions.len());
         Ok((state, opening))
