@@ -105,17 +105,13 @@ fn check_opening(opening: &[i64]) -> Result<(), Status>
 }
 
 /// A machine of these opening values on the heap.
-#[tactic(auto, using(esr_core::proofs::Replayed::committed_of_both))]
 fn machine_of(alloc: Global, opening: &[i64]) -> Result<Box<Machine<Plain>, Global>, Status>
     requires few { length opening.now ≤ MOST_ITEMS }
     requires range { All IsValue opening.now }
     ensures ok { IfOk result (λ b. b.value ≡ fresh opening.now) }
     ensures err { IfErr result (λ e. e ≡ Status.NoMemory) }
 {
-    let Ok(values) = opening.to_vec(alloc) else {
-        return Err(Status::NoMemory);
-    };
-    let Ok(items) = Store::new(alloc, values) else {
+    let Ok(items) = Store::of_valid(alloc, opening) else {
         return Err(Status::NoMemory);
     };
     let Ok(machine) = Machine::new(alloc, items, Plain) else {

@@ -6,6 +6,7 @@ use Rattle.esr_history.specs.declared.event.Reply.{Reply}
 use Rattle.esr_history.specs.Machine.{Schedule, IsLegal}
 use Rattle.esr_session.specs.declared.receipt.Receipt.{Receipt}
 use Rattle.esr_session.specs.Receipts.{Matches}
+use Rattle.esr_session.specs.Engine.{AreTotals}
 use Rattle.esr_plan.specs.declared.call.Call.{Call}
 use Rattle.esr_plan.specs.Calls.{command_of, all_answers, AreAnswered, AreResolved}
 use Rattle.esr_plan.specs.Blocks.{AreBlocks}
@@ -32,4 +33,5 @@ pub record IsDriven (opening : List ℤ) (weights : List ℕ) (blocks : List (Li
 abbrev pub DrivesTo : List ℤ → List ℕ → List (List Call) → Result Driven DriveFault → Type 0
 DrivesTo opening weights blocks (Ok d) =
     IsDriven opening weights blocks d.history.schedule (map (λ r. r.items) d.replies.items)
+    × AreTotals weighted d.history.schedule d.totals
 DrivesTo opening weights blocks (Err fault) = is_engine_fault fault ≡ true

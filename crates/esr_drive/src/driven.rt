@@ -7,6 +7,7 @@ ghost use Rattle.esr_drive.specs.Driven.{DrivesTo};
 
 use crate::threads::{BlockResults, BlockTask, gather, run_blocks};
 use esr_board::Gate;
+use esr_core::Totals;
 use esr_history::{History, NoMemory, Reply};
 use esr_items::{Store, Weighted};
 use esr_plan::{Call, DriveFault};
@@ -16,10 +17,11 @@ use std::sync::Wait;
 use std::sync::ledger::Blank;
 use std::thread::Threads;
 
-/// What the engine leaves: the history, and the last replies of each block.
+/// What the engine leaves: the history with its totals, and the last replies of each block.
 #[derive(Drop)]
 pub struct Driven {
     pub history: History<Weighted>,
+    pub totals: Totals,
     pub replies: Vec<Vec<Reply>>,
 }
 
@@ -82,18 +84,10 @@ pub fn drive_blocks<N: Naming + Send + Sync, R: Threads + Wait + Sync, G: Gate +
     requires blocks { length blocks.now ≤ MAX_BLOCKS }
     ensures { DrivesTo (map (λ w. w.committed) items) metric (map (λ b. b.items) blocks.now) result }
 {
-    let Ok(mut engine) = Engine::<Weighted, N>::new(alloc, blank, items, metric) else {
-        return Err(DriveFault::NoMemory);
-    };
-    let Ok(sessions) = sessions_for(alloc, &mut engine, blocks.len()) else {
-        return Err(DriveFault::NoMemory);
-    };
-    let Ok(tasks) = tasks_of(alloc, blocks, sessions) else {
-        return Err(DriveFault::NoMemory);
-    };
-    let Ok(all) = run_blocks(rt, alloc, tasks, gate) else {
-        return Err(DriveFault::NoMemory);
-    };
+    let mut engine = Engine::<Weighted, N>::new(alloc, blank, items, metric)?;
+    let sessions = sessions_for(alloc, &mut engine, blocks.len())?;
+    let tasks = tasks_of(alloc, blocks, sessions)?;
+    let all = run_blocks(rt, alloc, tasks, gate)?;
     let BlockResults { sessions, replies } = match gather(alloc, all) {
         Ok(gathered) => gathered,
         Err(fault) => return Err(fault),
@@ -101,6 +95,7 @@ pub fn drive_blocks<N: Naming + Send + Sync, R: Threads + Wait + Sync, G: Gate +
     match engine.close(rt, sessions) {
         Ok(closed) => Ok(Driven {
             history: closed.history,
+            totals: closed.totals,
             replies,
         }),
         Err(refused) => match refused.error {

@@ -8,6 +8,8 @@ ghost use Rattle.esr_history.specs.Watch.{inner, failed};
 ghost use Rattle.esr_drive.specs.Drive.{IsDriveBy, IsDriveText};
 ghost use Rattle.esr_plan.specs.Text.{text_of};
 ghost use Rattle.esr_drive.specs.Driven.{IsDriven};
+ghost use Rattle.esr_items.specs.Weights.{weighted};
+ghost use Rattle.esr_session.specs.Engine.{AreTotals};
 ghost use Rattle.esr_plan.specs.Calls.{all_answers};
 ghost use Rattle.esr_drive.specs.Faults.{IsTextFault, is_engine_fault};
 ghost use Rattle.esr_plan.specs.Sheets.{plan_in, IsSound};
@@ -17,10 +19,11 @@ use crate::driven::{Driven, drive_blocks};
 use crate::findings::push_findings;
 use esr_board::Gate;
 use esr_history::Watched;
+use esr_items::Store;
 use esr_plan::{
-    DriveFault, Sheet, begun_names, metric_of, push_blocks, push_items, push_totals, read_all,
-    sheet_of, store_of,
+    DriveFault, Sheet, begun_names, metric_of, push_blocks, push_items, read_all, sheet_of,
 };
+use esr_report::totals_line;
 use esr_session::LEDGER_PARTS;
 use std::alloc::{AllocError, Global};
 use std::io::{Read, Write};
@@ -50,14 +53,8 @@ pub fn drive<R: Threads + Wait + Sync, I: Read, O: Write, G: Gate + Sync>(
     ensures reader { IsTrue (failed reader.new) ↔ IsErrOf result DriveFault.Read }
     ensures writer { IsTrue (failed writer.new) ↔ IsErrOf result DriveFault.Write }
 {
-    let bytes = match read_all(alloc, reader) {
-        Ok(bytes) => bytes,
-        Err(fault) => return Err(fault),
-    };
-    let out = match text_in(rt, alloc, &bytes, workers, gate) {
-        Ok(out) => out,
-        Err(fault) => return Err(fault),
-    };
+    let bytes = read_all(alloc, reader)?;
+    let out = text_in(rt, alloc, &bytes, workers, gate)?;
     writer.send_all(&out).map_err(|_| DriveFault::Write)
 }
 
@@ -98,14 +95,11 @@ fn run_sheet<R: Threads + Wait + Sync, G: Gate + Sync>(
     requires { IsSound sheet.now }
     ensures ok { IfOk result (λ d. IsDriven sheet.now.values.items (weights_of sheet.now.weights.items)
         (map (λ b. b.items) sheet.now.blocks.items) d.history.schedule (map (λ r. r.items) d.replies.items)) }
+    ensures totals { IfOk result (λ d. AreTotals weighted d.history.schedule d.totals) }
     ensures err { IfErr result (λ e. is_engine_fault e ≡ true) }
 {
-    let Ok(items) = store_of(alloc, sheet.values.as_slice()) else {
-        return Err(DriveFault::NoMemory);
-    };
-    let Ok(metric) = metric_of(alloc, sheet.weights.as_slice()) else {
-        return Err(DriveFault::NoMemory);
-    };
+    let items = Store::of_valid(alloc, &sheet.values)?;
+    let metric = metric_of(alloc, sheet.weights.as_slice())?;
     drive_blocks::<Brand, R, G>(
         rt,
         alloc,
@@ -130,20 +124,23 @@ fn text_from<R: Threads + Sync>(
     requires driven { IsDriven sheet.now.values.items (weights_of sheet.now.weights.items)
         (map (λ b. b.items) sheet.now.blocks.items) driven.now.history.schedule
         (map (λ r. r.items) driven.now.replies.items) }
+    requires totals { AreTotals weighted driven.now.history.schedule driven.now.totals }
     ensures { IfOk result (λ out. out.items ≡ text_of (plan_in sheet.now) driven.now.history.schedule
         (all_answers (map (λ b. b.items) sheet.now.blocks.items) (map (λ r. r.items) driven.now.replies.items))) }
 {
     let blocks = sheet.blocks.as_slice();
     let replies = driven.replies.as_slice();
-    let values = sheet.values.as_slice();
-    let weights = sheet.weights.as_slice();
+    let totals = driven.totals;
     let names = begun_names(alloc, &driven.history, blocks, replies)?;
     let mut out = Vec::new(alloc);
-    push_items(&mut out, &sheet.names, values, weights)?;
+    push_items(
+        &mut out,
+        &sheet.names,
+        sheet.values.as_slice(),
+        sheet.weights.as_slice(),
+    )?;
     push_blocks(&mut out, &names, blocks, replies)?;
     push_findings(rt, alloc, &mut out, &driven.history, &names, workers)?;
-    let items = store_of(alloc, values)?;
-    let metric = metric_of(alloc, weights)?;
-    push_totals(alloc, &mut out, items, metric, &driven.history)?;
+    totals_line(&mut out, totals.import, totals.export, totals.entries)?;
     Ok(out)
 }

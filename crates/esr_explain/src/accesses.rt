@@ -5,7 +5,6 @@ ghost use Rattle.esr_items.specs.Values.{value_at, IsValue};
 ghost use Rattle.esr_history.specs.Serial.{state};
 ghost use Rattle.esr_explain.specs.Accesses.{put_all};
 
-use crate::charges::openings;
 use esr_history::{History, TxnId};
 use esr_items::Weighted;
 use esr_order::{Access, accesses_of};
@@ -36,7 +35,7 @@ pub fn values_after(
     ensures range { IfOk result (λ v. (x : ℕ) → IsValue (value_at v.items x)) }
 {
     let _legal = history.log(); // brings the invariant into the proof
-    let mut values = openings(alloc, history)?;
+    let mut values = history.opening_values().to_vec(alloc)?;
     for u in updates {
         let accesses = accesses_of(alloc, history, *u)?;
         put_all(&mut values, &accesses);

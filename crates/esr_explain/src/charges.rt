@@ -152,25 +152,11 @@ fn met_by(machine: &Machine<Lent<'_>>, event: Event) -> Option<Meeting>
     }
 }
 
-/// The opening values of a history.
-pub fn openings(alloc: Global, history: &History<Weighted>) -> Result<Vec<i64>, AllocError>
-    ensures { IfOk result (λ v. v.items ≡ history.now.schedule.opening) }
-{
-    let mut values = Vec::new(alloc);
-    for x in 0..history.items() {
-        values.push(history.opening(ItemId(x)))?;
-    }
-    Ok(values)
-}
-
 /// A machine that is to make a history again.
 fn blank<'a>(alloc: Global, history: &'a History<Weighted>) -> Result<Machine<Lent<'a>>, NoMemory>
     ensures { IfOk result (λ m. m ≡ blank history.entry.now.schedule) }
 {
-    let values = openings(alloc, history)?;
-    let Ok(store) = Store::new(alloc, values) else {
-        return Err(NoMemory);
-    };
+    let store = Store::of_valid(alloc, history.opening_values())?;
     Machine::new(alloc, store, Lent(history.metric()))
 }
 

@@ -9,7 +9,7 @@
 ghost use Rattle.esr_items.specs.declared.TheConstants.{MOST_ITEMS};
 ghost use Rattle.std.specs.Prelude.{◌≡◌, ◌+◌, ◌^◌, ◌<◌, ◌≤◌, ◌++◌, ◌∷◌, [], ℕ, List, length, slice_index_or, slice_set, IfOk, OnOk, vec_capacity};
 ghost use Rattle.esr_history.specs.declared.event.Entry.{Entry};
-ghost use Rattle.esr_history.specs.BackLinks.{with_key, txns_after, ends_after, begins_after, IsNumbered, item_of, begun_by, txn_of, key_at, decoded, AreLinks, IsFit, HasRoom, HasRoomToBegin, last_place, earlier, facts_of, accepted_item, accepted_txn, item_in, txn_in};
+ghost use Rattle.esr_history.specs.BackLinks.{with_key, txns_after, ends_after, begins_after, IsNumbered, item_of, begun_by, txn_of, key_at, decoded, AreLinks, IsFit, HasRoom, HasRoomToBegin, begun_count, last_place, earlier, facts_of, accepted_item, accepted_txn, item_in, txn_in};
 
 use crate::event::{Entry, Event, Reply};
 use std::alloc::{AllocError, Global};
@@ -292,6 +292,13 @@ impl BackLinks {
             → result ≡ last_place accepted_txn t es }
     {
         place(at_key(&self.txns, Some(t)))
+    }
+
+    /// How many transactions have begun.
+    pub fn begun_count(&self) -> usize
+        ensures { (n : ℕ) (es : List Entry) → AreLinks n es self.now → result ≡ begun_count es }
+    {
+        self.begins.len()
     }
 
     /// What is known of a transaction, if it has begun.

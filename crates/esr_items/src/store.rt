@@ -12,7 +12,7 @@ ghost use Rattle.esr_items.specs.declared.store.Versions.{Versions};
 
 use crate::metric::ItemId;
 use crate::{LARGEST_VALUE, MOST_ITEMS};
-use std::alloc::Global;
+use std::alloc::{AllocError, Global};
 use std::marker::Model;
 use thiserror::Error;
 
@@ -65,14 +65,21 @@ impl Store {
         ensures weights { ¬ IsErrOf result ItemsError.WeightOutOfRange }
     {
         check(&values)?;
-        let versions = values.iter().map(|v| Versions {
-            committed: *v,
-            current: *v,
-        });
-        match versions.collect(alloc) {
-            Ok(items) => Ok(Store { items }),
+        match Store::of_valid(alloc, &values) {
+            Ok(store) => Ok(store),
             Err(_) => Err(ItemsError::NoMemory),
         }
+    }
+
+    /// The same of values that are in range, and no more than items may be.
+    pub fn of_valid(alloc: Global, values: &[i64]) -> Result<Store, AllocError>
+        requires few { length values.now ≤ MOST_ITEMS }
+        requires range { All IsValue values.now }
+        ensures both { IfOk result (λ s. s ≡ map both_versions values.now) }
+        ensures committed { IfOk result (λ s. map (λ w. w.committed) s ≡ values.now) }
+    {
+        let items = versions_of(alloc, values)?;
+        Ok(Store { items })
     }
 
     /// How many items there are.
@@ -128,6 +135,20 @@ impl Store {
         let versions = &mut self.items[x.0 as usize];
         versions.current = versions.committed;
     }
+}
+
+/// Items whose committed and current values are these.
+fn versions_of(alloc: Global, values: &[i64]) -> Result<Vec<Versions>, AllocError>
+    requires { All IsValue values.now }
+    ensures both { IfOk result (λ items. items.items ≡ map both_versions values.now) }
+    ensures few { IfOk result (λ items. length items.items ≡ length values.now) }
+    ensures range { IfOk result (λ items. All AreValues items.items) }
+{
+    let versions = values.iter().map(|v| Versions {
+        committed: *v,
+        current: *v,
+    });
+    versions.collect(alloc)
 }
 
 /// Whether an item may have the value.

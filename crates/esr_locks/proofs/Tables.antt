@@ -11,8 +11,7 @@ use Rattle.esr_history.specs.declared.event.TxnId.{TxnId}
 use Rattle.esr_history.specs.ItemLocks.{ItemLocks}
 use Rattle.esr_history.proofs.Ascending.{any_placed}
 use Rattle.esr_history.proofs.Lists.{any_push, or_false}
-use Rattle.esr_locks.specs.declared.row.Lock.{Lock}
-use Rattle.esr_locks.specs.declared.row.Lock.TheVariants.{Read, Write, QueryRead}
+use Rattle.esr_locks.specs.Modes.{Mode, Read, Write, QueryRead}
 use Rattle.esr_locks.specs.Rows.{RowOf, LockedItemsOf, nothing_held, empty_row, row_at, held_at, IsTable, with_lock, has_such}
 use Rattle.esr_locks.specs.Tables.{no_locks, locks_at, is_writer, is_reader, has_query_lock, has_lock, released, lists_item}
 
@@ -26,13 +25,13 @@ pub set_row : (rows : List RowOf) (x : ℕ) (row new : RowOf) (f : ItemLocks →
 set_row rows x row new f l is new_is = grind (arith, map-set, set, map, get_or-map)
 
 -- who holds a lock after one more held one before, or is who took it
-pub lock_more : (lock : Lock) (t u : ℕ) (l : ItemLocks) → has_lock (with_lock lock t l) u ≡ true → (has_lock l u ≡ true) ⊎ (t ≡ u)
+pub lock_more : (mode : Mode) (t u : ℕ) (l : ItemLocks) → has_lock (with_lock mode t l) u ≡ true → (has_lock l u ≡ true) ⊎ (t ≡ u)
 lock_more Read t u l is = grind (arith, any_placed (λ v. v) t t (λ v. v) refl (λ v. refl) u l.readers, cases_Bool, or_left, or_right, or_cases, eqb-true)
 lock_more Write t u l is = grind (arith, cases_Bool, or_left, or_right, or_cases, eqb-true)
 lock_more QueryRead t u l is = grind (arith, any_placed (λ (r : ℕ × ℕ). r.0) t (t, 1) (λ (r : ℕ × ℕ). (r.0, r.1 + 1)) refl (λ r. refl) u l.queries, cases_Bool, or_left, or_right, or_cases, eqb-true)
 
 -- who holds such a lock on an item holds a lock on it
-pub such_has : (lock : Lock) (t : ℕ) (l : ItemLocks) → has_such lock l t ≡ true → has_lock l t ≡ true
+pub such_has : (mode : Mode) (t : ℕ) (l : ItemLocks) → has_such mode l t ≡ true → has_lock l t ≡ true
 such_has Read t l is = grind (arith, or_cases, or_left, or_right)
 such_has Write t l is = grind (arith, or_cases, or_left, or_right)
 such_has QueryRead t l is = grind (arith, or_left, or_right)

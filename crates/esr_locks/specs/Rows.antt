@@ -6,8 +6,7 @@ use Rattle.esr_history.specs.declared.event.TxnId.{TxnId}
 use Rattle.esr_history.specs.ItemLocks.{ItemLocks}
 use Rattle.esr_locks.specs.declared.lists.Reader.{Reader}
 use Rattle.esr_locks.specs.declared.lists.QueryReads.{QueryReads}
-use Rattle.esr_locks.specs.declared.row.Lock.{Lock}
-use Rattle.esr_locks.specs.declared.row.Lock.TheVariants.{Read, Write, QueryRead}
+use Rattle.esr_locks.specs.Modes.{Mode, Read, Write, QueryRead}
 use Rattle.esr_locks.specs.Tables.{no_locks, has_lock, has_update_lock, has_query_lock, with_reader, with_writer, with_query_read, lists_item}
 
 -- what a row is to contracts: the locks, and for how many more there is room
@@ -40,12 +39,12 @@ more_reads r = record r { count = r.count + 1 }
 
 -- the locks of an item with one more, and whether a transaction holds such a lock: an update's read and write count
 -- alike
-abbrev pub with_lock : Lock → ℕ → ItemLocks → ItemLocks
+abbrev pub with_lock : Mode → ℕ → ItemLocks → ItemLocks
 with_lock Read = with_reader
 with_lock Write = with_writer
 with_lock QueryRead = with_query_read
 
-abbrev pub has_such : Lock → ItemLocks → ℕ → Bool
+abbrev pub has_such : Mode → ItemLocks → ℕ → Bool
 has_such Read = has_update_lock
 has_such Write = has_update_lock
 has_such QueryRead = has_query_lock

@@ -4,6 +4,7 @@ use Rattle.std.specs.List.{list_any}
 use Rattle.esr_items.specs.declared.metric.ItemId.{ItemId}
 use Rattle.esr_history.specs.ItemLocks.{ItemLocks}
 use Rattle.esr_history.specs.Ascending.{placed}
+use Rattle.esr_locks.specs.Modes.{Mode, Read, Write, conflicts}
 
 -- what a lock table is to contracts: the locks on each item, for how many more locks there is room on each item, and
 -- for how many more items in the list of each transaction
@@ -40,12 +41,17 @@ has_query_lock l t = list_any (λ r. r.0 == t) l.queries
 abbrev pub has_lock : ItemLocks → ℕ → Bool
 has_lock l t = is_writer l t || (is_reader l t || has_query_lock l t)
 
+-- whether update u keeps transaction t from locking the item in a mode: it is another, and has a lock that conflicts
+abbrev pub keeps_from : Mode → ItemLocks → ℕ → ℕ → Bool
+keeps_from asked l t u =
+    not (u == t) && ((conflicts Read asked && is_reader l u) || (conflicts Write asked && is_writer l u))
+
 -- whether update u keeps transaction t, as an update, from reading the item, and from writing it
 abbrev pub keeps_from_reading : ItemLocks → ℕ → ℕ → Bool
-keeps_from_reading l t u = not (u == t) && is_writer l u
+keeps_from_reading = keeps_from Read
 
 abbrev pub keeps_from_writing : ItemLocks → ℕ → ℕ → Bool
-keeps_from_writing l t u = not (u == t) && (is_reader l u || is_writer l u)
+keeps_from_writing = keeps_from Write
 
 -- the locks with one more: a read by an update, a write, a read by a query
 abbrev pub with_reader : ℕ → ItemLocks → ItemLocks

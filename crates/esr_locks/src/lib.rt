@@ -6,6 +6,7 @@
 
 mod lists;
 mod locked_items;
+mod mode;
 mod row;
 mod table;
 

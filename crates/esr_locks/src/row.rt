@@ -3,11 +3,12 @@
 //! Queries are counted since a write is charged once for each read. Readers and queries ascend by number, so the
 //! smallest update in the way is the writer or the first reader but the asker.
 
-ghost use Rattle.std.specs.Prelude.{◌≡◌, ℕ, ◌<◌, ◌≤◌, ◌==◌, Bool, false, ◌||◌, map, not, All, OnOk, OnErr, unwrap_or, None, if◌then◌else◌, option_map, min, ◌-◌, length};
+ghost use Rattle.std.specs.Prelude.{◌≡◌, ℕ, ◌<◌, ◌≤◌, ◌==◌, Bool, false, ◌||◌, ◌&&◌, map, not, All, OnOk, OnErr, unwrap_or, None, if◌then◌else◌, option_map, min, ◌-◌, length};
 ghost use Rattle.esr_history.specs.declared.limits.TheConstants.{MOST_READS};
 ghost use Rattle.esr_history.specs.Ascending.{IsAscendingBy, IsSmallest};
+ghost use Rattle.esr_locks.specs.Modes.{conflicts};
 ghost use Rattle.esr_locks.specs.Rows.{query_and_count, with_lock, has_such, RowOf};
-ghost use Rattle.esr_locks.specs.Tables.{no_locks, has_update_lock, has_query_lock, keeps_from_reading, keeps_from_writing, with_reader, with_writer, with_query_read, released};
+ghost use Rattle.esr_locks.specs.Tables.{no_locks, is_writer, is_reader, has_update_lock, has_query_lock, keeps_from, with_reader, with_writer, with_query_read, released};
 ghost use Rattle.std.specs.List.{AllByRecursion};
 ghost use Rattle.std.specs.Option.{option_map};
 
@@ -15,17 +16,10 @@ use crate::lists::{
     Queries, QueryReads, Readers, add_reader, count_read, drop_row, is_reader, other_reader,
     reserve_one,
 };
+use crate::mode::{Mode, conflicts};
 use esr_history::TxnId;
 use std::alloc::{AllocError, Global};
 use std::marker::Model;
-
-/// The locks that a transaction takes: an update by reading and by writing, a query by reading.
-#[derive(Clone, Copy, PartialEq, Eq, Debug)]
-pub enum Lock {
-    Read,
-    Write,
-    QueryRead,
-}
 
 /// The locks on one item. Updates that have read it and queries that have read it are in the
 /// order of their numbers.
@@ -109,18 +103,36 @@ impl Row {
         &self.queries
     }
 
-    /// The writer, where it is another than `t`.
-    pub fn other_writer(&self, t: TxnId) -> Option<TxnId>
-        ensures { IsSmallest (keeps_from_reading self.now.locks t.0) (option_map (λ u. u.0) result) }
+    /// The smallest reader other than `t`, where reading keeps others from locking in this mode.
+    fn reader_against(&self, t: TxnId, asked: Mode) -> Option<TxnId>
+        ensures { IsSmallest (λ u. not (u == t.0) && (conflicts Mode.Read asked && is_reader self.now.locks u))
+            (option_map (λ u. u.0) result) }
     {
-        writer_unless(self.writer, t)
+        if conflicts(Mode::Read, asked) {
+            other_reader(&self.readers, t)
+        } else {
+            None
+        }
     }
 
-    /// The smallest update other than `t` that has read or written the item.
-    pub fn other_update(&self, t: TxnId) -> Option<TxnId>
-        ensures { IsSmallest (keeps_from_writing self.now.locks t.0) (option_map (λ u. u.0) result) }
+    /// The writer, where it is another than `t` and writing keeps others from locking in this mode.
+    fn writer_against(&self, t: TxnId, asked: Mode) -> Option<TxnId>
+        ensures { IsSmallest (λ u. not (u == t.0) && (conflicts Mode.Write asked && is_writer self.now.locks u))
+            (option_map (λ u. u.0) result) }
     {
-        smaller_of(other_reader(&self.readers, t), self.other_writer(t))
+        if conflicts(Mode::Write, asked) {
+            writer_unless(self.writer, t)
+        } else {
+            None
+        }
+    }
+
+    /// The smallest update that keeps `t` from locking the item in this mode.
+    #[inline(always)]
+    pub fn update_against(&self, t: TxnId, asked: Mode) -> Option<TxnId>
+        ensures { IsSmallest (keeps_from asked self.now.locks t.0) (option_map (λ u. u.0) result) }
+    {
+        smaller_of(self.reader_against(t, asked), self.writer_against(t, asked))
     }
 
     /// Makes room for one more lock.
@@ -169,16 +181,16 @@ impl Row {
 
     /// Adds a lock, and answers whether the transaction held none on the item yet.
     #[inline(always)]
-    pub fn add(&mut self, t: TxnId, lock: Lock) -> bool
+    pub fn add(&mut self, t: TxnId, mode: Mode) -> bool
         requires room { 0 < self.old.room }
-        requires few { lock ≡ Lock.QueryRead → All (λ r. r.0 ≡ t.0 → r.1 < MOST_READS) self.old.locks.queries }
-        ensures locks { self.new.locks ≡ with_lock lock t.0 self.old.locks }
-        ensures fresh { result ≡ not (has_such lock self.old.locks t.0) }
+        requires few { mode ≡ Mode.QueryRead → All (λ r. r.0 ≡ t.0 → r.1 < MOST_READS) self.old.locks.queries }
+        ensures locks { self.new.locks ≡ with_lock mode t.0 self.old.locks }
+        ensures fresh { result ≡ not (has_such mode self.old.locks t.0) }
     {
-        match lock {
-            Lock::Read => self.add_reader(t),
-            Lock::Write => self.add_writer(t),
-            Lock::QueryRead => self.add_query_read(t),
+        match mode {
+            Mode::Read => self.add_reader(t),
+            Mode::Write => self.add_writer(t),
+            Mode::QueryRead => self.add_query_read(t),
         }
     }
 

@@ -12,12 +12,13 @@ ghost use Rattle.std.specs.Prelude.{◌≡◌, ℕ, ◌<◌, ◌≤◌, ◌==◌
 ghost use Rattle.std.specs.List.{range_with_len};
 ghost use Rattle.esr_history.specs.declared.limits.TheConstants.{MOST_READS};
 ghost use Rattle.esr_history.specs.Ascending.{IsAscendingBy, IsSmallest};
-ghost use Rattle.esr_locks.specs.Rows.{query_and_count, row_at, held_at, with_lock, IsTable};
-ghost use Rattle.esr_locks.specs.Tables.{no_locks, locks_at, room_for, has_lock, lists_item, keeps_from_reading, keeps_from_writing, with_reader, with_writer, with_query_read, released, Table};
+ghost use Rattle.esr_locks.specs.Rows.{query_and_count, row_at, held_at, with_lock, has_such, IsTable};
+ghost use Rattle.esr_locks.specs.Tables.{no_locks, locks_at, room_for, has_lock, has_update_lock, has_query_lock, lists_item, keeps_from_reading, keeps_from_writing, with_reader, with_writer, with_query_read, released, Table};
 
 use crate::lists::QueryReads;
 use crate::locked_items::LockedItems;
-use crate::row::{Lock, Row};
+use crate::mode::Mode;
+use crate::row::Row;
 use esr_history::{NoMemory, TxnId};
 use esr_items::ItemId;
 use std::alloc::{AllocError, Global};
@@ -129,7 +130,7 @@ impl LockTable {
         requires { x.0 < length self.now.locks }
         ensures { IsSmallest (keeps_from_reading (locks_at self.now.locks x.0) t.0) (option_map (λ u. u.0) result) }
     {
-        self.rows[x.0 as usize].other_writer(t)
+        self.rows[x.0 as usize].update_against(t, Mode::Read)
     }
 
     /// The smallest update that keeps transaction `t` from writing the item: another that has read
@@ -138,7 +139,7 @@ impl LockTable {
         requires { x.0 < length self.now.locks }
         ensures { IsSmallest (keeps_from_writing (locks_at self.now.locks x.0) t.0) (option_map (λ u. u.0) result) }
     {
-        self.rows[x.0 as usize].other_update(t)
+        self.rows[x.0 as usize].update_against(t, Mode::Write)
     }
 
     /// The update that has written the item.
@@ -197,44 +198,48 @@ impl LockTable {
 
     /// Adds a lock, and the item to those that the transaction has locked, where it had none there.
     #[inline(always)]
-    fn add(&mut self, t: TxnId, x: ItemId, lock: Lock)
+    fn add(&mut self, t: TxnId, x: ItemId, mode: Mode)
         requires item { x.0 < length self.old.locks }
         requires room { 0 < room_for self.old t.0 x.0 }
-        requires few { lock ≡ Lock.QueryRead
+        requires few { mode ≡ Mode.QueryRead
             → All (λ r. r.0 ≡ t.0 → r.1 < MOST_READS) (locks_at self.old.locks x.0).queries }
-        ensures { self.new.locks ≡ slice_set self.old.locks x.0 (with_lock lock t.0 (locks_at self.old.locks x.0)) }
+        ensures again { has_such mode (locks_at self.old.locks x.0) t.0 ≡ true → self.new.list_rooms ≡ self.old.list_rooms }
+        ensures locks { self.new.locks ≡ slice_set self.old.locks x.0 (with_lock mode t.0 (locks_at self.old.locks x.0)) }
     {
-        if self.rows[x.0 as usize].add(t, lock) {
+        if self.rows[x.0 as usize].add(t, mode) {
             self.held[t.0 as usize].push(x);
         }
     }
 
-    /// Adds the lock of an update that has read the item.
+    /// Adds the lock of an update that has read the item. One that it has locked already is not listed again.
     pub fn add_read_update(&mut self, t: TxnId, x: ItemId)
         requires item { x.0 < length self.old.locks }
         requires room { 0 < room_for self.old t.0 x.0 }
-        ensures { self.new.locks ≡ slice_set self.old.locks x.0 (with_reader t.0 (locks_at self.old.locks x.0)) }
+        ensures again { has_update_lock (locks_at self.old.locks x.0) t.0 ≡ true → self.new.list_rooms ≡ self.old.list_rooms }
+        ensures locks { self.new.locks ≡ slice_set self.old.locks x.0 (with_reader t.0 (locks_at self.old.locks x.0)) }
     {
-        self.add(t, x, Lock::Read);
+        self.add(t, x, Mode::Read);
     }
 
-    /// Adds the lock of an update that has written the item.
+    /// Adds the lock of an update that has written the item. One that it has locked already is not listed again.
     pub fn add_write(&mut self, t: TxnId, x: ItemId)
         requires item { x.0 < length self.old.locks }
         requires room { 0 < room_for self.old t.0 x.0 }
-        ensures { self.new.locks ≡ slice_set self.old.locks x.0 (with_writer t.0 (locks_at self.old.locks x.0)) }
+        ensures again { has_update_lock (locks_at self.old.locks x.0) t.0 ≡ true → self.new.list_rooms ≡ self.old.list_rooms }
+        ensures locks { self.new.locks ≡ slice_set self.old.locks x.0 (with_writer t.0 (locks_at self.old.locks x.0)) }
     {
-        self.add(t, x, Lock::Write);
+        self.add(t, x, Mode::Write);
     }
 
-    /// Adds the lock of a query that has read the item, or counts one more read.
+    /// Adds the lock of a query that has read the item, or counts one more read, and then the item is not listed again.
     pub fn add_read_query(&mut self, q: TxnId, x: ItemId)
         requires item { x.0 < length self.old.locks }
         requires room { 0 < room_for self.old q.0 x.0 }
         requires few { All (λ r. r.0 ≡ q.0 → r.1 < MOST_READS) (locks_at self.old.locks x.0).queries }
-        ensures { self.new.locks ≡ slice_set self.old.locks x.0 (with_query_read q.0 (locks_at self.old.locks x.0)) }
+        ensures again { has_query_lock (locks_at self.old.locks x.0) q.0 ≡ true → self.new.list_rooms ≡ self.old.list_rooms }
+        ensures locks { self.new.locks ≡ slice_set self.old.locks x.0 (with_query_read q.0 (locks_at self.old.locks x.0)) }
     {
-        self.add(q, x, Lock::QueryRead);
+        self.add(q, x, Mode::QueryRead);
     }
 
     /// Drops all locks of a transaction.

@@ -5,17 +5,12 @@ use Rattle.std.specs.List.{flat_map, filter, filter_map, find, range_with_len}
 use Rattle.std.specs.Option.{option_and_then, option_map, option_map_or}
 use Rattle.std.proofs.lemmas.Bool.Decides.{nat_tests}
 use Rattle.std.proofs.lemmas.List.{take_more, drop_more, drop_all, map-append, map-set, length-append, length-map}
-use Rattle.std.proofs.lemmas.Option.{slice_get_within, get_or_from_slice_get}
-use Rattle.std.proofs.lemmas.List.Elements.{filter-append, filter_map-append}
-use Rattle.esr_history.specs.declared.event.Entry.{Entry}
 use Rattle.esr_history.specs.declared.event.Reply.{Reply}
-use Rattle.esr_history.specs.Events.{Beginning, is_refusal, accepted, beginning_of, beginnings}
-use Rattle.esr_history.specs.BackLinks.{begun_count}
 use Rattle.esr_plan.specs.Plan.{new_name}
 use Rattle.esr_plan.specs.Blocks.{Answered, number_in}
 use Rattle.esr_plan.specs.Calls.{answers_of, AreAnswered, all_answers, Call}
 use Rattle.esr_plan.specs.Text.{has_begun, name_begun}
-use Rattle.esr_plan.specs.Tables.{answered, is_begin, with_number, with_begun, noted}
+use Rattle.esr_plan.specs.Tables.{answered, with_number, with_begun, noted}
 
 -- ---- the names that the lines give
 
@@ -124,32 +119,6 @@ blocks_noted blocks replies i b r old before after are lt is_block is_reply so_f
     ∙ (sym (noted-append (answers_of b r) (flat (all_answers (drop (i + 1) blocks) (drop (i + 1) replies))) old)
     ∙ ap (λ l. noted l old) (sym (all_drop blocks replies i b r are lt is_block is_reply))))
 
--- ---- how many transactions have begun
-
-accepted-snoc : (es : List Entry) (e : Entry) → accepted (es ++ e ∷ []) ≡ accepted es ++ accepted (e ∷ [])
-accepted-snoc es e =
-    ap (map (λ (x : Entry). x.event)) (filter-append (λ (x : Entry). not (is_refusal x.reply)) es (e ∷ []))
-    ∙ map-append (λ (x : Entry). x.event) (filter (λ (x : Entry). not (is_refusal x.reply)) es) (filter (λ (x : Entry). not (is_refusal x.reply)) (e ∷ []))
-
-abbrev pub one : Bool → ℕ
-one true = 1
-one false = 0
-
-begun_one : (e : Entry) → begun_count (e ∷ []) ≡ one (is_begin e)
-begun_one e = by (is_refusal e.reply) (beginning_of e.event) refl refl
-  where
-    by : (refused : Bool) (o : Option Beginning) → is_refusal e.reply ≡ refused → beginning_of e.event ≡ o → begun_count (e ∷ []) ≡ one (is_begin e)
-    by true o refused_is is = rw refused_is refl
-    by false None refused_is is = rw (refused_is, is) refl
-    by false (Some b) refused_is is = rw (refused_is, is) refl
-
-pub begun_more : (es : List Entry) (i : ℕ) (e : Entry) → i < length es → e ≡ get_or es i e → begun_count (take (i + 1) es) ≡ begun_count (take i es) + one (is_begin e)
-begun_more es i e lt is =
-    ap begun_count (take_more es i e lt ∙ ap (λ x. take i es ++ x ∷ []) (sym is))
-    ∙ (ap (λ l. length (filter_map beginning_of l)) (accepted-snoc (take i es) e)
-    ∙ (ap length (filter_map-append beginning_of (accepted (take i es)) (accepted (e ∷ [])))
-    ∙ (length-append (beginnings (accepted (take i es))) (beginnings (accepted (e ∷ []))) ∙ ap (λ n. begun_count (take i es) + n) (begun_one e))))
-
 -- ---- the lines of a block, in order
 
 pub answer_at : (calls : List Call) (replies : List Reply) (i : ℕ) (c : Call) (r : Reply) → length replies ≡ length calls → i < length calls
@@ -182,22 +151,6 @@ unwrap_now (Some x) d r new is same none = ap (λ (b : Bor (List ℕ)). b.now) s
 pub map_replicate : (n : ℕ) (x : Bor (List ℕ)) → x.now ≡ [] → map (λ (b : Bor (List ℕ)). b.now) (replicate n x) ≡ replicate n []
 map_replicate zero x is = refl
 map_replicate (suc n) x is = ap (λ l. l ∷ map (λ (b : Bor (List ℕ)). b.now) (replicate n x)) is ∙ ap (λ l. [] ∷ l) (map_replicate n x is)
-
--- one more entry
-pub count_step : (es : List Entry) (i count after : ℕ) (e : Entry) → Some e ≡ slice_get es i → count ≡ begun_count (take i es) → after ≡ count + one (is_begin e)
-    → after ≡ begun_count (take (i + 1) es)
-count_step es i count after e at so_far is =
-    let within = slice_get_within es i e (sym at) in
-    let here = get_or_from_slice_get es i e e (sym at) in
-    is ∙ (ap (λ n. n + one (is_begin e)) so_far ∙ sym (begun_more es i e within (sym here)))
-
-pub count_one : (b : Bool) → b ≡ true → one b ≡ 1
-count_one true is = refl
-count_one false is = cc
-
-pub count_none : (b : Bool) → b ≡ false → one b ≡ 0
-count_none false is = refl
-count_none true is = cc
 
 -- ---- blocks as the code has them
 

@@ -1,7 +1,5 @@
 -- Tables of the names that transactions began by.
 use Rattle.std.specs.Prelude.{◌==◌, ◌-◌, ℕ, List, [], ◌∷◌, Bool, not, ◌&&◌, Option, Some, None, map, is_some, slice_set, unwrap_or, if◌then◌else◌}
-use Rattle.esr_history.specs.Events.{is_refusal, beginning_of}
-use Rattle.esr_history.specs.declared.event.Entry.{Entry}
 use Rattle.esr_history.specs.declared.event.Reply.{Reply}
 use Rattle.esr_plan.specs.declared.table.BegunNames.{BegunNames}
 use Rattle.esr_plan.specs.Plan.{new_name}
@@ -13,10 +11,6 @@ answered call reply = record { command = command_of call; reply = reply }
 
 abbrev pub names_in : BegunNames → List (List ℕ)
 names_in table = map (λ name. name.now) table.names.items
-
--- whether a transaction began by the entry
-abbrev pub is_begin : Entry → Bool
-is_begin e = not (is_refusal e.reply) && is_some (beginning_of e.event)
 
 -- the names, with that of the line at the number that it got
 abbrev pub with_number : Option ℕ → List ℕ → List (List ℕ) → List (List ℕ)

@@ -1,5 +1,10 @@
 //! Why a drive ended without its whole text.
 
+ghost use Rattle.std.specs.Prelude.{◌≡◌};
+ghost use Rattle.esr_plan.specs.declared.fault.DriveFault.TheVariants.{NoMemory};
+
+use esr_history::NoMemory;
+use std::alloc::AllocError;
 use thiserror::Error;
 
 /// Why a drive ended without its whole text.
@@ -14,6 +19,7 @@ pub enum DriveFault {
     /// A line has more bytes than a line of a script may have.
     #[error("line too long")]
     LineTooLong,
+    /// An allocation failed.
     #[error("out of memory")]
     NoMemory,
     /// The history has as many entries as there may be, and a line makes one more event.
@@ -28,4 +34,20 @@ pub enum DriveFault {
     /// The receipts of the sessions do not match the history.
     #[error("receipts do not match")]
     Close,
+}
+
+impl From<AllocError> for DriveFault {
+    ghost from_gives = { λ _ e. e ≡ NoMemory };
+
+    fn from(_error: AllocError) -> DriveFault {
+        DriveFault::NoMemory
+    }
+}
+
+impl From<NoMemory> for DriveFault {
+    ghost from_gives = { λ _ e. e ≡ NoMemory };
+
+    fn from(_error: NoMemory) -> DriveFault {
+        DriveFault::NoMemory
+    }
 }

@@ -58,12 +58,6 @@ pub fn sheet_of<'a>(alloc: Global, bytes: &'a [u8]) -> Result<Sheet<'a>, DriveFa
     ensures sound { IfOk result IsSound }
     ensures err { IfErr result (λ e. (e ≡ DriveFault.NoMemory) ⊎ (plan_of bytes.entry.now ≡ Err e)) }
 {
-    let draft = match draft_of(alloc, bytes) {
-        Ok(draft) => draft,
-        Err(fault) => return Err(fault),
-    };
-    match finished(draft) {
-        Ok(sheet) => Ok(sheet),
-        Err(_) => Err(DriveFault::NoMemory),
-    }
+    let sheet = finished(draft_of(alloc, bytes)?)?;
+    Ok(sheet)
 }

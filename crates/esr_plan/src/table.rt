@@ -1,14 +1,13 @@
 //! Which name each transaction of a history began by. The table is filled from the last line on, so that the first line
 //! of a number decides, as in the definition; so it needs no proof that no two lines have one number.
 
-ghost use Rattle.std.specs.Prelude.{◌≡◌, ◌<◌, IfOk, length, map};
-ghost use Rattle.esr_history.specs.BackLinks.{begun_count};
+ghost use Rattle.std.specs.Prelude.{◌≡◌, IfOk, length, map};
 ghost use Rattle.esr_plan.specs.Calls.{answers_of, AreAnswered, all_answers};
 ghost use Rattle.esr_plan.specs.Text.{names_of};
-ghost use Rattle.esr_plan.specs.Tables.{answered, names_in, with_begun, noted, is_begin};
+ghost use Rattle.esr_plan.specs.Tables.{answered, names_in, with_begun, noted};
 
 use crate::call::{Call, number_in};
-use esr_history::{Entry, Event, History, Log, Reply};
+use esr_history::{History, Reply};
 use esr_items::Weighted;
 use esr_report::TransactionNames;
 use std::alloc::{AllocError, Global};
@@ -57,34 +56,6 @@ impl<'a> BegunNames<'a> {
     }
 }
 
-/// Whether a transaction began by this entry.
-fn begins(entry: Entry) -> bool
-    ensures { result ≡ is_begin entry }
-{
-    if let Reply::Refused(_) = entry.reply {
-        return false;
-    }
-    matches!(
-        entry.event,
-        Event::BeginUpdate { .. } | Event::BeginQuery { .. }
-    )
-}
-
-/// How many transactions have begun.
-fn begun_count(log: &Log) -> usize
-    ensures { result ≡ begun_count log.now.entries }
-{
-    let mut count = 0;
-    for i in 0..log.len() {
-        if let Some(entry) = log.get(i) {
-            if begins(entry) {
-                count += 1;
-            }
-        }
-    }
-    count
-}
-
 /// The names that the transactions of a history began by, in the blocks with these replies.
 pub fn begun_names<'a>(
     alloc: Global,
@@ -97,9 +68,8 @@ pub fn begun_names<'a>(
         ≡ names_of history.now.schedule (all_answers (map (λ b. b.items) blocks.now)
         (map (λ r. r.items) replies.now))) }
 {
-    let count = begun_count(history.log());
     let mut table = BegunNames {
-        names: vec![in alloc; ""; count]?,
+        names: vec![in alloc; ""; history.begun_count()]?,
     };
     let mut i = blocks.len();
     while i > 0 {

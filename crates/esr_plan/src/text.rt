@@ -1,27 +1,23 @@
 //! The text of a drive, part by part: items, blocks, what was found of each query, totals.
 
-ghost use Rattle.esr_history.specs.declared.limits.TheConstants.{MOST_ENTRIES};
 ghost use Rattle.esr_items.specs.declared.TheConstants.{MOST_ITEMS};
 ghost use Rattle.std.specs.Prelude.{◌≡◌, ◌<◌, ◌≤◌, slice_index_or, ◌++◌, [], OnOk, All, length, map, flat_map};
 ghost use Rattle.esr_items.specs.Weights.{weighted};
-ghost use Rattle.esr_history.specs.Totals.{all_imports, all_exports};
 ghost use Rattle.esr_audit.specs.Findings.{IsFinding};
-ghost use Rattle.esr_report.specs.Lines.{reply_line, totals_line};
+ghost use Rattle.esr_report.specs.Lines.{reply_line};
 ghost use Rattle.esr_plan.specs.Calls.{command_of, answers_of, AreAnswered, all_answers};
 ghost use Rattle.esr_plan.specs.Text.{item_text, items_text, subject_of, replies_text, blocks_text, finding_text};
 ghost use Rattle.esr_plan.specs.Tables.{names_in};
 
 use crate::call::Call;
-use crate::replay::replayed;
 use crate::table::BegunNames;
 use esr_audit::Finding;
 use esr_history::{History, Reply};
-use esr_items::{Store, Weighted};
+use esr_items::Weighted;
 use esr_report::{
-    Names, audit_line, item_line, name_of_transaction, reply_line, session_line, totals_line,
-    weighted_item_line,
+    Names, audit_line, item_line, name_of_transaction, reply_line, session_line, weighted_item_line,
 };
-use std::alloc::{AllocError, Global};
+use std::alloc::AllocError;
 
 /// The name at a place.
 fn name_at(names: &Names, place: usize) -> &str
@@ -155,26 +151,4 @@ pub fn push_each(
         push_finding(out, history, names, finding)?;
     }
     Ok(())
-}
-
-/// Appends the line of the totals.
-pub fn push_totals(
-    alloc: Global,
-    out: &mut Vec<u8>,
-    items: Store,
-    metric: Weighted,
-    history: &History<Weighted>,
-) -> Result<(), AllocError>
-    requires opening { history.now.schedule.opening ≡ map (λ w. w.committed) items }
-    requires weights { history.now.schedule.weights ≡ metric }
-    requires most { length history.now.schedule.entries ≤ MOST_ENTRIES }
-    ensures { OnOk result (out.new.items ≡ out.old.items
-        ++ totals_line (all_imports weighted history.now.schedule) (all_exports weighted history.now.schedule)
-        (length history.now.schedule.entries)) }
-{
-    let Ok(machine) = replayed(alloc, items, metric, history) else {
-        return Err(AllocError);
-    };
-    let totals = machine.totals();
-    totals_line(out, totals.import, totals.export, totals.entries)
 }

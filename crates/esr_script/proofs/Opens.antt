@@ -1,12 +1,15 @@
 -- The machine that is made of the items' values.
-use Rattle.std.proofs.Common.{◌≡◌, ℕ, ℤ, List, [], map, Vec, Global, arith}
-use Rattle.esr_core.proofs.Replayed.{committed_of_both}
+use Rattle.std.proofs.Common.{◌≡◌, ℕ, ℤ, List, [], ◌∷◌, map, Vec, Global, refl, ap, arith}
 use Rattle.esr_items.specs.declared.store.Versions.{Versions}
 use Rattle.esr_items.specs.Values.{both_versions}
 use Rattle.esr_history.specs.Machine.{Schedule}
 use Rattle.esr_script.specs.declared.stage.Stage.{Stage}
 use Rattle.esr_script.specs.declared.stage.Stage.TheVariants.{Open}
 use Rattle.esr_script.specs.Stages.{history_of}
+
+committed_of_both : (vs : List ℤ) → map (λ (w : Versions). w.committed) (map both_versions vs) ≡ vs
+committed_of_both [] = refl
+committed_of_both (v ∷ vs) = ap (λ ws. v ∷ ws) (committed_of_both vs)
 
 -- it opens with them, under the weights
 pub opens : (stage : Stage) (values taken : Vec ℤ Global) (weights held : Vec ℕ Global) (store : List Versions) (metric : List ℕ) (machine : Schedule)

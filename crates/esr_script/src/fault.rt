@@ -14,6 +14,7 @@ pub enum RunFault {
     /// A line has more bytes than `MAX_LINE_BYTES`.
     #[error("line too long")]
     LineTooLong,
+    /// An allocation failed.
     #[error("out of memory")]
     NoMemory,
     /// The history has as many entries as there may be, and a line makes one more event.

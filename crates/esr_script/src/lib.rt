@@ -11,11 +11,13 @@ mod auditing;
 mod book;
 mod certifying;
 mod fault;
+mod lines;
 mod pending;
 mod replaying;
 mod runs;
 mod script;
 mod sending;
+mod sink;
 mod stage;
 mod telling;
 

@@ -11,7 +11,7 @@ ghost use Rattle.esr_session.specs.declared.naming.TheConstants.{LEDGER_PARTS, M
 ghost use Rattle.std.specs.Prelude.{◌≡◌, ◌+◌, ◌<◌, ◌≤◌, [], true, length, Some, None, All, IfOk, OnOk, IfErr, OnErr, vec_len, map, vec_capacity};
 ghost use Rattle.esr_history.specs.Machine.{IsLegal};
 ghost use Rattle.esr_session.specs.Receipts.{Matches, count_in};
-ghost use Rattle.esr_session.specs.Engine.{is_missing, Sessions};
+ghost use Rattle.esr_session.specs.Engine.{is_missing, AreTotals, Sessions};
 ghost use Rattle.esr_session.specs.declared.engine.TheConstants.{SEAL};
 
 use crate::locked::{Locked, Pocket};
@@ -19,7 +19,7 @@ use crate::matching::match_all;
 use crate::naming::{Cut, Naming};
 use crate::receipt::{CloseError, Receipt};
 use crate::session::Session;
-use esr_core::Machine;
+use esr_core::{Machine, Totals};
 use esr_history::{History, MOST_ENTRIES, NoMemory};
 use esr_items::{Metric, Store};
 use std::alloc::{AllocError, Global};
@@ -49,10 +49,11 @@ impl<M: Metric + Drop, N: Naming> Model for Engine<M, N> {
         × (e.rest.amount ≡ SEAL) };
 }
 
-/// What a closed engine leaves: its history, and the receipts of each session.
+/// What a closed engine leaves: its history with its totals, and the receipts of each session.
 #[derive(Drop)]
 pub struct Closed<M: Metric + Drop> {
     pub history: History<M>,
+    pub totals: Totals,
     pub receipts: Vec<Vec<Receipt>>,
 }
 
@@ -118,7 +119,7 @@ impl<M: Metric + Drop, N: Naming> Engine<M, N> {
         Ok(sessions)
     }
 
-    /// Gathers the receipts, compares them with the history and takes it, all in one hold of the lock.
+    /// Gathers the receipts, compares them with the history and takes the machine, all in one hold of the lock.
     ///
     /// # Errors
     /// `SessionMissing` only where fewer sessions came than were opened; `ForeignReceipt` and `NoMemory` as
@@ -131,6 +132,7 @@ impl<M: Metric + Drop, N: Naming> Engine<M, N> {
         ensures history { IfOk result (λ closed. (closed.history.schedule.opening ≡ N.opening)
             × (closed.history.schedule.weights ≡ N.weights) × IsLegal M.distance_by closed.history.schedule
             × (length closed.history.schedule.entries ≤ MOST_ENTRIES)) }
+        ensures totals { IfOk result (λ closed. AreTotals M.distance_by closed.history.schedule closed.totals) }
         ensures receipts { IfOk result (λ closed. map (λ list. list.items) closed.receipts.items ≡ sessions.items) }
         ensures matching { IfOk result (λ closed. Matches closed.history.schedule.entries sessions.items) }
         ensures every_call { IfOk result (λ closed. length closed.history.schedule.entries ≡ count_in sessions.items) }
@@ -155,13 +157,11 @@ impl<M: Metric + Drop, N: Naming> Engine<M, N> {
             &mut engine.rest,
             sessions.as_mut_slice(),
         ) {
-            Ok(history) => {
-                let _legal = history.log(); // brings the history's legality into the proof
-                Ok(Closed {
-                    history,
-                    receipts: take_apart(lists, sessions),
-                })
-            }
+            Ok(machine) => Ok(Closed {
+                totals: machine.totals(),
+                history: machine.close(),
+                receipts: take_apart(lists, sessions),
+            }),
             Err(error) => Err(CloseRefused {
                 engine,
                 sessions,
@@ -211,20 +211,18 @@ fn clones<M: Metric + Drop, N: Naming>(
     Ok(all)
 }
 
-/// A close, but for taking the sessions apart. It takes the lock once.
+/// A close, but for taking the machine and the sessions apart. It takes the lock once.
 fn close_shared<M: Metric + Drop, N: Naming, R: Wait>(
     rt: &R,
     alloc: Global,
     shared: &Arc<Mutex<Locked<M, N>>, Global>,
     rest: &mut Share<N>,
     sessions: &mut [Session<M, N>],
-) -> Result<History<M>, CloseError>
+) -> Result<Machine<M>, CloseError>
     requires { (0 < rest.old.parts) × (rest.old.amount ≡ SEAL) }
-    ensures most { IfOk result (λ history. length history.schedule.entries ≤ MOST_ENTRIES) }
-    ensures history { IfOk result (λ history. (history.schedule.opening ≡ N.opening)
-        × (history.schedule.weights ≡ N.weights)) }
-    ensures matching { IfOk result (λ history. Matches history.schedule.entries sessions.old) }
-    ensures every_call { IfOk result (λ history. length history.schedule.entries ≡ count_in sessions.old) }
+    ensures opened { IfOk result (λ machine. (machine.opening ≡ N.opening) × (machine.weights ≡ N.weights)) }
+    ensures matching { IfOk result (λ machine. Matches machine.entries sessions.old) }
+    ensures every_call { IfOk result (λ machine. length machine.entries ≡ count_in sessions.old) }
     ensures sessions { sessions.new ≡ sessions.old }
     ensures err { OnErr result ((rest.new.parts ≡ rest.old.parts) × (rest.new.amount ≡ rest.old.amount)) }
     ensures missing { IfErr result (λ error. is_missing error ≡ true → rest.old.parts + length sessions.old < N.parts) }
@@ -239,14 +237,13 @@ fn close_on<M: Metric + Drop, N: Naming>(
     locked: &mut Locked<M, N>,
     rest: &mut Share<N>,
     sessions: &mut [Session<M, N>],
-) -> Result<History<M>, CloseError>
+) -> Result<Machine<M>, CloseError>
     requires { (0 < rest.old.parts) × (rest.old.amount ≡ SEAL) }
-    ensures most { IfOk result (λ history. length history.schedule.entries ≤ MOST_ENTRIES) }
-    ensures history { IfOk result (λ history. (locked.old ≡ Some history.schedule)
-        × (history.schedule.opening ≡ N.opening) × (history.schedule.weights ≡ N.weights)) }
+    ensures machine { IfOk result (λ machine. locked.old ≡ Some machine) }
+    ensures opened { IfOk result (λ machine. (machine.opening ≡ N.opening) × (machine.weights ≡ N.weights)) }
     ensures closed { OnOk result (locked.new ≡ None) }
-    ensures matching { IfOk result (λ history. Matches history.schedule.entries sessions.old) }
-    ensures every_call { IfOk result (λ history. length history.schedule.entries ≡ count_in sessions.old) }
+    ensures matching { IfOk result (λ machine. Matches machine.entries sessions.old) }
+    ensures every_call { IfOk result (λ machine. length machine.entries ≡ count_in sessions.old) }
     ensures sessions { sessions.new ≡ sessions.old }
     ensures err { OnErr result ((locked.new ≡ locked.old) × (rest.new.parts ≡ rest.old.parts)
         × (rest.new.amount ≡ rest.old.amount)) }
@@ -260,7 +257,7 @@ fn close_on<M: Metric + Drop, N: Naming>(
     match locked.machine.take() {
         Some(machine) => {
             locked.total.sub(rest, SEAL);
-            Ok(machine.close())
+            Ok(machine)
         }
         None => unreachable!(),
     }

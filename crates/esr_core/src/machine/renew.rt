@@ -5,9 +5,9 @@
 //! histories of 30 MB take turns in the processor's cache. A history owns its metric and does not hand it out, so the
 //! caller gives it anew. An audit rests on a whole history, so there is no call that forgets a part of one.
 ghost use Rattle.esr_items.specs.declared.TheConstants.{MOST_ITEMS};
-ghost use Rattle.std.specs.Prelude.{◌≡◌, ◌<◌, ◌≤◌, ◌↔◌, true, [], length, map, List, All, IfOk, OnOk, OnErr, IsErrOf};
+ghost use Rattle.std.specs.Prelude.{◌≡◌, ◌<◌, ◌≤◌, ◌↔◌, true, [], length, List, All, IfOk, OnOk, OnErr, IsErrOf};
 ghost use Rattle.std.specs.List.{list_any};
-ghost use Rattle.esr_items.specs.Values.{IsValue, both_versions};
+ghost use Rattle.esr_items.specs.Values.{IsValue};
 ghost use Rattle.esr_history.specs.declared.event.Entry.{Entry};
 ghost use Rattle.esr_history.specs.Events.{committed_value};
 ghost use Rattle.esr_history.specs.Legal.{along};
@@ -31,15 +31,6 @@ pub enum RenewError {
     /// A transaction is active.
     #[error("a transaction is active")]
     TransactionActive = 16,
-}
-
-/// A store of these values.
-fn store_of(alloc: Global, values: Vec<i64>) -> Result<Store, NoMemory>
-    requires few { length values.items ≤ MOST_ITEMS }
-    requires range { All IsValue values.items }
-    ensures { IfOk result (λ s. s ≡ map both_versions values.items) }
-{
-    Store::new(alloc, values).map_err(|_| NoMemory)
 }
 
 /// Whether a row is active.
@@ -84,7 +75,7 @@ impl<M: Metric + Drop> Machine<M> {
     /// its own are serializable as one, and a query is in one history alone.
     ///
     /// # Errors
-    /// `TransactionActive` exactly where a transaction is active, else `NoMemory` where an
+    /// `TransactionActive` exactly where a transaction is active, else `NoMemory` if an
     /// allocation failed. Then nothing has changed.
     pub fn renew(&mut self, alloc: Global, metric: M) -> Result<(), RenewError>
         ensures ok { OnOk result (self.new ≡ renewed self.old (M.weights metric)) }
@@ -117,8 +108,7 @@ impl<M: Metric + Drop> Machine<M> {
     {
         let _legal = self.history.log(); // brings the invariant into the proof
         let opening = self.committed_values(alloc)?;
-        let values = opening.to_vec(alloc)?;
-        let items = store_of(alloc, values)?;
+        let items = Store::of_valid(alloc, &opening)?;
         let mut state = State::new(alloc, items)?;
         state.prepare(self.state.transactions.len());
         Ok((state, opening))

@@ -9,23 +9,25 @@ use Rattle.esr_drive.proofs.driven.drive_blocks.Goals as goal
 pub returns-in-Ok-close : goal.returns-in-Ok-close
 returns-in-Ok-close g c =
     let h = c.in-Ok-close.ensures.history in
-    let tasks = c.in-Ok-tasks_of.tasks.items in
-    let rans = c.in-Ok-run_blocks.all.items in
-    let sessions = c.in-Ok-gather.gathered.sessions.items in
-    let replies = c.in-Ok-gather.gathered.replies.items in
+    let tasks = c.in_ok-tasks.tasks.items in
+    let rans = c.in_ok-all.all.items in
+    let sessions = c.in-Ok.gathered.sessions.items in
+    let replies = c.in-Ok.gathered.replies.items in
     let lists = map (λ r. r.items) replies in
     let len : length rans ≡ length tasks = search rules in
-    let ran = blocks_ran (λ task. task.calls.now) (λ ran. ran.session) (λ ran. ran.outcome) (λ r. r.items) tasks rans replies len c.in-Ok-run_blocks.ensures.runs c.in-Ok-gather.ensures.replies in
-    let calls = c.in-Ok-tasks_of.ensures.calls in
-    record {
-      legal = h.2;
-      opening_is = h.0 ∙ sym c.requires.opening;
-      weights_are = h.1 ∙ sym c.requires.weights;
-      most = h.3;
-      answered = subst (λ (b : List (List Call)). AreAnswered b lists) calls ran.0;
-      commands = subst (λ (b : List (List Call)). map (λ b. map (λ a. a.command) b) (all_answers b lists) ≡ map (λ b. map command_of b) b) calls ran.2;
-      receipts = sessions;
-      runs = subst (λ (b : List (List Call)). (names : List (List ℕ)) → All (AreResolved names) b → AreBlocks names (all_answers b lists) sessions) calls
-          (subst (λ (rs : List (List Receipt)). (names : List (List ℕ)) → All (AreResolved names) (map (λ task. task.calls.now) tasks) → AreBlocks names (all_answers (map (λ task. task.calls.now) tasks) lists) rs) (sym c.in-Ok-gather.ensures.sessions) ran.1);
-      matching = c.in-Ok-close.ensures.matching;
-    }
+    let ran = blocks_ran (λ task. task.calls.now) (λ ran. ran.session) (λ ran. ran.outcome) (λ r. r.items) tasks rans replies len c.in_ok-all.ensures.runs c.in-Ok.ensures.replies in
+    let calls = c.in_ok-tasks.ensures.calls in (
+      record {
+        legal = h.2;
+        opening_is = h.0 ∙ sym c.requires.opening;
+        weights_are = h.1 ∙ sym c.requires.weights;
+        most = h.3;
+        answered = subst (λ (b : List (List Call)). AreAnswered b lists) calls ran.0;
+        commands = subst (λ (b : List (List Call)). map (λ b. map (λ a. a.command) b) (all_answers b lists) ≡ map (λ b. map command_of b) b) calls ran.2;
+        receipts = sessions;
+        runs = subst (λ (b : List (List Call)). (names : List (List ℕ)) → All (AreResolved names) b → AreBlocks names (all_answers b lists) sessions) calls
+            (subst (λ (rs : List (List Receipt)). (names : List (List ℕ)) → All (AreResolved names) (map (λ task. task.calls.now) tasks) → AreBlocks names (all_answers (map (λ task. task.calls.now) tasks) lists) rs) (sym c.in-Ok.ensures.sessions) ran.1);
+        matching = c.in-Ok-close.ensures.matching;
+      },
+      c.in-Ok-close.ensures.totals,
+    )

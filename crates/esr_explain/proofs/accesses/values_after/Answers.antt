@@ -1,4 +1,4 @@
-use Rattle.std.proofs.Common.{◌≡◌, flat_map, map, arith, take_all}
+use Rattle.std.proofs.Common.{◌≡◌, ◌∙◌, flat_map, map, arith, take_all}
 use Rattle.esr_history.specs.declared.event.TxnId.{TxnId}
 use Rattle.esr_order.specs.Scans.{accesses_in}
 use Rattle.esr_explain.specs.Accesses.{put_all}
@@ -6,7 +6,7 @@ use Rattle.esr_explain.proofs.Accessed.{accesses_valued, left_by, left_in_range,
 use Rattle.esr_explain.proofs.accesses.values_after.Goals as goal
 
 pub loop-u-init : goal.loop-u-init
-loop-u-init c = c.in_ok-values.ensures
+loop-u-init c = c.in_ok-values.ensures.items_if_clones_equal (λ x y is. is) ∙ c.opening_values.ensures.values
 
 pub put_all-requires : goal.put_all-requires
 put_all-requires c = grind (arith, accesses_valued)

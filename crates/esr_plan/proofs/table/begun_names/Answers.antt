@@ -9,8 +9,8 @@ use Rattle.esr_plan.proofs.table.begun_names.Goals as goal
 pub loop-i-init : goal.loop-i-init
 loop-i-init c = (
   omega arith,
-  (let blank : c.in_ok-vec.field-0.items ≡ replicate c.begun_count-count.result _ = c.in_ok-vec.ensures.items_if_clones_equal (search rules) in
-      ap (map (λ n. n.now)) blank ∙ (map_replicate c.begun_count-count.result _ (search rules) ∙ (ap (λ n. replicate n []) (c.begun_count-count.ensures ∙ ap begun_count c.log.ensures.entries)
+  (let blank : c.in_ok-vec.field-0.items ≡ replicate c.begun_count.result _ = c.in_ok-vec.ensures.items_if_clones_equal (search rules) in
+      ap (map (λ n. n.now)) blank ∙ (map_replicate c.begun_count.result _ (search rules) ∙ (ap (λ n. replicate n []) c.begun_count.ensures
       ∙ ap (λ l. noted l (replicate (begun_count c.args.history.now.schedule.entries) [])) (sym (none_left c.args.blocks.now (drop (length c.args.blocks.now) (map (λ r. r.items) c.args.replies.now)) (length c.args.blocks.now) (omega arith)))))),
 )
 

@@ -57,4 +57,4 @@ returns-clause-tied g c = λ h same tie none query.
     let books = c.charge_read.ensures ∙ (ap (λ (o : Option (TxnId × ℕ)). charged_once s.ledgers c.args.q o) is ∙ read_books d h s.items s.transactions.items s.locks.locks s.ledgers tie c.args.q c.args.x query c.requires.item) in
     let act : is_active (done h) c.args.q.0 ≡ true = read_active d h c.args.q c.args.x none in
     let inside : c.args.x.0 < length h.opening = rw (← tie.count) c.requires.item in
-    rw (row.2, c.add_read_query.ensures) (tied-query (d h.weights) h.opening (done h) s.items s.transactions.items s.locks.locks s.ledgers tie c.args.q c.args.x (c.args.q.0 - 1) row.0 c.charge_read.new.ledgers query act (follows d h tie.orderly (Read c.args.q c.args.x) none) inside (omega arith) (omega arith) row.1 books)
+    rw (row.2, c.add_read_query.ensures.locks) (tied-query (d h.weights) h.opening (done h) s.items s.transactions.items s.locks.locks s.ledgers tie c.args.q c.args.x (c.args.q.0 - 1) row.0 c.charge_read.new.ledgers query act (follows d h tie.orderly (Read c.args.q c.args.x) none) inside (omega arith) (omega arith) row.1 books)

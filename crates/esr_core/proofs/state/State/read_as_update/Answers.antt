@@ -14,4 +14,4 @@ returns-clause-tied c = λ d h tie none no_query.
     let act : is_active (done h) c.args.t.0 ≡ true = read_active d h c.args.t c.args.x none in
     let update : is_update (done h) c.args.t.0 ≡ true = update_from (done h) c.args.t.0 (active_parts (done h) c.args.t.0 act).0 no_query in
     let inside : c.args.x.0 < length h.opening = rw (← tie.count) c.requires.item in
-    rw c.add_read_update.ensures (tied-read (d h.weights) h.opening (done h) s.items s.transactions.items s.locks.locks s.ledgers tie c.args.t c.args.x update act (follows d h tie.orderly (Read c.args.t c.args.x) none) inside)
+    rw c.add_read_update.ensures.locks (tied-read (d h.weights) h.opening (done h) s.items s.transactions.items s.locks.locks s.ledgers tie c.args.t c.args.x update act (follows d h tie.orderly (Read c.args.t c.args.x) none) inside)

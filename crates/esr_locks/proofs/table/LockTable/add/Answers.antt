@@ -18,12 +18,12 @@ in_list c =
     has_list c.self.inside.held.items c.args.t.0 (omega arith)
 
 more : (c : After-add) (u : ℕ) → has_lock c.add.new.self.locks u ≡ true → (has_lock c.index_mut.result.now.locks u ≡ true) ⊎ (c.args.t.0 ≡ u)
-more c u is = lock_more c.args.lock c.args.t.0 u c.index_mut.result.now.locks (ap (λ (l : ItemLocks). has_lock l u) (sym c.add.ensures.locks) ∙ is)
+more c u is = lock_more c.args.mode c.args.t.0 u c.index_mut.result.now.locks (ap (λ (l : ItemLocks). has_lock l u) (sym c.add.ensures.locks) ∙ is)
 
-locks : (c : After-add) → map (λ (r : RowOf). r.locks) (set c.self.inside.rows.items c.args.x.0 c.add.new.self) ≡ set c.args.self.now.locks c.args.x.0 (with_lock c.args.lock c.args.t.0 (locks_at c.args.self.now.locks c.args.x.0))
+locks : (c : After-add) → map (λ (r : RowOf). r.locks) (set c.self.inside.rows.items c.args.x.0 c.add.new.self) ≡ set c.args.self.now.locks c.args.x.0 (with_lock c.args.mode c.args.t.0 (locks_at c.args.self.now.locks c.args.x.0))
 locks c =
-    subst (λ (v : Table). map (λ (r : RowOf). r.locks) (set c.self.inside.rows.items c.args.x.0 c.add.new.self) ≡ set v.locks c.args.x.0 (with_lock c.args.lock c.args.t.0 (locks_at v.locks c.args.x.0))) c.self.view_is
-    (set_row c.self.inside.rows.items c.args.x.0 c.index_mut.result.now c.add.new.self (λ (l : ItemLocks). with_lock c.args.lock c.args.t.0 l) (inside c) c.index_mut.ensures.value c.add.ensures.locks)
+    subst (λ (v : Table). map (λ (r : RowOf). r.locks) (set c.self.inside.rows.items c.args.x.0 c.add.new.self) ≡ set v.locks c.args.x.0 (with_lock c.args.mode c.args.t.0 (locks_at v.locks c.args.x.0))) c.self.view_is
+    (set_row c.self.inside.rows.items c.args.x.0 c.index_mut.result.now c.add.new.self (λ (l : ItemLocks). with_lock c.args.mode c.args.t.0 l) (inside c) c.index_mut.ensures.value c.add.ensures.locks)
 
 pub invariant_of-self : goal.invariant_of-self
 invariant_of-self c = grind (arith, After-add, IsTable-push, inside, more, in_list, read_list)
@@ -32,10 +32,10 @@ pub invariant_of-self-else-add : goal.invariant_of-self-else-add
 invariant_of-self-else-add c =
     let w : After-add = (goal.at.invariant_of-self-else-add c).After-add in
     IsTable-again c.self.inside.rows.items c.self.inside.held.items c.self.invariant c.args.t.0 c.args.x.0 (inside w) c.index_mut.result.now c.add.new.self c.index_mut.ensures.value (more w)
-    (such_has c.args.lock c.args.t.0 c.index_mut.result.now.locks (not-false (has_such c.args.lock c.index_mut.result.now.locks c.args.t.0) (sym c.add.ensures.fresh ∙ c.if-add.false)))
+    (such_has c.args.mode c.args.t.0 c.index_mut.result.now.locks (not-false (has_such c.args.mode c.index_mut.result.now.locks c.args.t.0) (sym c.add.ensures.fresh ∙ c.if-add.false)))
 
-pub returns-then-add : goal.returns-then-add
-returns-then-add c = locks (goal.at.returns-then-add c).After-add
+pub returns-then-add-clause-locks : goal.returns-then-add-clause-locks
+returns-then-add-clause-locks c = locks (goal.at.returns-then-add-clause-locks c).After-add
 
-pub returns-else-add : goal.returns-else-add
-returns-else-add c = locks (goal.at.returns-else-add c).After-add
+pub returns-else-add-clause-locks : goal.returns-else-add-clause-locks
+returns-else-add-clause-locks c = locks (goal.at.returns-else-add-clause-locks c).After-add

@@ -2,15 +2,15 @@ use Rattle.std.proofs.Common.{◌≡◌, ℕ, ◌+◌, ◌-◌, ◌*◌, ◌≤�
 use Rattle.std.specs.Io.KnownBytes.{Appends}
 use Rattle.esr_history.specs.Watch.{inner, failed}
 use Rattle.esr_script.specs.Parts.{Standing}
-use Rattle.esr_script.proofs.runs.answer_lines.Given as goal
+use Rattle.esr_script.proofs.lines.answer_lines.Given as goal
 
 abbrev pub invariant-lines : goal.invariant-lines
 invariant-lines g l = record {
   bound : l.count ≤ 2000000;
   reader : failed l.reader ≡ false;
-  writer : failed l.writer ≡ false;
+  sink : g.S.Sink.has_failed l.sink ≡ false;
   text : (input : List ℕ) → g.R.Read.remaining (inner l.initial.reader) ≡ Some input → (sent : List ℕ)
-      × Appends (g.W.Write.contents (inner l.initial.writer)) (g.W.Write.contents (inner l.writer)) sent
+      × Appends (g.S.Sink.contents l.initial.sink) (g.S.Sink.contents l.sink) sent
       × Standing input (g.R.Read.remaining (inner l.reader)) l.pending l.count l.script (sent ++ l.out.items);
 }
 

@@ -6,8 +6,8 @@ use Rattle.esr_script.specs.Parts.{IsHeldRun}
 use Rattle.esr_script.proofs.Buffers.{same_bytes}
 use Rattle.esr_script.proofs.Steps.{advance}
 use Rattle.esr_script.proofs.Held.{all_sent, all_grown, is_not_read, unread, held_read, held_write}
-use Rattle.esr_script.proofs.runs.answer_lines.Goals as goal
-use Rattle.esr_script.proofs.runs.answer_lines.Goals.{then-len-ge-OUTPUT_FULL+in_default-send_all, else-len-ge-OUTPUT_FULL}
+use Rattle.esr_script.proofs.lines.answer_lines.Goals as goal
+use Rattle.esr_script.proofs.lines.answer_lines.Goals.{then-len-ge-OUTPUT_FULL+in_default-take, else-len-ge-OUTPUT_FULL}
 
 pub returns-in-Err-clause-text : goal.returns-in-Err-clause-text
 returns-in-Err-clause-text g c input known =
@@ -43,12 +43,28 @@ returns-in-Ok-eq0-clause-text g c input known =
       c.answer_last.ensures.held input (inv.0 ++ c.lines.out.items) _ (rw sent.0 here) (came.4 c.in-Ok-eq0.field-0-test) plain,
     )
 
+pub returns-in-Err-clause-replay : goal.returns-in-Err-clause-replay
+returns-in-Err-clause-replay g c kept input known = elim c.in-Err.ensures.faults [
+  | inl e ↦ rw e tt
+  | inr e ↦ let lost = rw e at kept in absurd (cc)
+]
+
+pub returns-in-Ok-eq0-clause-replay : goal.returns-in-Ok-eq0-clause-replay
+returns-in-Ok-eq0-clause-replay g c kept input known =
+    let inv = c.lines.invariant.text input known in
+    let more = rw c.bytes.ensures at c.in-More.ensures in
+    let came = c.in-Ok-eq0.ensures.ok in
+    let here = advance input _ _ _ _ _ _ _ came.0 inv.2 came.2 came.3 in
+    let same : c.read_on.new.pending ≡ c.lines.pending = same_bytes _ _ came.0 _ came.1 c.in-Ok-eq0.field-0-test came.2 in
+    let plain : line_len c.read_on.new.pending ≡ length c.read_on.new.pending = rw same more.0 in
+    c.answer_last.ensures.replay input _ _ here (came.4 c.in-Ok-eq0.field-0-test) plain
+
 pub lines-preserved-in-Ok : goal.lines-preserved-in-Ok
 lines-preserved-in-Ok g c =
     record {
       bound = c.lines.invariant.bound;
       reader = c.in-Ok.ensures.reader;
-      writer = c.in-Ok.ensures.writer;
+      sink = c.in-Ok.ensures.sink;
       text = λ input known.
           let inv = c.lines.invariant.text input known in
           let came = c.in-Ok.ensures.ok in
@@ -58,21 +74,36 @@ lines-preserved-in-Ok g c =
     }
 
 pub returns-in-Err-answer_next : goal.returns-in-Err-answer_next
-returns-in-Err-answer_next g c = grind (arith, is_not_read)
+returns-in-Err-answer_next g c =
+    record {
+      text = λ input known.
+          let inv = c.lines.invariant.text input known in
+          (inv.0, inv.1, c.in-Err-answer_next.ensures.held input inv.0 _ inv.2);
+      replay = λ kept input known.
+          let inv = c.lines.invariant.text input known in
+          c.in-Err-answer_next.ensures.replay input _ _ inv.2;
+      read = λ h. absurd (is_not_read _ c.in-Err-answer_next.ensures.read h);
+      reader = c.lines.invariant.reader ∙ sym c.in-Err-answer_next.ensures.read;
+      sink = c.lines.invariant.sink ∙ sym c.in-Err-answer_next.ensures.write;
+    }
 
-pub returns-in-Err-send_all : goal.returns-in-Err-send_all
-returns-in-Err-send_all g c =
+pub returns-in-Err-take : goal.returns-in-Err-take
+returns-in-Err-take g c =
     record {
       text = λ input known.
           let inv = c.lines.invariant.text input known in
           let answered = c.in_default-answer_next.ensures.text in
           let after = all_grown inv.0 _ answered.0 _ answered.1 (answered.2 input _ _ inv.2) in
-          let failed = c.in-Err-send_all.ensures.err in
+          let failed = c.in-Err-take.ensures.err in
           let part = failed.1 in
-          (inv.0 ++ part.0, Appends-trans _ _ _ _ _ inv.1 part.2, rw failed.0 (held_write input _ _ _ _ inv.0 _ after part.0 part.1 (g.R.Read.remaining (inner c.lines.reader)) c.send_all.new.out.items));
-      read = λ h. let is = c.in-Err-send_all.ensures.err.0 in cc;
-      reader = let is = c.in-Err-send_all.ensures.err.0 in rw is c.lines.invariant.reader;
-      writer = search rules;
+          (inv.0 ++ part.0, Appends-trans _ _ _ _ _ inv.1 part.2, rw failed.0 (held_write input _ _ _ _ inv.0 _ after part.0 part.1 (g.R.Read.remaining (inner c.lines.reader)) c.take.new.text.items));
+      replay = λ kept input known.
+          let is = c.in-Err-take.ensures.err.0 in
+          let lost = rw is at kept in
+          absurd (cc);
+      read = λ h. let is = c.in-Err-take.ensures.err.0 in cc;
+      reader = let is = c.in-Err-take.ensures.err.0 in rw is c.lines.invariant.reader;
+      sink = search rules;
     }
 
 pub lines-preserved : goal.lines-preserved
@@ -80,18 +111,18 @@ lines-preserved g c =
     record {
       bound = omega (arith, c.lines.invariant.bound, c.in_default-answer_next.ensures.few);
       reader = c.lines.invariant.reader;
-      writer = elim c.if-len-ge-OUTPUT_FULL.branch [
-        | then-len-ge-OUTPUT_FULL+in_default-send_all w ↦ rw w.writer-is (w.in_default-send_all.ensures.failed ∙ rw c.lines.invariant.writer refl)
-        | else-len-ge-OUTPUT_FULL w ↦ rw w.writer-is c.lines.invariant.writer
+      sink = elim c.if-len-ge-OUTPUT_FULL.branch [
+        | then-len-ge-OUTPUT_FULL+in_default-take w ↦ rw w.sink-is (w.in_default-take.ensures.failed ∙ rw c.lines.invariant.sink refl)
+        | else-len-ge-OUTPUT_FULL w ↦ rw w.sink-is c.lines.invariant.sink
       ];
       text = λ input known.
           let inv = c.lines.invariant.text input known in
           let answered = c.in_default-answer_next.ensures.text in
           let after = all_grown inv.0 _ answered.0 _ answered.1 (answered.2 input _ _ inv.2) in
           elim c.if-len-ge-OUTPUT_FULL.branch [
-            | then-len-ge-OUTPUT_FULL+in_default-send_all w ↦
-                let sent = w.in_default-send_all.ensures.ok in
-                rw (w.writer-is, w.out-is) (inv.0 ++ c.answer_next.new.out.items, Appends-trans _ _ _ _ _ inv.1 sent.1, rw sent.0 (all_sent _ after))
-            | else-len-ge-OUTPUT_FULL w ↦ rw (w.writer-is, w.out-is) (inv.0, inv.1, after)
+            | then-len-ge-OUTPUT_FULL+in_default-take w ↦
+                let sent = w.in_default-take.ensures.ok in
+                rw (w.sink-is, w.out-is) (inv.0 ++ c.answer_next.new.out.items, Appends-trans _ _ _ _ _ inv.1 sent.1, rw sent.0 (all_sent _ after))
+            | else-len-ge-OUTPUT_FULL w ↦ rw (w.sink-is, w.out-is) (inv.0, inv.1, after)
           ];
     }

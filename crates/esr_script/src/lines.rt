@@ -1,0 +1,99 @@
+//! Goes over the lines of a script, from its reader to a sink.
+//!
+//! Bytes that were read and not used yet are in `pending`, text that the sink has not taken yet in `out`. Between two
+//! steps the lines so far, answered one after another, have led to the script's state and to the text that was taken
+//! with that in `out` behind it (`Standing`). The text is taken before the input is waited for, so that whoever types
+//! lines sees each answered, and where much of it has come together.
+
+ghost use Rattle.esr_line.specs.declared.limits.TheConstants.{MAX_LINE_BYTES};
+ghost use Rattle.std.specs.Prelude.{◌≡◌, ℕ, List, [], ◌++◌, Some, IsErrOf, IfErr, IfOk, false, ◌≤◌, ◌⊎◌, length};
+ghost use Rattle.std.specs.Io.KnownBytes.{Appends, Consumes, IsAtEnd, Keeps};
+ghost use Rattle.esr_history.specs.Watch.{inner, failed, BeginsWith};
+ghost use Rattle.esr_script.specs.Text.{start};
+ghost use Rattle.esr_script.specs.Parts.{IsHeldRun, is_read_fault, is_write_fault};
+ghost use Rattle.esr_script.specs.Replays.{IsReplay};
+
+use crate::ahead::{answer_last, answer_next};
+use crate::fault::RunFault;
+use crate::pending::Pending;
+use crate::script::Script;
+use crate::sink::Sink;
+use esr_history::Watched;
+use esr_line::{Next, next_line};
+use std::io::Read;
+
+const OUTPUT_FULL: usize = 32768;
+
+/// Answers line after line. What is answered and not taken yet is in `out`.
+pub fn answer_lines<R: Read, S: Sink>(
+    reader: &mut Watched<R>,
+    sink: &mut S,
+    pending: &mut Pending,
+    script: &mut Script,
+    out: &mut Vec<u8>,
+) -> Result<(), RunFault>
+    requires pending { pending.old ≡ [] }
+    requires script { script.old ≡ start }
+    requires out { out.old.items ≡ [] }
+    requires reader { failed reader.old ≡ false }
+    requires sink { S.has_failed sink.old ≡ false }
+    ensures text { (input : List ℕ) → R.remaining (inner reader.old) ≡ Some input → (sent : List ℕ)
+        × Appends (S.contents sink.old) (S.contents sink.new) sent
+        × IsHeldRun input (R.remaining (inner reader.new)) out.new.items result sent }
+    ensures replay { is_write_fault result ≡ false → (input : List ℕ) → R.remaining (inner reader.old) ≡ Some input
+        → IsReplay input (R.remaining (inner reader.new)) result script.new }
+    ensures read { IsErrOf result RunFault.Read → out.new.items ≡ [] }
+    ensures reader { failed reader.new ≡ is_read_fault result }
+    ensures sink { S.has_failed sink.new ≡ is_write_fault result }
+{
+    let mut count: u64 = 0;
+    'lines: loop {
+        let next = next_line(pending.bytes());
+        if let Next::More = next {
+            match read_on(reader, sink, pending, out) {
+                Err(fault) => return Err(fault),
+                Ok(0) => return answer_last(pending, count, script, out),
+                Ok(_) => continue 'lines,
+            }
+        }
+        if let Err(fault) = answer_next(next, pending, count, script, out) {
+            return Err(fault);
+        }
+        if out.len() >= OUTPUT_FULL {
+            if let Err(fault) = sink.take(out) {
+                return Err(fault);
+            }
+        }
+        count += 1;
+    }
+}
+
+/// Has the sink take what is answered, and then reads once. Gives the count of bytes that came: none at the end of the
+/// input.
+fn read_on<R: Read, S: Sink>(
+    reader: &mut Watched<R>,
+    sink: &mut S,
+    pending: &mut Pending,
+    out: &mut Vec<u8>,
+) -> Result<usize, RunFault>
+    requires short { length pending.old ≤ MAX_LINE_BYTES }
+    requires reader { failed reader.old ≡ false }
+    requires sink { S.has_failed sink.old ≡ false }
+    ensures ok { IfOk result (λ n. (more : List ℕ) × (length more ≡ n) × (pending.new ≡ pending.old ++ more)
+        × Consumes (R.remaining (inner reader.old)) (R.remaining (inner reader.new)) more
+        × (n ≡ 0 → IsAtEnd (R.remaining (inner reader.new)))) }
+    ensures sent { is_write_fault result ≡ false → (out.new.items ≡ [])
+        × Appends (S.contents sink.old) (S.contents sink.new) out.old.items }
+    ensures read { IsErrOf result RunFault.Read → (pending.new ≡ pending.old)
+        × Keeps (R.remaining (inner reader.old)) (R.remaining (inner reader.new)) }
+    ensures write { IsErrOf result RunFault.Write → (sent : List ℕ) × BeginsWith out.old.items sent
+        × Appends (S.contents sink.old) (S.contents sink.new) sent }
+    ensures faults { IfErr result (λ e. (e ≡ RunFault.Read) ⊎ (e ≡ RunFault.Write)) }
+    ensures reader { failed reader.new ≡ is_read_fault result }
+    ensures sink { S.has_failed sink.new ≡ is_write_fault result }
+{
+    if let Err(fault) = sink.take(out) {
+        return Err(fault);
+    }
+    pending.fill(reader)
+}

@@ -1,0 +1,54 @@
+//! Where the text of lines goes: to a writer, or nowhere.
+//!
+//! A run writes what a script answers; a replay needs only the state that the script leads to. Both go over the same
+//! lines, so there is one loop over them (`lines`), and what becomes of the text is its sink's.
+
+ghost use Rattle.std.specs.Prelude.{◌≡◌, ℕ, List, [], Bool, false, Option, None, OnOk, IfErr, ◌||◌};
+ghost use Rattle.std.specs.Io.KnownBytes.{Appends};
+ghost use Rattle.esr_history.specs.Watch.{inner, failed, BeginsWith};
+ghost use Rattle.esr_script.specs.Parts.{is_write_fault};
+
+use crate::fault::RunFault;
+use crate::sending::send_all;
+use esr_history::Watched;
+use std::io::Write;
+
+/// What takes the text of lines.
+pub trait Sink {
+    ghost contents: { Self → Option (List ℕ) };
+
+    ghost has_failed: { Self → Bool };
+
+    /// Takes what the buffer holds, and empties the buffer.
+    fn take(&mut self, text: &mut Vec<u8>) -> Result<(), RunFault>
+        ensures ok { OnOk result ((text.new.items ≡ [])
+            × Appends (contents self.old) (contents self.new) text.old.items) }
+        ensures err { IfErr result (λ e. (e ≡ RunFault.Write) × ((sent : List ℕ) × BeginsWith text.old.items sent
+            × Appends (contents self.old) (contents self.new) sent)) }
+        ensures failed { has_failed self.new ≡ (has_failed self.old || is_write_fault result) };
+}
+
+impl<W: Write> Sink for Watched<W> {
+    ghost contents = { λ w. W.contents (inner w) };
+
+    ghost has_failed = { failed };
+
+    fn take(&mut self, text: &mut Vec<u8>) -> Result<(), RunFault> {
+        send_all(text, self)
+    }
+}
+
+/// Drops the text.
+#[derive(Drop)]
+pub struct Dropped;
+
+impl Sink for Dropped {
+    ghost contents = { λ _. None };
+
+    ghost has_failed = { λ _. false };
+
+    fn take(&mut self, text: &mut Vec<u8>) -> Result<(), RunFault> {
+        text.clear();
+        Ok(())
+    }
+}
