@@ -11,10 +11,10 @@ import unittest
 from unittest import mock
 
 from esr_postgresql import cli
-from esr_postgresql.program import ProgramError, Program, off_reads
-from esr_postgresql.record import Outcome, save
 from esr_postgresql.order import history_of
-from esr_postgresql.script import tell
+from esr_postgresql.program import Program, ProgramError, off_reads
+from esr_postgresql.record import Outcome, save
+from esr_postgresql.script import convert
 
 from .written import read, record, transaction, write
 
@@ -106,7 +106,7 @@ worst      report: off by 100; {self.room}/out/worst/report.svg
         audits = (self.room / "out" / "audits.tsv").read_text().splitlines()
         self.assertEqual(audits[1], "report\tread committed\t2\t100\t100\treport\tscript.esr")
 
-    def test_a_ring(self):
+    def test_a_cycle(self):
         status, out, err = self.audit(
             record(
                 {"x": 100},
@@ -120,7 +120,7 @@ worst      report: off by 100; {self.room}/out/worst/report.svg
             """\
 order      the updates are not serializable: 2 of them are in a group where each comes before
            each other, so no report is audited: without a serial order there is no place for one
-ring       lost update: bert read x as it was before anna wrote it
+cycle      lost update: bert read x as it was before anna wrote it
            anna wrote x before bert did
 """,
         )
@@ -182,7 +182,7 @@ ring       lost update: bert read x as it was before anna wrote it
 
 class Answers(unittest.TestCase):
     def test_another_answer_than_the_record_says_is_an_error(self):
-        (script,) = tell(history_of(half_seen())).scripts
+        (script,) = convert(history_of(half_seen())).scripts
         program = Program(PLAIN)
         with tempfile.TemporaryDirectory() as room:
             path = os.path.join(room, "script.esr")
@@ -196,7 +196,7 @@ class Answers(unittest.TestCase):
                 self.assertIn(said, str(caught.exception))
 
     def test_reads_that_are_off(self):
-        text = "read a 5 nearest 5 off 0\nread b -5 nearest 5 off 10\nread c 1 nearest 41 off 40\nbefore u\ndistance 50 import 9\n"
+        text = "read a 5 nearest 5 off 0\nread b -5 nearest 5 off 10\nread c 1 nearest 41 off 40\nbefore u\n"
         self.assertEqual([(each.item, each.off) for each in off_reads(text)], [("c", 40), ("b", 10)])
 
 
