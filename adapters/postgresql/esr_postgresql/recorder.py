@@ -241,18 +241,20 @@ def _record(
     ended: list[Ended],
     statuses: dict[int, _Status],
 ) -> Record:
+    """The record. Of rows that nobody touched there is nothing to tell."""
     record = Record(system)
     items = {item: table for item, (table, _, _) in {**opening, **closing}.items()}
     for each in ended:
         for noted in each.noted:
             if isinstance(noted, Row):
                 items.setdefault(noted.operation.item, noted.table)
-    for item, table in items.items():
-        _, value, version = opening.get(item, (table, None, None))
-        record.items[item] = Item(item, value, version, table.weight, table.scale)
     done = [(_transaction(each, statuses, items), each.xid or max(_labels(each), default=0)) for each in ended]
     record.transactions = [each for each, _ in sorted(done, key=lambda pair: (pair[0].ended, pair[1]))]
-    for item in items:
-        _, value, version = closing.get(item, (None, None, None))
-        record.endings.append(Ending(item, value, version))
+    used = {operation.item for each in record.transactions for operation in each.operations}
+    for item, table in items.items():
+        if item in used or opening.get(item) != closing.get(item):
+            _, value, version = opening.get(item, (table, None, None))
+            record.items[item] = Item(item, value, version, table.weight, table.scale)
+            _, value, version = closing.get(item, (table, None, None))
+            record.endings.append(Ending(item, value, version))
     return record

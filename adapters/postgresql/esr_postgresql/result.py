@@ -5,12 +5,12 @@ from __future__ import annotations
 from dataclasses import dataclass
 from typing import Iterable, Iterator
 
+from . import placement, windows
 from .order import History, unrecorded_endings
-from .placement import MOST_READS, PlacedReport
+from .placement import PlacedReport
 from .program import Finding, OffRead
 from .record import Outcome, Record, Transaction
 from .script import Conversion, Script
-from .windows import MOST_ENTRIES, MOST_TRANSACTIONS
 
 ENDINGS_TOLD = 3
 READS_TOLD = 3
@@ -116,9 +116,12 @@ def _conversion(conversion: Conversion) -> Iterator[str]:
     if conversion.untold:
         yield line("", f"{_counted(conversion.untold, 'report')} that read none of these: left out")
     if conversion.sampled:
-        yield line("sample", f"{MOST_READS:,} reads of {_counted(len(conversion.sampled), 'report')} that read more")
+        yield line(
+            "sample",
+            f"{placement.MOST_READS:,} reads of {_counted(len(conversion.sampled), 'report')} that read more",
+        )
     if len(conversion.scripts) > 1:
-        limits = f"{MOST_TRANSACTIONS:,} transactions and {MOST_ENTRIES:,} entries"
+        limits = f"{windows.MOST_TRANSACTIONS:,} transactions and {windows.MOST_ENTRIES:,} entries"
         yield line("windows", f"{len(conversion.scripts)}, since a script has at most {limits}")
     for each in conversion.too_long:
         yield line("", f"{each.report.name} is too long for a window: left out")
@@ -140,7 +143,10 @@ def _reports(result: Result) -> Iterator[str]:
     if not count:
         yield line("reports", "none was recorded")
         return
-    yield line("reports", f"{count - result.off:,} exact: they read what some serial order shows; {result.off:,} off")
+    conversion = result.conversion
+    is_sample = len(conversion.items) < conversion.all_items or conversion.sampled
+    exact = "exact, as far as the sample goes" if is_sample else "exact: they read what some serial order shows"
+    yield line("reports", f"{count - result.off:,} {exact}; {result.off:,} off")
     if result.off:
         mean = sum(distances) / count
         yield line("distance", f"worst {max(distances):,}, mean {mean:,.1f}{_units(result.record)}")

@@ -21,7 +21,7 @@ from .order import History
 from .placement import PlacedRead, PlacedReport, Positions, placed_reports
 from .record import Action, Transaction
 from .versions import Chain
-from .windows import Window, restricted, sample_of_items, windows_of
+from .windows import Window, items_used, restricted, sample_of_items, windows_of
 
 LIMIT = 10**18
 
@@ -179,7 +179,8 @@ def convert(history: History) -> Conversion:
     """The scripts of a history. Raises TooLarge where the changes are so large that a limit could not hold them."""
     positions = Positions(history)
     placed = placed_reports(positions)
-    items = sample_of_items(history, placed)
+    used = items_used(history)
+    items = sample_of_items(used, placed)
     reports = restricted(placed, set(items))
     windows, too_long = windows_of(history, reports, set(items))
     charges = _Charges(positions)
@@ -187,4 +188,4 @@ def convert(history: History) -> Conversion:
         raise TooLarge(f"the changes beside the reports add up to more than {LIMIT}: give the values a smaller scale")
     scripts = [_Writer(positions, window, items).write() for window in windows]
     sampled = [report for report in reports if report.left_out]
-    return Conversion(scripts, items, len(history.record.items), too_long, sampled, len(placed) - len(reports))
+    return Conversion(scripts, items, len(used), too_long, sampled, len(placed) - len(reports))

@@ -32,10 +32,14 @@ class Window:
     reports: tuple[PlacedReport, ...]
 
 
-def sample_of_items(history: History, reports: list[PlacedReport]) -> list[str]:
-    """The items that are told, in their order in the record: all, or those that reports read and then others, as many
-    as a script can have."""
-    items = list(history.record.items)
+def items_used(history: History) -> list[str]:
+    """The items that a transaction read or wrote, in their order in the record."""
+    used = {operation.item for each in history.updates + history.reports for operation in each.operations}
+    return [item for item in history.record.items if item in used]
+
+
+def sample_of_items(items: list[str], reports: list[PlacedReport]) -> list[str]:
+    """As many of some items as a script can have: all, or those that reports read and then others."""
     if len(items) <= MOST_ITEMS:
         return items
     wanted = {read.item for report in reports for read in report.reads}

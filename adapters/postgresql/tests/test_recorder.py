@@ -308,6 +308,7 @@ class Recording(unittest.TestCase):
     def test_a_write_that_nobody_read_is_told(self):
         self.plain.execute("update t set v = 5 where id = 1")
         record, _ = self.finished()
+        self.assertEqual(list(record.items), ["t/1"])  # (nobody touched the other row)
         self.assertEqual(unrecorded_endings(history_of(record)), ["t/1"])
 
     def test_values_without_key_or_version_are_counted(self):

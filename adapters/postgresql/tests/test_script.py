@@ -173,6 +173,14 @@ class Limits(unittest.TestCase):
         for name, distance in distances(one).items():
             self.assertLessEqual(distance, whole[name])
 
+    def test_items_that_nobody_touched_are_not_told(self):
+        made = bank(9, 2, 4, 4, 5)
+        for number in range(5000):
+            made.items[f"other/{number}"] = Item(f"other/{number}", 1, "opening")
+        conversion = convert(history_of(made))
+        (one,) = conversion.scripts
+        self.assertEqual((len(conversion.items), conversion.all_items, one.answers[3]), (4, 4, "item account_3 1000"))
+
     def test_a_report_that_reads_none_of_the_sample(self):
         made = record(
             {"x": 0, "y": 0, "z": 0},
@@ -181,7 +189,7 @@ class Limits(unittest.TestCase):
         )
         with mock.patch.object(windows, "MOST_ITEMS", 1):
             conversion = convert(history_of(made))
-        self.assertEqual((conversion.items, conversion.untold), (["x"], 1))
+        self.assertEqual((conversion.items, conversion.all_items, conversion.untold), (["x"], 2, 1))
 
     def test_a_sample_of_reads(self):
         with mock.patch.object(placement, "MOST_READS", 4):
