@@ -97,8 +97,8 @@ class Bank:
 
     def _transfer(self, cursor: Any, chosen: random.Random) -> None:
         locks = self.locks and self.updates == "read committed"
-        amount = chosen.randrange(1, 100)
-        accounts = chosen.sample(range(self.accounts), 2)
+        amount = chosen.randrange(1, 100) * chosen.choice((1, -1))
+        accounts = sorted(chosen.sample(range(self.accounts), 2))  # (so that no two wait for each other)
         balances = [self._read(cursor, account, locks) for account in accounts]
         for account, balance in zip(accounts, (balances[0] - amount, balances[1] + amount)):
             cursor.execute(
