@@ -13,8 +13,10 @@ import typing
 import psycopg2
 from psycopg2.errors import LockNotAvailable, SerializationFailure
 
-from esr_postgresql.order import NotSerializable, history_of
-from esr_postgresql.recorder import Recorder, Table
+from esr_postgresql.cycles import NotSerializable
+from esr_postgresql.order import history_of
+from esr_postgresql.recorder import Recorder
+from esr_postgresql.tables import Table
 
 LEVELS = ("read committed", "repeatable read", "serializable")
 PATIENCE = "50ms"  # how long a lock is waited for: an order in which a session waits for another cannot be played
@@ -170,8 +172,8 @@ WRITE_SKEW = Schedule(
 )
 
 
-# What the ring of updates that go wrong is called.
-RINGS = {"total-cash": "write skew", "lost update": "lost update", "write skew": "write skew"}
+# What the cycle of updates that go wrong is called.
+CYCLES = {"total-cash": "write skew", "lost update": "lost update", "write skew": "write skew"}
 
 
 def is_kept_by(schedule, level):
@@ -238,20 +240,20 @@ class Player:
 @dataclasses.dataclass(frozen=True)
 class Played:
     """An order that was played: whether the server refused a session, and how far off the report is, in hundredths,
-    or the ring of its updates."""
+    or the cycle of its updates."""
 
     order: Order
     is_refused: bool
     distance: int = 0
-    ring: typing.Any = None
+    cycle: typing.Any = None
 
     @property
     def went_wrong(self):
-        return self.distance > 0 or self.ring is not None
+        return self.distance > 0 or self.cycle is not None
 
 
 def played_together(dsn, schedule, level, audited):
-    """Plays all orders of a schedule with a report, whose updates never make a ring, as one record; `audited` audits
+    """Plays all orders of a schedule with a report, whose updates never make a cycle, as one record; `audited` audits
     it."""
     orders = schedule.orders()
     player = Player(dsn, schedule, level, len(orders))
@@ -275,9 +277,9 @@ def played_apart(dsn, schedule, level):
         end = player.play(0, order)
         record = player.finish()
         if end != "waits":
-            ring = None
+            cycle = None
             try:
                 history_of(record)
             except NotSerializable as error:
-                (ring,) = error.rings
-            yield Played(order, end == "refused", ring=ring)
+                (cycle,) = error.cycles
+            yield Played(order, end == "refused", cycle=cycle)

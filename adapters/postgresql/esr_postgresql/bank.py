@@ -18,12 +18,14 @@ from typing import Any, Callable, Iterator
 import psycopg2
 
 from .record import Record
-from .recorder import Recorder, RecordingError, Table
+from .recorder import Recorder
+from .tables import RecordingError, Table
 
 SCHEMA = "esr_bank"
 TABLE = Table(f"{SCHEMA}.accounts", ("id",), "balance")
 OPENING = 1000
-LEVELS = ("read committed", "repeatable read", "serializable")
+
+Job = Callable[[Any, random.Random], None]  # what a teller or a report does in one transaction
 
 
 @dataclass(frozen=True)
@@ -43,14 +45,12 @@ class Bank:
         """Runs the bank in a schema of its own, which is dropped behind it."""
         with _schema(dsn, self.accounts):
             recorder = Recorder(dsn, [TABLE])
-            until = time.monotonic() + self.seconds
-            tellers = [(f"teller{number}", self.updates, self._transfer) for number in range(1, self.tellers + 1)]
-            reporters = [(f"report{number}", self.reports, self._report) for number in range(1, self.reporters + 1)]
+            jobs: list[tuple[str, str, Job]] = []
+            jobs += [(f"teller{number}", self.updates, self._transfer) for number in range(1, self.tellers + 1)]
+            jobs += [(f"report{number}", self.reports, self._report) for number in range(1, self.reporters + 1)]
             errors: list[BaseException] = []
-            threads = [
-                threading.Thread(target=self._work, args=(recorder, *each, until, errors))
-                for each in tellers + reporters
-            ]
+            opened = threading.Barrier(len(jobs))
+            threads = [threading.Thread(target=self._work, args=(recorder, *job, opened, errors)) for job in jobs]
             for thread in threads:
                 thread.start()
             for thread in threads:
@@ -64,15 +64,18 @@ class Bank:
         recorder: Recorder,
         label: str,
         level: str,
-        job: Callable[[Any, random.Random], None],
-        until: float,
+        job: Job,
+        opened: threading.Barrier,
         errors: list[BaseException],
     ) -> None:
-        """Does a job over and over. What the server refuses is given up, as by an application that tries again."""
+        """Does a job over and over, from when all have a connection. What the server refuses is given up, as by an
+        application that tries again."""
         chosen = random.Random(label)
         try:
             connection = recorder.connect(label)
             connection.set_session(isolation_level=level)
+            opened.wait()
+            until = time.monotonic() + self.seconds
             while time.monotonic() < until:
                 try:
                     job(connection.cursor(), chosen)
@@ -80,8 +83,11 @@ class Bank:
                 except psycopg2.extensions.TransactionRollbackError:
                     connection.rollback()
             connection.close()
+        except threading.BrokenBarrierError:
+            pass  # (another could not connect, and has said why)
         except BaseException as error:  # (told by the thread that waits for this one)
             errors.append(error)
+            opened.abort()
 
     def _read(self, cursor: Any, account: int, locks: bool = False) -> int:
         statement = f"select id, balance, xmin from {TABLE.name} where id = %s" + (" for update" if locks else "")
@@ -91,8 +97,8 @@ class Bank:
 
     def _transfer(self, cursor: Any, chosen: random.Random) -> None:
         locks = self.locks and self.updates == "read committed"
-        amount = chosen.randrange(1, 100)
-        accounts = chosen.sample(range(self.accounts), 2)
+        amount = chosen.randrange(1, 100) * chosen.choice((1, -1))
+        accounts = sorted(chosen.sample(range(self.accounts), 2))  # (so that no two wait for each other)
         balances = [self._read(cursor, account, locks) for account in accounts]
         for account, balance in zip(accounts, (balances[0] - amount, balances[1] + amount)):
             cursor.execute(

@@ -11,11 +11,15 @@ import sys
 import traceback
 from typing import Callable, Iterator, Optional, Sequence
 
-from . import program
 from .audit import audited, write_scripts
-from .order import IncompleteRecord, NotSerializable, history_of
+from .cycles import NotSerializable
+from .order import history_of
+from .program import Program, ProgramError, found
 from .record import Record, RecordError, load, save
-from .script import TooLarge, tell
+from .result import line
+from .script import TooLarge, convert
+from .tables import RecordingError, Table
+from .versions import IncompleteRecord
 
 DESCRIPTION = """\
 Audits the reports of a PostgreSQL database: how far what each report read was from
@@ -38,7 +42,7 @@ status: 0 audited, whatever was found; 1 the record cannot be audited: the updat
 are not serializable, or it lacks a writer; 2 anything else. README.md beside this
 program says what a result means, and what it does not."""
 
-TELL_RINGS = 5
+CYCLES_TOLD = 5
 
 
 class Stop(Exception):
@@ -153,14 +157,12 @@ def _loaded(path: str) -> Record:
 @contextlib.contextmanager
 def _faults_told() -> Iterator[None]:
     """What cannot be recorded, and a server that does not answer, end the command. (Only commands that record ask for
-    psycopg2.)"""
-    from .recorder import RecordingError
-
-    import psycopg2
+    psycopg2; `connections` says what to do where it is missing.)"""
+    from .connections import ServerError
 
     try:
         yield
-    except (RecordingError, psycopg2.Error) as error:
+    except (RecordingError, ServerError) as error:
         raise Stop(2, str(error).strip()) from None
 
 
@@ -181,23 +183,30 @@ def _run_recorded(path: str, words: list[str]) -> None:
 def _recorded(words: argparse.Namespace) -> Record:
     """The record of a program."""
     with _faults_told():
-        from .recorder import Recorder, Table
+        from .recorder import Recorder
 
         made = Recorder(words.dsn, [Table.parse(text) for text in words.table])
     if not os.path.isfile(words.program):
         raise Stop(2, f"there is no program {words.program}")
     with made.in_place_of_psycopg2():
         _run_recorded(words.program, words.words)
-    if made.in_part:
+    if made.unversioned:
         missed = "statements read or wrote a recorded value without key and xmin: not recorded"
-        print(f"esr-postgres: {made.in_part} {missed}", file=sys.stderr)
+        print(f"esr-postgres: {made.unversioned} {missed}", file=sys.stderr)
     with _faults_told():
-        return made.finish()
+        record = made.finish()
+    if not record.transactions:
+        print("esr-postgres: no statement had key, value and xmin of a recorded table in its result", file=sys.stderr)
+    return record
 
 
-def _show(record: Record, words: argparse.Namespace) -> None:
-    found = audited(record, words.out, program.Program(program.found(words.esr)), words.worst, words.workers)
-    print(found.text(), end="")
+def _program(words: argparse.Namespace) -> Program:
+    """The program esr. (It is looked for before anything is recorded.)"""
+    return Program(found(words.esr))
+
+
+def _show(record: Record, program: Program, words: argparse.Namespace) -> None:
+    print(audited(record, words.out, program, words.worst, words.workers).text(), end="")
 
 
 def _kept(record: Record, folder: str) -> Record:
@@ -207,24 +216,26 @@ def _kept(record: Record, folder: str) -> Record:
 
 
 def _run(words: argparse.Namespace) -> None:
-    _show(_kept(_recorded(words), words.out), words)
+    program = _program(words)
+    _show(_kept(_recorded(words), words.out), program, words)
 
 
 def _bank(words: argparse.Namespace) -> None:
+    program = _program(words)
     with _faults_told():
         from .bank import Bank
-    bank = Bank(
-        words.updates,
-        words.reports,
-        words.seconds,
-        words.accounts,
-        words.tellers,
-        words.reporters,
-        not words.without_locks,
-    )
-    with _faults_told():
+
+        bank = Bank(
+            words.updates,
+            words.reports,
+            words.seconds,
+            words.accounts,
+            words.tellers,
+            words.reporters,
+            not words.without_locks,
+        )
         record = bank.record(words.dsn)
-    _show(_kept(record, words.out), words)
+    _show(_kept(record, words.out), program, words)
 
 
 def _record(words: argparse.Namespace) -> None:
@@ -235,29 +246,32 @@ def _record(words: argparse.Namespace) -> None:
 
 
 def _convert(words: argparse.Namespace) -> None:
-    telling = tell(history_of(_loaded(words.record)))
-    for path in write_scripts(telling, pathlib.Path(words.out)):
+    conversion = convert(history_of(_loaded(words.record)))
+    for path in write_scripts(conversion, pathlib.Path(words.out)):
         print(path)
 
 
 def _audit(words: argparse.Namespace) -> None:
-    _show(_loaded(words.record), words)
+    _show(_loaded(words.record), _program(words), words)
 
 
 # ---- the whole
 
 
 def _not_serializable(error: NotSerializable) -> str:
-    groups = "a group" if len(error.rings) == 1 else f"{len(error.rings):,} groups"
+    groups = "a group" if len(error.cycles) == 1 else f"{len(error.cycles):,} groups"
     lines = [
-        f"order      the updates are not serializable: {error.count:,} of them are in {groups} where each comes before",
-        "           each other, so no report is audited: without a serial order there is no place for one",
+        line(
+            "order",
+            f"the updates are not serializable: {error.count:,} of them are in {groups} where each comes before",
+        ),
+        line("", "each other, so no report is audited: without a serial order there is no place for one"),
     ]
-    for ring in error.rings[:TELL_RINGS]:
-        lines.append(f"ring       {ring.kind}: {ring.steps[0]}")
-        lines += [f"           {step}" for step in ring.steps[1:]]
-    if len(error.rings) > TELL_RINGS:
-        lines.append(f"           and a ring of each of {len(error.rings) - TELL_RINGS:,} more groups")
+    for cycle in error.cycles[:CYCLES_TOLD]:
+        lines.append(line("cycle", f"{cycle.kind}: {cycle.steps[0]}"))
+        lines += [line("", str(step)) for step in cycle.steps[1:]]
+    if len(error.cycles) > CYCLES_TOLD:
+        lines.append(line("", f"and a cycle of each of {len(error.cycles) - CYCLES_TOLD:,} more groups"))
     return "\n".join(lines)
 
 
@@ -272,9 +286,11 @@ def obey(arguments: Optional[Sequence[str]] = None) -> None:
         raise Stop(
             1, "the record is incomplete:\n" + "\n".join(f"  {line}" for line in str(error).splitlines())
         ) from None
-    except (TooLarge, program.ProgramError) as error:
-        raise Stop(1 if isinstance(error, TooLarge) else 2, str(error)) from None
-    except (OSError, ImportError) as error:
+    except TooLarge as error:
+        raise Stop(1, str(error)) from None
+    except OSError as error:
+        raise Stop(2, f"{error.filename}: {error.strerror}" if error.filename else str(error)) from None
+    except (ProgramError, ImportError) as error:
         raise Stop(2, str(error)) from None
 
 

@@ -13,6 +13,7 @@ import os
 import pathlib
 import shutil
 import subprocess
+import sys
 from dataclasses import dataclass
 from itertools import zip_longest
 from typing import Optional
@@ -69,9 +70,10 @@ class Program:
         """What it writes, of a script in a file."""
         with open(script, "rb") as file:
             done = subprocess.run([self.path, *words], stdin=file, capture_output=True, check=False)
+        said = done.stderr.decode(errors="replace")
         if done.returncode:
-            said = done.stderr.decode(errors="replace").strip() or f"status {done.returncode}"
-            raise ProgramError(f"{self.path} {' '.join(words)} < {script}: {said}")
+            raise ProgramError(f"{self.path} {' '.join(words)} < {script}: {said.strip() or done.returncode}")
+        sys.stderr.write(said)  # (as where the program is not built, and is run without proof)
         return done.stdout.decode()
 
     def check_answers(self, script: Script, path: str) -> None:
@@ -96,7 +98,7 @@ class Program:
                     findings.append(Finding(words[1], int(words[3]), int(words[5])))
             said = done.stderr.read().decode(errors="replace").strip()
         if done.returncode:
-            raise ProgramError(f"{' '.join(command)} < {path}: {said or f'status {done.returncode}'}")
+            raise ProgramError(f"{' '.join(command)} < {path}: {said or done.returncode}")
         return findings
 
     def explanation(self, name: str, path: str) -> str:

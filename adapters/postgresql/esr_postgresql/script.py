@@ -1,79 +1,33 @@
-"""Scripts of `esr` from a history: the updates one after another, and each report's reads where their versions stood.
-
-The idea: call the gap behind the first j updates of the serial order *slot* j. A version of an item stands from the
-slot behind its writer to the slot before the writer of the next version. A read of it may be put into any of these
-slots, and gives the value that was recorded. It is put into the nearest to where the report had come, so a report
-begins, reads and commits beside the updates beside which it did so in the database.
+"""Scripts of `esr` from a history: the updates one after another, and the reports in their slots among them.
 
 The invariant: the program accepts every line. No update waits for another, since each commits before the next begins.
 No report reads what is not committed, since it reads in slots, where no update is active; so its reads are charged
-nothing. A write is charged to the reports that have read the item and have not committed. All charges of the script
-together are computed here, and are at most the limit that each transaction has, so no single sum of charges passes
-it. The counts of items, transactions, reads and entries are within the program's limits by the choice of what is
-told:
+nothing. A write is charged to the reports that have read the item and have not committed. All charges of a script
+together are computed here, and are at most the limit that each transaction has, so no sum of some of them passes it.
+The counts of items, transactions, reads and entries are seen to by `windows` and `placement`.
 
-- *Windows.* What is too long for one script is cut into several. A report is told in the first window that has the
-  whole of it, from the slot where it begins to the one where it commits. A window's items open with the values of its
-  first slot.
-- *Samples.* Of more than 4,096 items a sample is told, those that reports read first; of more than 1,000 reads of a
-  report, a sample of the reads. A distance over a sample is at most the whole one.
-
-Rejected: to begin all reports first and to read right behind the version's writer. The distances would be the same,
-but every later write would be charged to every report, and an explanation would tell of updates long past or to come.
+The answer to each line follows from the record; `program` compares it with what the program says.
 """
 
 from __future__ import annotations
 
-from bisect import bisect_left, bisect_right
-from dataclasses import dataclass, field, replace
+from bisect import bisect_left
+from dataclasses import dataclass, field
 from itertools import accumulate
-from typing import Iterator, NamedTuple, Optional
+from typing import Iterator, Optional
 
 from .names import Names
-from .order import Chain, History, Read
-from .record import Action, Operation, Transaction
+from .order import History
+from .placement import PlacedRead, PlacedReport, Positions, placed_reports
+from .record import Action, Transaction
+from .versions import Chain
+from .windows import Window, items_used, restricted, sample_of_items, windows_of
 
 LIMIT = 10**18
-MOST_ITEMS = 4_096
-MOST_READS = 1_000
-MOST_TRANSACTIONS = 65_535
-MOST_ENTRIES = 1_000_000
 
 
 class TooLarge(Exception):
     """A history that no script can tell."""
-
-
-class PlacedRead(NamedTuple):
-    """A read of a version of an item, and the slot where it is told."""
-
-    slot: int
-    item: str
-    number: int
-
-
-@dataclass(frozen=True)
-class PlacedReport:
-    """A report, and the slots where it begins, reads and commits."""
-
-    report: Transaction
-    begin: int
-    reads: tuple[PlacedRead, ...]
-    commit: int
-    left_out: int = 0
-
-    @property
-    def entries(self) -> int:
-        return 2 + len(self.reads)
-
-
-@dataclass(frozen=True)
-class Window:
-    """The updates of the serial order from slot `first` to slot `last`, and reports that are told among them."""
-
-    first: int
-    last: int
-    reports: tuple[PlacedReport, ...]
 
 
 @dataclass
@@ -95,149 +49,29 @@ class Script:
         self.answers.append(answer)
 
 
-def spread(count: int, most: int) -> list[int]:
-    """At most so many numbers below a count, evenly spread."""
-    if count <= most:
-        return list(range(count))
-    return [place * count // most for place in range(most)]
-
-
-# ---- where reports stand
-
-
-class _Spots:
-    """The places of updates in the serial order, and the slots of versions and of times."""
-
-    def __init__(self, history: History) -> None:
-        self.history = history
-        self.spots = [0] * len(history.updates)
-        for spot, update in enumerate(history.serial):
-            self.spots[update] = spot
-        self.times = [update.ended for update in history.updates]
-        self.slots = list(accumulate((spot + 1 for spot in self.spots), max, initial=0))
-
-    def at(self, time: int) -> int:
-        """The first slot behind all updates that had committed at a time."""
-        return self.slots[bisect_right(self.times, time)]
-
-    def span(self, read: Read) -> tuple[int, int]:
-        """The first and the last slot where the version that was read stands."""
-        chain = self.history.chains[read.item]
-        writer, replacer = chain.writer(read.number), chain.replacer(read.number)
-        first = 0 if writer is None else self.spots[writer] + 1
-        return first, len(self.spots) if replacer is None else self.spots[replacer]
-
-    def place(self, report: Transaction, reads: list[Read]) -> PlacedReport:
-        kept = [reads[place] for place in spread(len(reads), MOST_READS)]
-        spans = [self.span(read) for read in kept]
-        begin = min([self.at(report.began)] + [last for _, last in spans])
-        reached, placed = begin, []
-        for read, (first, last) in zip(kept, spans):
-            slot = min(max(reached, first), last)
-            reached = max(reached, slot)
-            placed.append(PlacedRead(slot, read.item, read.number))
-        return PlacedReport(report, begin, tuple(placed), max(reached, self.at(report.ended)), len(reads) - len(kept))
-
-
-def placed_reports(history: History) -> list[PlacedReport]:
-    """All reports with recorded reads, by the slots where they begin."""
-    spots = _Spots(history)
-    placed = [spots.place(report, reads) for report, reads in zip(history.reports, history.report_reads)]
-    return sorted(placed, key=lambda report: (report.begin, report.commit))
-
-
-# ---- samples and windows
-
-
-def sample_of_items(history: History, reports: list[PlacedReport]) -> list[str]:
-    """The items that are told, in their order in the record: all, or those that reports read and then others, as many
-    as a script can have."""
-    items = list(history.record.items)
-    if len(items) <= MOST_ITEMS:
-        return items
-    wanted = {read.item for report in reports for read in report.reads}
-    first = [item for item in items if item in wanted]
-    kept = {first[place] for place in spread(len(first), MOST_ITEMS)}
-    others = [item for item in items if item not in wanted]
-    kept.update(others[place] for place in spread(len(others), MOST_ITEMS - len(kept)))
-    return [item for item in items if item in kept]
-
-
-def restricted(reports: list[PlacedReport], items: set[str]) -> list[PlacedReport]:
-    """The reports with their reads of some items alone, those that have any."""
-    kept = [replace(each, reads=tuple(read for read in each.reads if read.item in items)) for each in reports]
-    return [each for each in kept if each.reads]
-
-
-class _Sizes:
-    """How many updates a script has that tells a piece of the serial order, and how many entries they make."""
-
-    def __init__(self, history: History, items: set[str]) -> None:
-        told = [
-            sum(operation.item in items for operation in history.updates[update].operations)
-            for update in history.serial
-        ]
-        self.updates = list(accumulate((1 if count else 0 for count in told), initial=0))
-        self.entries = list(accumulate((count + 2 if count else 0 for count in told), initial=0))
-
-    def fits(self, first: int, last: int, reports: int, entries: int) -> bool:
-        transactions = self.updates[last] - self.updates[first] + reports
-        return (
-            transactions <= MOST_TRANSACTIONS and self.entries[last] - self.entries[first] + entries <= MOST_ENTRIES
-        )
-
-
-def _window(first: int, reports: list[PlacedReport], sizes: _Sizes) -> Window:
-    """A window from a slot with as many reports as a script can have. It ends where the last of them commits; it has
-    none where the first report is too long by itself."""
-    chosen: list[PlacedReport] = []
-    entries = 0
-    for report in sorted(reports, key=lambda report: report.commit):
-        if sizes.fits(first, report.commit, len(chosen) + 1, entries + report.entries):
-            chosen.append(report)
-            entries += report.entries
-    last = max((report.commit for report in chosen), default=first)
-    return Window(first, last, tuple(sorted(chosen, key=lambda report: (report.begin, report.commit))))
-
-
-def windows_of(
-    history: History, reports: list[PlacedReport], items: set[str]
-) -> tuple[list[Window], list[PlacedReport]]:
-    """The windows that tell all reports, and the reports that are too long for any. One window of all where it will
-    do."""
-    sizes, count = _Sizes(history, items), len(history.updates)
-    if sizes.fits(0, count, len(reports), sum(report.entries for report in reports)):
-        return [Window(0, count, tuple(reports))], []
-    windows, too_long, rest = [], [], reports
-    while rest:
-        window = _window(rest[0].begin, rest, sizes)
-        if not window.reports:
-            too_long.append(rest[0])
-            rest = rest[1:]
-            continue
-        windows.append(window)
-        told = {report.report.name for report in window.reports}
-        rest = [report for report in rest if report.report.name not in told]
-    return windows, too_long
-
-
-# ---- the text
+# ---- charges
 
 
 class _Charges:
     """How much the writes of each item change it, up to each slot."""
 
-    def __init__(self, history: History, spots: list[int]) -> None:
-        self.spots: dict[str, list[int]] = {}
+    def __init__(self, positions: Positions) -> None:
+        self.positions: dict[str, list[int]] = {}
         self.sums: dict[str, list[int]] = {}
-        for item, chain in history.chains.items():
-            self.spots[item] = [spots[writer] for writer in chain.writers]
-            self.sums[item] = list(accumulate(_changes(history, item, chain), initial=0))
+        for item, chain in positions.history.chains.items():
+            self.positions[item] = [positions.of[writer] for writer in chain.writers]
+            self.sums[item] = list(accumulate(_changes(positions.history, item, chain), initial=0))
 
     def between(self, item: str, first: int, last: int) -> int:
         """The sum of the changes by the updates between two slots."""
-        spots, sums = self.spots[item], self.sums[item]
-        return sums[bisect_left(spots, last)] - sums[bisect_left(spots, first)]
+        positions, sums = self.positions[item], self.sums[item]
+        return sums[bisect_left(positions, last)] - sums[bisect_left(positions, first)]
+
+    def of(self, window: Window) -> int:
+        """What all writes of a window are charged together."""
+        return sum(
+            self.between(read.item, read.slot, report.commit) for report in window.reports for read in report.reads
+        )
 
 
 def _changes(history: History, item: str, chain: Chain) -> Iterator[int]:
@@ -253,22 +87,15 @@ def _changes(history: History, item: str, chain: Chain) -> Iterator[int]:
         yield change * weight
 
 
-def all_charges(history: History, window: Window) -> int:
-    """What all writes of a window are charged together."""
-    spots = _Spots(history).spots
-    charges = _Charges(history, spots)
-    return sum(
-        charges.between(read.item, read.slot, report.commit) for report in window.reports for read in report.reads
-    )
+# ---- the text
 
 
 class _Writer:
     """Writes the script of a window."""
 
-    def __init__(self, history: History, window: Window, items: list[str]) -> None:
-        self.history, self.items = history, set(items)
+    def __init__(self, positions: Positions, window: Window, items: list[str]) -> None:
+        self.positions, self.history, self.items = positions, positions.history, set(items)
         self.script = Script(window)
-        self.spots = _Spots(history).spots
         self.begun = 0
         for item in items:
             self.item(item)
@@ -276,7 +103,7 @@ class _Writer:
     def opening(self, item: str) -> int:
         """The value of an item in the first slot of the window. A row that is not there counts 0."""
         chain = self.history.chains[item]
-        number = sum(1 for writer in chain.writers if self.spots[writer] < self.script.window.first)
+        number = sum(1 for writer in chain.writers if self.positions.of[writer] < self.script.window.first)
         return chain.values[number] or 0
 
     def item(self, item: str) -> None:
@@ -337,7 +164,7 @@ class _Writer:
 
 
 @dataclass
-class Telling:
+class Conversion:
     """What is told of a history: its scripts, the items and reports that they have, and what they leave out."""
 
     scripts: list[Script]
@@ -348,18 +175,17 @@ class Telling:
     untold: int
 
 
-def tell(history: History) -> Telling:
+def convert(history: History) -> Conversion:
     """The scripts of a history. Raises TooLarge where the changes are so large that a limit could not hold them."""
-    placed = placed_reports(history)
-    items = sample_of_items(history, placed)
-    told = set(items)
-    reports = restricted(placed, told)
-    windows, too_long = windows_of(history, reports, told)
-    for window in windows:
-        if all_charges(history, window) > LIMIT:
-            raise TooLarge(
-                f"the changes beside the reports add up to more than {LIMIT}: give the values a smaller scale"
-            )
-    scripts = [_Writer(history, window, items).write() for window in windows]
+    positions = Positions(history)
+    placed = placed_reports(positions)
+    used = items_used(history)
+    items = sample_of_items(used, placed)
+    reports = restricted(placed, set(items))
+    windows, too_long = windows_of(history, reports, set(items))
+    charges = _Charges(positions)
+    if any(charges.of(window) > LIMIT for window in windows):
+        raise TooLarge(f"the changes beside the reports add up to more than {LIMIT}: give the values a smaller scale")
+    scripts = [_Writer(positions, window, items).write() for window in windows]
     sampled = [report for report in reports if report.left_out]
-    return Telling(scripts, items, len(history.record.items), too_long, sampled, len(placed) - len(reports))
+    return Conversion(scripts, items, len(used), too_long, sampled, len(placed) - len(reports))

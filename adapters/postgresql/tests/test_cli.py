@@ -10,12 +10,13 @@ import tempfile
 import unittest
 from unittest import mock
 
-from esr_postgresql import cli
-from esr_postgresql.program import ProgramError, Program, off_reads
-from esr_postgresql.record import Outcome, save
+from esr_postgresql import cli, placement, windows
 from esr_postgresql.order import history_of
-from esr_postgresql.script import tell
+from esr_postgresql.program import Program, ProgramError, off_reads
+from esr_postgresql.record import Outcome, save
+from esr_postgresql.script import convert
 
+from .generated import bank
 from .written import read, record, transaction, write
 
 HERE = pathlib.Path(__file__).resolve().parent
@@ -106,7 +107,28 @@ worst      report: off by 100; {self.room}/out/worst/report.svg
         audits = (self.room / "out" / "audits.tsv").read_text().splitlines()
         self.assertEqual(audits[1], "report\tread committed\t2\t100\t100\treport\tscript.esr")
 
-    def test_a_ring(self):
+    def test_what_was_left_out_is_told(self):
+        with mock.patch.multiple(windows, MOST_ITEMS=3, MOST_TRANSACTIONS=6), mock.patch.object(
+            placement, "MOST_READS", 4
+        ):
+            made = bank(9, 3, 5, 4, 3)
+            made.transactions.append(transaction("endless", 0, 9, read("account/0", 1000, "opening")))
+            status, out, _ = self.audit(made, "--worst", "0")
+        self.assertEqual(status, 0)
+        for text in (
+            "sample     3 of 5 items: distances are at least what is told\n",
+            "sample     4 reads of 3 reports that read more\n",
+            "windows    2, since a script has at most ",
+            "           endless is too long for a window: left out\n",
+            " exact, as far as the sample goes; ",
+        ):
+            self.assertIn(text, out)
+
+    def test_no_report(self):
+        status, out, _ = self.audit(record({"x": 1}, transaction("u", 0, 1, write("x", 2, "1"))))
+        self.assertEqual((status, out.splitlines()[-1]), (0, "reports    none was recorded"))
+
+    def test_a_cycle(self):
         status, out, err = self.audit(
             record(
                 {"x": 100},
@@ -120,7 +142,7 @@ worst      report: off by 100; {self.room}/out/worst/report.svg
             """\
 order      the updates are not serializable: 2 of them are in a group where each comes before
            each other, so no report is audited: without a serial order there is no place for one
-ring       lost update: bert read x as it was before anna wrote it
+cycle      lost update: bert read x as it was before anna wrote it
            anna wrote x before bert did
 """,
         )
@@ -182,7 +204,7 @@ ring       lost update: bert read x as it was before anna wrote it
 
 class Answers(unittest.TestCase):
     def test_another_answer_than_the_record_says_is_an_error(self):
-        (script,) = tell(history_of(half_seen())).scripts
+        (script,) = convert(history_of(half_seen())).scripts
         program = Program(PLAIN)
         with tempfile.TemporaryDirectory() as room:
             path = os.path.join(room, "script.esr")
@@ -196,7 +218,7 @@ class Answers(unittest.TestCase):
                 self.assertIn(said, str(caught.exception))
 
     def test_reads_that_are_off(self):
-        text = "read a 5 nearest 5 off 0\nread b -5 nearest 5 off 10\nread c 1 nearest 41 off 40\nbefore u\ndistance 50 import 9\n"
+        text = "read a 5 nearest 5 off 0\nread b -5 nearest 5 off 10\nread c 1 nearest 41 off 40\nbefore u\n"
         self.assertEqual([(each.item, each.off) for each in off_reads(text)], [("c", 40), ("b", 10)])
 
 

@@ -1,10 +1,12 @@
-"""The order of updates: which there is, which rings are named where there is none, and what a record is said to
+"""The order of updates: which there is, which cycles are named where there is none, and what a record is said to
 lack."""
 
 import unittest
 
-from esr_postgresql.order import IncompleteRecord, NotSerializable, history_of, strangers
+from esr_postgresql.cycles import NotSerializable
+from esr_postgresql.order import history_of, unrecorded_endings
 from esr_postgresql.record import Outcome
+from esr_postgresql.versions import IncompleteRecord
 
 from .written import read, record, transaction, write
 
@@ -66,16 +68,16 @@ class Orders(unittest.TestCase):
         self.assertEqual(names(history), ["u", "v"])
 
 
-class Rings(unittest.TestCase):
-    def ring(self, made, kind, steps, count=2):
+class Cycles(unittest.TestCase):
+    def cycle(self, made, kind, steps, count=2):
         with self.assertRaises(NotSerializable) as caught:
             history_of(made)
         error = caught.exception
-        self.assertEqual((error.count, len(error.rings)), (count, 1))
-        self.assertEqual((error.rings[0].kind, [str(step) for step in error.rings[0].steps]), (kind, steps))
+        self.assertEqual((error.count, len(error.cycles)), (count, 1))
+        self.assertEqual((error.cycles[0].kind, [str(step) for step in error.cycles[0].steps]), (kind, steps))
 
     def test_a_lost_update(self):
-        self.ring(
+        self.cycle(
             record(
                 {"x": 100},
                 transaction("anna", 0, 1, read("x", 100, "opening"), write("x", 110, "1")),
@@ -86,7 +88,7 @@ class Rings(unittest.TestCase):
         )
 
     def test_write_skew(self):
-        self.ring(
+        self.cycle(
             record(
                 {"x": 1, "y": 1},
                 transaction("anna", 0, 1, read("x", 1, "opening"), read("y", 1, "opening"), write("x", 0, "1")),
@@ -97,7 +99,7 @@ class Rings(unittest.TestCase):
         )
 
     def test_an_update_that_reads_twice_and_sees_another_between(self):
-        self.ring(
+        self.cycle(
             record(
                 {"x": 1, "y": 1},
                 transaction("anna", 0, 1, write("x", 2, "1")),
@@ -107,9 +109,9 @@ class Rings(unittest.TestCase):
             ["bert read x as it was before anna wrote it", "anna wrote x, and bert read that"],
         )
 
-    def test_the_shortest_ring_of_a_group_is_told_and_who_is_only_behind_it_is_not_counted(self):
+    def test_the_shortest_cycle_of_a_group_is_told_and_who_is_only_behind_it_is_not_counted(self):
         reads = [read(item, 0, "opening") for item in "wxyz"]
-        self.ring(
+        self.cycle(
             record(
                 {item: 0 for item in "wxyz"},
                 transaction("a", 0, 1, reads[1], write("w", 1, "1")),
@@ -122,7 +124,7 @@ class Rings(unittest.TestCase):
             count=3,
         )
 
-    def test_two_groups_have_two_rings(self):
+    def test_two_groups_have_two_cycles(self):
         made = record(
             {"x": 0, "y": 0},
             *[
@@ -133,9 +135,9 @@ class Rings(unittest.TestCase):
         )
         with self.assertRaises(NotSerializable) as caught:
             history_of(made)
-        self.assertEqual((caught.exception.count, len(caught.exception.rings)), (4, 2))
+        self.assertEqual((caught.exception.count, len(caught.exception.cycles)), (4, 2))
 
-    def test_a_long_ring_is_walked_without_recursion(self):
+    def test_a_long_cycle_is_walked_without_recursion(self):
         count = 5000
         made = record(
             {f"i{number}": 0 for number in range(count)},
@@ -152,7 +154,7 @@ class Rings(unittest.TestCase):
         )
         with self.assertRaises(NotSerializable) as caught:
             history_of(made)
-        self.assertEqual((caught.exception.count, len(caught.exception.rings[0].steps)), (count, count))
+        self.assertEqual((caught.exception.count, len(caught.exception.cycles[0].steps)), (count, count))
 
 
 class Lacks(unittest.TestCase):
@@ -219,13 +221,13 @@ class Lacks(unittest.TestCase):
     def test_at_the_end(self):
         updates = transaction("u", 0, 1, write("x", 2, "5")), transaction("v", 0, 2, write("x", 3, "6"))
         history = history_of(record({"x": 1}, *updates, endings=[("x", 3, "6")]))
-        self.assertEqual(strangers(history), [])
+        self.assertEqual(unrecorded_endings(history), [])
         history = history_of(record({"x": 1}, *updates, endings=[("x", 4, "7")]))
-        self.assertEqual(strangers(history), ["x"])
+        self.assertEqual(unrecorded_endings(history), ["x"])
         self.said(
             record({"x": 1}, *updates, endings=[("x", 2, "5")]),
-            "at the end x is by u, but by the times of the commits v wrote it last: the clock was set back, or a label is"
-            " not of the version",
+            "at the end x is by u, but by the times of the commits v wrote it last: the clock was set back, or a label"
+            " is not of the version",
         )
 
 
@@ -241,7 +243,7 @@ class Absences(unittest.TestCase):
             )
         )
         self.assertEqual([number for _, number in history.report_reads[0]], [0, 1])
-        self.assertEqual(strangers(history), [])
+        self.assertEqual(unrecorded_endings(history), [])
 
     def test_which_absence_was_seen_may_be_unknown(self):
         made = record(

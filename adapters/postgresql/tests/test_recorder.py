@@ -18,12 +18,15 @@ if DSN is not None:
     import psycopg2
     import psycopg2.extensions as extensions
     from psycopg2.extras import DictCursor, RealDictCursor
+    from psycopg2.sql import SQL
 
     from esr_postgresql import recorder as module
-    from esr_postgresql.recorder import Recorder, RecordingError, Table
+    from esr_postgresql.recorder import Recorder
 
-from esr_postgresql.order import IncompleteRecord, history_of, strangers  # noqa: E402
+from esr_postgresql.order import history_of, unrecorded_endings  # noqa: E402
 from esr_postgresql.record import Action, Outcome  # noqa: E402
+from esr_postgresql.tables import RecordingError, Table  # noqa: E402
+from esr_postgresql.versions import IncompleteRecord  # noqa: E402
 
 SELECT = "select id, v, xmin from t where id = %s"
 UPDATE = "update t set v = %s where id = %s returning id, v, xmin"
@@ -96,7 +99,7 @@ class Recording(unittest.TestCase):
             "update t set v = 13 where id = 1 returning id, v, xmin",
         ):
             cursor.execute(statement)
-        cursor.execute("COMMIT;")
+        cursor.execute(SQL("COMMIT;"))
         cursor.execute("begin; update t set v = 14 where id = 1 returning id, v, xmin")
         cursor.execute("rollback")
         cursor.execute(SELECT, (1,))
@@ -146,7 +149,7 @@ class Recording(unittest.TestCase):
             UPDATE % (12, 1),
             "select id, v, xmin from t",
             DELETE % 2,
-            "rollback to savepoint b",
+            "Rollback To Savepoint B;",
             UPDATE % (21, 2),
             "release a",
         ):
@@ -160,7 +163,7 @@ class Recording(unittest.TestCase):
         self.assertEqual(len({each.version for each in done["c_1"].operations}), 3)
         history = history_of(record)
         self.assertEqual([number for _, number in history.report_reads[0]], [1, 1])
-        self.assertEqual(strangers(history), [])
+        self.assertEqual(unrecorded_endings(history), [])
 
     def test_rows_that_come_and_go(self):
         connection = self.connect()
@@ -184,7 +187,7 @@ class Recording(unittest.TestCase):
         self.assertEqual(told(done["c_5"]), [("read", "t/3", 30), ("read", "t/1", None)])
         history = history_of(record)
         self.assertEqual([len(reads) for reads in history.report_reads], [3, 2, 2])
-        self.assertEqual(strangers(history), [])
+        self.assertEqual(unrecorded_endings(history), [])
 
     def test_an_insert_that_finds_the_row_and_joins_with_itself(self):
         connection = self.connect()
@@ -305,7 +308,8 @@ class Recording(unittest.TestCase):
     def test_a_write_that_nobody_read_is_told(self):
         self.plain.execute("update t set v = 5 where id = 1")
         record, _ = self.finished()
-        self.assertEqual(strangers(history_of(record)), ["t/1"])
+        self.assertEqual(list(record.items), ["t/1"])  # (nobody touched the other row)
+        self.assertEqual(unrecorded_endings(history_of(record)), ["t/1"])
 
     def test_values_without_key_or_version_are_counted(self):
         connection = self.connect()
@@ -317,7 +321,7 @@ class Recording(unittest.TestCase):
             "select id, name from t",
         ):
             cursor.execute(statement)
-        self.assertEqual(self.recorder.in_part, 3)
+        self.assertEqual(self.recorder.unversioned, 3)
         self.assertEqual(self.finished()[1], {})
 
     def test_an_answer_to_a_commit_that_was_lost(self):

@@ -3,11 +3,12 @@
 import unittest
 from unittest import mock
 
-from esr_postgresql import script
+from esr_postgresql import placement, windows
 from esr_postgresql.names import Names
 from esr_postgresql.order import history_of
+from esr_postgresql.placement import spread
 from esr_postgresql.record import Item
-from esr_postgresql.script import TooLarge, spread, tell
+from esr_postgresql.script import TooLarge, convert
 
 from .generated import bank
 from .written import answers, distances, read, record, transaction, write
@@ -21,8 +22,8 @@ def transfer(name, began, ended, version, *amounts):
 
 def told(made):
     """The only script of a record; its answers are those of the plain program."""
-    telling = tell(history_of(made))
-    (one,) = telling.scripts
+    conversion = convert(history_of(made))
+    (one,) = conversion.scripts
     assert answers(one) == one.answers, (answers(one), one.answers)
     return one
 
@@ -141,12 +142,12 @@ class Limits(unittest.TestCase):
         made = bank(60, 12, 5, 6, 3)
         whole = told_large(made)
         for most in (dict(MOST_TRANSACTIONS=18), dict(MOST_ENTRIES=90)):
-            with mock.patch.multiple(script, **most):
-                telling = tell(history_of(made))
-            self.assertGreater(len(telling.scripts), 3)
-            names = [each.report.name for one in telling.scripts for each in one.window.reports]
+            with mock.patch.multiple(windows, **most):
+                conversion = convert(history_of(made))
+            self.assertGreater(len(conversion.scripts), 3)
+            names = [each.report.name for one in conversion.scripts for each in one.window.reports]
             self.assertEqual(sorted(names), sorted(whole))
-            for one in telling.scripts:
+            for one in conversion.scripts:
                 self.assertEqual(answers(one), one.answers)
                 begun = sum(line.startswith("begin ") for line in one.lines)
                 entries = sum(not line.startswith("item ") for line in one.lines)
@@ -156,21 +157,29 @@ class Limits(unittest.TestCase):
     def test_a_report_that_is_too_long_for_a_window_is_named(self):
         made = bank(60, 3, 5, 6, 3)
         made.transactions.append(transaction("endless", 0, 60, read("account/0", 1000, "opening")))
-        with mock.patch.object(script, "MOST_TRANSACTIONS", 30):
-            telling = tell(history_of(made))
-        self.assertEqual([each.report.name for each in telling.too_long], ["endless"])
-        self.assertEqual(sum(len(one.window.reports) for one in telling.scripts), 3)
+        with mock.patch.object(windows, "MOST_TRANSACTIONS", 30):
+            conversion = convert(history_of(made))
+        self.assertEqual([each.report.name for each in conversion.too_long], ["endless"])
+        self.assertEqual(sum(len(one.window.reports) for one in conversion.scripts), 3)
 
     def test_a_sample_of_items(self):
         made = bank(9, 2, 8, 4, 5)
-        with mock.patch.object(script, "MOST_ITEMS", 3):
-            telling = tell(history_of(made))
-        (one,) = telling.scripts
-        self.assertEqual((len(telling.items), telling.all_items), (3, 8))
+        with mock.patch.object(windows, "MOST_ITEMS", 3):
+            conversion = convert(history_of(made))
+        (one,) = conversion.scripts
+        self.assertEqual((len(conversion.items), conversion.all_items), (3, 8))
         self.assertEqual(answers(one), one.answers)
         whole = distances(told(made))
         for name, distance in distances(one).items():
             self.assertLessEqual(distance, whole[name])
+
+    def test_items_that_nobody_touched_are_not_told(self):
+        made = bank(9, 2, 4, 4, 5)
+        for number in range(5000):
+            made.items[f"other/{number}"] = Item(f"other/{number}", 1, "opening")
+        conversion = convert(history_of(made))
+        (one,) = conversion.scripts
+        self.assertEqual((len(conversion.items), conversion.all_items, one.answers[3]), (4, 4, "item account_3 1000"))
 
     def test_a_report_that_reads_none_of_the_sample(self):
         made = record(
@@ -178,25 +187,27 @@ class Limits(unittest.TestCase):
             transaction("a", 0, 1, read("x", 0, "opening"), read("y", 0, "opening")),
             transaction("b", 0, 1, read("y", 0, "opening")),
         )
-        with mock.patch.object(script, "MOST_ITEMS", 1):
-            telling = tell(history_of(made))
-        self.assertEqual((telling.items, telling.untold), (["x"], 1))
+        with mock.patch.object(windows, "MOST_ITEMS", 1):
+            conversion = convert(history_of(made))
+        self.assertEqual((conversion.items, conversion.all_items, conversion.untold), (["x"], 2, 1))
 
     def test_a_sample_of_reads(self):
-        with mock.patch.object(script, "MOST_READS", 4):
-            telling = tell(history_of(bank(9, 2, 8, 4, 5)))
-        (one,) = telling.scripts
+        with mock.patch.object(placement, "MOST_READS", 4):
+            conversion = convert(history_of(bank(9, 2, 8, 4, 5)))
+        (one,) = conversion.scripts
         self.assertEqual([len(each.reads) for each in one.window.reports], [4, 4])
-        self.assertEqual([each.left_out for each in telling.sampled], [4, 4])
+        self.assertEqual([each.left_out for each in conversion.sampled], [4, 4])
 
     def test_changes_beyond_every_limit_are_refused(self):
         reads = [read("x", 0, "opening")] * 1000
         updates = [transaction(f"u{n}", 0, n, write("x", (-1) ** n * 10**12, str(n))) for n in range(1, 400)]
         made = record({"x": 0}, transaction("report", 0, 1000, *reads), *updates)
-        tell(history_of(made))
-        made.transactions.append(transaction("other", 0, 1000, *reads))
-        with self.assertRaises(TooLarge):
-            tell(history_of(made))
+        convert(history_of(made))
+        for weight, others in ((2, []), (1, [transaction("other", 0, 1000, *reads)])):
+            made.items["x"] = Item("x", 0, "opening", weight)
+            made.transactions += others
+            with self.assertRaises(TooLarge):
+                convert(history_of(made))
 
     def test_spreads(self):
         self.assertEqual(spread(3, 5), [0, 1, 2])
@@ -205,7 +216,7 @@ class Limits(unittest.TestCase):
 
 def told_large(made):
     """The names of the reports of the only script of a record that the plain program cannot audit."""
-    (one,) = tell(history_of(made)).scripts
+    (one,) = convert(history_of(made)).scripts
     assert answers(one) == one.answers
     return [each.report.name for each in one.window.reports]
 

@@ -1,0 +1,263 @@
+"""Connections of psycopg2 that note what their statements read and write.
+
+The idea: a cursor looks at the result of each statement before the application does, and a connection hands over what
+its cursors noted when the transaction has ended. The application gets what plain connections and cursors give.
+
+The invariant: what is handed over is of one transaction. It is noted between two ends of transactions, however they
+come about: by a call, by a statement, or by a statement that is a transaction by itself.
+
+Rejected: to rewrite statements so that they ask for versions. The application would run something else than it says.
+"""
+
+from __future__ import annotations
+
+import functools
+from typing import TYPE_CHECKING, Any, Iterable, NamedTuple, Optional, Sequence, Union
+
+from .record import Action, Operation, Outcome
+from .tables import Place, RecordingError, Table
+
+try:
+    import psycopg2
+    import psycopg2.extensions as extensions
+    from psycopg2.sql import Composable
+except ImportError as missing:
+    raise ImportError(
+        "psycopg2 is not installed for this Python: Debian has it as python3-psycopg2 (for /usr/bin/python3), and"
+        " `pip install psycopg2-binary` gets it for any other"
+    ) from missing
+
+if TYPE_CHECKING:
+    from .recorder import Recorder
+
+ServerError: type[Exception] = psycopg2.Error
+
+# Which database of which server a connection is to. (Numbers of tables are of one database.)
+DATABASE = "select oid, pg_postmaster_start_time() from pg_database where datname = current_database()"
+NOW = "(extract(epoch from clock_timestamp()) * 1000000)::bigint"
+ABOUT_TO_END = f"""select pg_current_xact_id_if_assigned()::text, current_setting('transaction_isolation'),
+    (extract(epoch from transaction_timestamp()) * 1000000)::bigint, {NOW}"""
+HAS_ENDED = f"select null, current_setting('transaction_isolation'), {NOW}, {NOW}"
+
+
+class Row(NamedTuple):
+    """A row of a result: what was done with it."""
+
+    table: Table
+    operation: Operation
+
+
+class Rest(NamedTuple):
+    """The rows that were not there: all of a table, or those of `keys`, that are not among `present`."""
+
+    table: Table
+    present: frozenset[str]
+    keys: Optional[frozenset[str]]
+
+
+Noted = Union[Row, Rest]
+
+
+class Ended(NamedTuple):
+    """A transaction as its connection saw it."""
+
+    name: str
+    noted: tuple[Noted, ...]
+    xid: Optional[int]
+    level: str
+    began: int
+    ended: int
+    outcome: Outcome
+
+
+class _Recording(extensions.cursor):  # type: ignore[misc]
+    """What makes a class of cursors one whose statements are noted. It gives the application what that class
+    gives."""
+
+    row_factory: Any
+
+    def __init__(self, *args: Any, **named: Any) -> None:
+        super().__init__(*args, **named)
+        self._seen: dict[str, set[str]] = {}
+
+    def execute(self, query: Any, vars: Any = None) -> None:  # (psycopg2's own name)
+        self.connection._is_about_to_run(query)
+        super().execute(query, vars)
+        self._seen = self.connection._has_run(self)
+
+    def executemany(self, query: Any, vars_list: Iterable[Any]) -> None:
+        for each in vars_list:
+            self.execute(query, each)
+
+    def covers(self, table: str, keys: Optional[Iterable[Any]] = None) -> None:
+        """Notes that the last statement looked at all rows of a table, or at all with one of some keys: those that
+        are not in its result were not there. A key of several columns is a tuple."""
+        self.connection._covers(table, self._seen.get(table, set()), keys)
+
+    def _rows(self) -> list[tuple[Any, ...]]:
+        """All rows of the result, as plain tuples; the application finds them unread."""
+        factory, self.row_factory = self.row_factory, None
+        rows: list[tuple[Any, ...]] = extensions.cursor.fetchall(self)
+        self.row_factory = factory
+        extensions.cursor.scroll(self, 0, mode="absolute")
+        return rows
+
+
+@functools.lru_cache(maxsize=None)
+def _recording(factory: type) -> type:
+    """A class of cursors, noting its statements."""
+    bases = (_Recording,) if factory is extensions.cursor else (_Recording, factory)
+    return type(f"Recording{factory.__name__}", bases, {})
+
+
+def _ending(name: str) -> Any:
+    """A method of connections that ends a transaction otherwise than by committing it, as far as can be seen from here.
+    (How an update ended is asked of the server.)"""
+    plain = getattr(extensions.connection, name)
+
+    @functools.wraps(plain)
+    def method(connection: RecordingConnection, *args: Any, **named: Any) -> Any:
+        done = plain(connection, *args, **named)
+        connection._keep(Outcome.ABORTED)
+        return done
+
+    return method
+
+
+class RecordingConnection(extensions.connection):  # type: ignore[misc]
+    """A connection whose transactions are recorded."""
+
+    recorder: Recorder
+    label: str
+
+    def _open(self, recorder: Recorder, label: str) -> None:
+        self.recorder, self.label = recorder, label
+        self._noted: list[Noted] = []
+        self._savepoints: list[tuple[str, int]] = []
+        self._asked: Optional[tuple[Any, ...]] = None
+        self._is_recorded = recorder.database == self._query(DATABASE)
+        super().rollback()
+
+    def cursor(self, name: Optional[str] = None, cursor_factory: Optional[type] = None, **named: Any) -> Any:
+        """A cursor as the application asks for it, and noting what its statements do."""
+        if name is not None:
+            raise RecordingError(f"the cursor {name} is one of the server, which cannot be recorded: give it no name")
+        factory = _recording(cursor_factory or self.cursor_factory or extensions.cursor)
+        return super().cursor(cursor_factory=factory, **named)
+
+    # what the cursors tell
+
+    def _is_about_to_run(self, query: Any) -> None:
+        """A statement that ends the transaction is the last chance to ask for its number."""
+        if isinstance(query, Composable):
+            query = query.as_string(self)
+        text = query.decode(errors="replace") if isinstance(query, bytes) else query
+        if text.strip().lower().startswith(("commit", "end", "prepare")):
+            self._ask()
+
+    def _has_run(self, cursor: Any) -> dict[str, set[str]]:
+        """Notes what a statement did. Answers which items of which tables its result has."""
+        seen = self._note(cursor) if cursor.description else {}
+        if self.get_transaction_status() == extensions.TRANSACTION_STATUS_IDLE:
+            self._keep(Outcome.ABORTED if cursor.statusmessage == "ROLLBACK" else Outcome.COMMITTED)
+        elif cursor.statusmessage in ("SAVEPOINT", "ROLLBACK", "COMMIT"):
+            self._note_savepoint(cursor.statusmessage, cursor.query.decode(errors="replace"))
+        return seen
+
+    def _note(self, cursor: Any) -> dict[str, set[str]]:
+        places = self.recorder.places(cursor.description) if self._is_recorded else []
+        seen: dict[str, set[str]] = {}
+        if not places or cursor.rowcount < 1:
+            return seen
+        word = cursor.statusmessage.split(" ")[0]
+        for row in cursor._rows():
+            for place in places:
+                if row[place.xmin] is None:
+                    continue  # (the other side of an outer join)
+                try:
+                    operation = _operation(place, row, word)
+                except RecordingError as error:
+                    self.recorder.fault(str(error))
+                    continue
+                seen.setdefault(place.table.name, set()).add(operation.item)
+                self._noted.append(Row(place.table, operation))
+        return seen
+
+    def _note_savepoint(self, word: str, query: str) -> None:
+        """A transaction goes on behind SAVEPOINT and ROLLBACK TO, which undoes deletions. (Other writes have versions,
+        of which the server is asked.)"""
+        name = query.lower().strip().rstrip(";").split()[-1]
+        places = [place for other, place in self._savepoints if other == name]
+        if word == "COMMIT" or name == "chain":
+            self.recorder.fault("a transaction that was ended AND CHAIN cannot be told from the next one")
+        elif word == "SAVEPOINT":
+            self._savepoints.append((name, len(self._noted)))
+        elif places:
+            self._noted[places[-1] :] = [noted for noted in self._noted[places[-1] :] if not deletes(noted)]
+        elif any(map(deletes, self._noted)):
+            self.recorder.fault(f"what was deleted before {query!r} cannot be told")
+
+    def _covers(self, table: str, seen: set[str], keys: Optional[Iterable[Any]]) -> None:
+        known = self.recorder.table(table)
+        asked = None
+        if keys is not None:
+            asked = frozenset(known.item(key if isinstance(key, tuple) else (key,)) for key in keys)
+        self._noted.append(Rest(known, frozenset(seen), asked))
+
+    # how a transaction ends
+
+    def _query(self, statement: str) -> tuple[Any, ...]:
+        with super().cursor(cursor_factory=extensions.cursor) as cursor:
+            cursor.execute(statement)
+            row: tuple[Any, ...] = cursor.fetchone()
+            return row
+
+    def _ask(self) -> None:
+        if self._noted and self.get_transaction_status() == extensions.TRANSACTION_STATUS_INTRANS:
+            self._asked = self._query(ABOUT_TO_END)
+
+    def _keep(self, outcome: Outcome) -> None:
+        """Hands over the transaction that has ended."""
+        noted, asked = tuple(self._noted), self._asked
+        self._noted, self._savepoints, self._asked = [], [], None
+        if not noted:
+            return
+        if asked is None and outcome is Outcome.COMMITTED:
+            # (a statement that was a transaction by itself)
+            asked = self._query(HAS_ENDED)
+            if self.get_transaction_status() != extensions.TRANSACTION_STATUS_IDLE:
+                super().rollback()
+        xid, level, began, ended = asked or (None, "", 0, 0)
+        self.recorder.keep(Ended(self.label, noted, int(xid) if xid else None, level, began, ended, outcome))
+
+    def commit(self) -> None:
+        self._ask()
+        try:
+            super().commit()
+        except BaseException:
+            # (an update is looked up at the end; a report that was not told that it has committed is none)
+            self._keep(Outcome.ABORTED)
+            raise
+        self._keep(Outcome.COMMITTED if self._asked else Outcome.ABORTED)
+
+    rollback = _ending("rollback")
+    close = _ending("close")
+    reset = _ending("reset")
+    set_isolation_level = _ending("set_isolation_level")
+    set_client_encoding = _ending("set_client_encoding")
+    tpc_prepare = _ending("tpc_prepare")
+    tpc_commit = _ending("tpc_commit")
+    tpc_rollback = _ending("tpc_rollback")
+
+
+def _operation(place: Place, row: Sequence[Any], word: str) -> Operation:
+    """The operation that a row of a result is."""
+    item = place.table.item([row[part] for part in place.key])
+    if word == "DELETE":
+        return Operation(Action.WRITE, item, None, None)
+    value = place.table.whole(item, row[place.value])
+    return Operation(Action.WRITE if word in ("UPDATE", "INSERT") else Action.READ, item, value, str(row[place.xmin]))
+
+
+def deletes(noted: Noted) -> bool:
+    return isinstance(noted, Row) and noted.operation.action is Action.WRITE and noted.operation.version is None

@@ -1,0 +1,164 @@
+"""What was found of a record, and the text that tells it."""
+
+from __future__ import annotations
+
+from dataclasses import dataclass
+from typing import Iterable, Iterator
+
+from . import placement, windows
+from .order import History, unrecorded_endings
+from .placement import PlacedReport
+from .program import Finding, OffRead
+from .record import Outcome, Record, Transaction
+from .script import Conversion, Script
+
+ENDINGS_TOLD = 3
+READS_TOLD = 3
+
+
+@dataclass(frozen=True)
+class AuditedReport:
+    """A report, the script that tells it, and what was found of it."""
+
+    placed: PlacedReport
+    script: Script
+    path: str
+    finding: Finding
+
+    @property
+    def name(self) -> str:
+        """Its name in the record."""
+        return self.placed.report.name
+
+    @property
+    def distance(self) -> int:
+        return self.finding.distance
+
+
+@dataclass(frozen=True)
+class ExplainedReport:
+    """A report that is off, its reads that are, and the path of its picture."""
+
+    report: AuditedReport
+    reads: list[OffRead]
+    picture: str
+
+
+@dataclass(frozen=True)
+class Result:
+    """What was found of a record: of all reports that could be told, and more of the worst of them."""
+
+    record: Record
+    history: History
+    conversion: Conversion
+    reports: list[AuditedReport]
+    worst: list[ExplainedReport]
+
+    @property
+    def distances(self) -> list[int]:
+        return [report.distance for report in self.reports]
+
+    @property
+    def off(self) -> int:
+        """How many reports are not exact."""
+        return sum(1 for distance in self.distances if distance)
+
+    def text(self) -> str:
+        """What is printed: lines that begin with what they are about, or with blanks where they go on."""
+        parts = (_record(self), _order(self), _conversion(self.conversion), _reports(self))
+        lines = [line for part in parts for line in part]
+        lines += [line for explained in self.worst for line in _worst(explained)]
+        return "\n".join(lines) + "\n"
+
+
+def line(subject: str, text: str) -> str:
+    return f"{subject:10} {text}"
+
+
+def _counted(count: int, noun: str) -> str:
+    return f"{count:,} {noun}" + ("" if count == 1 else "s")
+
+
+def _at_levels(transactions: Iterable[Transaction]) -> str:
+    levels = sorted({each.level for each in transactions if each.level})
+    return f" at {', '.join(levels)}" if levels else ""
+
+
+def _record(result: Result) -> Iterator[str]:
+    record, history = result.record, result.history
+    updates = _counted(len(history.updates), "update") + _at_levels(history.updates)
+    reports = _counted(len(history.reports), "report") + _at_levels(history.reports)
+    yield line("record", f"{updates}; {reports}; {_counted(len(record.items), 'item')}")
+    if record.system:
+        yield line("", f"of {record.system}")
+    aborted = sum(each.outcome is Outcome.ABORTED for each in record.transactions)
+    if aborted:
+        yield line("", f"{_counted(aborted, 'transaction')} that aborted: left out")
+    unknown = [each.name for each in record.transactions if each.outcome is Outcome.UNKNOWN]
+    if unknown:
+        yield line("", f"how they ended is unknown, left out: {', '.join(unknown)}")
+    others = unrecorded_endings(history)
+    if others:
+        more = f" and {len(others) - ENDINGS_TOLD:,} more" if len(others) > ENDINGS_TOLD else ""
+        told = ", ".join(others[:ENDINGS_TOLD]) + more
+        yield line("", f"written by somebody who was not recorded, after all that was read here: {told}")
+
+
+def _order(result: Result) -> Iterator[str]:
+    how = "is" if result.history.keeps_commit_order else "differs from"
+    yield line("order", f"the updates are serializable; the serial order {how} the order of the commits")
+
+
+def _conversion(conversion: Conversion) -> Iterator[str]:
+    if len(conversion.items) < conversion.all_items:
+        told = f"{len(conversion.items):,} of {conversion.all_items:,} items"
+        yield line("sample", f"{told}: distances are at least what is told")
+    if conversion.untold:
+        yield line("", f"{_counted(conversion.untold, 'report')} that read none of these: left out")
+    if conversion.sampled:
+        yield line(
+            "sample",
+            f"{placement.MOST_READS:,} reads of {_counted(len(conversion.sampled), 'report')} that read more",
+        )
+    if len(conversion.scripts) > 1:
+        limits = f"{windows.MOST_TRANSACTIONS:,} transactions and {windows.MOST_ENTRIES:,} entries"
+        yield line("windows", f"{len(conversion.scripts)}, since a script has at most {limits}")
+    for each in conversion.too_long:
+        yield line("", f"{each.report.name} is too long for a window: left out")
+    count = sum(len(script.lines) for script in conversion.scripts)
+    yield line("script", f"{count:,} lines, each accepted; each read gave the value that was recorded")
+
+
+def _units(record: Record) -> str:
+    scales = {item.scale for item in record.items.values()}
+    if scales == {0}:
+        return ""
+    if len(scales) == 1:
+        return f", in units of 1/{10 ** scales.pop():,}"
+    return ", in the units of the items"
+
+
+def _reports(result: Result) -> Iterator[str]:
+    count, distances = len(result.reports), result.distances
+    if not count:
+        yield line("reports", "none was recorded")
+        return
+    conversion = result.conversion
+    is_sample = len(conversion.items) < conversion.all_items or conversion.sampled
+    exact = "exact, as far as the sample goes" if is_sample else "exact: they read what some serial order shows"
+    yield line("reports", f"{count - result.off:,} {exact}; {result.off:,} off")
+    if result.off:
+        mean = sum(distances) / count
+        yield line("distance", f"worst {max(distances):,}, mean {mean:,.1f}{_units(result.record)}")
+
+
+def _worst(explained: ExplainedReport) -> Iterator[str]:
+    report = explained.report
+    yield line("worst", f"{report.name}: off by {report.distance:,}; {explained.picture}")
+    for read in explained.reads[:READS_TOLD]:
+        item = report.script.items.labels[read.item]
+        yield line(
+            "", f"read {read.value} of {item}, which is {read.nearest} at the nearest place: off by {read.off}"
+        )
+    if len(explained.reads) > READS_TOLD:
+        yield line("", f"and {_counted(len(explained.reads) - READS_TOLD, 'more read')}")

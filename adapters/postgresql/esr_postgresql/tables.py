@@ -1,0 +1,140 @@
+"""Tables whose rows are items, and where their rows are in the result of a statement.
+
+The idea: of each column of a result the server tells from which column of which table it comes. So the key, the value
+and the version of a row are found by that, whatever the statement looks like and whatever else it asks for.
+
+Rejected: to read the statement. It would take a parser of SQL, and views, joins and functions would still hide tables.
+"""
+
+from __future__ import annotations
+
+from dataclasses import dataclass
+from decimal import Decimal
+from typing import Any, NamedTuple, Sequence
+
+from .record import LARGEST_VALUE
+
+XID_TYPE = 28  # the number of the type xid
+EXACT = ("smallint", "integer", "bigint", "numeric")
+
+
+class RecordingError(Exception):
+    """A recording that cannot be made. The message says what to do."""
+
+
+@dataclass(frozen=True)
+class Table:
+    """A table whose rows are items: by the columns `key`, with the values of the column `value`, of which `scale`
+    decimal digits behind the point are kept. A difference of one unit counts `weight`."""
+
+    name: str
+    key: tuple[str, ...]
+    value: str
+    scale: int = 0
+    weight: int = 1
+
+    @staticmethod
+    def parse(text: str) -> Table:
+        """Reads NAME:KEY:VALUE or NAME:KEY:VALUE:SCALE; several columns of a key are separated by commas."""
+        parts = text.split(":")
+        if len(parts) not in (3, 4) or not all(parts) or (len(parts) == 4 and not parts[3].isdigit()):
+            raise RecordingError(
+                f"{text!r} is not TABLE:KEY:VALUE or TABLE:KEY:VALUE:SCALE, as in accounts:id:balance:2"
+            )
+        return Table(parts[0], tuple(parts[1].split(",")), parts[2], int(parts[3]) if len(parts) == 4 else 0)
+
+    def item(self, key: Sequence[Any]) -> str:
+        """The item of a row."""
+        return f"{self.name}/{','.join(str(part) for part in key)}"
+
+    def whole(self, item: str, value: Any) -> int:
+        """A value as a whole number of units of the scale."""
+        if value is None:
+            raise RecordingError(f"{item}: {self.value} is null; a recorded column has a value in every row")
+        if isinstance(value, bool) or not isinstance(value, (int, Decimal)) or not Decimal(value).is_finite():
+            raise RecordingError(f"{item}: {self.value} is {value!r}, and not a number")
+        scaled = Decimal(value).scaleb(self.scale)
+        if scaled != scaled.to_integral_value():
+            raise RecordingError(
+                f"{item}: {self.value} is {value}: more than {self.scale} digits behind the point; give a larger scale"
+            )
+        if abs(scaled) > LARGEST_VALUE:
+            raise RecordingError(
+                f"{item}: {self.value} is {value}: beyond {LARGEST_VALUE} units of its scale; give a smaller one"
+            )
+        return int(scaled)
+
+
+class Place(NamedTuple):
+    """Where the columns of a table's row are in a result."""
+
+    table: Table
+    key: tuple[int, ...]
+    value: int
+    xmin: int
+
+
+class KnownTable:
+    """A table of the server, by its number there, and the numbers of its columns."""
+
+    def __init__(self, table: Table, oid: int, columns: dict[str, int]) -> None:
+        self.table, self.oid = table, oid
+        self.key = [columns[name] for name in table.key]
+        self.value = columns[table.value]
+
+    def places(self, description: Sequence[Any]) -> tuple[list[Place], bool]:
+        """The rows of the table that a result has, one for each time that the table is in it; and whether it has
+        values of the table beyond these, without what tells their versions."""
+        mine = [(place, column) for place, column in enumerate(description) if column.table_oid == self.oid]
+
+        def numbered(number: int) -> list[int]:
+            return [place for place, column in mine if column.table_column == number]
+
+        # (psycopg2 tells no number of a system column)
+        xmins = [place for place, column in mine if column.name == "xmin" and column.type_code == XID_TYPE]
+        values = numbered(self.value)
+        rows = zip(zip(*map(numbered, self.key)), values, xmins)
+        found = [Place(self.table, key, value, xmin) for key, value, xmin in rows]
+        return found, len(values) > len(found)
+
+
+# ---- what the server has
+
+
+def _quoted(name: str) -> str:
+    return '"' + name.replace('"', '""') + '"'
+
+
+def known_table(cursor: Any, table: Table) -> KnownTable:
+    """A table as the server has it."""
+    cursor.execute("select oid, relkind from pg_class where oid = to_regclass(%s)", (table.name,))
+    row = cursor.fetchone()
+    if row is None:
+        raise RecordingError(f"there is no table {table.name}")
+    if row[1] not in ("r", "p"):
+        raise RecordingError(f"{table.name} is not a table: name the table that it shows")
+    cursor.execute(
+        "select attname, attnum, atttypid::regtype::text from pg_attribute"
+        " where attrelid = %s and attnum > 0 and not attisdropped",
+        (row[0],),
+    )
+    columns = {name: (number, kind) for name, number, kind in cursor.fetchall()}
+    for name in (*table.key, table.value):
+        if name not in columns:
+            raise RecordingError(f"the table {table.name} has no column {name}")
+    kind = columns[table.value][1]
+    if kind not in EXACT:
+        raise RecordingError(f"{table.name}.{table.value} is {kind}: recorded values are {', '.join(EXACT)}")
+    return KnownTable(table, row[0], {name: number for name, (number, _) in columns.items()})
+
+
+def rows_of(cursor: Any, tables: Sequence[Table]) -> dict[str, tuple[Table, int, str]]:
+    """All rows of the tables: of each item its table, its value and its version."""
+    found = {}
+    for table in tables:
+        columns = ", ".join(_quoted(name) for name in (*table.key, table.value))
+        cursor.execute(f"select {columns}, xmin from {table.name}")
+        for *key, value, xmin in cursor:
+            item = table.item(key)
+            found[item] = (table, table.whole(item, value), str(xmin))
+    return found

@@ -1,0 +1,108 @@
+"""What of a history is told by which script, within the limits of the program.
+
+- *Windows.* What is too long for one script is cut into several. A report is told in the first window that has the
+  whole of it, from the slot where it begins to the one where it commits.
+- *Samples.* Of more than 4,096 items a sample is told, those that reports read first. (Of more than 1,000 reads of a
+  report a sample is taken where it is placed.) A distance over a sample is at most the whole one.
+
+The invariant: the script of a window has at most as many items, transactions and entries as the program takes.
+
+Rejected: to cut by time. How many updates a piece of time has is not known, and a report across the cut would be lost.
+"""
+
+from __future__ import annotations
+
+from dataclasses import dataclass, replace
+from itertools import accumulate
+
+from .order import History
+from .placement import PlacedReport, spread
+
+MOST_ITEMS = 4_096
+MOST_TRANSACTIONS = 65_535
+MOST_ENTRIES = 1_000_000
+
+
+@dataclass(frozen=True)
+class Window:
+    """The updates of the serial order from slot `first` to slot `last`, and reports that are told among them."""
+
+    first: int
+    last: int
+    reports: tuple[PlacedReport, ...]
+
+
+def items_used(history: History) -> list[str]:
+    """The items that a transaction read or wrote, in their order in the record."""
+    used = {operation.item for each in history.updates + history.reports for operation in each.operations}
+    return [item for item in history.record.items if item in used]
+
+
+def sample_of_items(items: list[str], reports: list[PlacedReport]) -> list[str]:
+    """As many of some items as a script can have: all, or those that reports read and then others."""
+    if len(items) <= MOST_ITEMS:
+        return items
+    wanted = {read.item for report in reports for read in report.reads}
+    first = [item for item in items if item in wanted]
+    kept = {first[place] for place in spread(len(first), MOST_ITEMS)}
+    others = [item for item in items if item not in wanted]
+    kept.update(others[place] for place in spread(len(others), MOST_ITEMS - len(kept)))
+    return [item for item in items if item in kept]
+
+
+def restricted(reports: list[PlacedReport], items: set[str]) -> list[PlacedReport]:
+    """The reports with their reads of some items alone, those that have any."""
+    kept = [replace(each, reads=tuple(read for read in each.reads if read.item in items)) for each in reports]
+    return [each for each in kept if each.reads]
+
+
+class _Sizes:
+    """How many updates a script has that tells a piece of the serial order, and how many entries they make."""
+
+    def __init__(self, history: History, items: set[str]) -> None:
+        told = [
+            sum(operation.item in items for operation in history.updates[update].operations)
+            for update in history.serial
+        ]
+        self.updates = list(accumulate((1 if count else 0 for count in told), initial=0))
+        self.entries = list(accumulate((count + 2 if count else 0 for count in told), initial=0))
+
+    def fits(self, first: int, last: int, reports: int, entries: int) -> bool:
+        transactions = self.updates[last] - self.updates[first] + reports
+        return (
+            transactions <= MOST_TRANSACTIONS and self.entries[last] - self.entries[first] + entries <= MOST_ENTRIES
+        )
+
+
+def _window(first: int, reports: list[PlacedReport], sizes: _Sizes) -> Window:
+    """A window from a slot with as many reports as a script can have. It ends where the last of them commits; it has
+    none where the first report is too long by itself."""
+    chosen: list[PlacedReport] = []
+    entries = 0
+    for report in sorted(reports, key=lambda report: report.commit):
+        if sizes.fits(first, report.commit, len(chosen) + 1, entries + report.entries):
+            chosen.append(report)
+            entries += report.entries
+    last = max((report.commit for report in chosen), default=first)
+    return Window(first, last, tuple(sorted(chosen, key=lambda report: (report.begin, report.commit))))
+
+
+def windows_of(
+    history: History, reports: list[PlacedReport], items: set[str]
+) -> tuple[list[Window], list[PlacedReport]]:
+    """The windows that tell all reports, and the reports that are too long for any. One window of all where it will
+    do."""
+    sizes, count = _Sizes(history, items), len(history.updates)
+    if sizes.fits(0, count, len(reports), sum(report.entries for report in reports)):
+        return [Window(0, count, tuple(reports))], []
+    windows, too_long, rest = [], [], reports
+    while rest:
+        window = _window(rest[0].begin, rest, sizes)
+        if not window.reports:
+            too_long.append(rest[0])
+            rest = rest[1:]
+            continue
+        windows.append(window)
+        told = {report.report.name for report in window.reports}
+        rest = [report for report in rest if report.report.name not in told]
+    return windows, too_long
