@@ -293,6 +293,3 @@ pub extern "C" fn esr_close(alloc: Global, engine: &mut EsrEngine)
         end(machine);
     }
 }
-
-#[cfg(test)]
-mod tests;

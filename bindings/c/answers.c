@@ -1,0 +1,118 @@
+/* The bank of the README, call by call: what each call answers, tells and leaves alone. */
+#include "esr.h"
+#include <stdio.h>
+#include <string.h>
+
+static int wrong;
+#define WANT(call, wanted) \
+    do { \
+        long long got_ = (long long)(call); \
+        if (got_ != (long long)(wanted)) { \
+            fprintf(stderr, "line %d: %s is %lld\n", __LINE__, #call, got_); \
+            wrong = 1; \
+        } \
+    } while (0)
+
+static void begun(esr_status status, const esr_reply *reply, uint32_t txn) {
+    WANT(status, ESR_DONE);
+    WANT(reply->kind, ESR_BEGUN);
+    WANT(reply->txn, txn);
+}
+
+static void value(esr_status status, const esr_reply *reply, int64_t wanted) {
+    WANT(status, ESR_DONE);
+    WANT(reply->kind, ESR_VALUE);
+    WANT(reply->value, wanted);
+}
+
+static void answered(esr_status status, const esr_reply *reply, uint32_t kind) {
+    WANT(status, ESR_DONE);
+    WANT(reply->kind, kind);
+}
+
+/* A report reads between the two writes of a transfer, each 100 away from what it read. */
+static void day(esr_engine *engine) {
+    static const int64_t opening[2] = {500, 1500};
+    esr_reply reply;
+    WANT(esr_open(engine, opening, 2), ESR_DONE);
+    WANT(esr_open(engine, opening, 2), ESR_IS_OPEN);
+    begun(esr_begin_update(engine, 200, &reply), &reply, 1);
+    begun(esr_begin_query(engine, 200, false, &reply), &reply, 2);
+    answered(esr_write(engine, 1, 0, 400, &reply), &reply, ESR_WROTE);
+    value(esr_read(engine, 2, 0, &reply), &reply, 400);
+    value(esr_read(engine, 2, 1, &reply), &reply, 1500);
+    answered(esr_write(engine, 1, 1, 1600, &reply), &reply, ESR_WROTE);
+    answered(esr_commit(engine, 1, &reply), &reply, ESR_COMMITTED);
+    WANT(esr_renew(engine), ESR_TRANSACTION_ACTIVE);
+    answered(esr_commit(engine, 2, &reply), &reply, ESR_COMMITTED);
+}
+
+/* The report is 100 from the state before the transfer, and was charged 200. */
+static void audit(esr_engine *engine) {
+    uint32_t before[2] = {7, 7};
+    esr_finding finding = {0, 0, 9};
+    esr_totals totals = {9, 9, 9};
+    WANT(esr_audit(engine, 2, before, 2, &finding), ESR_DONE);
+    WANT(finding.distance, 100);
+    WANT(finding.import, 200);
+    WANT(finding.count, 0);
+    WANT(before[0], 7);
+    WANT(esr_audit(engine, 1, before, 2, &finding), ESR_NOT_A_COMMITTED_QUERY);
+    WANT(esr_totals_of(engine, &totals), ESR_DONE);
+    WANT(totals.high, 0);
+    WANT(totals.low, 200);
+    WANT(totals.entries, 8);
+}
+
+/* The bundle is told its length where the room is too small, and written where it is just large enough. */
+static void bundle(esr_engine *engine) {
+    static uint8_t bytes[1000];
+    size_t length = 0, again = 0;
+    WANT(esr_bundle(engine, 2, bytes, 1, &length), ESR_TOO_SMALL);
+    WANT(bytes[0], 0);
+    WANT(length > 100 && length < sizeof bytes, 1);
+    WANT(esr_bundle(engine, 2, bytes, length - 1, &again), ESR_TOO_SMALL);
+    WANT(esr_bundle(engine, 2, bytes, length, &again), ESR_DONE);
+    WANT(again, length);
+    WANT(bytes[0], '{');
+    WANT(bytes[length - 1], '}');
+    WANT(bytes[length], 0);
+    WANT(esr_bundle(engine, 1, bytes, length, &again), ESR_NOT_A_COMMITTED_QUERY);
+}
+
+/* A renewal keeps the committed values, and nothing else: numbers begin at 1 again, and an abort puts back. */
+static void renewed(esr_engine *engine) {
+    int64_t values[2] = {0, 0};
+    size_t count = 0;
+    esr_totals totals = {1, 1, 1};
+    esr_reply reply;
+    WANT(esr_renew(engine), ESR_DONE);
+    WANT(esr_values(engine, values, 2, &count), ESR_DONE);
+    WANT(count, 2);
+    WANT(values[0], 400);
+    WANT(values[1], 1600);
+    WANT(esr_totals_of(engine, &totals), ESR_DONE);
+    WANT(totals.high, 0);
+    WANT(totals.low, 0);
+    WANT(totals.entries, 0);
+    begun(esr_begin_update(engine, 0, &reply), &reply, 1);
+    answered(esr_write(engine, 1, 0, 1, &reply), &reply, ESR_WROTE);
+    value(esr_read(engine, 1, 0, &reply), &reply, 1);
+    answered(esr_abort(engine, 1, &reply), &reply, ESR_ABORTED);
+    WANT(esr_values(engine, values, 2, &count), ESR_DONE);
+    WANT(values[0], 400);
+}
+
+int main(void) {
+    esr_engine engine = ESR_CLOSED;
+    esr_reply reply;
+    day(&engine);
+    audit(&engine);
+    bundle(&engine);
+    renewed(&engine);
+    esr_close(&engine);
+    memset(&reply, 0, sizeof reply);
+    WANT(esr_abort(&engine, 1, &reply), ESR_IS_CLOSED);
+    WANT(reply.kind, 0);
+    return wrong;
+}
