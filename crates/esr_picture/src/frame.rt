@@ -212,7 +212,7 @@ impl Frame {
     pub fn boxes(&self) -> u32
         ensures { result ≤ 70000 }
     {
-        u32::from(self.arches) + 54 + 20 * u32::from(self.sentences)
+        u32::from(self.arches) + 54 + 20 * u32::from(self.sentences.min(9))
     }
 
     /// The upper edge of the lanes.

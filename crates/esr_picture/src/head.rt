@@ -171,9 +171,11 @@ pub fn push_heading(out: &mut String, scene: &Scene<'_>) -> Result<(), AllocErro
     out.push_str(", import ")?;
     push_number(out, scene.import)?;
     out.push_str("</text>\n")?;
-    for (number, sentence) in (0u32..9).zip(scene.sentences.iter()) {
-        push_text(out, "q", 20, 50 + 20 * number, sentence)?;
+    let mut y = 50u32;
+    for sentence in scene.sentences.iter().take(9) {
+        push_text(out, "q", 20, y, sentence)?;
         out.push_str("\n")?;
+        y = y.saturating_add(20);
     }
     Ok(())
 }

@@ -77,6 +77,12 @@ impl ItemState {
     }
 }
 
+/// The distance of two values of an item. A metric asks for values in range, which those of a history are, but no type
+/// here says so; its weight is the distance of 0 and 1.
+fn gap(metric: &Weighted, item: ItemId, a: i64, b: i64) -> u64 {
+    metric.distance(item, 0, 1).saturating_mul(a.abs_diff(b))
+}
+
 /// How a transaction ended.
 fn end_in(ends: &[End], txn: TxnId) -> End {
     ends.get(txn.0 as usize).copied().unwrap_or(End::Later)
@@ -174,7 +180,7 @@ impl Story {
         state.reads = state.reads.saturating_add(1);
         let now = *state;
         if let Some(writer) = now.writer {
-            self.charge(writer, metric.distance(item, now.current, now.committed));
+            self.charge(writer, gap(metric, item, now.current, now.committed));
         }
         self.see(item, value, now.writer.or(now.keeper))
     }
@@ -189,7 +195,7 @@ impl Story {
         state.writer = Some(update);
         state.current = value;
         if before.reads > 0 && !self.has_ended {
-            let each = metric.distance(item, value, before.current);
+            let each = gap(metric, item, value, before.current);
             self.charge(update, each.saturating_mul(before.reads));
         }
         if before.reads > 0 {
@@ -238,9 +244,9 @@ impl Story {
     /// What updates were charged to the query, most first.
     pub fn charges(&self, alloc: Global) -> Result<Vec<Charged>, AllocError> {
         let mut ranks = Vec::new(alloc);
-        for (number, amount) in self.charged.iter().enumerate() {
+        for (number, amount) in (0u32..65_536).zip(self.charged.iter()) {
             if *amount > 0 {
-                ranks.push((u64::MAX - *amount, number as u32))?;
+                ranks.push((u64::MAX.saturating_sub(*amount), number))?;
             }
         }
         ranks.sort_unstable();
@@ -248,7 +254,7 @@ impl Story {
         for (rank, number) in &ranks {
             charges.push(Charged {
                 update: TxnId(*number),
-                amount: u64::MAX - *rank,
+                amount: u64::MAX.saturating_sub(*rank),
             })?;
         }
         Ok(charges)
