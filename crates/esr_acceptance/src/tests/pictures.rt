@@ -37,7 +37,7 @@ static BANK_DRAWN: [&str; 20] = [
     "<path class='v' d='M140 268H348'/><text class='m o' x='146' y='255'>1,500</text>\n",
     "<path class='t' d='M352 259V277'/><path class='u' d='M356 268H456'/><text class='m o' x='362' y='255'>1,600</text>\n",
     "<path class='w' marker-end='url(#report-tip)' d='M136 348H460'/><text class='q' x='20' y='352'>serial order</text>",
-    "<text class='q' x='136' y='366'>before all updates</text>\n",
+    "<text class='q' x='136' y='366'>before all updates</text><text class='q' x='460' y='366' text-anchor='end'>after all of them</text>\n",
     "<path class='l' d='M244 108V316'/>\n",
     "<text class='m n' x='244' y='332' text-anchor='middle'>report</text>\n",
     "<text class='m g o' x='254' y='216'>as read</text>\n",
