@@ -1,10 +1,28 @@
-//! Draws the audit of a committed query as an SVG.
+//! Draws the audit of a committed query as an SVG: a lane for each item that it read, cut into the versions of the
+//! item; the updates above, with arrows for the order that every placement keeps; and the nearest placement as a line
+//! across the lanes.
 //!
 //! It is a subcommand, written by a proved crate, since a tool beside the program would have to run scripts itself: a
 //! bundle has no values. It draws lanes, and not the network with its cut and flow, which tells nothing to whoever does
-//! not know it: a lane is a chain and a line is a cut, so the picture shows what the audit decides.
+//! not know it: a lane is a chain and a line is a cut, so the picture shows what the audit decides. What it shows is
+//! promised by no clause; `checks/pictures` compares it with a replay of the script.
 #![tactic(auto)]
 
+mod boxes;
+mod choice;
 mod drawing;
+mod elements;
+mod frame;
+mod head;
+mod keys;
+mod lanes;
+mod order;
+mod scene;
+mod sentences;
+mod sights;
+mod story;
+mod svg;
+mod weighing;
+mod written;
 
 pub use drawing::Drawing;

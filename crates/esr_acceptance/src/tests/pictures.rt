@@ -21,21 +21,27 @@ const BANK: &str = "item checking 500\n\
         commit report\n";
 
 /// What is drawn of it, without the first line, the style and the legend.
-static BANK_DRAWN: [&str; 14] = [
+static BANK_DRAWN: [&str; 20] = [
     "<title id='report-title'>Audit of report</title>\n",
-    "<desc id='report-desc'>Distance 100, import 100. In order: [report], transfer. checking: read 500, as at its place. savings: read 1600, off by 100 from its place.</desc>\n",
+    "<desc id='report-desc'>Distance 100, import 100. In order: [report], transfer. checking: read 500, as at its place. savings: read 1,600, off by 100 from its place.</desc>\n",
     "<text class='h' x='20' y='28'>report: distance 100, import 100</text>\n",
-    "<path class='d' d='M384 102V228'/>\n",
-    "<rect class='a' x='342' y='74' width='84' height='28' rx='6'/><text class='m' x='384' y='93' text-anchor='middle'>transfer</text>\n",
-    "<text class='m n' x='20' y='146'>checking</text><text class='m g' x='20' y='164'>read 500</text>",
-    "<path class='u' d='M132 152H380'/><text class='m o' x='138' y='140'>500</text>\n",
-    "<path class='t' d='M384 143V161'/><path class='v' d='M388 152H508'/><text class='m o' x='394' y='140'>400</text>\n",
-    "<text class='m n' x='20' y='222'>savings</text><text class='m g' x='20' y='240'>read 1600</text>",
-    "<path class='v' d='M132 228H380'/><text class='m o' x='138' y='216'>1500</text>\n",
-    "<path class='t' d='M384 219V237'/><path class='u' d='M388 228H508'/><text class='m o' x='394' y='216'>1600</text>\n",
-    "<path class='l' d='M256 68V276'/>\n",
-    "<text class='m g o' x='266' y='176'>as read</text>\n",
-    "<circle class='c' cx='256' cy='228' r='5'/><text class='m r o' x='266' y='252'>off by 100</text>\n",
+    "<text class='q' x='20' y='50'>What report read was never true at one moment.</text>\n",
+    "<text class='q' x='20' y='70'>The nearest moment, before all updates, differs by 100.</text>\n",
+    "<text class='q' x='20' y='90'>Charged 100 of 200: transfer 100.</text>\n",
+    "<path class='d' d='M352 142V268'/>\n",
+    "<rect class='a' x='310' y='114' width='84' height='28' rx='6'/><text class='m' x='352' y='133' text-anchor='middle'>transfer</text>\n",
+    "<text class='m n' x='20' y='186'>checking</text><text class='m g' x='20' y='204'>read 500</text>",
+    "<path class='u' d='M140 192H348'/><text class='m o' x='146' y='179'>500</text>\n",
+    "<path class='t' d='M352 183V201'/><path class='v' d='M356 192H456'/><text class='m o' x='362' y='179'>400</text>\n",
+    "<text class='m n' x='20' y='262'>savings</text><text class='m g' x='20' y='280'>read 1,600</text>",
+    "<path class='v' d='M140 268H348'/><text class='m o' x='146' y='255'>1,500</text>\n",
+    "<path class='t' d='M352 259V277'/><path class='u' d='M356 268H456'/><text class='m o' x='362' y='255'>1,600</text>\n",
+    "<path class='w' marker-end='url(#report-tip)' d='M136 348H460'/><text class='q' x='20' y='352'>serial order</text>",
+    "<text class='q' x='136' y='366'>before all updates</text><text class='q' x='460' y='366' text-anchor='end'>after all of them</text>\n",
+    "<path class='l' d='M244 108V316'/>\n",
+    "<text class='m n' x='244' y='332' text-anchor='middle'>report</text>\n",
+    "<text class='m g o' x='254' y='216'>as read</text>\n",
+    "<circle class='c' cx='244' cy='268' r='5'/><text class='m r o' x='254' y='292'>off by 100</text>\n",
 ];
 
 /// An update, and a report that reads nothing.
@@ -73,16 +79,49 @@ fn a_report_of_the_bank_is_drawn(rt: HostRuntime) {
 #[test]
 fn little_is_drawn(rt: HostRuntime) {
     let texts = [
-        "It read nothing.</text>",
-        "1 more update is not drawn.</text>",
+        "q read nothing.</text>",
+        "Not drawn: 1 more update.</text>",
     ];
     has(&rt, rt.alloc(), NOTHING_READ, "q", &texts);
     let texts = [
         "q: distance 6, import 6</text>",
-        "read 7</text><text class='m g' x='20' y='180'>and 9</text>",
-        ">off by 6</text>",
+        ">each x 3</text>",
+        "read 7</text><text class='m g' x='20' y='220'>and 9</text>",
+        ">off by 2 x 3 = 6</text>",
     ];
     has(&rt, rt.alloc(), TWICE, "q", &texts);
+}
+
+/// A value that was read and given up, one that was read twice, and one that its writer wrote over.
+#[test]
+fn values_that_did_not_stay_are_told(rt: HostRuntime) {
+    let texts = [
+        ">read 9 of u, which aborted</text>",
+        ">read 6 of v, which wrote over it</text>",
+        ">3 x 2</text>",
+    ];
+    has(
+        &rt,
+        rt.alloc(),
+        "item a 5\n\
+            item b 3\n\
+            item c 5\n\
+            begin q query 99\n\
+            begin u update 99\n\
+            write u a 9\n\
+            read q a\n\
+            abort u\n\
+            begin v update 99\n\
+            write v c 6\n\
+            read q c\n\
+            write v c 7\n\
+            commit v\n\
+            read q b\n\
+            read q b\n\
+            commit q\n",
+        "q",
+        &texts,
+    );
 }
 
 /// A report beside so many updates of one item, which reads it after the first one, and then another that is not
@@ -113,13 +152,20 @@ fn count(alloc: Global, script: &str, text: &str) -> usize {
     written.matches(text).count()
 }
 
+/// Of few updates all are drawn, of more those that bound what is seen of the lanes: here three, with the lane that is as
+/// read and keeps the line from the end, where the other one would be exact.
 #[test]
-fn thirty_updates_are_drawn_and_of_more_those_that_are_off(rt: HostRuntime) {
-    let not_drawn = " more updates and 2 more items are not drawn, 0 of these items off.";
-    let of_thirty = [("height='28'", 30), ("class='m n'", 3), ("not drawn", 0)];
-    let of_more = [("class='m n'", 1), ("as read", 0), (not_drawn, 1)];
-    has_so_often(&rt, rt.alloc(), 30, &of_thirty);
-    has_so_often(&rt, rt.alloc(), 31, &of_more);
+fn of_many_updates_those_are_drawn_that_bound_what_is_seen(rt: HostRuntime) {
+    let lanes = ("class='m n' x='20'", 3);
+    has_so_often(&rt, rt.alloc(), 8, &[("height='28'", 8), lanes, ("Not drawn", 0)]);
+    let of_many = [
+        ("height='28'", 3),
+        lanes,
+        ("Not drawn: 27 more updates.", 1),
+        (">off by 28<", 1),
+        ("keep the line", 0),
+    ];
+    has_so_often(&rt, rt.alloc(), 30, &of_many);
 }
 
 /// Draws the query beside so many updates, and counts texts in what is written.

@@ -5,10 +5,10 @@
 
 use crate::boxes::push_updates;
 use crate::frame::Frame;
-use crate::head::push_head;
-use crate::lanes::push_audit;
-use crate::scene::{Scene, scene_of};
-use crate::words::{push_heading, push_legend, push_others};
+use crate::head::{push_head, push_heading};
+use crate::keys::push_keys;
+use crate::lanes::{push_audit, push_others};
+use crate::scene::{Scene, scene_of, story_in};
 use esr_telling::Asked;
 use std::alloc::{AllocError, Global};
 
@@ -19,13 +19,14 @@ fn push_body(out: &mut String, scene: &Scene<'_>) -> Result<(), AllocError> {
     push_heading(out, scene)?;
     push_updates(out, scene, &frame)?;
     push_audit(out, scene, &frame)?;
-    push_others(out, scene, frame.floor() + 46)?;
-    push_legend(out, scene.query, frame.floor() + 72)
+    push_others(out, scene, frame.floor() + 70)?;
+    push_keys(out, scene, frame.floor() + 98)
 }
 
 /// The text of the picture of what a script tells of one of its queries, without the ends of its element.
 pub fn body_of(alloc: Global, asked: &Asked) -> Result<String, AllocError> {
-    let scene = scene_of(alloc, asked)?;
+    let story = story_in(alloc, asked)?;
+    let scene = scene_of(alloc, asked, &story)?;
     let mut body = String::new(alloc);
     push_body(&mut body, &scene)?;
     Ok(body)

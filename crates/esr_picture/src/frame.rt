@@ -4,18 +4,17 @@
 ghost use Rattle.std.specs.Prelude.{◌≤◌};
 
 use crate::choice::{MOST_LANES, MOST_UPDATES};
+use crate::elements::{letters_of, number_letters};
+use crate::keys::keys_width;
 use crate::scene::{Lane, Scene};
 
-/// `off by` and 19 digits, with room on both sides.
-const WORDS_AT_THE_LINE: u32 = 240;
+/// No picture is wider, as long as what it has to show can be folded.
+const WIDEST: u32 = 1100;
 
-/// The count of bytes of a number's decimals.
-fn decimals(value: i64) -> usize
-    ensures { result ≤ 20 }
-{
-    let mut digits = itoa::Buffer::new();
-    digits.format(value).len().min(20)
-}
+/// From lane to lane, and where a lane tells of a value that did not stay.
+const LANE: u32 = 76;
+
+const LANE_WITH_STRAYS: u32 = 100;
 
 /// The width of words in letters of one width: at most 40 of them, and 8 pixels for each.
 ///
@@ -40,22 +39,46 @@ pub struct Frame {
     /// The slot at which lanes end.
     last: u8,
     lanes: u8,
+    /// From lane to lane.
+    lane: u32,
+    /// The lines of words above, and how wide they are with the legend.
+    sentences: u8,
+    words: u32,
+    /// The width of the words at the line.
+    off_width: u16,
 }
 
 /// The width of what is written before a lane.
 fn label_width(lane: &Lane<'_>) -> u16
     ensures { result ≤ 320 }
 {
-    let widest = lane.read.values.iter().map(|v| decimals(*v)).max();
-    width_of(lane.name.len().max(widest.unwrap_or(0).min(20) + 5).max(11))
+    let widest = lane.read.values.iter().map(|v| letters_of(*v)).max();
+    let read = widest.unwrap_or(0).min(30) + 5;
+    width_of(lane.name.len().max(read).max(12))
+}
+
+/// The letters of a piece of a lane: its value, and how often it was read.
+fn piece_letters(value: i64, reads: u64) -> usize
+    ensures { result ≤ 40 }
+{
+    let times = if reads > 1 {
+        number_letters(reads).min(7) + 3
+    } else {
+        0
+    };
+    letters_of(value) + times
 }
 
 /// The width of the widest value of a lane.
 fn value_width(lane: &Lane<'_>) -> u16
     ensures { result ≤ 320 }
 {
-    let widest = lane.stretches.iter().map(|s| decimals(s.value)).max();
-    width_of(widest.unwrap_or(0).max(13))
+    let widest = lane
+        .stretches
+        .iter()
+        .map(|s| piece_letters(s.value, s.reads))
+        .max();
+    width_of(widest.unwrap_or(0).max(9))
 }
 
 /// How high an arrow arches over the boxes between its ends.
@@ -110,18 +133,65 @@ fn values_width(scene: &Scene<'_>) -> u16
     widest.unwrap_or(0).min(320)
 }
 
+/// The width of what a lane says at the line.
+fn off_width(lane: &Lane<'_>) -> u16
+    ensures { result ≤ 640 }
+{
+    let sum = number_letters(lane.off);
+    let factors = if lane.weight > 1 { sum + 11 } else { 0 };
+    (7 + sum + factors).min(80) as u16 * 8
+}
+
+/// The width of what lanes say at the line.
+fn off_widths(scene: &Scene<'_>) -> u16
+    ensures { result ≤ 640 }
+{
+    let widest = scene.lanes.iter().map(off_width).max();
+    widest.unwrap_or(0).min(640)
+}
+
+/// The width of what lanes tell of values that did not stay.
+fn strays_width(scene: &Scene<'_>) -> u32
+    ensures { result ≤ 1000 }
+{
+    let has_strays = scene.lanes.iter().any(|lane| lane.strays.first.is_some());
+    if has_strays { 760 } else { 0 }
+}
+
+/// The width of the longest sentence above the lanes.
+fn sentences_width(scene: &Scene<'_>) -> u32
+    ensures { result ≤ 4000 }
+{
+    let longest = scene.sentences.iter().map(|line| line.len().min(400)).max();
+    longest.unwrap_or(0).min(400) as u32 * 8
+}
+
 impl Frame {
     /// The sizes of a scene.
     pub fn of(scene: &Scene<'_>) -> Frame {
         let box_width = box_width(scene);
+        let has_strays = scene.lanes.iter().any(|lane| lane.strays.first.is_some());
         Frame {
             left: labels_width(scene) + 40,
-            pitch: (box_width + 32).max(values_width(scene) + 24),
+            pitch: (box_width + 24).max(values_width(scene) + 16),
             box_width,
             arches: arches(scene),
             last: (scene.updates.len().min(MOST_UPDATES) as u8) + 2,
             lanes: scene.lanes.len().min(MOST_LANES) as u8,
+            lane: if has_strays { LANE_WITH_STRAYS } else { LANE },
+            sentences: scene.sentences.len().min(9) as u8,
+            words: sentences_width(scene)
+                .max(keys_width(scene))
+                .max(strays_width(scene)),
+            off_width: off_widths(scene),
         }
+    }
+
+    /// How many updates fit between the names of the items and the right edge.
+    pub fn fitting_updates(&self) -> usize {
+        let room = (WIDEST - 20).saturating_sub(u32::from(self.left));
+        let slots = room.checked_div(u32::from(self.pitch)).unwrap_or(0);
+        slots.saturating_sub(2).max(2) as usize
     }
 
     /// The middle of a slot.
@@ -142,7 +212,7 @@ impl Frame {
     pub fn boxes(&self) -> u32
         ensures { result ≤ 70000 }
     {
-        u32::from(self.arches) + 74
+        u32::from(self.arches) + 54 + 20 * u32::from(self.sentences.min(9))
     }
 
     /// The upper edge of the lanes.
@@ -152,11 +222,18 @@ impl Frame {
         self.boxes() + 42
     }
 
+    /// Where a lane tells of a value that did not stay.
+    pub fn strays(&self, lane: u8) -> u32
+        ensures { result ≤ 110100 }
+    {
+        self.y(lane) + 44
+    }
+
     /// The middle of a lane.
     pub fn y(&self, lane: u8) -> u32
         ensures { result ≤ 110000 }
     {
-        self.lanes() + 36 + 76 * u32::from(lane)
+        self.lanes() + 36 + self.lane.min(LANE_WITH_STRAYS) * u32::from(lane)
     }
 
     /// The lower edge of the lanes.
@@ -164,7 +241,12 @@ impl Frame {
         ensures { result ≤ 110000 }
     {
         let lanes = u32::from(self.lanes);
-        self.lanes() + 8 + 76 * lanes
+        self.lanes() + 8 + self.lane.min(LANE_WITH_STRAYS) * lanes
+    }
+
+    /// Whether the words at the line stand to its left, since there is no room to its right.
+    pub fn is_left(&self, line: u8) -> bool {
+        self.x(line) + u32::from(self.off_width) + 30 > WIDEST
     }
 
     /// The width of the picture: of the lanes, of the words at the line, and of those below all.
@@ -172,14 +254,18 @@ impl Frame {
         ensures { result ≤ 30000000 }
     {
         let lanes = self.end() + 20;
-        let words = self.x(line) + WORDS_AT_THE_LINE;
-        lanes.max(words).max(660)
+        let words = if self.is_left(line) {
+            0
+        } else {
+            self.x(line) + u32::from(self.off_width) + 30
+        };
+        lanes.max(words).max(self.words.min(4000) + 40).max(420)
     }
 
     /// The height of the picture.
     pub fn height(&self) -> u32
         ensures { result ≤ 200000 }
     {
-        self.floor() + 112
+        self.floor() + 138
     }
 }

@@ -1,13 +1,23 @@
 //! What is drawn, as plain data.
+//!
+//! Which lanes and updates are drawn depends on how much room there is, and how much they need on what they are. So a
+//! scene is made with as many updates as there may be, and where that is too wide once more with as many as fit.
 
 use crate::choice::{Choice, MOST_LANES, MOST_UPDATES, choose};
-use crate::drawn_history::{DrawnHistory, LaneRead, drawn_history_of};
+use crate::frame::Frame;
 use crate::order::{Arrow, Slots, arrows};
+use crate::sentences::sentences;
+use crate::sights::{LaneReads, Strays, count_of, reads_of, strays_of};
+use crate::story::{Story, story_of};
+use crate::written::{Written, written_by};
 use esr_cert::Chain;
-use esr_items::ItemId;
+use esr_items::{ItemId, Metric};
 use esr_report::name_of_transaction;
 use esr_telling::Asked;
 use std::alloc::{AllocError, Global};
+
+/// How often a scene that is too wide is made with fewer updates.
+const MOST_TRIES: u32 = 6;
 
 /// A stretch of a lane, from a slot to the next stretch: one version of the item, or several where updates between
 /// are not drawn.
@@ -17,25 +27,21 @@ pub struct Stretch {
     /// The first version's value.
     pub value: i64,
     pub versions: usize,
-    /// Whether it is one version, and its value was read.
-    pub read: bool,
-}
-
-/// What was read of an item: the values without repetitions, and how many reads there were.
-#[derive(Drop)]
-pub struct LaneReads {
-    pub values: Vec<i64>,
-    pub count: usize,
+    /// How often the value was read, where it is one version.
+    pub reads: u64,
 }
 
 /// A lane: an item that was read.
 #[derive(Drop)]
 pub struct Lane<'a> {
     pub name: &'a str,
+    /// How much a difference of the item counts.
+    pub weight: u64,
     pub read: LaneReads,
     /// What the reads are off from the version at the line.
     pub off: u64,
     pub stretches: Vec<Stretch>,
+    pub strays: Strays<'a>,
 }
 
 /// An update that is drawn.
@@ -45,6 +51,8 @@ pub struct Update<'a> {
     pub slot: u8,
     /// How many lanes there are down to the last one that it wrote.
     pub reach: u8,
+    /// Whether the query had to be behind it.
+    pub must: bool,
 }
 
 /// What is drawn of the audit of a query.
@@ -53,8 +61,8 @@ pub struct Scene<'a> {
     pub query: &'a str,
     pub distance: u64,
     pub import: u64,
-    /// Whether there are updates that the query has to be behind.
-    pub strict: bool,
+    /// What is said above the lanes.
+    pub sentences: Vec<String>,
     pub updates: Vec<Update<'a>>,
     pub arrows: Vec<Arrow>,
     pub lanes: Vec<Lane<'a>>,
@@ -65,28 +73,8 @@ pub struct Scene<'a> {
     pub other_items: usize,
     /// How many of those items are off.
     pub others_off: usize,
-}
-
-/// What was read in a lane.
-fn read_in(alloc: Global, reads: &[LaneRead], lane: usize) -> Result<LaneReads, AllocError> {
-    let mut values = Vec::new(alloc);
-    for read in reads.iter().filter(|r| r.lane == lane) {
-        if !values.contains(&read.value) {
-            values.push(read.value)?;
-        }
-    }
-    let count = reads.iter().filter(|r| r.lane == lane).count();
-    Ok(LaneReads { values, count })
-}
-
-/// A stretch of one version.
-fn version(from: u8, value: i64, read: &LaneReads) -> Stretch {
-    Stretch {
-        from,
-        value,
-        versions: 1,
-        read: read.values.contains(&value),
-    }
+    /// Whether items that are not drawn are why the line is where it is.
+    pub others_decide: bool,
 }
 
 /// How many lanes are off that are not drawn.
@@ -108,35 +96,51 @@ fn drawn_in_order(alloc: Global, choice: &Choice) -> Result<Vec<u32>, AllocError
     Ok(drawn)
 }
 
+/// The values of the pieces of a lane.
+fn values_of(alloc: Global, stretches: &[Stretch]) -> Result<Vec<i64>, AllocError> {
+    let mut values = Vec::new(alloc);
+    for stretch in stretches.iter().filter(|s| s.versions == 1) {
+        values.push(stretch.value)?;
+    }
+    Ok(values)
+}
+
 /// What a scene is made from.
 #[derive(Drop)]
 struct SceneParts<'a> {
     asked: &'a Asked,
+    story: &'a Story,
     choice: Choice,
     /// The updates that are drawn, by their positions, in the order of their slots.
     drawn: Vec<u32>,
     /// The slot of the line.
     line: u8,
     slots: Slots,
-    history: DrawnHistory,
+    written: Written,
 }
 
 impl<'a> SceneParts<'a> {
-    fn new(alloc: Global, asked: &'a Asked) -> Result<SceneParts<'a>, AllocError> {
+    fn new(
+        alloc: Global,
+        asked: &'a Asked,
+        story: &'a Story,
+        most: usize,
+    ) -> Result<SceneParts<'a>, AllocError> {
         let finding = &asked.finding;
         let problem = &finding.problem;
-        let choice = choose(alloc, problem, &finding.certificate.set)?;
+        let choice = choose(alloc, problem, &finding.certificate.set, most)?;
         let drawn = drawn_in_order(alloc, &choice)?;
         let line = choice.before.len().min(MOST_UPDATES) as u8 + 1;
         let slots = Slots::new(alloc, problem.updates().len(), &choice, line)?;
-        let history = drawn_history_of(alloc, &asked.history, finding, &choice, &slots)?;
+        let written = written_by(alloc, asked, &choice, &drawn, &slots)?;
         Ok(SceneParts {
             asked,
+            story,
             choice,
             drawn,
             line,
             slots,
-            history,
+            written,
         })
     }
 
@@ -149,26 +153,35 @@ impl<'a> SceneParts<'a> {
         }
     }
 
+    /// A stretch of one version.
+    fn version(&self, item: ItemId, from: u8, value: i64) -> Stretch {
+        Stretch {
+            from,
+            value,
+            versions: 1,
+            reads: count_of(self.story, item, value),
+        }
+    }
+
     /// The stretches of a lane.
     fn stretches(
         &self,
         alloc: Global,
         chain: &Chain,
         lane: usize,
-        read: &LaneReads,
     ) -> Result<Vec<Stretch>, AllocError> {
         let mut stretches = Vec::new(alloc);
-        let mut last = version(0, self.opening(chain.item), read);
+        let mut last = self.version(chain.item, 0, self.opening(chain.item));
         for writer in &chain.writers {
             let slot = self.slots.of(*writer);
-            match self.history.value(lane, slot) {
+            match self.written.value(lane, slot) {
                 Some(value) if slot != 0 => {
                     stretches.push(last)?;
-                    last = version(slot, value, read);
+                    last = self.version(chain.item, slot, value);
                 }
                 _ => {
                     last.versions = last.versions.saturating_add(1);
-                    last.read = false;
+                    last.reads = 0;
                 }
             }
         }
@@ -184,11 +197,14 @@ impl<'a> SceneParts<'a> {
         chain: &Chain,
         off: u64,
     ) -> Result<Lane<'a>, AllocError> {
-        let read = read_in(alloc, self.history.reads(), lane)?;
+        let stretches = self.stretches(alloc, chain, lane)?;
+        let values = values_of(alloc, &stretches)?;
         Ok(Lane {
             name: self.asked.items.name_of(chain.item.0).unwrap_or(""),
-            stretches: self.stretches(alloc, chain, lane, &read)?,
-            read,
+            weight: self.asked.history.metric().distance(chain.item, 0, 1),
+            read: reads_of(alloc, self.story, chain.item)?,
+            strays: strays_of(self.asked, self.story, chain.item, &values),
+            stretches,
             off,
         })
     }
@@ -222,7 +238,7 @@ impl<'a> SceneParts<'a> {
     fn reach(&self, slot: u8) -> u8 {
         let mut reach = 0;
         for lane in 0..MOST_LANES as u8 {
-            if self.history.value(lane as usize, slot).is_some() {
+            if self.written.value(lane as usize, slot).is_some() {
                 reach = lane + 1;
             }
         }
@@ -231,15 +247,16 @@ impl<'a> SceneParts<'a> {
 
     /// The updates that are drawn, in the order of their slots.
     fn updates(&self, alloc: Global) -> Result<Vec<Update<'a>>, AllocError> {
-        let txns = self.asked.finding.problem.updates();
+        let problem = &self.asked.finding.problem;
         let mut updates = Vec::new(alloc);
         for update in &self.drawn {
-            if let Some(txn) = txns.get(*update as usize) {
+            if let Some(txn) = problem.updates().get(*update as usize) {
                 let slot = self.slots.of(*update);
                 updates.push(Update {
                     name: name_of_transaction(&self.asked.transactions, *txn),
                     slot,
                     reach: self.reach(slot),
+                    must: problem.must().contains(update),
                 })?;
             }
         }
@@ -250,18 +267,19 @@ impl<'a> SceneParts<'a> {
     fn scene(&self, alloc: Global) -> Result<Scene<'a>, AllocError> {
         let finding = &self.asked.finding;
         let arrows = arrows(alloc, &finding.problem, &self.drawn, &self.slots)?;
+        let sentences = sentences(alloc, self.asked, self.story)?;
         let updates = self.updates(alloc)?;
         let lanes = self.lanes(alloc)?;
-        let committed = self.history.committed();
         Ok(Scene {
             query: name_of_transaction(&self.asked.transactions, finding.query),
             distance: finding.distance,
             import: finding.import,
-            strict: !finding.problem.must().is_empty(),
+            sentences,
             arrows,
-            other_updates: committed.saturating_sub(updates.len() as u64),
+            other_updates: self.story.committed.saturating_sub(updates.len() as u64),
             other_items: self.choice.crossings.len().saturating_sub(lanes.len()),
             others_off: others_off(&self.choice),
+            others_decide: self.choice.is_cheaper_elsewhere,
             line: self.line,
             updates,
             lanes,
@@ -269,7 +287,41 @@ impl<'a> SceneParts<'a> {
     }
 }
 
+/// The scene with at most so many updates.
+fn scene_with<'a>(
+    alloc: Global,
+    asked: &'a Asked,
+    story: &'a Story,
+    most: usize,
+) -> Result<Scene<'a>, AllocError> {
+    SceneParts::new(alloc, asked, story, most)?.scene(alloc)
+}
+
+/// How many updates a scene may have, so that it is not too wide.
+fn fitting_updates(alloc: Global, asked: &Asked, story: &Story) -> Result<usize, AllocError> {
+    let mut most = MOST_UPDATES;
+    for _ in 0..MOST_TRIES {
+        let scene = scene_with(alloc, asked, story, most)?;
+        let fitting = Frame::of(&scene).fitting_updates();
+        if scene.updates.len() <= fitting {
+            break;
+        }
+        most = fitting.min(most.saturating_sub(1));
+    }
+    Ok(most)
+}
+
+/// What the history tells of the query of what a script tells.
+pub fn story_in(alloc: Global, asked: &Asked) -> Result<Story, AllocError> {
+    story_of(alloc, &asked.history, &asked.finding)
+}
+
 /// What is drawn of what a script tells of a query.
-pub fn scene_of(alloc: Global, asked: &Asked) -> Result<Scene<'_>, AllocError> {
-    SceneParts::new(alloc, asked)?.scene(alloc)
+pub fn scene_of<'a>(
+    alloc: Global,
+    asked: &'a Asked,
+    story: &'a Story,
+) -> Result<Scene<'a>, AllocError> {
+    let most = fitting_updates(alloc, asked, story)?;
+    scene_with(alloc, asked, story, most)
 }

@@ -40,7 +40,11 @@ fn push_box(
     line: u8,
     frame: &Frame,
 ) -> Result<(), AllocError> {
-    let class = if update.slot < line { "b" } else { "a" };
+    let class = match (update.must, update.slot < line) {
+        (true, _) => "b e",
+        (false, true) => "b",
+        (false, false) => "a",
+    };
     let width = frame.box_width;
     let x = frame.x(update.slot);
     let top = frame.boxes();

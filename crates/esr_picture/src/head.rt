@@ -2,6 +2,7 @@
 //! `prefers-color-scheme`, and the picture brings its own background, so that it can be read wherever it is put. What
 //! is green is also thick, and what is off has a circle and words, for those who do not see colours.
 
+use crate::elements::{open_text, push_number, push_text, push_value};
 use crate::frame::Frame;
 use crate::scene::{Lane, Scene, Update};
 use std::alloc::AllocError;
@@ -25,12 +26,15 @@ text{font:12px sans-serif;fill:#1f2328}\n\
 .v{stroke:#b4bcc4;stroke-width:4}\n\
 .s{stroke-dasharray:4 4}\n\
 .u{stroke:#2da565;stroke-width:11}\n\
-.l{stroke:#c4302b;stroke-width:2}\n\
+.l{stroke:#1f2328;stroke-width:2}\n\
+.y{stroke-width:14}\n\
+.z{stroke-width:17}\n\
+.e{stroke-width:3}\n\
 .c{fill:#fff;stroke:#c4302b;stroke-width:2}\n\
 @media (prefers-color-scheme:dark){\n\
 text{fill:#e6edf3}.q{fill:#9aa4af}.g{fill:#4cc47c}.r{fill:#ff7b72}.o{stroke:#0d1117}.p{fill:#0d1117}\n\
 .b{fill:#1d3a57;stroke:#6ea8dc}.a{fill:#22272e;stroke:#68737f}.w{stroke:#9aa4af}.k{fill:#9aa4af}\n\
-.d{stroke:#57606a}.t{stroke:#9aa4af}.v{stroke:#56606b}.u{stroke:#2f9e5f}.l{stroke:#ff7b72}\n\
+.d{stroke:#57606a}.t{stroke:#9aa4af}.v{stroke:#56606b}.u{stroke:#2f9e5f}.l{stroke:#e6edf3}\n\
 .c{fill:#0d1117;stroke:#ff7b72}}\n\
 </style>\n";
 
@@ -88,7 +92,9 @@ fn push_order(
 /// The first values that were read of an item, for the description.
 fn push_values(out: &mut String, values: &[i64]) -> Result<(), AllocError> {
     for value in values.iter().take(2) {
-        write!(out, " read {value},")?;
+        out.push_str(" read ")?;
+        push_value(out, *value)?;
+        out.push(',')?;
     }
     Ok(())
 }
@@ -98,7 +104,9 @@ fn push_off(out: &mut String, off: u64) -> Result<(), AllocError> {
     if off == 0 {
         out.push_str(" as at its place.")
     } else {
-        write!(out, " off by {off} from its place.")
+        out.push_str(" off by ")?;
+        push_number(out, off)?;
+        out.push_str(" from its place.")
     }
 }
 
@@ -116,10 +124,11 @@ fn push_lanes_words(out: &mut String, lanes: &[Lane<'_>]) -> Result<(), AllocErr
 /// The title, and the start of the description.
 fn push_title(out: &mut String, query: &str, distance: u64, import: u64) -> Result<(), AllocError> {
     write!(out, "<title id='{query}-title'>Audit of {query}</title>\n")?;
-    write!(
-        out,
-        "<desc id='{query}-desc'>Distance {distance}, import {import}."
-    )
+    write!(out, "<desc id='{query}-desc'>Distance ")?;
+    push_number(out, distance)?;
+    out.push_str(", import ")?;
+    push_number(out, import)?;
+    out.push('.')
 }
 
 /// The title and the description.
@@ -151,4 +160,22 @@ pub fn push_head(out: &mut String, scene: &Scene<'_>, frame: &Frame) -> Result<(
         out,
         "<rect class='p' width='{width}' height='{height}' rx='8'/>\n"
     )
+}
+
+/// What was found, above all, and the sentences about it.
+pub fn push_heading(out: &mut String, scene: &Scene<'_>) -> Result<(), AllocError> {
+    open_text(out, "h", 20, 28)?;
+    out.push_str(scene.query)?;
+    out.push_str(": distance ")?;
+    push_number(out, scene.distance)?;
+    out.push_str(", import ")?;
+    push_number(out, scene.import)?;
+    out.push_str("</text>\n")?;
+    let mut y = 50u32;
+    for sentence in scene.sentences.iter().take(9) {
+        push_text(out, "q", 20, y, sentence)?;
+        out.push_str("\n")?;
+        y = y.saturating_add(20);
+    }
+    Ok(())
 }

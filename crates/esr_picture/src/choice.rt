@@ -1,0 +1,294 @@
+//! Which lanes and which updates are drawn.
+//!
+//! Of few updates all are. Else a lane needs those that bound its version at the line and the one nearest to what was
+//! read; what is between is one dotted piece with a count. Lanes that are off come first, and then those without which
+//! the picture would contradict its line (`weighing`).
+
+use crate::weighing::{Costs, Places, against};
+use esr_cert::{Chain, Problem};
+use std::alloc::{AllocError, Global};
+
+/// So many updates are drawn at most.
+pub const MOST_UPDATES: usize = 30;
+
+/// Where a query has no more updates than this, all are drawn, if there is room.
+const FEW_UPDATES: usize = 8;
+
+/// So many lanes are drawn at most.
+pub const MOST_LANES: usize = 24;
+
+/// Where the line crosses a lane: the version there, and what the reads of the item are off from it.
+#[derive(Clone, Copy)]
+pub struct Crossing {
+    pub version: usize,
+    pub off: u64,
+}
+
+/// The lanes and the updates that are drawn.
+#[derive(Drop)]
+pub struct Choice {
+    /// Where the line crosses each lane, drawn or not.
+    pub crossings: Vec<Crossing>,
+    /// The lanes that are drawn, by their positions among the chains, ascending.
+    pub lanes: Vec<usize>,
+    /// The updates before the line that are drawn, by their positions, ascending.
+    pub before: Vec<u32>,
+    /// Those after the line.
+    pub after: Vec<u32>,
+    /// Whether the lanes that are drawn would be cheaper at another place than at the line.
+    pub is_cheaper_elsewhere: bool,
+}
+
+/// Whether each of so many positions is in the set.
+fn marked(alloc: Global, count: usize, set: &[u32]) -> Result<Vec<bool>, AllocError> {
+    let mut marks = vec![in alloc; false; count]?;
+    for position in set {
+        if let Some(mark) = marks.get_mut(*position as usize) {
+            *mark = true;
+        }
+    }
+    Ok(marks)
+}
+
+/// Whether the position is marked.
+fn is_marked(marks: &[bool], position: u32) -> bool {
+    marks.get(position as usize) == Some(&true)
+}
+
+/// Where the line crosses a lane: behind as many writers as the set has. They are the first ones, as the set is closed.
+fn crossing_of(chain: &Chain, inside: &[bool]) -> Crossing {
+    let version = chain
+        .writers
+        .iter()
+        .filter(|writer| is_marked(inside, **writer))
+        .count();
+    let off = chain.costs.get(version).copied().unwrap_or(0);
+    Crossing { version, off }
+}
+
+/// Where the line crosses each lane.
+fn crossings(
+    alloc: Global,
+    chains: &[Chain],
+    inside: &[bool],
+) -> Result<Vec<Crossing>, AllocError> {
+    let mut crossings = Vec::new(alloc);
+    for chain in chains {
+        crossings.push(crossing_of(chain, inside))?;
+    }
+    Ok(crossings)
+}
+
+/// The lanes, those that are off most first, and those that are off alike as they come.
+fn ranked(alloc: Global, crossings: &[Crossing]) -> Result<Vec<usize>, AllocError> {
+    let mut ranks = Vec::new(alloc);
+    for (lane, crossing) in crossings.iter().enumerate() {
+        ranks.push((u64::MAX - crossing.off, lane))?;
+    }
+    ranks.sort_unstable();
+    ranks.iter().map(|rank| rank.1).collect(alloc)
+}
+
+/// The version of least cost, the first such.
+fn nearest(chain: &Chain) -> usize {
+    let least = chain.costs.iter().copied().min().unwrap_or(0);
+    chain
+        .costs
+        .iter()
+        .position(|cost| *cost == least)
+        .unwrap_or(0)
+}
+
+/// The update that ends a version of the item, if one does.
+fn end_of(chain: &Chain, version: usize) -> Option<u32> {
+    chain.writers.get(version).copied()
+}
+
+/// The update that made a version of the item, unless it is the opening value.
+fn maker_of(chain: &Chain, version: usize) -> Option<u32> {
+    end_of(chain, version.checked_sub(1)?)
+}
+
+/// Those updates that make or end the version at the line or another one, and are not drawn yet.
+fn missing(
+    alloc: Global,
+    chain: &Chain,
+    crossing: Crossing,
+    other: usize,
+    drawn: &[u32],
+) -> Result<Vec<u32>, AllocError> {
+    let wanted = [
+        maker_of(chain, crossing.version),
+        end_of(chain, crossing.version),
+        maker_of(chain, other),
+        end_of(chain, other),
+    ];
+    let mut missing = Vec::new(alloc);
+    for update in wanted.iter().flatten() {
+        if !drawn.contains(update) && !missing.contains(update) {
+            missing.push(*update)?;
+        }
+    }
+    Ok(missing)
+}
+
+/// The lanes in the order in which there is to be room for them: those that are off, most first; those without which the
+/// drawn ones would be cheaper elsewhere; and the others as they come.
+fn wanted(
+    alloc: Global,
+    problem: &Problem,
+    crossings: &[Crossing],
+    places: &Places,
+) -> Result<Vec<usize>, AllocError> {
+    let chains = problem.chains();
+    let ranked = ranked(alloc, crossings)?;
+    let mut wanted: Vec<usize> = Vec::new(alloc);
+    let mut costs = Costs::none(alloc, problem.updates().len())?;
+    for lane in ranked.iter().take(MOST_LANES) {
+        if let (Some(chain), Some(crossing)) = (chains.get(*lane), crossings.get(*lane)) {
+            if crossing.off > 0 {
+                costs.add(chain, places);
+                wanted.push(*lane)?;
+            }
+        }
+    }
+    push_speaking_against(&mut wanted, &mut costs, chains, crossings, places)?;
+    push_others(&mut wanted, &ranked)?;
+    Ok(wanted)
+}
+
+/// Adds the lanes without which others would be cheaper elsewhere than at the line.
+fn push_speaking_against(
+    wanted: &mut Vec<usize>,
+    costs: &mut Costs,
+    chains: &[Chain],
+    crossings: &[Crossing],
+    places: &Places,
+) -> Result<(), AllocError> {
+    for _ in 0..MOST_LANES {
+        let Some(place) = costs.cheaper_place(places) else {
+            break;
+        };
+        let Some(lane) = against(chains, crossings, places, place, wanted) else {
+            break;
+        };
+        if let Some(chain) = chains.get(lane) {
+            costs.add(chain, places);
+        }
+        wanted.push(lane)?;
+    }
+    Ok(())
+}
+
+/// Adds the first of the other lanes, as many as may be drawn.
+fn push_others(wanted: &mut Vec<usize>, ranked: &[usize]) -> Result<(), AllocError> {
+    for lane in ranked.iter().take(MOST_LANES * 3) {
+        if !wanted.contains(lane) {
+            wanted.push(*lane)?;
+        }
+    }
+    Ok(())
+}
+
+/// The updates that a lane needs beside those that are drawn, if there is room for so many: those that bound its version
+/// at the line, and where they fit those that bound the nearest one.
+fn needs(
+    alloc: Global,
+    chain: &Chain,
+    crossing: Crossing,
+    drawn: &[u32],
+    most: usize,
+) -> Result<Option<Vec<u32>>, AllocError> {
+    let room = most.saturating_sub(drawn.len());
+    let both = missing(alloc, chain, crossing, nearest(chain), drawn)?;
+    if both.len() <= room {
+        return Ok(Some(both));
+    }
+    let at_line = missing(alloc, chain, crossing, crossing.version, drawn)?;
+    Ok((at_line.len() <= room).then_some(at_line))
+}
+
+/// As many of the lanes as there is room for, and the updates that they need beside those that are drawn.
+fn fitting(
+    alloc: Global,
+    chains: &[Chain],
+    crossings: &[Crossing],
+    wanted: &[usize],
+    drawn: &mut Vec<u32>,
+    most: usize,
+) -> Result<Vec<usize>, AllocError> {
+    let mut lanes = Vec::new(alloc);
+    for lane in wanted {
+        if let (Some(chain), Some(crossing)) = (chains.get(*lane), crossings.get(*lane)) {
+            let needs = needs(alloc, chain, *crossing, drawn, most)?;
+            if let (Some(more), true) = (needs, lanes.len() < MOST_LANES) {
+                drawn.extend_from_slice(&more)?;
+                lanes.push(*lane)?;
+            }
+        }
+    }
+    Ok(lanes)
+}
+
+/// Whether these lanes together cost less at another place than at the line.
+fn is_cheaper_elsewhere(
+    alloc: Global,
+    problem: &Problem,
+    lanes: &[usize],
+    places: &Places,
+) -> Result<bool, AllocError> {
+    let mut costs = Costs::none(alloc, problem.updates().len())?;
+    for lane in lanes {
+        if let Some(chain) = problem.chains().get(*lane) {
+            costs.add(chain, places);
+        }
+    }
+    Ok(costs.cheaper_place(places).is_some())
+}
+
+/// Those of the updates that are before the line, or those that are not.
+fn on_side(
+    alloc: Global,
+    updates: &[u32],
+    inside: &[bool],
+    before: bool,
+) -> Result<Vec<u32>, AllocError> {
+    let mut side = Vec::new(alloc);
+    for update in updates {
+        if is_marked(inside, *update) == before {
+            side.push(*update)?;
+        }
+    }
+    Ok(side)
+}
+
+/// The lanes and the updates to draw of a problem with such a set: of few updates all, and else at most so many, those
+/// that bound what is seen of the lanes.
+pub fn choose(
+    alloc: Global,
+    problem: &Problem,
+    set: &[u32],
+    most: usize,
+) -> Result<Choice, AllocError> {
+    let count = problem.updates().len();
+    let inside = marked(alloc, count, set)?;
+    let crossings = crossings(alloc, problem.chains(), &inside)?;
+    let places = Places::new(alloc, &inside, problem.must())?;
+    let wanted = wanted(alloc, problem, &crossings, &places)?;
+    let mut updates = if count <= FEW_UPDATES && count <= most {
+        (0..count as u32).collect(alloc)?
+    } else {
+        Vec::new(alloc)
+    };
+    let chains = problem.chains();
+    let mut lanes = fitting(alloc, chains, &crossings, &wanted, &mut updates, most)?;
+    lanes.sort_unstable();
+    updates.sort_unstable();
+    Ok(Choice {
+        is_cheaper_elsewhere: is_cheaper_elsewhere(alloc, problem, &lanes, &places)?,
+        before: on_side(alloc, &updates, &inside, true)?,
+        after: on_side(alloc, &updates, &inside, false)?,
+        crossings,
+        lanes,
+    })
+}

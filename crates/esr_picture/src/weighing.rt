@@ -1,0 +1,131 @@
+//! What the lanes that are drawn say of other places for the line: a picture whose lanes are green somewhere else, at
+//! no cost, would contradict its own line.
+//!
+//! The updates are gone through in the order in which they are drawn, those before the line first, and for each place
+//! between two of them the costs of the lanes that are drawn are added up. Where a place costs less than the line, a lane
+//! speaks against it that is not drawn: the one that costs most there is drawn too, until no place is left. All lanes
+//! together cost least at the line, so this ends.
+
+use crate::choice::Crossing;
+use esr_cert::Chain;
+use esr_history::MOST_TRANSACTIONS;
+use std::alloc::{AllocError, Global};
+
+/// Where each update stands in the order that is drawn.
+#[derive(Drop)]
+pub struct Places {
+    places: Vec<u32>,
+    /// How many are before the line.
+    line: usize,
+    /// How many are before the first place that the query may have.
+    first: usize,
+}
+
+impl Places {
+    /// Those of the set first, and then the others, each by their positions. The query has to be behind `must`.
+    pub fn new(alloc: Global, inside: &[bool], must: &[u32]) -> Result<Places, AllocError> {
+        let line = inside.iter().filter(|is_inside| **is_inside).count();
+        let mut places = Vec::new(alloc);
+        let mut before = 0u32;
+        let mut after = line.min(MOST_TRANSACTIONS) as u32;
+        for is_inside in inside {
+            let next = if *is_inside { &mut before } else { &mut after };
+            places.push(*next)?;
+            *next = next.saturating_add(1);
+        }
+        let mut all = Places {
+            places,
+            line,
+            first: 0,
+        };
+        for position in must {
+            all.first = all.first.max(all.of(*position).saturating_add(1));
+        }
+        Ok(all)
+    }
+
+    /// The place of the update at a position.
+    fn of(&self, position: u32) -> usize {
+        self.places.get(position as usize).copied().unwrap_or(0) as usize
+    }
+
+    /// What a lane costs behind so many updates.
+    fn cost_at(&self, chain: &Chain, place: usize) -> u64 {
+        let version = chain
+            .writers
+            .iter()
+            .filter(|writer| self.of(**writer) < place)
+            .count();
+        chain.costs.get(version).copied().unwrap_or(0)
+    }
+}
+
+/// What some lanes cost together at each place.
+#[derive(Drop)]
+pub struct Costs {
+    /// What they cost before all updates.
+    first: i128,
+    /// By how much more they cost behind the update of each place.
+    changes: Vec<i128>,
+}
+
+impl Costs {
+    /// Those of no lane.
+    pub fn none(alloc: Global, updates: usize) -> Result<Costs, AllocError> {
+        Ok(Costs {
+            first: 0,
+            changes: vec![in alloc; 0i128; updates]?,
+        })
+    }
+
+    /// Adds a lane.
+    pub fn add(&mut self, chain: &Chain, places: &Places) {
+        let mut last = i128::from(chain.costs.first().copied().unwrap_or(0));
+        self.first = self.first.saturating_add(last);
+        for (writer, cost) in chain.writers.iter().zip(chain.costs.iter().skip(1)) {
+            let cost = i128::from(*cost);
+            if let Some(change) = self.changes.get_mut(places.of(*writer)) {
+                *change = change.saturating_add(cost.saturating_sub(last));
+            }
+            last = cost;
+        }
+    }
+
+    /// The place where they cost least, if they cost less there than at the line.
+    pub fn cheaper_place(&self, places: &Places) -> Option<usize> {
+        let mut sum = self.first;
+        let mut at_line = sum;
+        let mut least = (places.first == 0).then_some((sum, 0));
+        for (place, change) in (1usize..).zip(self.changes.iter()) {
+            sum = sum.saturating_add(*change);
+            if place == places.line {
+                at_line = sum;
+            }
+            if place >= places.first && least.is_none_or(|(least, _)| sum < least) {
+                least = Some((sum, place));
+            }
+        }
+        let (least, place) = least?;
+        (least < at_line).then_some(place)
+    }
+}
+
+/// The lane that costs most more at a place than at the line, of those that are not among these.
+pub fn against(
+    chains: &[Chain],
+    crossings: &[Crossing],
+    places: &Places,
+    place: usize,
+    drawn: &[usize],
+) -> Option<usize> {
+    let mut most = 0;
+    let mut found = None;
+    for (lane, (chain, crossing)) in chains.iter().zip(crossings.iter()).enumerate() {
+        let more = places.cost_at(chain, place).saturating_sub(crossing.off);
+        if more > most && !drawn.contains(&lane) {
+            most = more;
+            found = Some(lane);
+        }
+    }
+    found
+}
