@@ -78,10 +78,7 @@ fn a_report_of_the_bank_is_drawn(rt: HostRuntime) {
 
 #[test]
 fn little_is_drawn(rt: HostRuntime) {
-    let texts = [
-        "q read nothing.</text>",
-        "Not drawn: 1 more update.</text>",
-    ];
+    let texts = ["q read nothing.</text>", "Not drawn: 1 more update.</text>"];
     has(&rt, rt.alloc(), NOTHING_READ, "q", &texts);
     let texts = [
         "q: distance 6, import 6</text>",
@@ -157,7 +154,12 @@ fn count(alloc: Global, script: &str, text: &str) -> usize {
 #[test]
 fn of_many_updates_those_are_drawn_that_bound_what_is_seen(rt: HostRuntime) {
     let lanes = ("class='m n' x='20'", 3);
-    has_so_often(&rt, rt.alloc(), 8, &[("height='28'", 8), lanes, ("Not drawn", 0)]);
+    has_so_often(
+        &rt,
+        rt.alloc(),
+        8,
+        &[("height='28'", 8), lanes, ("Not drawn", 0)],
+    );
     let of_many = [
         ("height='28'", 3),
         lanes,
