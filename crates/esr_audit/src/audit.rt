@@ -121,6 +121,28 @@ pub fn audit_query<M: Metric>(
     Ok(find(alloc, history, order, q)?)
 }
 
+/// The same for a caller who has the list of the transactions that committed, in the order of their commits, so that it
+/// is made once for many queries.
+///
+/// # Errors
+/// Those of `audit_query`.
+pub fn audit_query_in<M: Metric>(
+    alloc: Global,
+    history: &History<M>,
+    committed: &[TxnId],
+    q: TxnId,
+) -> Result<Finding, AuditError>
+    requires { map (λ t. t.0) committed.now ≡ commit_order (done history.now.schedule) }
+    ensures query { IfOk result (λ f. f.query ≡ q) }
+    ensures finding { IfOk result (IsFindingOf M.distance_by history.now.schedule q.0) }
+    ensures refused { IsErrOf result AuditError.NotACommittedQuery
+        ↔ (is_committed_query history.now.schedule q.0 ≡ false) }
+    ensures workers { ¬ IsErrOf result AuditError.WorkersOutOfRange }
+{
+    let order = Order::near_in(alloc, history, committed, q)?;
+    Ok(find(alloc, history, order, q)?)
+}
+
 /// What is found of a committed query, beside the list of all transactions that committed.
 fn find_committed<M: Metric>(
     alloc: Global,

@@ -12,6 +12,6 @@ mod finding;
 mod problem;
 mod reads;
 
-pub use audit::{audit_history, audit_query, certify_with_steps};
+pub use audit::{audit_history, audit_query, audit_query_in, certify_with_steps};
 pub use commits::{CommitLists, commit_lists};
 pub use finding::{AuditError, Book, Finding, Summaries, Summary};

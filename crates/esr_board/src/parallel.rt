@@ -12,7 +12,8 @@ ghost use Rattle.std.specs.Prelude.{◌≡◌, ℕ, ◌<◌, ◌≤◌, ◌↔�
 ghost use Rattle.std.specs.List.{AllZip};
 ghost use Rattle.esr_history.specs.declared.event.Entry.{Entry};
 ghost use Rattle.esr_history.specs.Legal.{along};
-ghost use Rattle.esr_history.specs.Machine.{IsLegal};
+ghost use Rattle.esr_history.specs.Machine.{IsLegal, done};
+ghost use Rattle.esr_history.specs.Operations.{commit_order};
 ghost use Rattle.esr_history.specs.Serial.{IsSerializable, committed_updates};
 ghost use Rattle.esr_history.specs.Totals.{IsWithinLimits};
 ghost use Rattle.esr_audit.specs.Findings.{IsAnswer, IsBook, AreSummaries, committed_queries};
@@ -65,11 +66,13 @@ fn shares<M: Metric + Sync, R: Threads + Sync, G: Gate + Sync, T: From<Finding> 
     rt: &R,
     alloc: Global,
     history: &History<M>,
+    committed: &[TxnId],
     jobs: &[TxnId],
     board: &Board,
     seats: Vec<BoardSeat>,
     gate: &G,
 ) -> Result<Vec<Worked<T>>, AllocError>
+    requires list { map (λ t. t.0) committed.now ≡ commit_order (done history.now.schedule) }
     requires seats { All (λ s. IsSeatOf board.now s × (drawn s ≡ [])) seats.items }
     requires jobs { (length jobs.now ≡ jobs_of board.now) × AreCommitted history.now.schedule jobs.now }
     ensures { IfOk result (λ v. (vec_len v ≡ vec_len seats)
@@ -80,9 +83,10 @@ fn shares<M: Metric + Sync, R: Threads + Sync, G: Gate + Sync, T: From<Finding> 
         seats,
         &|seat: BoardSeat| -> Worked<T>
             requires { IsSeatOf board.now seat × (drawn seat ≡ []) × (length jobs.now ≡ jobs_of board.now)
-                × AreCommitted history.now.schedule jobs.now }
+                × AreCommitted history.now.schedule jobs.now
+                × (map (λ t. t.0) committed.now ≡ commit_order (done history.now.schedule)) }
             ensures { IsWorked T.from_gives M.distance_by history.entry.now.schedule jobs.entry.now board.entry.now result }
-        { worked(alloc, history, jobs, board, seat, gate) },
+        { worked(alloc, history, committed, jobs, board, seat, gate) },
     )
 }
 
@@ -171,10 +175,12 @@ fn kept_by<M: Metric + Sync, R: Threads + Sync, G: Gate + Sync, T: From<Finding>
     rt: &R,
     alloc: Global,
     history: &History<M>,
+    committed: &[TxnId],
     jobs: &[TxnId],
     workers: u64,
     gate: &G,
 ) -> Result<Vec<T>, AuditError>
+    requires list { map (λ t. t.0) committed.now ≡ commit_order (done history.now.schedule) }
     requires jobs { (length jobs.now ≤ MOST_JOBS) × AreCommitted history.now.schedule jobs.now }
     requires workers { (1 ≤ workers) × (workers ≤ MOST_SEATS) }
     ensures kept { IfOk result (λ v. AllZip (IsKeptOf T.from_gives M.distance_by history.now.schedule)
@@ -187,7 +193,7 @@ fn kept_by<M: Metric + Sync, R: Threads + Sync, G: Gate + Sync, T: From<Finding>
         Err(BoardError::TooManyJobs) => unreachable!(),
         Err(BoardError::SeatsOutOfRange) => unreachable!(),
     };
-    let Ok(all) = shares(rt, alloc, history, jobs, &board, seats, gate) else {
+    let Ok(all) = shares(rt, alloc, history, committed, jobs, &board, seats, gate) else {
         return Err(AuditError::NoMemory);
     };
     let KeptAndSeats { slots, seats } = match gather(alloc, history, jobs, &board, all) {
@@ -226,7 +232,7 @@ fn pages_by<M: Metric + Sync, R: Threads + Sync, G: Gate + Sync, T: From<Finding
     }
     let Ok(
         CommitLists {
-            all: _,
+            all,
             updates,
             queries,
         },
@@ -234,7 +240,7 @@ fn pages_by<M: Metric + Sync, R: Threads + Sync, G: Gate + Sync, T: From<Finding
     else {
         return Err(AuditError::NoMemory);
     };
-    match kept_by(rt, alloc, history, &queries, workers, gate) {
+    match kept_by(rt, alloc, history, &all, &queries, workers, gate) {
         Ok(kept) => Ok(Pages {
             order: updates,
             kept,

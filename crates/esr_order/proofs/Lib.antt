@@ -12,6 +12,7 @@ pub mod Accessed
 pub mod Sparse
 pub mod Spans
 pub mod Commits
+pub mod Indexes
 pub mod Amid
 pub mod NearLaws
 pub mod NearFound

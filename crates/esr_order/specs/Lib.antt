@@ -2,6 +2,7 @@ pub mod Placements
 pub mod Least
 pub mod Statements
 pub mod Scans
+pub mod Index
 pub mod UpdateOperations
 pub mod Listing
 pub mod Ties

@@ -8,6 +8,7 @@
 
 mod accesses;
 mod chains;
+mod index;
 mod laws;
 mod operations;
 mod order;
@@ -18,6 +19,7 @@ mod walk;
 
 pub use accesses::{Access, accesses_of};
 pub use chains::Links;
+pub use index::Index;
 pub use laws::{
     least_sets_are_listed, least_sets_meet, longer_histories_agree, parts_are_closed_sets,
 };

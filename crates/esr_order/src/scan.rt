@@ -1,6 +1,7 @@
 //! What the entries of a history give, found by its links: who committed, which of them before a query, and what a
 //! strict query must have seen.
-ghost use Rattle.std.specs.Prelude.{◌≡◌, ◌++◌, ◌∷◌, ℕ, List, true, ◌==◌, IfOk, OnOk, slice_get, length, map, filter, count_by, reverse, take};
+
+ghost use Rattle.std.specs.Prelude.{◌≡◌, ◌++◌, ◌∷◌, ℕ, List, [], true, ◌==◌, IfOk, OnOk, OnErr, slice_get, length, map, filter, count_by, reverse, take};
 ghost use Rattle.std.specs.List.{filter_map, before_first};
 ghost use Rattle.std.specs.List.Sorted.{IsStrictlyIncreasing};
 ghost use Rattle.esr_history.specs.Events.{is_begun, is_update};
@@ -25,6 +26,17 @@ fn committer_of(entry: Entry) -> Option<TxnId>
         Event::Commit { txn } => Some(txn),
         _ => None,
     }
+}
+
+/// Adds the transaction that commits in an entry, if one does.
+pub fn push_committer(commits: &mut Vec<TxnId>, entry: Entry) -> Result<(), AllocError>
+    ensures ok { OnOk result (commits.new.items ≡ commits.old.items ++ filter_map commit_in (entry ∷ [])) }
+    ensures err { OnErr result (commits.new.items ≡ commits.old.items) }
+{
+    if let Some(t) = committer_of(entry) {
+        commits.push(t)?;
+    }
+    Ok(())
 }
 
 /// The transactions that commit in the entries at these places.
