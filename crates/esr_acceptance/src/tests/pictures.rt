@@ -65,11 +65,13 @@ fn has(rt: &impl Abort, alloc: Global, script: &str, name: &str, texts: &[&str])
     }
 }
 
+/// No clause says what a picture shows: with each lane green on the wrong side of the update it would be proved.
 #[test]
 fn a_report_of_the_bank_is_drawn(rt: HostRuntime) {
     has(&rt, rt.alloc(), BANK, "report", &BANK_DRAWN);
 }
 
+/// Any text from `<svg ` to `</svg>` keeps the contract: it could lack an item's second read, or say nothing at all.
 #[test]
 fn little_is_drawn(rt: HostRuntime) {
     let texts = [
@@ -113,6 +115,7 @@ fn count(alloc: Global, script: &str, text: &str) -> usize {
     written.matches(text).count()
 }
 
+/// No clause says what is left out of a full picture: one that leaves out what is off would be proved.
 #[test]
 fn thirty_updates_are_drawn_and_of_more_those_that_are_off(rt: HostRuntime) {
     let not_drawn = " more updates and 2 more items are not drawn, 0 of these items off.";
@@ -135,6 +138,7 @@ fn has_so_often(rt: &impl Abort, alloc: Global, updates: u32, wanted: &[(&str, u
     }
 }
 
+/// The contract lets out of memory come in place of this refusal, for an update's or an item's name as for none.
 #[test]
 fn what_is_no_committed_query_is_not_drawn(rt: HostRuntime) {
     let alloc = rt.alloc();
@@ -147,6 +151,7 @@ fn what_is_no_committed_query_is_not_drawn(rt: HostRuntime) {
     }
 }
 
+/// Of a reader that does not tell its bytes no clause says what is written: a picture of half a script could be.
 #[test]
 fn each_read_fails_in_turn(rt: HostRuntime) {
     let alloc = rt.alloc();
@@ -159,6 +164,7 @@ fn each_read_fails_in_turn(rt: HostRuntime) {
     }
 }
 
+/// The contract ties a write fault to a failed call, but does not make one: a drawing could end before it writes.
 #[test]
 fn writes_fail(rt: HostRuntime) {
     let alloc = rt.alloc();
