@@ -1,3 +1,6 @@
+//! Command lines, by what they ask for. Which words spell a job is proved from the commands that `clap` is told of.
+//! That these are the ones of the pages, that a job is got if there is memory, and what help says, no clause can say.
+
 use clap::error::ErrorKind;
 use esr_cli::{Job, command};
 use std::alloc::Global;
@@ -60,6 +63,7 @@ fn jobs() -> &'static [(Words, Job<'static>)] {
     &JOBS
 }
 
+/// By its contract each command line may be out of memory, and then no words would get their job.
 #[test]
 fn words_ask_for_their_jobs(rt: HostRuntime) {
     for (words, wanted) in jobs() {
@@ -118,6 +122,7 @@ fn others() -> &'static [(Words, ErrorKind, i32)] {
     &OTHERS
 }
 
+/// By its contract each mistake may be told as out of memory; and which words are a mistake is a definition's.
 #[test]
 fn other_words_are_mistakes_or_ask_for_help(rt: HostRuntime) {
     for (words, kind, status) in others() {
@@ -140,6 +145,7 @@ fn has_lines(text: &str) -> bool {
     text.contains("begin NAME query LIMIT") && text.contains("audit q")
 }
 
+/// The words of help are in no clause: help that says nothing of a script's lines would be proved.
 #[test]
 fn help_teaches_the_lines_of_a_script(rt: HostRuntime) {
     assert!(rt; teaches_lines(rt.alloc(), &["esr", "--help"]));
