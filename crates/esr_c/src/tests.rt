@@ -1,3 +1,7 @@
+//! The calls of the library as a C program makes them, on the bank of the README. Each is proved, up to out of memory:
+//! that one is done where there is memory no clause can say. The tests are in this crate since the engine that they
+//! begin with, a closed one, is made by what is private here.
+
 use crate::engine::closed;
 use crate::*;
 use std::process::Abort;
@@ -30,6 +34,7 @@ fn bank(rt: &impl Abort, alloc: Global, engine: &mut EsrEngine) -> EsrReply {
     read
 }
 
+/// By their contracts all calls may be out of memory: here the bank of the README is played to its end and audited.
 #[test]
 fn report_beside_a_writer(rt: HostRuntime) -> Result<(), Fail> {
     let alloc = rt.alloc();
@@ -59,6 +64,7 @@ fn report_beside_a_writer(rt: HostRuntime) -> Result<(), Fail> {
     Ok(())
 }
 
+/// Out of memory may come in place of a bundle's length, of a renewal and of what is read behind it: here none is.
 #[test]
 fn renewed_over_committed_values(rt: HostRuntime) -> Result<(), Fail> {
     let alloc = rt.alloc();
