@@ -34,7 +34,7 @@ fn bank(rt: &impl Abort, alloc: Global, engine: &mut EsrEngine) -> EsrReply {
     read
 }
 
-/// By their contracts all calls may be out of memory: here the bank of the README is played to its end and audited.
+/// By their contracts events and audits may always be out of memory: here the bank of the README gets its answers.
 #[test]
 fn report_beside_a_writer(rt: HostRuntime) -> Result<(), Fail> {
     let alloc = rt.alloc();
@@ -64,7 +64,7 @@ fn report_beside_a_writer(rt: HostRuntime) -> Result<(), Fail> {
     Ok(())
 }
 
-/// Out of memory may come in place of a bundle's length, of a renewal and of what is read behind it: here none is.
+/// Out of memory may come in place of a bundle's length, of a renewal and of the values behind it, and be proved.
 #[test]
 fn renewed_over_committed_values(rt: HostRuntime) -> Result<(), Fail> {
     let alloc = rt.alloc();

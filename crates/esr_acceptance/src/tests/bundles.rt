@@ -32,7 +32,7 @@ fn gives(rt: &impl Abort, alloc: Global, text: &str, line: &str) {
     check_written(rt, &writer, line, text);
 }
 
-/// A verdict is proved against definitions; one that gives a fault another number or turn would be proved as well.
+/// A verdict is proved against definitions; one that gives a fault another number would be proved as well.
 #[test]
 fn bundles_give_their_verdicts(rt: HostRuntime) {
     for row in table() {

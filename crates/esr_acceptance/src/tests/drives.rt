@@ -252,7 +252,7 @@ static ROWS: [Row; 30] = [
     },
 ];
 
-/// Which history comes is open, so a drive could always answer a full one; of one busy block only one can come.
+/// Which history comes is open, so a drive could always call it full; of one busy block only one can come.
 #[test]
 fn files_give_their_texts(rt: HostRuntime) {
     for row in table() {

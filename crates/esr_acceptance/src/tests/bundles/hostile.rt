@@ -22,7 +22,7 @@ fn no_proper_prefix_is_json(rt: HostRuntime) {
     }
 }
 
-/// No clause speaks of the stack, which a reader that follows brackets to any depth could exhaust.
+/// No clause speaks of the stack, which a reader that follows brackets to any depth could exhaust: 200 are too deep.
 #[test]
 fn two_hundred_brackets_are_no_json(rt: HostRuntime) {
     let alloc = rt.alloc();

@@ -41,7 +41,7 @@ fn a_failed_read_leaves_nothing_written(rt: HostRuntime) {
     }
 }
 
-/// No clause counts the calls on a device: a drive that loses a rest of bytes, or is never flushed, would end well.
+/// No clause counts the calls on a device: a drive that loses the rest of a write, or is never flushed, would end well.
 #[test]
 fn a_failed_write_ends_the_text(rt: HostRuntime) {
     let alloc = rt.alloc();

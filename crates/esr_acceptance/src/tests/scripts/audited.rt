@@ -104,7 +104,7 @@ fn audits<R: Abort + Threads + Sync>(
     check_written(rt, &writer, output, script);
 }
 
-/// No clause can say that an audit finds memory, for any number of workers; and the text is of definitions.
+/// By its contract each audit may be out of memory: here 1, 4 and 64 workers write the one text made by hand.
 #[test]
 fn scripts_are_audited(rt: HostRuntime) {
     for (script, output) in &AUDITS {

@@ -38,7 +38,7 @@ const LITTLE: &str = "item a 7\n\
 
 /// Two scripts whose queries are not certified, with the fault that ends the run.
 static CUT_SHORT: [(&str, RunFault); 2] = [
-    // The query is committed, but the line behind it has 201 bytes.
+    // The query is committed, but the line behind it is too long.
     (
         "item a 0\n\
             begin q query 9\n\

@@ -35,7 +35,7 @@ fn count_written(read: usize) -> usize {
     written
 }
 
-/// Of a reader that does not tell its bytes no clause says what is written: answers to whole lines, none to a cut one.
+/// Of a reader that does not tell its bytes no clause says what is written: half a line could get an answer.
 #[test]
 fn each_read_fails_in_turn(rt: HostRuntime) {
     let alloc = rt.alloc();
