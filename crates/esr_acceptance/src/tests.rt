@@ -1,3 +1,6 @@
+//! A file for each kind of input, and one for the devices that fail. Contracts speak of readers and writers that tell
+//! their bytes, let any call run out of memory, and rest on definitions: the bytes are compared where these stop.
+
 mod bundles;
 mod devices;
 mod drives;

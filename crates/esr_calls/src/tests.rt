@@ -1,3 +1,6 @@
+//! A file for each library, and `meeting` for what shows that two threads run at once. Each call is proved, but no
+//! contract makes memory or a thread, and none compares a definition with the formats: that is tried here.
+
 mod boards;
 mod certificates;
 mod drives;

@@ -1,3 +1,6 @@
+//! Worked histories and the orders of their queries. An order is proved to be as a definition says, or out of memory.
+//! That there is one where there is memory, and that the definition is what one would count by hand, no clause can say.
+
 mod audits;
 mod placements;
 mod plain;
@@ -157,6 +160,7 @@ const OVER_A_REPORT: [Asked; 11] = [
     Commit(1),
 ];
 
+/// An order that is always out of memory keeps its contract: here one ties updates by an item that was not read.
 #[test]
 fn order_through_a_third_item(rt: HostRuntime) {
     let alloc = rt.alloc();
@@ -176,6 +180,7 @@ fn check_through(rt: &impl Abort, order: &Order) {
     assert!(rt; order.chain(ItemId(3)).is_none());
 }
 
+/// An order that is always out of memory keeps its contract: here there is one as soon as the report has committed.
 #[test]
 fn two_updates_over_a_report(rt: HostRuntime) {
     let alloc = rt.alloc();
@@ -218,6 +223,7 @@ fn has_must(rt: &impl Abort, alloc: Global, events: &[Asked], must: usize) -> bo
     order.commits() == &[TxnId(1)][..] && order.must().len() == must
 }
 
+/// A definition could pass over the word strict: two histories differ in it alone, and in what must be seen.
 #[test]
 fn strict_report(rt: HostRuntime) {
     assert!(rt; has_must(&rt, rt.alloc(), &STRICTLY_BEHIND_AN_UPDATE, 1));
@@ -234,6 +240,7 @@ fn one_after_another(rt: &impl Abort, alloc: Global) -> Machine<Plain> {
     m
 }
 
+/// The clause lets an order have two pairs for each operation: ten updates in one line are tied by nine.
 #[test]
 fn ten_updates_of_one_item(rt: HostRuntime) {
     let m = one_after_another(&rt, rt.alloc());

@@ -32,6 +32,7 @@ fn gives(rt: &impl Abort, alloc: Global, text: &str, line: &str) {
     check_written(rt, &writer, line, text);
 }
 
+/// A verdict is proved against definitions; one that gives a fault another number would be proved as well.
 #[test]
 fn bundles_give_their_verdicts(rt: HostRuntime) {
     for row in table() {
@@ -40,6 +41,7 @@ fn bundles_give_their_verdicts(rt: HostRuntime) {
     }
 }
 
+/// JSON leaves the order of keys and white space free; a definition that knows one spelling alone would be proved.
 #[test]
 fn keys_may_come_in_any_order_with_white_space(rt: HostRuntime) {
     gives(
@@ -51,6 +53,7 @@ fn keys_may_come_in_any_order_with_white_space(rt: HostRuntime) {
     );
 }
 
+/// Which fault is of JSON and which of a bundle's shape is a definition's: the least input of each is tried.
 #[test]
 fn the_empty_input_is_no_json(rt: HostRuntime) {
     gives(&rt, rt.alloc(), "", "bad 1\n");
@@ -71,6 +74,7 @@ fn is_rewritten(alloc: Global, text: &str) -> bool {
     }
 }
 
+/// No clause can say that a bundle finds memory: reading or writing could always run out of it and be proved.
 #[test]
 fn bundles_are_written_as_they_were_read(rt: HostRuntime) {
     let alloc = rt.alloc();
@@ -89,6 +93,7 @@ static SHOWN: [(JudgeFault, &str); 4] = [
     (JudgeFault::NoMemory, "out of memory"),
 ];
 
+/// The words of a fault are in no clause: with two of them swapped, a failed write would be told as a failed read.
 #[test]
 fn faults_show_their_texts(rt: HostRuntime) {
     for (fault, text) in &SHOWN {

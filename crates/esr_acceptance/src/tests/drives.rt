@@ -1,3 +1,6 @@
+//! Drive files with the texts that they give. A drive's text is proved to be one of many, and a drive may answer a full
+//! history, receipts that do not match or out of memory whenever it likes: that it ends well only a test can show.
+
 mod failing;
 
 use crate::tests::devices::check_written;
@@ -249,6 +252,7 @@ static ROWS: [Row; 30] = [
     },
 ];
 
+/// Which history comes is open, so a drive could always call it full; of one busy block only one can come.
 #[test]
 fn files_give_their_texts(rt: HostRuntime) {
     for row in table() {
@@ -273,6 +277,7 @@ static TWO_TEXTS: [&str; 2] = [
         audit q distance 0 import 0 before -\ntotals import 0 export 0 entries 6\n",
 ];
 
+/// No clause says which block begins first, or that a drive ends well: two texts are right here, and no third.
 #[test]
 fn two_blocks_begin_in_one_of_two_orders(rt: HostRuntime) {
     for workers in 1..4 {
@@ -300,6 +305,7 @@ static SHOWN: [(DriveFault, &str); 8] = [
     (DriveFault::Close, "receipts do not match"),
 ];
 
+/// The words of a fault are in no clause: the line of a file and its error could change places in them.
 #[test]
 fn faults_show_their_texts(rt: HostRuntime) {
     for (fault, text) in &SHOWN {

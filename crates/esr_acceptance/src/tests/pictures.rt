@@ -71,11 +71,13 @@ fn has(rt: &impl Abort, alloc: Global, script: &str, name: &str, texts: &[&str])
     }
 }
 
+/// No clause says what a picture shows: with each lane green on the wrong side of the update it would be proved.
 #[test]
 fn a_report_of_the_bank_is_drawn(rt: HostRuntime) {
     has(&rt, rt.alloc(), BANK, "report", &BANK_DRAWN);
 }
 
+/// Any text from `<svg ` to `</svg>` keeps the contract: it could lack an item's second read, or say nothing at all.
 #[test]
 fn little_is_drawn(rt: HostRuntime) {
     let texts = ["q read nothing.</text>", "Not drawn: 1 more update.</text>"];
@@ -149,8 +151,12 @@ fn count(alloc: Global, script: &str, text: &str) -> usize {
     written.matches(text).count()
 }
 
+<<<<<<< HEAD
 /// Of few updates all are drawn, of more those that bound what is seen of the lanes: here three, with the lane that is as
 /// read and keeps the line from the end, where the other one would be exact.
+=======
+/// No clause says what is left out of a full picture: one that leaves out what is off would be proved.
+>>>>>>> sentences
 #[test]
 fn of_many_updates_those_are_drawn_that_bound_what_is_seen(rt: HostRuntime) {
     let lanes = ("class='m n' x='20'", 3);
@@ -183,6 +189,7 @@ fn has_so_often(rt: &impl Abort, alloc: Global, updates: u32, wanted: &[(&str, u
     }
 }
 
+/// The contract lets out of memory come in place of this refusal, for an update's or an item's name as for none.
 #[test]
 fn what_is_no_committed_query_is_not_drawn(rt: HostRuntime) {
     let alloc = rt.alloc();
@@ -195,6 +202,7 @@ fn what_is_no_committed_query_is_not_drawn(rt: HostRuntime) {
     }
 }
 
+/// Of a reader that does not tell its bytes no clause says what is written: a picture of half a script could be.
 #[test]
 fn each_read_fails_in_turn(rt: HostRuntime) {
     let alloc = rt.alloc();
@@ -207,6 +215,7 @@ fn each_read_fails_in_turn(rt: HostRuntime) {
     }
 }
 
+/// The contract ties a write fault to a failed call, but does not make one: a drawing could end before it writes.
 #[test]
 fn writes_fail(rt: HostRuntime) {
     let alloc = rt.alloc();

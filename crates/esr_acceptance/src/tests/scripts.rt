@@ -1,3 +1,6 @@
+//! Scripts that are run, audited, certified and explained. What is written is proved against definitions, up to out of
+//! memory; that definitions say what the formats say, and that a run comes to its end, are tried on texts made by hand.
+
 mod audited;
 mod certified;
 mod explained;
@@ -28,6 +31,7 @@ fn answers(
     check_written(rt, &writer, text, name);
 }
 
+/// The program is proved against definitions; the texts are from the formats, from which a definition could stray.
 #[test]
 fn scripts_give_their_texts(rt: HostRuntime) {
     for row in table() {
@@ -53,6 +57,7 @@ static SHOWN: [(RunFault, &str); 7] = [
     (RunFault::NotACommittedQuery, "not a committed query"),
 ];
 
+/// The words of a fault are in no clause: with two of them swapped, a failed write would be told as a failed read.
 #[test]
 fn faults_show_their_texts(rt: HostRuntime) {
     for (fault, text) in &SHOWN {

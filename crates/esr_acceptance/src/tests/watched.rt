@@ -39,6 +39,7 @@ impl Write for Counting {
     }
 }
 
+/// Of a real device clauses know nothing, so `Watched` could answer each call by itself and would be proved.
 #[test]
 fn each_call_reaches_the_device_once(rt: HostRuntime) {
     let mut device = Watched::new(UNASKED);
@@ -70,6 +71,7 @@ impl Write for Holding {
     }
 }
 
+/// No clause asks for a flush: a run that leaves its output in a buffer below it would end well, and show nothing.
 #[test]
 fn a_run_hands_its_whole_output_on(rt: HostRuntime) {
     let alloc = rt.alloc();

@@ -57,6 +57,7 @@ fn close_with(
     board.close(given)
 }
 
+/// Since others may claim in between, no clause says which number a claim gives; by one thread they come in order.
 #[test]
 fn every_claim_closes_the_board(rt: HostRuntime) {
     let (board, mut first, second) = claimed(&rt, rt.alloc());
@@ -67,6 +68,7 @@ fn every_claim_closes_the_board(rt: HostRuntime) {
     assert!(rt; board.close(given) == Ok(()));
 }
 
+/// With the next test it parts seats from their draws: a close that only counts seats would err in one of the two.
 #[test]
 fn a_seat_that_drew_is_missing(rt: HostRuntime) {
     let (board, first, second) = claimed(&rt, rt.alloc());
@@ -74,6 +76,7 @@ fn a_seat_that_drew_is_missing(rt: HostRuntime) {
     assert!(rt; close_with(&rt, rt.alloc(), board, second) == Err(ClaimsMissing));
 }
 
+/// The clause lets a close be refused wherever a seat is kept back; one that drew nothing is no reason for it.
 #[test]
 fn a_seat_that_drew_nothing_is_not_missed(rt: HostRuntime) {
     let (board, mut first, second) = three_jobs(&rt, rt.alloc());
@@ -86,6 +89,7 @@ fn a_seat_that_drew_nothing_is_not_missed(rt: HostRuntime) {
     assert!(rt; close_with(&rt, rt.alloc(), board, first) == Ok(()));
 }
 
+/// The clause lets a close without seats be refused; where nobody has drawn anything, nothing can be missing.
 #[test]
 fn an_unused_board_closes_with_no_seat(rt: HostRuntime) {
     let (board, first, second) = three_jobs(&rt, rt.alloc());
@@ -99,6 +103,7 @@ fn refused(alloc: Global, jobs: u64, seats: u64) -> Option<BoardError> {
     Board::new(alloc, jobs, seats).err()
 }
 
+/// The bounds are constants that no clause compares with the formats; and none says that the largest board is made.
 #[test]
 fn a_board_has_few_jobs_and_seats(rt: HostRuntime) {
     let alloc = rt.alloc();

@@ -1,3 +1,6 @@
+//! Certificates with one part changed, and parts that are no problem. What the check answers is what a definition says
+//! of the first fault. That the faults have the order and the numbers of the formats no clause can say.
+
 use Change::{Backs, Count, FirstChain, Musts, Nothing, Set, Worth};
 use esr_cert::{BundleFault, Certificate, Chain, Fault, Problem, check};
 use esr_history::TxnId;
@@ -157,6 +160,7 @@ const OF_SEEN: [Case; 5] = [
 
 /// Parts that are no problem, and the rule that each breaks.
 const REFUSED: [(Asked<'static>, BundleFault); 5] = [
+    // Neighbours of a chain are no pair.
     (
         Asked {
             before: &[],
@@ -164,6 +168,7 @@ const REFUSED: [(Asked<'static>, BundleFault); 5] = [
         },
         BundleFault::Shape,
     ),
+    // 0 is no transaction.
     (
         Asked {
             updates: &[2, 0],
@@ -171,6 +176,7 @@ const REFUSED: [(Asked<'static>, BundleFault); 5] = [
         },
         BundleFault::Range,
     ),
+    // A cost is above what reads can cost.
     (
         Asked {
             items: TOO_DEAR,
@@ -178,6 +184,7 @@ const REFUSED: [(Asked<'static>, BundleFault); 5] = [
         },
         BundleFault::Range,
     ),
+    // An update is there twice, which is of shape and told before the cost.
     (
         Asked {
             updates: &[2, 2],
@@ -186,6 +193,7 @@ const REFUSED: [(Asked<'static>, BundleFault); 5] = [
         },
         BundleFault::Shape,
     ),
+    // What must be held is none of the updates.
     (
         Asked {
             items: &[],
@@ -289,6 +297,7 @@ fn check_all(rt: &impl Abort, alloc: Global, asked: Asked, parts: Parts, cases: 
     }
 }
 
+/// Which fault is told, and by which number, is a definition's: with two of them swapped the check would be as sound.
 #[test]
 fn each_fault_of_a_certificate(rt: HostRuntime) {
     check_all(&rt, rt.alloc(), REPORT, BOTH, &OF_BOTH);
@@ -296,22 +305,26 @@ fn each_fault_of_a_certificate(rt: HostRuntime) {
     assert!(rt; Fault::TooManyAugmentations.number() == 7);
 }
 
+/// The least distance does not rest on the count: a definition with a larger bound, or none, would be proved.
 #[test]
 fn a_count_of_augmentations_is_at_most_nodes_times_arcs(rt: HostRuntime) {
     check_all(&rt, rt.alloc(), THIRD_ITEM, NEITHER, &OF_NEITHER);
 }
 
+/// Without an arc no augmentation may be told, and a chain without writers is one arc: a definition could say else.
 #[test]
 fn a_problem_with_no_update(rt: HostRuntime) {
     check_all(&rt, rt.alloc(), NOTHING, FREE, &OF_FREE);
     check_all(&rt, rt.alloc(), ONE_ITEM, PAID, &[(Nothing, None)]);
 }
 
+/// Which fault is told is a definition's: a set without what it must hold has to be told as not closed.
 #[test]
 fn a_set_has_to_hold_must(rt: HostRuntime) {
     check_all(&rt, rt.alloc(), STRICT, SEEN, &OF_SEEN);
 }
 
+/// No clause can say that a problem finds memory: with sound parts it could be refused each time, and be proved.
 #[test]
 fn a_problem_keeps_its_parts(rt: HostRuntime) {
     let Ok(problem) = problem(rt.alloc(), REPORT) else {
@@ -323,6 +336,7 @@ fn a_problem_keeps_its_parts(rt: HostRuntime) {
     assert!(rt; problem.must().len() == 0);
 }
 
+/// The contract lets out of memory come in place of each fault; and that shape comes before range is a definition's.
 #[test]
 fn a_problem_keeps_its_rules(rt: HostRuntime) {
     for (i, (asked, fault)) in REFUSED.iter().enumerate() {

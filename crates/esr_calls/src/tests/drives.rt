@@ -4,6 +4,7 @@ use crate::tests::meeting::Meeting;
 use esr_drive::drive;
 use esr_history::Watched;
 
+/// No clause says that blocks run at once: a drive of one after another would leave the first waiting in the gate.
 #[test]
 fn two_blocks_are_in_the_gate_at_once(rt: HostRuntime) {
     let gate = Meeting::new();

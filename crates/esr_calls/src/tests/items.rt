@@ -1,3 +1,6 @@
+//! Stores and distances by hand. That a store finds memory no clause can say; what its bounds are, and which of all
+//! metrics is meant, stands in constants and definitions, which could have other numbers in them and be proved.
+
 ghost use Rattle.std.specs.Prelude.{◌≡◌, length};
 
 use esr_items::{ItemId, ItemsError, Metric, Plain, Store, Weighted};
@@ -19,6 +22,7 @@ fn stored(rt: &impl Abort, alloc: Global, values: &[i64]) -> Store
     store
 }
 
+/// No clause can say that a store finds memory: one that never does would be proved, and keep no value at all.
 #[test]
 fn a_store_keeps_two_values_of_each_item(rt: HostRuntime) {
     let mut store = stored(&rt, rt.alloc(), &[7, -LARGEST]);
@@ -43,6 +47,7 @@ fn refuses(alloc: Global, values: &[i64], wanted: ItemsError) -> bool {
     }
 }
 
+/// The bounds are constants that no clause compares with the formats: a store that takes more could be proved.
 #[test]
 fn a_store_names_what_it_refuses(rt: HostRuntime) {
     let alloc = rt.alloc();
@@ -50,6 +55,7 @@ fn a_store_names_what_it_refuses(rt: HostRuntime) {
     assert!(rt; refuses(alloc, &[LARGEST + 1; 4097], ItemsError::TooManyItems));
 }
 
+/// A distance of 1 between any two values that differ is a metric too: a definition of that would be proved.
 #[test]
 fn plain_distances_are_differences(rt: HostRuntime) {
     let x = ItemId(0);
@@ -68,6 +74,7 @@ fn weighted(rt: &impl Abort, alloc: Global, weights: &[u32]) -> Weighted {
     metric
 }
 
+/// A definition that forgets the weights is a metric too; and what an item without one counts is a definition's.
 #[test]
 fn weighted_distances_are_differences_times_weights(rt: HostRuntime) {
     let metric = weighted(&rt, rt.alloc(), &[3, 1000]);
@@ -84,6 +91,7 @@ fn refuses_weights(alloc: Global, weights: &[u32], wanted: ItemsError) -> bool {
     }
 }
 
+/// The bounds are constants that no clause compares with the formats: a metric that takes more could be proved.
 #[test]
 fn a_weighted_metric_names_what_it_refuses(rt: HostRuntime) {
     let alloc = rt.alloc();

@@ -1,9 +1,13 @@
+//! Limits asked and charged by hand. Each call of the ledgers does what a definition says; that the definition is the
+//! one that is meant, and that an account finds memory, no clause can say.
+
 ghost use Rattle.std.specs.Prelude.{◌≡◌, []};
 
 use esr_history::TxnId;
 use esr_ledgers::{Ledgers, Quote};
 use std::process::Abort;
 
+/// Which query is named, and that a charge may fill a limit, is a definition's: one off by 1 would be proved.
 #[test]
 fn an_export_limit_bounds_the_sum_over_queries(rt: HostRuntime) {
     check_the_sum(&rt, &mut Ledgers::new(rt.alloc()));
@@ -29,6 +33,7 @@ fn check_the_sum(rt: &impl Abort, ledgers: &mut Ledgers)
     assert!(rt; ledgers.totals() == (14, 14));
 }
 
+/// Whom a full limit names is a definition's: one that names the query would be proved; and nothing is charged yet.
 #[test]
 fn an_update_that_is_full_is_named(rt: HostRuntime) {
     let mut ledgers = Ledgers::new(rt.alloc());

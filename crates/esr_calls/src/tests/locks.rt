@@ -1,3 +1,6 @@
+//! Locks taken and given back. Each call is proved against lists of who holds what, but a lock is taken only where room
+//! was found for it, and no clause can say that it is: a table without any room would keep its contract.
+
 ghost use Rattle.std.specs.Prelude.{◌≡◌, ◌<◌, length, map};
 ghost use Rattle.std.specs.List.{range_with_len};
 ghost use Rattle.esr_locks.specs.Tables.{no_locks, room_for};
@@ -34,6 +37,7 @@ fn read_by(rt: &impl Abort, locks: &mut LockTable, t: TxnId)
     locks.add_read_update(t, A);
 }
 
+/// By the clauses room may be refused always, and `items_of` list more than is locked: here it lists what is.
 #[test]
 fn an_upgrade_waits_for_the_smallest_other_reader(rt: HostRuntime) {
     let mut locks = table(&rt, rt.alloc());
@@ -64,6 +68,7 @@ fn an_upgrade_waits_for_the_smallest_other_reader(rt: HostRuntime) {
     assert!(rt; locks.items_of(u).is_empty());
 }
 
+/// No clause can say that the lock of a query finds room: a table that never has any would be proved.
 #[test]
 fn queries_stand_by_their_numbers_with_counts(rt: HostRuntime) {
     let mut locks = table(&rt, rt.alloc());
@@ -86,6 +91,7 @@ fn queries_stand_by_their_numbers_with_counts(rt: HostRuntime) {
     assert!(rt; locks.query_reads(B) == [QueryReads { query: r, count: 1 }].as_slice());
 }
 
+/// A row holds four readers without an allocation; that the fifth gets one no clause can say.
 #[test]
 fn more_readers_than_a_row_holds_stand_by_their_numbers(rt: HostRuntime) {
     let mut locks = table(&rt, rt.alloc());
@@ -99,6 +105,7 @@ fn more_readers_than_a_row_holds_stand_by_their_numbers(rt: HostRuntime) {
     assert!(rt; locks.may_write(TxnId(11), A) == Some(TxnId(13)));
 }
 
+/// A row holds two queries without an allocation; that the third gets one no clause can say.
 #[test]
 fn more_queries_than_a_row_holds_stand_by_their_numbers(rt: HostRuntime) {
     let mut locks = table(&rt, rt.alloc());

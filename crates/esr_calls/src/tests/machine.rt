@@ -1,3 +1,6 @@
+//! Events given to a machine over one item, with the replies that they get by hand. A machine answers as a definition
+//! says or is out of memory: no clause can say that it ever answers, or that the definition is that of the pages.
+
 use Asked::{Commit, Query, Read, Update, Write};
 use esr_core::{Machine, RenewError, StepError, Totals};
 use esr_history::Reply::{Aborted, Begun, Committed, Refused, Value, Wrote};
@@ -104,6 +107,7 @@ const BESIDE_A_WRITER: [(Asked, Reply); 6] = [
     (Commit(2), Committed),
 ];
 
+/// A machine that is always out of memory keeps its contract; and a definition could charge more than the distance.
 #[test]
 fn report_beside_a_writer(rt: HostRuntime) {
     plays(&rt, rt.alloc(), 100, &BESIDE_A_WRITER, 7);
@@ -121,6 +125,7 @@ const OVER_QUERIES: [(Asked, Reply); 9] = [
     (Write(4, 5), Wrote),
 ];
 
+/// A definition that refused what just fills a limit would be as safe: here 15 passes where 14 are too few.
 #[test]
 fn export_limit_over_queries(rt: HostRuntime) {
     plays(&rt, rt.alloc(), 0, &OVER_QUERIES, 15);
@@ -137,6 +142,7 @@ const UPGRADE: [(Asked, Reply); 8] = [
     (Commit(1), Committed),
 ];
 
+/// A definition that refused each upgrade would be as serializable: here it passes once the other reader has ended.
 #[test]
 fn upgrade_waits_for_a_reader(rt: HostRuntime) {
     plays(&rt, rt.alloc(), 0, &UPGRADE, 0);
@@ -150,6 +156,7 @@ const ABORTED: [(Asked, Reply); 5] = [
     (Read(2), Value(1)),
 ];
 
+/// No clause can say that an abort finds memory for its entry: a machine that never takes one would be proved.
 #[test]
 fn abort_puts_back(rt: HostRuntime) {
     let mut machine = opened_at_last(&rt, rt.alloc(), 1);
@@ -166,6 +173,7 @@ fn renew_at_last(m: &mut Machine<Plain>, alloc: Global) -> Result<(), RenewError
     }
 }
 
+/// A renewal that is always out of memory keeps its contract, and the history would fill up with no way on.
 #[test]
 fn renewed_over_committed_values(rt: HostRuntime) {
     let mut machine = opened_at_last(&rt, rt.alloc(), 1);

@@ -122,6 +122,7 @@ fn is_of_two_updates(book: &Book) -> bool {
         && is_of_the_first_report(&book.findings[0])
 }
 
+/// By its contract each audit may be out of memory: here one, two and the most workers find all that there is.
 #[test]
 fn each_number_of_workers_finds_the_same(rt: HostRuntime) {
     let m = played(&rt, rt.alloc());
@@ -131,6 +132,7 @@ fn each_number_of_workers_finds_the_same(rt: HostRuntime) {
     }
 }
 
+/// The most workers are a constant that no clause compares with the formats: one that lets 65 in could be proved.
 #[test]
 fn an_audit_has_1_to_64_workers(rt: HostRuntime) {
     let m = played(&rt, rt.alloc());
@@ -140,6 +142,7 @@ fn an_audit_has_1_to_64_workers(rt: HostRuntime) {
     }
 }
 
+/// No contract gives a thread time or memory: four workers have nothing to claim here, and the audit still ends.
 #[test]
 fn an_empty_history_has_no_findings(rt: HostRuntime) {
     let m = machine(&rt, rt.alloc());
@@ -147,6 +150,7 @@ fn an_empty_history_has_no_findings(rt: HostRuntime) {
     assert!(rt; book.order.is_empty() && book.findings.is_empty());
 }
 
+/// No clause says that threads run at once or call the gate: one worker for both jobs would wait there in vain.
 #[test]
 fn two_workers_at_once(rt: HostRuntime) {
     let mut m = played(&rt, rt.alloc());
@@ -172,6 +176,7 @@ fn one_seat(rt: &impl Abort, alloc: Global, jobs: u64) -> (Board, BoardSeat)
     (board, seat)
 }
 
+/// The contract lets out of memory come in place of this refusal; what the seat drew is not lost by it.
 #[test]
 fn a_worker_refuses_what_is_no_committed_query(rt: HostRuntime) {
     let m = played(&rt, rt.alloc());
@@ -190,6 +195,7 @@ fn a_worker_refuses_what_is_no_committed_query(rt: HostRuntime) {
     assert!(rt; board.close(given) == Ok(()));
 }
 
+/// By its contract a worker may draw its job and be out of memory, each time: here its share has the job's finding.
 #[test]
 fn a_worker_alone_does_all_jobs(rt: HostRuntime) {
     let m = played(&rt, rt.alloc());

@@ -28,6 +28,7 @@ fn zeros(rt: &impl Abort, alloc: Global, count: usize) -> Store {
     items
 }
 
+/// By their contracts a call may always find the engine closed, and a close always a foreign receipt.
 #[test]
 fn four_sessions(rt: HostRuntime) {
     let alloc = rt.alloc();
@@ -196,6 +197,7 @@ fn begin_once<N: Naming, R: Wait>(rt: &R, session: &mut Session<Plain, N>, limit
     }
 }
 
+/// Before the close a receipt is of some legal history: a session that saw no other's writes would keep that clause.
 #[test]
 fn a_read_finds_what_another_session_wrote(rt: HostRuntime) {
     let alloc = rt.alloc();
@@ -319,6 +321,7 @@ fn writing(txn: u32) -> Event {
     }
 }
 
+/// By their clauses a patient call may find the engine closed at once, and a call behind the close still be answered.
 #[test]
 fn a_patient_call_takes_its_turns(rt: HostRuntime) {
     let alloc = rt.alloc();

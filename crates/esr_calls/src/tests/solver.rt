@@ -1,3 +1,6 @@
+//! Problems solved by the search from the flow of zeros, and what is found of them by hand. The contract of `solve`
+//! gives worth and smallest set. It leaves open which maximum flow is found, and lets it be out of memory always.
+
 use super::certificates::{Item, chains};
 use esr_cert::{Certificate, Problem};
 use esr_flow::{Network, Solved, solve};
@@ -136,6 +139,7 @@ fn check_row(rt: &impl Abort, alloc: Global, row: &Row) {
     assert!(rt; is_found(&solved, row), "{}", row.name);
 }
 
+/// A solver that is always out of memory keeps its contract, which also leaves open which maximum flow it finds.
 #[test]
 fn problems_are_solved(rt: HostRuntime) {
     for row in &ROWS {

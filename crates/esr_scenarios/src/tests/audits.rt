@@ -272,6 +272,7 @@ static CASES: [Case; 9] = [
     },
 ];
 
+/// A wrong definition of distance or import would be proved: what is found by hand and by plain programs must agree.
 #[test]
 fn queries_are_audited(rt: HostRuntime) {
     for case in &CASES {
@@ -280,6 +281,7 @@ fn queries_are_audited(rt: HostRuntime) {
     }
 }
 
+/// An audit that is always out of memory keeps its contract: here it is refused before the commit, and then answers.
 #[test]
 fn two_updates_over_a_report(rt: HostRuntime) {
     let alloc = rt.alloc();
@@ -310,6 +312,7 @@ const EDGE: i64 = 1_000_000_000_000;
 
 const LIMIT: u64 = 2_000_000_000_000;
 
+/// The largest value is a constant that no clause compares with the formats: the next one has to be refused here.
 #[test]
 fn values_at_the_edge(rt: HostRuntime) {
     let alloc = rt.alloc();

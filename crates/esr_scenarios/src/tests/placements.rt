@@ -397,6 +397,7 @@ fn both_found(
     Some((found, listed(alloc, m, q)))
 }
 
+/// A wrong definition of a placement would be proved: a plain program that lists them all must find the same.
 #[test]
 fn least_of_all_placements(rt: HostRuntime) {
     let mut far = [0u32; 4];
@@ -439,6 +440,7 @@ fn all_found(
     Some((found, plain, free))
 }
 
+/// A definition could ask nothing more of a strict query: some have to be farther here than if they were not strict.
 #[test]
 fn least_of_all_strict_placements(rt: HostRuntime) {
     let mut farther = 0u32;

@@ -842,6 +842,7 @@ fn counts(log: &Log) -> (u32, u32, u32) {
     (blocked, aborts, strict)
 }
 
+/// Fast forms are proved against definitions that may be wrong: scans that share nothing with them must say the same.
 #[test]
 fn fast_forms_are_the_plain_ones(rt: HostRuntime) {
     let Some(m) = generated(rt.alloc(), 11) else {

@@ -25,6 +25,7 @@ impl Read for Zeros {
     }
 }
 
+/// Of a reader that does not tell its bytes no clause says what is written: a verdict on half a bundle could be.
 #[test]
 fn each_read_fails_in_turn(rt: HostRuntime) {
     let alloc = rt.alloc();
@@ -49,6 +50,7 @@ fn is_written(rt: &impl Abort, alloc: Global, left: usize) -> bool {
     written
 }
 
+/// No clause counts the calls on a device: a verdict that is never flushed would end as well as this one.
 #[test]
 fn each_write_fails_in_turn(rt: HostRuntime) {
     // The line takes three writes and a flush.
@@ -57,6 +59,7 @@ fn each_write_fails_in_turn(rt: HostRuntime) {
     }
 }
 
+/// Of a device that does not tell its bytes no clause says how many are taken: an endless one could fill the memory.
 #[test]
 fn too_many_bytes_are_not_judged(rt: HostRuntime) {
     let alloc = rt.alloc();

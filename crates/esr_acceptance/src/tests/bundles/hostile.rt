@@ -12,6 +12,7 @@ fn judged(alloc: Global, bytes: &[u8]) -> Result<Verdict, JudgeFault> {
     judge(alloc, &mut reader, &mut writer)
 }
 
+/// What is JSON is a definition's: one that forgives a missing end would be proved, and take a cut file for whole.
 #[test]
 fn no_proper_prefix_is_json(rt: HostRuntime) {
     let bytes = TWO_UPDATES.as_bytes();
@@ -21,6 +22,7 @@ fn no_proper_prefix_is_json(rt: HostRuntime) {
     }
 }
 
+/// No clause speaks of the stack, which a reader that follows brackets to any depth could exhaust: 200 are too deep.
 #[test]
 fn two_hundred_brackets_are_no_json(rt: HostRuntime) {
     let alloc = rt.alloc();
@@ -31,6 +33,7 @@ fn two_hundred_brackets_are_no_json(rt: HostRuntime) {
     assert!(rt; judged(alloc, brackets.as_slice()) == Ok(Verdict::Bad(1)));
 }
 
+/// What is text is a definition's: one that passes over a byte of no text would be proved, and judge what is not there.
 #[test]
 fn a_byte_that_is_no_text_is_no_json(rt: HostRuntime) {
     let alloc = rt.alloc();

@@ -28,6 +28,7 @@ impl Read for Endless {
     }
 }
 
+/// Of a reader that does not tell its bytes no clause says what is written: the drive of half a file could be.
 #[test]
 fn a_failed_read_leaves_nothing_written(rt: HostRuntime) {
     let alloc = rt.alloc();
@@ -40,6 +41,7 @@ fn a_failed_read_leaves_nothing_written(rt: HostRuntime) {
     }
 }
 
+/// No clause counts the calls on a device: a drive that loses the rest of a write, or is never flushed, would end well.
 #[test]
 fn a_failed_write_ends_the_text(rt: HostRuntime) {
     let alloc = rt.alloc();
@@ -55,6 +57,7 @@ fn a_failed_write_ends_the_text(rt: HostRuntime) {
     }
 }
 
+/// Of a device that does not tell its bytes no clause says how many are taken: this one could fill the memory first.
 #[test]
 fn a_stream_without_end_is_not_read_to_its_end(rt: HostRuntime) {
     let streams = [

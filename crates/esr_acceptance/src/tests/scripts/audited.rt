@@ -9,15 +9,19 @@ use std::thread::Threads;
 
 /// Scripts, and the audit of each.
 static AUDITS: [(&str, &str); 7] = [
+    // Nothing happened: no order, no query, and still two lines.
     ("", "order -\ntotals import 0 export 0 entries 0\n"),
+    // Items alone make no history.
     (
         "item a 1\nitem b 2\n",
         "order -\ntotals import 0 export 0 entries 0\n",
     ),
+    // An update without a query beside it is in the order, and has no audit.
     (
         "item a 100\nbegin u update 0\nwrite u a 105\nread u a\ncommit u\n",
         "order u\ntotals import 0 export 0 entries 4\n",
     ),
+    // The lines `audit` and `totals` of the script itself write nothing.
     (
         "item a 100\n\
             begin u update 50\n\
@@ -30,6 +34,7 @@ static AUDITS: [(&str, &str); 7] = [
             totals\n",
         "order u\naudit q distance 0 import 7 before u\ntotals import 7 export 7 entries 6\n",
     ),
+    // The line `audit q`, while q is active, is an error and no entry.
     (
         "item a 0\n\
             item b 0\n\
@@ -50,6 +55,7 @@ static AUDITS: [(&str, &str); 7] = [
             audit q distance 1 import 19 before u1,u2\n\
             totals import 19 export 19 entries 11\n",
     ),
+    // Audits are in the order of the commits of their queries, not of the begins.
     (
         "item a 0\n\
             item b 0\n\
@@ -72,6 +78,7 @@ static AUDITS: [(&str, &str); 7] = [
             audit q distance 1 import 19 before u1,u2\n\
             totals import 19 export 19 entries 14\n",
     ),
+    // An aborted update is not in the order, and a query that is still active has no audit.
     (
         "item a 1\nbegin u update 0\nwrite u a 5\nabort u\nbegin q query 0\nread q a\nhello\n",
         "order -\ntotals import 0 export 0 entries 5\n",
@@ -97,6 +104,7 @@ fn audits<R: Abort + Threads + Sync>(
     check_written(rt, &writer, output, script);
 }
 
+/// By its contract each audit may be out of memory: here 1, 4 and 64 workers write the one text made by hand.
 #[test]
 fn scripts_are_audited(rt: HostRuntime) {
     for (script, output) in &AUDITS {
@@ -111,6 +119,7 @@ const TOO_LONG: &str =
     "item a 1\nxxxxxxxxxxxxxxxxxxxxxxxxxxxxxxxxxxxxxxxxxxxxxxxxxxxxxxxxxxxxxxxxxxxxxxxxxxxxxxxxxxxxxxxxxx\
     xxxxxxxxxxxxxxxxxxxxxxxxxxxxxxxxxxxxxxxxxxxxxxxxxxxxxxxxxxxxxxxxxxxxxxxxxxxxxxxxxxxxxxxxxxxxxxxxxxxxxxxxxxxxxxx";
 
+/// The contract lets out of memory come in place of each fault: a line of 201 bytes has to end the audit by its own.
 #[test]
 fn a_fault_leaves_nothing_written(rt: HostRuntime) {
     let ends = Err(RunFault::LineTooLong);

@@ -38,6 +38,7 @@ const LITTLE: &str = "item a 7\n\
 
 /// Two scripts whose queries are not certified, with the fault that ends the run.
 static CUT_SHORT: [(&str, RunFault); 2] = [
+    // The query is committed, but the line behind it is too long.
     (
         "item a 0\n\
             begin q query 9\n\
@@ -45,6 +46,7 @@ static CUT_SHORT: [(&str, RunFault); 2] = [
             aaaaaaaaaaaaaaaaaaaaaaaaaaaaaaaaaaaaaaaaaaaaaaaaaaaaaaaaaaaaaaaaaaaaaaaaaaaaaaaaaaaaaaaaaaaaaaaaaaaaaaaaaaaaaaaaaaaaaaaaaaaaaaaaaaaaaaaaaaaaaaaaaaaaaaaaaaaaaaaaaaaaaaaaaaaaaaaaaaaaaaaaaaaaaaaaaaaaaaaaaaaa\n",
         RunFault::LineTooLong,
     ),
+    // The script ends while the query is active.
     (
         "item a 0\nbegin q query 9\nread q a\n",
         RunFault::NotACommittedQuery,
@@ -71,6 +73,7 @@ fn certified(
     check_written(rt, &writer, text, name);
 }
 
+/// Which maximum flow a bundle holds no clause says; here there is one alone, and it goes back along the pair.
 #[test]
 fn order_through_a_third_item_is_certified(rt: HostRuntime) {
     certified(&rt, rt.alloc(), THIRD_ITEM, "q", false, Ok(()), BUNDLE);
@@ -85,6 +88,7 @@ fn order_through_a_third_item_is_certified(rt: HostRuntime) {
     );
 }
 
+/// A bundle's text is a definition's: one that leaves out an empty list, or a chain without writers, would be proved.
 #[test]
 fn queries_that_read_little_are_certified(rt: HostRuntime) {
     certified(
@@ -154,6 +158,7 @@ fn strict_report_is_certified(rt: HostRuntime) {
     );
 }
 
+/// The contract lets out of memory come in place of this refusal, whatever else the name stands for.
 #[test]
 fn what_is_no_committed_query_is_refused(rt: HostRuntime) {
     let refused = Err(RunFault::NotACommittedQuery);
@@ -164,6 +169,7 @@ fn what_is_no_committed_query_is_refused(rt: HostRuntime) {
     certified(&rt, rt.alloc(), "", "q", false, refused, "");
 }
 
+/// The contract lets out of memory come in place of each fault: the one that ended the script has to be told.
 #[test]
 fn nothing_is_written_after_a_fault(rt: HostRuntime) {
     for (script, fault) in &CUT_SHORT {
@@ -172,6 +178,7 @@ fn nothing_is_written_after_a_fault(rt: HostRuntime) {
     }
 }
 
+/// Of a reader that does not tell its bytes no clause says what is written: a bundle of half a script could be.
 #[test]
 fn each_read_fails_in_turn(rt: HostRuntime) {
     let alloc = rt.alloc();
@@ -196,6 +203,7 @@ fn is_written(rt: &impl Abort, alloc: Global, left: usize, way: Way) -> bool {
     written
 }
 
+/// No clause counts the calls on a device: a bundle that is written byte by byte, or never flushed, would be proved.
 #[test]
 fn each_write_fails_in_turn(rt: HostRuntime) {
     let alloc = rt.alloc();

@@ -115,11 +115,13 @@ fn explained(
     check_written(rt, &writer, text, name);
 }
 
+/// The lines are those of a definition: one that tells a charge's step, or what it left, an event late would be proved.
 #[test]
 fn charges_of_the_bank_are_explained(rt: HostRuntime) {
     explained(&rt, rt.alloc(), BANK, "report", Ok(()), BANK_EXPLAINED);
 }
 
+/// A definition could forget weights: values 2 apart are charged 1800 here; and a strict report is told like any other.
 #[test]
 fn strict_and_weighted_queries_are_explained(rt: HostRuntime) {
     explained(
@@ -133,12 +135,14 @@ fn strict_and_weighted_queries_are_explained(rt: HostRuntime) {
     explained(&rt, rt.alloc(), WEIGHTED, "q", Ok(()), WEIGHTED_EXPLAINED);
 }
 
+/// A definition could set current values beside the reads, or tell one that is made twice once, and would be proved.
 #[test]
 fn reads_are_told_beside_the_nearest_placement(rt: HostRuntime) {
     explained(&rt, rt.alloc(), TORN, "q", Ok(()), TORN_EXPLAINED);
     explained(&rt, rt.alloc(), BETWEEN, "q", Ok(()), BETWEEN_EXPLAINED);
 }
 
+/// The contract lets out of memory come in place of this refusal, also where the query is still active.
 #[test]
 fn only_committed_queries_are_explained(rt: HostRuntime) {
     let none = Err(RunFault::NotACommittedQuery);

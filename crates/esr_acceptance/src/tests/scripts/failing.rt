@@ -35,6 +35,7 @@ fn count_written(read: usize) -> usize {
     written
 }
 
+/// Of a reader that does not tell its bytes no clause says what is written: half a line could get an answer.
 #[test]
 fn each_read_fails_in_turn(rt: HostRuntime) {
     let alloc = rt.alloc();
@@ -60,6 +61,7 @@ fn is_written(rt: &impl Abort, alloc: Global, left: usize, way: Way) -> bool {
     written
 }
 
+/// Of a writer that takes three bytes at a time no clause knows the text: a run that loses the rest would end well.
 #[test]
 fn each_write_fails_in_turn(rt: HostRuntime) {
     let alloc = rt.alloc();
@@ -75,6 +77,7 @@ fn each_write_fails_in_turn(rt: HostRuntime) {
 /// The audit of the script.
 const AUDIT: &str = "order u\ntotals import 0 export 0 entries 4\n";
 
+/// Of a reader that does not tell its bytes no clause says what is written: the audit of half a script could be.
 #[test]
 fn each_read_of_an_audit_fails_in_turn(rt: HostRuntime) {
     let alloc = rt.alloc();
@@ -104,6 +107,7 @@ fn audit_is_written<R: Abort + Threads + Sync>(
     written
 }
 
+/// Of a writer that takes three bytes at a time no clause knows the text: an audit that loses the rest would end well.
 #[test]
 fn each_write_of_an_audit_fails_in_turn(rt: HostRuntime) {
     let alloc = rt.alloc();

@@ -160,26 +160,31 @@ fn give_their_texts(rt: &impl Abort, alloc: Global, rows: &[Row]) {
     }
 }
 
+/// The bound is a number in a definition, which no clause compares with the formats: with 199 there it would be proved.
 #[test]
 fn a_line_has_at_most_two_hundred_bytes(rt: HostRuntime) {
     give_their_texts(&rt, rt.alloc(), &ROWS[..2]);
 }
 
+/// What counts as a line is a definition's: one that counts an empty line behind the last line feed would be proved.
 #[test]
 fn there_are_at_most_two_million_lines(rt: HostRuntime) {
     give_their_texts(&rt, rt.alloc(), &ROWS[2..5]);
 }
 
+/// No clause can say that a million entries find memory: a run could be out of it before its history is full.
 #[test]
 fn a_full_history_ends_at_the_next_event(rt: HostRuntime) {
     give_their_texts(&rt, rt.alloc(), &ROWS[5..6]);
 }
 
+/// The bound is a number in a definition, which no clause compares with the formats: with 999 there it would be proved.
 #[test]
 fn a_query_reads_at_most_a_thousand_times(rt: HostRuntime) {
     give_their_texts(&rt, rt.alloc(), &ROWS[6..]);
 }
 
+/// What a line of bytes that are no text is answered is a definition's: a run that ends there would be proved as well.
 #[test]
 fn bytes_that_are_no_text(rt: HostRuntime) {
     let script = b"item \xff 1\n\xc3\nitem a \x80\nitem a 1";
@@ -219,6 +224,7 @@ fn ends_with(rt: &impl Abort, alloc: Global, script: &str, last: &str) {
     assert!(rt; writer.inner().as_slice().ends_with(last.as_bytes()));
 }
 
+/// No clause can say that 4,096 items find memory: a run that is always out of it before the bound would be proved.
 #[test]
 fn at_most_4096_items_are_declared(rt: HostRuntime) {
     let others = "begin u update 0\nread u x4095\nread u x4096\n";
@@ -228,6 +234,7 @@ fn at_most_4096_items_are_declared(rt: HostRuntime) {
     ends_with(&rt, rt.alloc(), script.as_str(), last);
 }
 
+/// No clause can say that 65,535 transactions find memory: a run that is always out of it before would be proved.
 #[test]
 fn at_most_65535_transactions_begin(rt: HostRuntime) {
     let script = numbered(rt.alloc(), "begin t", " update 0\n", 65536, "").expect(&rt, "memory");
