@@ -111,7 +111,7 @@ fn queries_that_read_little_are_certified(rt: HostRuntime) {
     );
 }
 
-/// An update that wrote nothing that matters to what was read is in no list of the bundle; the next one is number 0 there.
+/// An update that wrote nothing that was read is in no list of the bundle; the next one has position 0 there.
 #[test]
 fn an_update_without_a_part_is_left_out(rt: HostRuntime) {
     certified(

@@ -322,7 +322,7 @@ static ROWS: [Row; 39] = [
             refused 1 no such transaction\n",
         ended: Ok(()),
     },
-    // Names are told apart by case, and each stands for one thing.
+    // Names of items and of transactions are apart, and each stands for one thing.
     Row {
         name: "lines_and_names",
         script: "item a 1\n\
@@ -346,7 +346,7 @@ static ROWS: [Row; 39] = [
             totals import 0 export 0 entries 2\n",
         ended: Ok(()),
     },
-    // The bank of the first page: a report reads half of a transfer.
+    // A report reads what has not been committed, and the update commits.
     Row {
         name: "report_beside_a_writer",
         script: "item a 100\n\
@@ -417,7 +417,7 @@ static ROWS: [Row; 39] = [
             totals import 2000000000000 export 2000000000000 entries 7\n",
         ended: Ok(()),
     },
-    // The largest distance fits a limit exactly, and passes one that is smaller by one.
+    // The largest distance passes a limit that is smaller by one.
     Row {
         name: "values_at_the_edge_of_the_import",
         script: "item a -1000000000000\n\
@@ -654,7 +654,7 @@ static ROWS: [Row; 39] = [
             error 1 not a command\n",
         ended: Ok(()),
     },
-    // The same bank with weights: charges and distances are multiplied.
+    // The same with weights: charges and distances are multiplied.
     Row {
         name: "weighted_report_beside_a_writer",
         script: "item a 100 weight 3\n\
