@@ -151,12 +151,8 @@ fn count(alloc: Global, script: &str, text: &str) -> usize {
     written.matches(text).count()
 }
 
-<<<<<<< HEAD
 /// Of few updates all are drawn, of more those that bound what is seen of the lanes: here three, with the lane that is as
 /// read and keeps the line from the end, where the other one would be exact.
-=======
-/// No clause says what is left out of a full picture: one that leaves out what is off would be proved.
->>>>>>> sentences
 #[test]
 fn of_many_updates_those_are_drawn_that_bound_what_is_seen(rt: HostRuntime) {
     let lanes = ("class='m n' x='20'", 3);

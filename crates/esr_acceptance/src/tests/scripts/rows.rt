@@ -322,7 +322,7 @@ static ROWS: [Row; 39] = [
             refused 1 no such transaction\n",
         ended: Ok(()),
     },
-    // Names of items and of transactions are apart, and each stands for one thing.
+    // Lines at fault, each with its own error, among lines that are answered.
     Row {
         name: "lines_and_names",
         script: "item a 1\n\
