@@ -6,7 +6,7 @@ ghost use Rattle.esr_line.specs.Lines.{line_len, IsNext};
 use crate::limits::MAX_LINE_BYTES;
 
 /// What comes next in the bytes ahead.
-#[derive(Clone, Copy, Debug)]
+#[derive(Clone, Copy)]
 pub enum Next {
     /// A line of so many bytes, and a line feed.
     Line(usize),

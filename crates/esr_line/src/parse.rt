@@ -10,7 +10,7 @@ ghost use Rattle.esr_line.specs.Command.{Command, is_skipped, Spells, words_of, 
 use crate::words::{cut_word, four_words, int, limit, name, one_word, three_words, two_words};
 
 /// A command, with its names as text of the line that spells it.
-#[derive(Clone, Copy, Debug)]
+#[derive(Clone, Copy)]
 pub enum Line<'a> {
     /// `item NAME INT`
     Item {
@@ -66,7 +66,7 @@ pub enum Line<'a> {
 }
 
 /// What a line of a script is.
-#[derive(Clone, Copy, Debug)]
+#[derive(Clone, Copy)]
 pub enum Parsed<'a> {
     /// An empty line or a comment.
     Skipped,
