@@ -6,6 +6,7 @@ mod asked;
 mod auditing;
 mod book;
 mod certifying;
+mod engine;
 mod fault;
 mod pending;
 mod replaying;
