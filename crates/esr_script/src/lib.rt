@@ -10,6 +10,7 @@ mod asked;
 mod auditing;
 mod book;
 mod certifying;
+mod engine;
 mod fault;
 mod lines;
 mod pending;

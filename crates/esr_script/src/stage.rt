@@ -12,8 +12,9 @@ ghost use Rattle.esr_order.specs.Least.{least_set, least_cost};
 ghost use Rattle.esr_audit.specs.Findings.{IsShown, AreSummaries};
 ghost use Rattle.esr_items.specs.Weights.{weighted};
 
+use crate::engine::Engine;
 use crate::fault::RunFault;
-use esr_audit::{AuditError, Finding, Summaries, audit_query};
+use esr_audit::{AuditError, Finding, Summaries};
 use esr_board::{NoGate, summarize_parallel};
 use esr_core::{Machine, StepError, Totals};
 use esr_history::{Event, History, Reply, TxnId};
@@ -26,7 +27,7 @@ use std::thread::Threads;
 #[derive(Drop)]
 pub enum Stage {
     Open { values: Vec<i64>, weights: Vec<u32> },
-    Running(Machine<Weighted>),
+    Running(Engine),
 }
 
 impl Stage {
@@ -52,7 +53,8 @@ impl Stage {
         let Ok(machine) = Machine::new(alloc, store, metric) else {
             return Err(RunFault::NoMemory);
         };
-        *self = Stage::Running(machine);
+        let engine = Engine::new(alloc, machine);
+        *self = Stage::Running(engine);
         Ok(())
     }
 
@@ -68,7 +70,7 @@ impl Stage {
             ⊎ ((e ≡ RunFault.HistoryFull) × (length (history_of self.old).entries ≡ MOST_ENTRIES))) }
     {
         match self {
-            Stage::Running(machine) => match machine.step(event) {
+            Stage::Running(engine) => match engine.step(event) {
                 Ok(reply) => Ok(reply),
                 Err(StepError::HistoryFull) => Err(RunFault::HistoryFull),
                 Err(StepError::NoMemory) => Err(RunFault::NoMemory),
@@ -85,7 +87,7 @@ impl Stage {
         ensures entries { result.entries ≡ length (history_of self.now).entries }
     {
         match self {
-            Stage::Running(machine) => machine.totals(),
+            Stage::Running(engine) => engine.totals(),
             Stage::Open { .. } => Totals {
                 import: 0,
                 export: 0,
@@ -100,29 +102,31 @@ impl Stage {
         ensures { result.schedule ≡ history_of self }
     {
         match self {
-            Stage::Running(machine) => machine.close(),
+            Stage::Running(engine) => engine.into_history(),
             Stage::Open { .. } => unreachable!(),
         }
     }
 
     /// What the audit of a transaction finds.
-    #[tactic(auto, using(crate::proofs::Audits::distance_is, crate::proofs::Audits::import_is, crate::proofs::Audits::before_is, crate::proofs::Audits::shown_is, crate::proofs::Audits::committed))]
-    pub fn audit(&self, alloc: Global, q: TxnId) -> Result<Finding, AuditError>
-        requires { is_running self.now ≡ true }
+    #[tactic(auto, using(crate::proofs::Audits::distance_is, crate::proofs::Audits::import_is, crate::proofs::Audits::before_is, crate::proofs::Audits::shown_is))]
+    pub fn audit(&mut self, alloc: Global, q: TxnId) -> Result<Finding, AuditError>
+        requires { is_running self.old ≡ true }
+        ensures running { is_running self.new ≡ true }
+        ensures same { history_of self.new ≡ history_of self.old }
         ensures query { IfOk result (λ f. f.query ≡ q) }
-        ensures distance { IfOk result (λ f. f.distance ≡ least_cost weighted (history_of self.now) q.0) }
-        ensures import { IfOk result (λ f. f.import ≡ import_in (charges_in weighted (history_of self.now)) q.0) }
+        ensures distance { IfOk result (λ f. f.distance ≡ least_cost weighted (history_of self.old) q.0) }
+        ensures import { IfOk result (λ f. f.import ≡ import_in (charges_in weighted (history_of self.old)) q.0) }
         ensures before { IfOk result (λ f. map (λ t. t.0) f.before.items
-            ≡ least_set weighted (history_of self.now) q.0) }
-        ensures committed { IfOk result (λ f. is_committed_query (history_of self.now) q.0 ≡ true) }
-        ensures shown { IfOk result (λ f. IsShown weighted (history_of self.now) q.0 f.distance
+            ≡ least_set weighted (history_of self.old) q.0) }
+        ensures committed { IfOk result (λ f. is_committed_query (history_of self.old) q.0 ≡ true) }
+        ensures shown { IfOk result (λ f. IsShown weighted (history_of self.old) q.0 f.distance
             (map (λ t. t.0) f.before.items) f.problem (certificate_of f.certificate)) }
         ensures refused { IsErrOf result AuditError.NotACommittedQuery
-            → is_committed_query (history_of self.now) q.0 ≡ false }
+            → is_committed_query (history_of self.old) q.0 ≡ false }
         ensures workers { ¬ IsErrOf result AuditError.WorkersOutOfRange }
     {
         match self {
-            Stage::Running(machine) => audit_query(alloc, machine.history(), q),
+            Stage::Running(engine) => engine.audit(alloc, q),
             Stage::Open { .. } => unreachable!(),
         }
     }
@@ -139,10 +143,10 @@ impl Stage {
         ensures summaries { IfOk result (AreSummaries weighted (history_of self.now)) }
         ensures faults { IfErr result (λ e. e ≡ RunFault.NoMemory) }
     {
-        let Stage::Running(machine) = self else {
+        let Stage::Running(engine) = self else {
             unreachable!()
         };
-        match summarize_parallel(rt, alloc, machine.history(), workers, &NoGate) {
+        match summarize_parallel(rt, alloc, engine.history(), workers, &NoGate) {
             Ok(found) => Ok(found),
             Err(AuditError::NoMemory) => Err(RunFault::NoMemory),
             Err(AuditError::NotACommittedQuery) => unreachable!(),

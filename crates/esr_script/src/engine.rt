@@ -1,0 +1,100 @@
+//! The machine of a script, and an index of its history.
+//!
+//! A script may ask for one audit after another, and each needs to know who committed. The index is kept from one to the
+//! next: a line that asks for an audit reads the entries that are new, and a script that asks for none pays nothing. What
+//! the index has read stays the beginning of the log, since the machine only adds to it.
+ghost use Rattle.std.specs.Prelude.{◌≡◌, IfOk, OnErr, IsErrOf, false, true, length};
+ghost use Rattle.esr_history.specs.declared.limits.TheConstants.{MOST_ENTRIES};
+ghost use Rattle.esr_history.specs.Machine.{reply_to, extended};
+ghost use Rattle.esr_history.specs.Totals.{all_imports, all_exports};
+ghost use Rattle.esr_history.specs.Queries.{is_committed_query};
+ghost use Rattle.esr_audit.specs.Findings.{IsFindingOf};
+ghost use Rattle.esr_items.specs.Weights.{weighted};
+
+use esr_audit::{AuditError, Finding, audit_query_in};
+use esr_core::{Machine, StepError, Totals};
+use esr_history::{Event, History, Reply, TxnId};
+use esr_items::Weighted;
+use esr_order::Index;
+use std::alloc::Global;
+use std::marker::Model;
+
+/// A machine, and the index of the first entries of its history.
+#[derive(Drop)]
+pub struct Engine {
+    machine: Machine<Weighted>,
+    index: Index,
+}
+
+impl Model for Engine {
+    ghost use Rattle.esr_history.specs.Machine.{Schedule};
+    ghost use Rattle.esr_order.specs.Index.{IsIndexOf};
+
+    ghost Value = { Schedule };
+
+    ghost view = { λ e. e.machine };
+
+    ghost invariant = { λ e. IsIndexOf e.machine.entries e.index };
+}
+
+impl Engine {
+    pub fn new(alloc: Global, machine: Machine<Weighted>) -> Engine
+        ensures { result ≡ machine }
+    {
+        Engine {
+            machine,
+            index: Index::new(alloc),
+        }
+    }
+
+    /// Gives the machine an event.
+    pub fn step(&mut self, event: Event) -> Result<Reply, StepError>
+        ensures reply { IfOk result (λ reply. reply ≡ reply_to weighted self.old event) }
+        ensures added { IfOk result (λ reply. self.new ≡ extended self.old event reply) }
+        ensures err { OnErr result (self.new ≡ self.old) }
+        ensures full { IsErrOf result StepError.HistoryFull → length self.old.entries ≡ MOST_ENTRIES }
+        ensures room { IfOk result (λ reply. ¬ (length self.old.entries ≡ MOST_ENTRIES)) }
+        ensures open { ¬ IsErrOf result StepError.EngineClosed }
+    {
+        self.machine.step(event)
+    }
+
+    /// The imports and exports together, and the number of entries.
+    pub fn totals(&self) -> Totals
+        ensures import { result.import ≡ all_imports weighted self.now }
+        ensures export { result.export ≡ all_exports weighted self.now }
+        ensures entries { result.entries ≡ length self.now.entries }
+    {
+        self.machine.totals()
+    }
+
+    /// The history so far.
+    pub fn history(&self) -> &History<Weighted>
+        ensures { result.now.schedule ≡ self.now }
+    {
+        self.machine.history()
+    }
+
+    /// The history.
+    pub fn into_history(self) -> History<Weighted>
+        ensures { result.schedule ≡ self }
+    {
+        self.machine.close()
+    }
+
+    /// What the audit of a transaction finds.
+    pub fn audit(&mut self, alloc: Global, q: TxnId) -> Result<Finding, AuditError>
+        ensures same { self.new ≡ self.old }
+        ensures query { IfOk result (λ f. f.query ≡ q) }
+        ensures finding { IfOk result (IsFindingOf weighted self.old q.0) }
+        ensures committed { IfOk result (λ f. is_committed_query self.old q.0 ≡ true) }
+        ensures refused { IsErrOf result AuditError.NotACommittedQuery → is_committed_query self.old q.0 ≡ false }
+        ensures workers { ¬ IsErrOf result AuditError.WorkersOutOfRange }
+    {
+        let history = self.machine.history();
+        if self.index.extend(history).is_err() {
+            return Err(AuditError::NoMemory);
+        }
+        audit_query_in(alloc, history, self.index.commits(), q)
+    }
+}
