@@ -3,7 +3,7 @@
 ghost use Rattle.std.specs.Prelude.{IfOk};
 ghost use Rattle.esr_picture.specs.Picture.{IsSvg};
 
-use esr_scene::body_of;
+use crate::svg::body_of;
 use esr_telling::{Asked, Telling};
 use std::alloc::{AllocError, Global};
 

@@ -1,10 +1,8 @@
-//! The commands of the program `esr`, and what help says of each.
-#![tactic(auto)]
-
+//! The commands of the program, and what help says of each.
 ghost use Rattle.std.specs.Prelude.{◌≡◌, IfOk, false};
 ghost use Rattle.clap.specs.Words.{App, app_of, new_app, with_subcommand, rule_of};
 ghost use Rattle.clap.specs.declared.builder.command.Command.TheViews.{out-Command};
-ghost use Rattle.esr_commands.specs.Program.{certify, esr, named, parallel, program, queries, scripts, steps_rule, workers_rule};
+ghost use Rattle.esr_cli.specs.Program.{certify, esr, named, parallel, program, queries, scripts, steps_rule, workers_rule};
 
 use clap::{Arg, ArgAction, Command, value_parser};
 use std::alloc::{AllocError, Global};
