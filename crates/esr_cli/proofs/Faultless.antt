@@ -20,11 +20,11 @@ use Rattle.clap.proofs.OnLiterals.{clap_on_literals}
 use Rattle.clap.specs.declared.error.Error.{Error}
 use Rattle.clap.specs.declared.error.kind.ErrorKind.TheVariants as kind
 use Rattle.esr_cli.specs.Job as asked
-use Rattle.esr_commands.specs.Program.{certify, name_rule, named, parallel, program, steps_rule, workers_rule}
+use Rattle.esr_cli.specs.Program.{certify, name_rule, named, parallel, program, steps_rule, workers_rule}
 use Rattle.esr_cli.specs.Job.{HasWorkers, IsCall, IsPlainWord, Request, Spells, SpellsWorkers, bool_of, certify_in, number_in, request_in, request_in_one, request_of, workers_in}
 use Rattle.esr_cli.specs.declared.Job.{Job}
-use Rattle.esr_commands.proofs.Rows.{HasFirst, IsFit, default_there, first_passes, given_there, has_text, level_good}
-use Rattle.esr_commands.proofs.Stops.{StopsElsewhere, first_none, help, then_none, walk_elsewhere}
+use Rattle.esr_cli.proofs.Rows.{HasFirst, IsFit, default_there, first_passes, given_there, has_text, level_good}
+use Rattle.esr_cli.proofs.Stops.{StopsElsewhere, first_none, help, then_none, walk_elsewhere}
 
 simple : is_simple_and_free program ≡ true
 unfolding clap_on_literals

@@ -1,2 +1,4 @@
 mod Faultless
 mod Readings
+mod Rows
+mod Stops

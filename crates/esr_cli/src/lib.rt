@@ -10,11 +10,13 @@ ghost use Rattle.clap.specs.Words.{fault_of, first_of, found_of, kind_of, rows_o
 ghost use Rattle.clap.specs.Words.{subcommand_of, subcommand_rows_of, FailsBy};
 ghost use Rattle.clap.specs.Walk.{texts};
 ghost use Rattle.clap.specs.declared.error.kind.ErrorKind.TheVariants.{OutOfMemory};
-ghost use Rattle.esr_commands.specs.Program.{program};
+ghost use Rattle.esr_cli.specs.Program.{program};
 ghost use Rattle.esr_cli.specs.Job.{certify_in, request_in, request_of, steps_in, workers_in, HasWorkers, Spells};
 
+mod commands;
+
+use crate::commands::program;
 use clap::{ArgMatches, Error};
-use esr_commands::program;
 use std::alloc::Global;
 
 /// What the words of a command line ask for. Each job reads standard input and

@@ -3,12 +3,11 @@
 //! The contract says which commands, arguments and ranges `clap` is told of, all at once. A command is added to the
 //! program by a function that takes both, and each is made with one `?`: where two commands are in hand at once, each
 //! `?` may drop both, and a proof takes three times as long.
-#![tactic(auto)]
 
 ghost use Rattle.std.specs.Prelude.{◌≡◌, IfOk, false};
 ghost use Rattle.clap.specs.Words.{App, app_of, new_app, with_subcommand, rule_of};
 ghost use Rattle.clap.specs.declared.builder.command.Command.TheViews.{out-Command};
-ghost use Rattle.esr_commands.specs.Program.{certify, esr, named, parallel, program, queries, scripts, steps_rule, workers_rule};
+ghost use Rattle.esr_cli.specs.Program.{certify, esr, named, parallel, program, queries, scripts, steps_rule, workers_rule};
 
 use clap::{Arg, ArgAction, Command, value_parser};
 use std::alloc::{AllocError, Global};

@@ -1,5 +1,5 @@
 use Rattle.std.proofs.Common.{[], map}
-use Rattle.esr_calls.proofs.tests.sessions.four_sessions.Given as goal
+use Rattle.esr_test_calls.proofs.tests.sessions.four_sessions.Given as goal
 
 -- which engine it is
 abbrev pub ghosts-begin_and_commit-N-Naming : goal.ghosts-begin_and_commit-N-Naming

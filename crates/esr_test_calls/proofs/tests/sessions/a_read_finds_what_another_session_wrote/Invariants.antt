@@ -1,5 +1,5 @@
 use Rattle.std.proofs.Common.{[], map}
-use Rattle.esr_calls.proofs.tests.sessions.a_read_finds_what_another_session_wrote.Given as goal
+use Rattle.esr_test_calls.proofs.tests.sessions.a_read_finds_what_another_session_wrote.Given as goal
 
 -- which engine it is
 abbrev pub ghosts-read_back-N-Naming : goal.ghosts-read_back-N-Naming

@@ -18,7 +18,7 @@ use Rattle.clap.specs.declared.builder.value_parser.Reading.TheVariants.{AsWritt
 use Rattle.clap.specs.declared.parser.matches.ValueSource.{ValueSource}
 use Rattle.clap.specs.declared.parser.matches.ValueSource.TheVariants.{CommandLine, DefaultValue}
 use Rattle.clap.specs.declared.error.kind.ErrorKind.TheVariants as kind
-use Rattle.esr_commands.proofs.Stops.{first_none, then_none}
+use Rattle.esr_cli.proofs.Stops.{first_none, then_none}
 
 -- there is a first value, and it passes the test
 abbrev pub HasFirst : (Text → Bool) → List Text → Type 0

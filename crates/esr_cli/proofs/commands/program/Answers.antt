@@ -1,6 +1,6 @@
 use Rattle.std.proofs.Common.{codes}
-use Rattle.esr_commands.specs.Program as spec
-use Rattle.esr_commands.proofs.program.Goals as goal
+use Rattle.esr_cli.specs.Program as spec
+use Rattle.esr_cli.proofs.commands.program.Goals as goal
 
 pub returns : goal.returns
 returns c =

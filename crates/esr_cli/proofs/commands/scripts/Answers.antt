@@ -1,7 +1,7 @@
 use Rattle.std.proofs.Common.{◌≡◌, rules, codes}
 use Rattle.clap.specs.Words.{app_of, new_app}
-use Rattle.esr_commands.specs.Program as spec
-use Rattle.esr_commands.proofs.scripts.Goals as goal
+use Rattle.esr_cli.specs.Program as spec
+use Rattle.esr_cli.proofs.commands.scripts.Goals as goal
 
 pub returns : goal.returns
 returns c =

@@ -1,5 +1,5 @@
 use Rattle.std.proofs.Common.{[], map}
-use Rattle.esr_calls.proofs.tests.sessions.a_patient_call_takes_its_turns.Given as goal
+use Rattle.esr_test_calls.proofs.tests.sessions.a_patient_call_takes_its_turns.Given as goal
 
 -- which engine it is
 abbrev pub ghosts-wait_for_a_lock-N-Naming : goal.ghosts-wait_for_a_lock-N-Naming
