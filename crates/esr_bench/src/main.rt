@@ -2,13 +2,14 @@
 //! bundles that `bench/problems` writes, so this program has no generators to prove.
 #![tactic(auto)]
 
+mod agreement;
 mod draws;
 mod sessions;
 
 use anyhow::{Result, anyhow};
 use esr_bundle::{from_json, to_json};
 use esr_cert::{Certificate, Problem, check};
-use esr_flow::{Network, Solved, solve};
+use esr_flow::{Network, Solved, find_from_draft, solve};
 use std::alloc::Global;
 use std::io::Read;
 use std::rt::Clock;
@@ -17,7 +18,7 @@ use std::thread::Threads;
 use std::time::Instant;
 
 const USAGE: &str =
-    "usage: esr_bench check ROUNDS | solve | bundle, each with a bundle on standard input | sessions COUNT";
+    "usage: esr_bench check ROUNDS | solve | audit | bundle, each with a bundle on standard input | agree COUNT | sessions COUNT";
 
 /// What is measured of a bundle.
 #[derive(Clone, Copy)]
@@ -26,6 +27,8 @@ enum Measured {
     Check(u32),
     /// Its problem solved anew.
     Solve,
+    /// The same as audits do, from a draft of a flow.
+    Audit,
     /// All of it read, checked and written again.
     Whole,
 }
@@ -60,6 +63,8 @@ fn measure_words<R: Input + Print + Eprint + Clock + Threads + Wait + Sync>(
     match words {
         ["check", rounds] => measure_bundle(rt, alloc, Measured::Check(rounds.parse()?)),
         ["solve"] => measure_bundle(rt, alloc, Measured::Solve),
+        ["audit"] => measure_bundle(rt, alloc, Measured::Audit),
+        ["agree", problems] => agreement::compare(rt, alloc, problems.parse()?),
         ["bundle"] => measure_bundle(rt, alloc, Measured::Whole),
         ["sessions", transactions] => sessions::measure(rt, alloc, transactions.parse()?),
         _ => Err(anyhow!("{USAGE}")),
@@ -81,6 +86,7 @@ fn measure_bundle(
             match measured {
                 Measured::Check(rounds) => check_often(rt, &problem, &certificate, rounds),
                 Measured::Solve => solve_once(rt, alloc, &problem),
+                Measured::Audit => audit_once(rt, alloc, &problem),
                 Measured::Whole => measure_whole(rt, alloc, &input, &problem, &certificate, read),
             }
         }
@@ -141,6 +147,23 @@ fn solve_network(
         Ok(solved) => tell_solved(rt, &solved, start, built),
         Err(_) => Err(anyhow!("out of memory")),
     }
+}
+
+/// Finds a certificate of the problem from a draft of a flow, and says what became of the draft, and how long it took.
+fn audit_once(rt: &(impl Print + Eprint + Clock), alloc: Global, problem: &Problem) -> Result<()> {
+    let start = Instant::now(rt)?;
+    let Ok(network) = Network::build(alloc, problem) else {
+        return Err(anyhow!("out of memory"));
+    };
+    let Ok(found) = find_from_draft(alloc, &network) else {
+        return Err(anyhow!("out of memory"));
+    };
+    let taken = start.elapsed(rt)?.as_micros();
+    let worth = found.certificate.worth;
+    let draft = found.draft;
+    println!(rt; "worth {worth} draft {draft:?}")?;
+    eprintln!(rt; "microseconds {taken}")?;
+    Ok(())
 }
 
 fn tell_solved(
