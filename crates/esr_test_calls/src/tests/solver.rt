@@ -3,7 +3,7 @@
 
 use super::certificates::{Item, chains};
 use esr_cert::{Certificate, Problem};
-use esr_flow::{Network, Solved, solve};
+use esr_flow::{DraftOutcome, FromDraft, Network, Solved, find_from_draft, solve};
 use esr_history::{NoMemory, TxnId};
 use std::alloc::Global;
 use std::process::Abort;
@@ -144,5 +144,38 @@ fn check_row(rt: &impl Abort, alloc: Global, row: &Row) {
 fn problems_are_solved(rt: HostRuntime) {
     for row in &ROWS {
         check_row(&rt, rt.alloc(), row);
+    }
+}
+
+/// What begins with a draft. Where memory is refused once, a second try gives it.
+fn from_draft(alloc: Global, problem: &Problem) -> Result<FromDraft, NoMemory> {
+    match from_draft_once(alloc, problem) {
+        Err(NoMemory) => from_draft_once(alloc, problem),
+        found => found,
+    }
+}
+
+fn from_draft_once(alloc: Global, problem: &Problem) -> Result<FromDraft, NoMemory> {
+    let network = Network::build(alloc, problem)?;
+    find_from_draft(alloc, &network)
+}
+
+fn check_draft(rt: &impl Abort, alloc: Global, row: &Row) {
+    let Some(problem) = problem(alloc, row) else {
+        panic!(rt; "a problem")
+    };
+    let Ok(found) = from_draft(alloc, &problem) else {
+        panic!(rt; "memory")
+    };
+    assert!(rt; found.draft == DraftOutcome::Maximum, "{}", row.name);
+    assert!(rt; found.certificate.worth == row.worth, "{}", row.name);
+    assert!(rt; found.certificate.set.as_slice() == row.set, "{}", row.name);
+}
+
+// No clause says that a draft is a maximum flow: one that is none costs time alone.
+#[test]
+fn drafts_of_known_problems_are_maximum_flows(rt: HostRuntime) {
+    for row in &ROWS {
+        check_draft(&rt, rt.alloc(), row);
     }
 }
