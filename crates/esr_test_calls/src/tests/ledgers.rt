@@ -21,12 +21,13 @@ fn check_the_sum(rt: &impl Abort, ledgers: &mut Ledgers)
     let u = TxnId(3);
     ledgers.open_query(r, 5).expect(rt, "memory");
     ledgers.open_query(q, 10).expect(rt, "memory");
-    ledgers.open_update(u, 15).expect(rt, "memory");
+    ledgers.open_update(u, 14).expect(rt, "memory");
     assert!(rt; ledgers.quote(u, &[(q, 11), (r, 1)]) == Quote::Import(q));
     assert!(rt; ledgers.quote(u, &[(q, 10), (r, 6)]) == Quote::Import(r));
-    assert!(rt; ledgers.quote(u, &[(q, 10), (r, 5)]) == Quote::Fits);
+    assert!(rt; ledgers.quote(u, &[(q, 10), (r, 5)]) == Quote::Export(u));
+    assert!(rt; ledgers.quote(u, &[(q, 10), (r, 4)]) == Quote::Fits);
     ledgers.charge(u, &[(q, 10), (r, 4)]);
-    assert!(rt; ledgers.quote(u, &[(r, 1)]) == Quote::Fits);
+    assert!(rt; ledgers.quote(u, &[(r, 1)]) == Quote::Export(u));
     assert!(rt; ledgers.import(q) == 10);
     assert!(rt; ledgers.import(r) == 4);
     assert!(rt; ledgers.export(u) == 14);

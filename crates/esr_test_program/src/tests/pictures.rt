@@ -215,11 +215,21 @@ fn each_read_fails_in_turn(rt: HostRuntime) {
 #[test]
 fn writes_fail(rt: HostRuntime) {
     let alloc = rt.alloc();
+    let mut reader = Watched::new(BANK.as_bytes());
+    let mut whole = Watched::new(Vec::new(alloc));
+    let ended = tell(alloc, &mut reader, &mut whole, "report", &Drawing);
+    assert!(rt; ended == Ok(()));
     for left in 0..20 {
-        let mut reader = Watched::new(BANK.as_bytes());
-        let mut writer = narrow_until(alloc, 3, left, Way::Errs);
-        let ended = tell(alloc, &mut reader, &mut writer, "report", &Drawing);
-        assert!(rt; ended == Err(RunFault::Write) && writer.failed() && !reader.failed());
-        assert!(rt; writer.inner().taken.len() <= 60);
+        fails_after(&rt, alloc, left, whole.inner().as_slice());
     }
+}
+
+/// A writer that fails after so many calls of three bytes has taken just the beginning of the picture.
+fn fails_after(rt: &impl Abort, alloc: Global, left: usize, whole: &[u8]) {
+    let mut reader = Watched::new(BANK.as_bytes());
+    let mut writer = narrow_until(alloc, 3, left, Way::Errs);
+    let ended = tell(alloc, &mut reader, &mut writer, "report", &Drawing);
+    assert!(rt; ended == Err(RunFault::Write) && writer.failed() && !reader.failed());
+    let taken = writer.inner().taken.as_slice();
+    assert!(rt; taken.len() == left.saturating_mul(3) && whole.starts_with(taken));
 }

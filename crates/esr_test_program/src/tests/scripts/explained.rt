@@ -26,12 +26,15 @@ const BANK_EXPLAINED: &str = "read checking 400 nearest 500 off 100\n\
         after transfer\n\
         distance 100 import 200\n";
 
-const STRICT: &str = "item a 100\n\
-        begin u update 0\n\
-        write u a 105\n\
+const STRICT: &str = "item a 0\n\
+        begin u update 9\n\
+        write u a 5\n\
         commit u\n\
-        begin q query 0 strict\n\
+        begin q query 9 strict\n\
+        begin v update 9\n\
+        write v a 0\n\
         read q a\n\
+        abort v\n\
         commit q\n";
 
 const WEIGHTED: &str = "item a 10 weight 900\n\
@@ -121,7 +124,7 @@ fn charges_of_the_bank_are_explained(rt: HostRuntime) {
     explained(&rt, rt.alloc(), BANK, "report", Ok(()), BANK_EXPLAINED);
 }
 
-/// A definition could forget weights: values 2 apart are charged 1800 here; and a strict report is told like any other.
+/// A definition could forget weights: values 2 apart are charged 1800 here; or what a strict report must be behind.
 #[test]
 fn strict_and_weighted_queries_are_explained(rt: HostRuntime) {
     explained(
@@ -130,7 +133,11 @@ fn strict_and_weighted_queries_are_explained(rt: HostRuntime) {
         STRICT,
         "q",
         Ok(()),
-        "read a 105 nearest 105 off 0\nbefore u\nafter -\ndistance 0 import 0\n",
+        "read a 0 nearest 5 off 5\n\
+            charge read v a amount 5 step 7 import left 4 of 9 export left 4 of 9\n\
+            before u\n\
+            after -\n\
+            distance 5 import 5\n",
     );
     explained(&rt, rt.alloc(), WEIGHTED, "q", Ok(()), WEIGHTED_EXPLAINED);
 }
