@@ -44,8 +44,9 @@ pub struct Frame {
     /// The lines of words above, and how wide they are with the legend.
     sentences: u8,
     words: u32,
-    /// The width of the words at the line.
+    /// The width of the words at the line, and with the weights told.
     off_width: u16,
+    factors_width: u16,
 }
 
 /// The width of what is written before a lane.
@@ -133,13 +134,19 @@ fn values_width(scene: &Scene<'_>) -> u16
     widest.unwrap_or(0).min(320)
 }
 
-/// The width of what a lane says at the line.
+/// The width of `off by` and the sum that a lane says at the line.
 fn off_width(lane: &Lane<'_>) -> u16
     ensures { result ≤ 640 }
 {
-    let sum = number_letters(lane.off);
-    let factors = if lane.weight > 1 { sum + 11 } else { 0 };
-    (7 + sum + factors).min(80) as u16 * 8
+    (7 + number_letters(lane.off)).min(80) as u16 * 8
+}
+
+/// The width of the same where the difference and the weight are told too.
+fn factors_width(lane: &Lane<'_>) -> u16
+    ensures { result ≤ 1280 }
+{
+    let factors = number_letters(lane.off / lane.weight.max(1)) + 11;
+    (factors + 7 + number_letters(lane.off)).min(160) as u16 * 8
 }
 
 /// The width of what lanes say at the line.
@@ -148,6 +155,19 @@ fn off_widths(scene: &Scene<'_>) -> u16
 {
     let widest = scene.lanes.iter().map(off_width).max();
     widest.unwrap_or(0).min(640)
+}
+
+/// The width of the same with the weights told.
+fn factors_widths(scene: &Scene<'_>) -> u16
+    ensures { result ≤ 1280 }
+{
+    let widest = scene
+        .lanes
+        .iter()
+        .filter(|lane| lane.weight > 1)
+        .map(factors_width)
+        .max();
+    widest.unwrap_or(0).max(off_widths(scene)).min(1280)
 }
 
 /// The width of what lanes tell of values that did not stay.
@@ -184,6 +204,7 @@ impl Frame {
                 .max(keys_width(scene))
                 .max(strays_width(scene)),
             off_width: off_widths(scene),
+            factors_width: factors_widths(scene),
         }
     }
 
@@ -244,9 +265,26 @@ impl Frame {
         self.lanes() + 8 + self.lane.min(LANE_WITH_STRAYS) * lanes
     }
 
-    /// Whether the words at the line stand to its left, since there is no room to its right.
+    /// Whether there is room to the right of the line for what lanes are off with their weights.
+    pub fn has_room_for_weights(&self, line: u8) -> bool {
+        self.x(line) + u32::from(self.factors_width) + 30 <= WIDEST
+    }
+
+    /// Whether the words at the line stand to its left, since there is no room to its right even without weights. Then
+    /// there is room on the left.
     pub fn is_left(&self, line: u8) -> bool {
-        self.x(line) + u32::from(self.off_width) + 30 > WIDEST
+        !self.has_room_for_weights(line) && self.x(line) + u32::from(self.off_width) + 30 > WIDEST
+    }
+
+    /// How far the words at the line reach to its right.
+    fn reach(&self, line: u8) -> u16 {
+        if self.has_room_for_weights(line) {
+            self.factors_width
+        } else if self.is_left(line) {
+            0
+        } else {
+            self.off_width
+        }
     }
 
     /// The width of the picture: of the lanes, of the words at the line, and of those below all.
@@ -254,11 +292,7 @@ impl Frame {
         ensures { result ≤ 30000000 }
     {
         let lanes = self.end() + 20;
-        let words = if self.is_left(line) {
-            0
-        } else {
-            self.x(line) + u32::from(self.off_width) + 30
-        };
+        let words = self.x(line) + u32::from(self.reach(line)) + 30;
         lanes.max(words).max(self.words.min(4000) + 40).max(420)
     }
 

@@ -179,10 +179,10 @@ fn push_all_strays(out: &mut String, lanes: &[Lane<'_>], frame: &Frame) -> Resul
     Ok(())
 }
 
-/// By how much a lane is off: the difference, where it counts more than once with its weight.
-fn push_off(out: &mut String, off: u64, weight: u64) -> Result<(), AllocError> {
+/// By how much a lane is off: the difference, where it counts more than once with its weight, if that is to be told.
+fn push_off(out: &mut String, off: u64, weight: u64, tells_weight: bool) -> Result<(), AllocError> {
     out.push_str("off by ")?;
-    if weight > 1 {
+    if weight > 1 && tells_weight {
         push_number(out, off / weight)?;
         out.push_str(" x ")?;
         push_number(out, weight)?;
@@ -213,26 +213,27 @@ fn open_at_line(
 fn push_crossing(
     out: &mut String,
     lane: &Lane<'_>,
-    x: u32,
+    line: u8,
     y: u32,
-    is_left: bool,
+    frame: &Frame,
 ) -> Result<(), AllocError>
-    requires { (x ≤ 20000000) × (y ≤ 110000) }
+    requires { y ≤ 110000 }
 {
+    let x = frame.x(line);
+    let is_left = frame.is_left(line);
     if lane.off == 0 {
         open_at_line(out, "m g o", x, y, is_left)?;
         return out.push_str("as read</text>\n");
     }
     write!(out, "<circle class='c' cx='{x}' cy='{y}' r='5'/>")?;
     open_at_line(out, "m r o", x, y, is_left)?;
-    push_off(out, lane.off, lane.weight)
+    push_off(out, lane.off, lane.weight, frame.has_room_for_weights(line))
 }
 
 /// What each lane is off where the line crosses it.
 fn push_crossings(out: &mut String, scene: &Scene<'_>, frame: &Frame) -> Result<(), AllocError> {
-    let x = frame.x(scene.line);
     for (number, lane) in (0u8..24).zip(scene.lanes.iter()) {
-        push_crossing(out, lane, x, frame.y(number), frame.is_left(scene.line))?;
+        push_crossing(out, lane, scene.line, frame.y(number), frame)?;
     }
     Ok(())
 }
