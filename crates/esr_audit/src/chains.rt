@@ -21,7 +21,7 @@ use esr_order::{Links, Order};
 use std::alloc::{AllocError, Global};
 
 /// The values that were read of an item.
-fn values_read(alloc: Global, reads: &[ItemRead], item: u32) -> Result<Vec<i64>, AllocError>
+fn values_of(alloc: Global, reads: &[ItemRead], item: u32) -> Result<Vec<i64>, AllocError>
     ensures { IfOk result (λ v. v.items ≡ values_of reads.now item) }
 {
     reads
@@ -102,7 +102,7 @@ fn chain_of<M: Metric>(
     ensures { IfOk result (λ c. chain_view c ≡ gathered_from (M.distance_by history.now.schedule.weights)
         history.now.schedule.opening (option_map seen_links links) reads.now x.0) }
 {
-    let values = values_read(alloc, reads, x.0)?;
+    let values = values_of(alloc, reads, x.0)?;
     let (writers, versions) = writers_and_values(alloc, links);
     let costs = costs_of(
         alloc,

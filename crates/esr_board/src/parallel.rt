@@ -24,7 +24,7 @@ ghost use Rattle.esr_board.specs.Shares.{AreCommitted, AreKept, IsWorked, IsFill
 
 use crate::board::{Board, BoardError, BoardSeat, MOST_SEATS};
 use crate::gate::Gate;
-use crate::worker::{Share, Worked, worked};
+use crate::worker::{Share, Worked, take_turns};
 use esr_audit::{AuditError, Book, CommitLists, Finding, Summaries, commit_lists};
 use esr_history::{History, TxnId};
 use esr_items::Metric;
@@ -86,7 +86,7 @@ fn shares<M: Metric + Sync, R: Threads + Sync, G: Gate + Sync, T: From<Finding> 
                 × AreCommitted history.now.schedule jobs.now
                 × (map (λ t. t.0) committed.now ≡ commit_order (done history.now.schedule)) }
             ensures { IsWorked T.from_gives M.distance_by history.entry.now.schedule jobs.entry.now board.entry.now result }
-        { worked(alloc, history, committed, jobs, board, seat, gate) },
+        { take_turns(alloc, history, committed, jobs, board, seat, gate) },
     )
 }
 
@@ -145,7 +145,7 @@ fn gather<M: Metric, T: From<Finding> + Drop>(
 }
 
 /// What is kept out of its places, which are all filled.
-fn unwrapped<M: Metric, T: From<Finding> + Drop>(
+fn unwrap_slots<M: Metric, T: From<Finding> + Drop>(
     alloc: Global,
     history: &History<M>,
     jobs: &[TxnId],
@@ -160,6 +160,7 @@ fn unwrapped<M: Metric, T: From<Finding> + Drop>(
 {
     let mut kept = Vec::new(alloc);
     for k in 0..slots.len() {
+        // each job was drawn by a seat, and what was found of it was put here
         let Some(one) = slots[k].take() else {
             unreachable!()
         };
@@ -190,6 +191,7 @@ fn kept_by<M: Metric + Sync, R: Threads + Sync, G: Gate + Sync, T: From<Finding>
     let (board, seats) = match Board::new(alloc, jobs.len() as u64, workers) {
         Ok(made) => made,
         Err(BoardError::NoMemory) => return Err(AuditError::NoMemory),
+        // a history has at most as many queries as a board has jobs, and workers were counted by the caller
         Err(BoardError::TooManyJobs) => unreachable!(),
         Err(BoardError::SeatsOutOfRange) => unreachable!(),
     };
@@ -201,7 +203,7 @@ fn kept_by<M: Metric + Sync, R: Threads + Sync, G: Gate + Sync, T: From<Finding>
         Err(failed) => return Err(failed),
     };
     match board.close(seats) {
-        Ok(()) => unwrapped(alloc, history, jobs, slots),
+        Ok(()) => unwrap_slots(alloc, history, jobs, slots),
         Err(_) => unreachable!(),
     }
 }

@@ -5,8 +5,8 @@ use esr_audit::{AuditError, Finding};
 
 mod turns;
 
+pub(crate) use turns::take_turns;
 pub use turns::work;
-pub(crate) use turns::worked;
 
 /// The jobs that one worker did, each with its finding or with what is kept of it, in the order of its claims.
 #[derive(Drop)]

@@ -11,7 +11,7 @@ ghost use Rattle.esr_bundle.specs.Reading.{IsTree, HasNoTree, IsReadingOf};
 
 use crate::draft::CertificateDraft;
 use crate::fields::{Part, at, has_keys, list, number_if, numbers_if, one_if, pairs, part_at};
-use crate::sound::finished;
+use crate::sound::finish;
 use esr_cert::{BundleFault, Certificate, ChainDraft, Problem, ProblemDraft};
 use serde_json::Value;
 use std::alloc::Global;
@@ -134,5 +134,5 @@ pub fn from_json(alloc: Global, bytes: &[u8]) -> Result<(Problem, Certificate), 
     let tree = tree(alloc, bytes)?;
     let (problem, certificate) = parts(alloc, &tree)?;
     drop(tree);
-    finished(alloc, problem, certificate)
+    finish(alloc, problem, certificate)
 }

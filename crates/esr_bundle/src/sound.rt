@@ -179,7 +179,7 @@ fn problem(alloc: Global, draft: &ProblemDraft) -> Result<Problem, BundleFault>
 }
 
 /// The problem and the certificate of the numbers of a bundle.
-pub fn finished(
+pub fn finish(
     alloc: Global,
     draft: ProblemDraft,
     certificate: CertificateDraft,

@@ -114,6 +114,7 @@ pub fn rows_of(alloc: Global, nodes: usize, arcs: &Arcs) -> Result<Rows, AllocEr
     let spans = begin_rows(alloc, &degrees_of(alloc, nodes, arcs)?)?;
     let steps = vec![in alloc; ShortArc::of(ResidualArc::Forward(0)); 2 * arcs.len()]?;
     let mut rows = Rows { spans, steps };
+    // arcs come in ascending order, so each row has its steps in order, and `place_of` may halve it
     for i in 0..arcs.len() {
         let number = i as u32;
         let arc = arcs.at(number);

@@ -98,6 +98,7 @@ fn augment(graph: &Graph, flow: &mut [u64], entries: &mut [ShortEntry], path: &[
     ensures worth { worth (net_of graph.now) flow.new ≡ worth (net_of graph.now) flow.old + result }
 {
     match bottleneck_of(graph.problem, flow, path) {
+        // each path leaves the source by an arc that has a limit
         None => unreachable!(),
         Some(amount) => {
             raise_along(graph, flow, entries, amount, path);

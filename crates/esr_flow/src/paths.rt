@@ -47,6 +47,7 @@ fn next_back(
             }
         }
     }
+    // a pointer may stand past the row already, and it never goes back
     if from < row.len() { row.len() } else { from }
 }
 
@@ -96,6 +97,7 @@ pub fn put_back(graph: &Graph, next: &mut [usize], path: &[ResidualArc])
     requires next { length next.old ≡ graph.now.nodes }
     ensures { length next.new ≡ length next.old }
 {
+    // each pointer stands behind the step that was taken, and only one step of the path need be full now
     for step in path {
         let node = finish_of(graph.problem, *step) as usize;
         next[node] = next[node].saturating_sub(1);

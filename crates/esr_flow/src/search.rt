@@ -95,6 +95,7 @@ fn labels_of(
     let last = visits[visits.len() - 1].level;
     let mut labels = vec![in alloc; 0u32; graph.nodes]?;
     for visit in visits {
+        // each node is visited once, but that need not be known here
         let label = last.saturating_sub(visit.level);
         let node = visit.node as usize;
         labels[node] = labels[node].max(label);

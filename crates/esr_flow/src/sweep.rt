@@ -363,6 +363,7 @@ impl Searches {
         ensures { length flow.new ≡ length flow.old }
     {
         let mut due = due;
+        // no more turns than looks are left, since each search takes one at least
         for _ in 0..self.looks {
             if due == 0 || self.looks == 0 {
                 return Ok(due);
@@ -449,6 +450,7 @@ fn due_and_room(field: &Field, flow: &[u64], sweep: Sweep, node: usize) -> (u64,
 fn ratio_of(amount: u64, sum: u64) -> u64 {
     let down = 32u32.saturating_sub(sum.leading_zeros());
     let parts = (amount >> down).saturating_mul(1 << 31);
+    // rounded up, so that a ratio is never too large
     let Some(whole) = (sum >> down).checked_add(1) else {
         return 0;
     };
@@ -457,6 +459,7 @@ fn ratio_of(amount: u64, sum: u64) -> u64 {
 
 /// A part of a weight, in a ratio, rounded down.
 fn part_of(weight: u64, ratio: u64) -> u64 {
+    // the product has 64 bits either way; a large weight loses its last 31
     if weight < 1 << 32 {
         weight.saturating_mul(ratio) >> 31
     } else {
@@ -696,11 +699,13 @@ fn find_middle(alloc: Global, field: &Field) -> Result<u32, AllocError> {
     for update in 0..count {
         cost = cost.wrapping_add(number_at(&changes, update as usize));
         let position = update.saturating_add(1);
+        // up to the last update that must be held, each longer prefix is taken, whatever it costs
         if position <= first || cost < least {
             least = cost;
             middle = position;
         }
     }
+    // a second sweep for so few updates costs more than it saves
     if count.saturating_sub(middle) <= count / 8 {
         return Ok(count);
     }

@@ -88,7 +88,7 @@ fn bar_of(reply: Reply) -> Option<(Bar, u16)>
 }
 
 /// The reply that says what is in the way.
-fn blocked(bar: Bar, other: u16) -> Reply
+fn reply_of(bar: Bar, other: u16) -> Reply
     ensures { result ≡ blocked bar other }
 {
     let other = TxnId(u32::from(other));
@@ -213,14 +213,14 @@ impl Short {
                 txn,
                 item,
                 other,
-            } => (read(txn, item), blocked(bar, other)),
+            } => (read(txn, item), reply_of(bar, other)),
             Short::WriteBlocked {
                 bar,
                 txn,
                 item,
                 other,
                 value,
-            } => (write(txn, item, value), blocked(bar, other)),
+            } => (write(txn, item, value), reply_of(bar, other)),
             Short::Long { place } => return long[place as usize],
         };
         Entry { event, reply }

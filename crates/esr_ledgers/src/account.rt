@@ -52,6 +52,7 @@ fn index_of(accounts: &[Account], t: TxnId) -> usize
     if dense < accounts.len() && accounts[dense].number == t {
         return dense;
     }
+    // whoever opens accounts may leave numbers out
     match place_of(accounts, t) {
         Ok(at) => at,
         Err(_) => unreachable!(),

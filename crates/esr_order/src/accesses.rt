@@ -19,7 +19,7 @@ pub struct Access {
 }
 
 /// The value that a reply answers.
-fn answered(reply: Reply) -> i64
+fn answer_of(reply: Reply) -> i64
     ensures { result ≡ answer reply }
 {
     match reply {
@@ -40,7 +40,7 @@ pub fn access_in(entry: Entry) -> Option<Access>
             txn,
             item,
             writes: false,
-            value: answered(entry.reply),
+            value: answer_of(entry.reply),
         }),
         Event::Write { txn, item, value } => Some(Access {
             txn,

@@ -187,6 +187,7 @@ pub fn gather<M: Metric>(
         &mut readers,
         &mut pairs,
     )?;
+    // the list stays as long as the order does, beside those of other workers
     pairs.shrink_to_fit();
     Ok(PairsAndChains { pairs, chains })
 }

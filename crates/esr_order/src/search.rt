@@ -45,6 +45,7 @@ fn count_writes(counts: &mut [u32], accesses: &[Access]) {
     for access in accesses {
         if access.writes {
             if let Some(count) = counts.get_mut(access.item.0 as usize) {
+                // it cannot reach its end: a history has 1,000,000 entries
                 *count = count.saturating_add(1);
             }
         }

@@ -59,7 +59,7 @@ fn check_line(lines: u64, bytes: usize) -> Result<(), DriveFault>
 }
 
 /// Looks at the lines from the mark on. The fault of a line is that of the file, whatever follows.
-fn looked(bytes: &[u8], mark: Mark) -> Result<Mark, DriveFault>
+fn check_lines(bytes: &[u8], mark: Mark) -> Result<Mark, DriveFault>
     requires { IsMark bytes.now mark }
     ensures mark { IfOk result (IsMark bytes.now) }
     ensures fine { IfOk result (λ m. cut_fault m.lines (lines (rest_from bytes.now m)) ≡ None) }
@@ -116,7 +116,7 @@ pub fn read_all<R: Read>(alloc: Global, reader: &mut Watched<R>) -> Result<Vec<u
         if bytes.extend_from_slice(&chunk[..count]).is_err() {
             return Err(DriveFault::NoMemory);
         }
-        mark = match looked(&bytes, mark) {
+        mark = match check_lines(&bytes, mark) {
             Ok(mark) => mark,
             Err(fault) => return Err(fault),
         };

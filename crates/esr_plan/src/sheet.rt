@@ -23,7 +23,7 @@ pub struct Sheet<'a> {
 }
 
 /// The plan with its last block.
-fn finished<'a>(draft: Draft<'a>) -> Result<Sheet<'a>, AllocError>
+fn finish<'a>(draft: Draft<'a>) -> Result<Sheet<'a>, AllocError>
     requires { drafts.IsSound draft }
     ensures plan { IfOk result (λ s. plan_in s ≡ drafts.plan_in draft.entry) }
     ensures sound { IfOk result IsSound }
@@ -58,6 +58,6 @@ pub fn sheet_of<'a>(alloc: Global, bytes: &'a [u8]) -> Result<Sheet<'a>, DriveFa
     ensures sound { IfOk result IsSound }
     ensures err { IfErr result (λ e. (e ≡ DriveFault.NoMemory) ⊎ (plan_of bytes.entry.now ≡ Err e)) }
 {
-    let sheet = finished(draft_of(alloc, bytes)?)?;
+    let sheet = finish(draft_of(alloc, bytes)?)?;
     Ok(sheet)
 }

@@ -254,6 +254,7 @@ fn close_on<M: Metric + Drop, N: Naming>(
         Some(machine) => match_sessions(alloc, machine.history(), sessions)?,
         None => unreachable!(),
     }
+    // only now, when nothing can fail any more, is the machine taken out of its lock
     match locked.machine.take() {
         Some(machine) => {
             locked.total.sub(rest, SEAL);

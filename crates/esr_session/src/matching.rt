@@ -66,7 +66,7 @@ pub(crate) fn match_all<M: Metric, L: HasReceipts>(
             total: total as u64,
         });
     }
-    let Ok(mut marks) = unmarked(alloc, total) else {
+    let Ok(mut marks) = no_marks(alloc, total) else {
         return Err(CloseError::NoMemory);
     };
     for i in 0..lists.len() {
@@ -78,7 +78,7 @@ pub(crate) fn match_all<M: Metric, L: HasReceipts>(
 }
 
 /// A mark for each of n places, none of which is set.
-fn unmarked(alloc: Global, n: usize) -> Result<Vec<bool>, AllocError>
+fn no_marks(alloc: Global, n: usize) -> Result<Vec<bool>, AllocError>
     ensures len { IfOk result (λ marks. vec_len marks ≡ n) }
     ensures none { IfOk result (λ marks. AreMarked [] marks.items) }
 {

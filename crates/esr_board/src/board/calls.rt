@@ -27,7 +27,7 @@ fn fresh(seat: Seat<(), Hand>) -> BoardSeat
 }
 
 /// The seats of a table whose only seat so far has all passes.
-fn admitted(
+fn split_seats(
     alloc: Global,
     table: &Table<(), Hand, BoardSize, Fair, Global>,
     mut first: Seat<(), Hand>,
@@ -71,7 +71,7 @@ impl Board {
         let Ok((table, first)) = Table::of_words(alloc, &[0, jobs, seats], &size) else {
             return Err(BoardError::NoMemory);
         };
-        let Ok(made) = admitted(alloc, &table, first, seats) else {
+        let Ok(made) = split_seats(alloc, &table, first, seats) else {
             return Err(BoardError::NoMemory);
         };
         let board = Board { table, jobs, seats };
@@ -117,7 +117,7 @@ impl Board {
             (λ _. length (all_drawn seats.items) < word) }
         ensures missing { OnErr result (vec_len seats < seats_of self) }
     {
-        let (counted, word) = self.settled(seats);
+        let (counted, word) = self.settle(seats);
         if counted == u128::from(word) {
             Ok(())
         } else {
@@ -126,7 +126,7 @@ impl Board {
     }
 
     /// How many numbers the seats drew, and the word.
-    fn settled(self, mut seats: Vec<BoardSeat>) -> (u128, u64)
+    fn settle(self, mut seats: Vec<BoardSeat>) -> (u128, u64)
         requires { All (IsSeatOf self) seats.items }
         ensures count { result.0 ≡ length (all_drawn seats.items) }
         ensures word { IsBoardAt (jobs_of self) (seats_of self) (map hand_of seats.items) result.1 }

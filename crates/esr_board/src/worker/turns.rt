@@ -98,7 +98,7 @@ pub fn work<M: Metric, G: Gate>(
 }
 
 /// All turns of one worker, with a seat that has drawn nothing.
-pub(crate) fn worked<M: Metric, G: Gate, T: From<Finding> + Drop>(
+pub(crate) fn take_turns<M: Metric, G: Gate, T: From<Finding> + Drop>(
     alloc: Global,
     history: &History<M>,
     committed: &[TxnId],

@@ -6,4 +6,4 @@ use Rattle.esr_bundle.proofs.reading.from_json.Goals as goal
 
 pub returns : goal.returns
 returns c =
-    reading_from c.args.bytes.now (view c.in_ok-tree.tree) c.in_ok-tree.ensures.ok (drafted_problem c.in_ok-problem.problem, drafted_certificate c.in_ok-problem.certificate) c.in_ok-problem.ensures.ok c.finished.result c.finished.ensures.ok c.finished.ensures.err
+    reading_from c.args.bytes.now (view c.in_ok-tree.tree) c.in_ok-tree.ensures.ok (drafted_problem c.in_ok-problem.problem, drafted_certificate c.in_ok-problem.certificate) c.in_ok-problem.ensures.ok c.finish.result c.finish.ensures.ok c.finish.ensures.err

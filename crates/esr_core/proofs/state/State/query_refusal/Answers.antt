@@ -32,7 +32,7 @@ returns-in-Some g c = λ h same tie query.
     let owed = due_some d h s.items s.transactions.items s.locks.locks s.ledgers tie c.args.q c.args.x (c.in-Some.u, c.in-Some.amount) query c.requires.item is in
     let reads : c.transaction.result.reads ≡ all_reads_of (done h) c.args.q.0 = row_reads d h s.items s.transactions.items s.locks.locks s.ledgers tie c.args.q.0 c.transaction.result c.requires.known c.transaction.ensures query in
     let few : all_reads_of (done h) c.args.q.0 < 1000 = rw (← reads) c.if-transaction-ge-MOST_READS.false in
-    c.refused_by.ensures ∙ (ap reason_of c.quote.ensures ∙ query_some d h s.items s.transactions.items s.locks.locks s.ledgers tie c.args.q c.in-Some.u c.args.x c.in-Some.amount query owed.1 few owed.0)
+    c.limit_refusal.ensures ∙ (ap reason_of c.quote.ensures ∙ query_some d h s.items s.transactions.items s.locks.locks s.ledgers tie c.args.q c.in-Some.u c.args.x c.in-Some.amount query owed.1 few owed.0)
 
 pub returns-in-None : goal.returns-in-None
 returns-in-None g c = λ h same tie query.

@@ -7,7 +7,7 @@ use Rattle.esr_bundle.specs.Bundle.{is_position}
 use Rattle.esr_cert.specs.Drafts.{drafted_problem}
 use Rattle.esr_bundle.specs.Drafts.{drafted_certificate}
 use Rattle.esr_bundle.proofs.Judged.{judged_ok}
-use Rattle.esr_bundle.proofs.sound.finished.Goals as goal
+use Rattle.esr_bundle.proofs.sound.finish.Goals as goal
 
 pub returns-clause-ok : goal.returns-clause-ok
 returns-clause-ok c =

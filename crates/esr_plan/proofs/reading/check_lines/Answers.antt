@@ -1,6 +1,6 @@
 use Rattle.std.proofs.Common.{rules}
 use Rattle.esr_plan.proofs.Cuts.{line_fault, line_next, begun_fault, begun_fine}
-use Rattle.esr_plan.proofs.reading.looked.Goals as goal
+use Rattle.esr_plan.proofs.reading.check_lines.Goals as goal
 
 pub returns-in-Err-clause-err : goal.returns-in-Err-clause-err
 returns-in-Err-clause-err c =

@@ -1,7 +1,7 @@
 use Rattle.std.proofs.Common.{◌≡◌, ◌+◌, [], All, vec_len}
 use Rattle.esr_board.specs.Claims.{hand}
 use Rattle.esr_board.specs.Boards.{hand_of}
-use Rattle.esr_board.proofs.board.calls.admitted.Given as goal
+use Rattle.esr_board.proofs.board.calls.split_seats.Given as goal
 
 abbrev pub invariant-loop : goal.invariant-loop
 invariant-loop l =

@@ -1,5 +1,5 @@
 use Rattle.std.proofs.Common.{rules}
-use Rattle.esr_history.proofs.event.Refusal.told.Goals as goal
+use Rattle.esr_history.proofs.event.Refusal.row.Goals as goal
 
 pub returns-in-LimitOutOfRange-clause-number : goal.returns-in-LimitOutOfRange-clause-number
 returns-in-LimitOutOfRange-clause-number c = search rules

@@ -3,7 +3,7 @@ use Rattle.esr_board.specs.Boards.{IsSeatOf, drawn, hand_of, BoardSeat}
 use Rattle.esr_board.specs.Claims.{passes_of, IsBoardAt}
 use Rattle.esr_board.proofs.Keeps.{joins}
 use Rattle.esr_board.proofs.Closes.{settles, popped, all_popped, joined_numbers, joined_passes, joined_count, given_at, counted_all, none_left}
-use Rattle.esr_board.proofs.board.Board.settled.Goals as goal
+use Rattle.esr_board.proofs.board.Board.settle.Goals as goal
 
 pub loop-next-init : goal.loop-next-init
 loop-next-init c = let e = c.in-Some.ensures.items in let l = c.in-Some.last in record {

@@ -1,7 +1,7 @@
 use Rattle.std.proofs.Common.{rules}
 use Rattle.esr_plan.proofs.Adding.{done_with, done_alone, sheet_made}
-use Rattle.esr_plan.proofs.sheet.finished.Goals as goal
-use Rattle.esr_plan.proofs.sheet.finished.Goals.{in-None, in-Some+in_ok-push-in-Some}
+use Rattle.esr_plan.proofs.sheet.finish.Goals as goal
+use Rattle.esr_plan.proofs.sheet.finish.Goals.{in-None, in-Some+in_ok-push-in-Some}
 
 pub returns : goal.returns
 returns c =

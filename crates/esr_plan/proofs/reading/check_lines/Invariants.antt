@@ -1,6 +1,6 @@
 use Rattle.std.proofs.Common.{◌-◌, length}
 use Rattle.esr_plan.specs.Readings.{IsMark}
-use Rattle.esr_plan.proofs.reading.looked.Given as goal
+use Rattle.esr_plan.proofs.reading.check_lines.Given as goal
 
 -- the lines before the mark may be read
 abbrev pub invariant-loop-len : goal.invariant-loop-len

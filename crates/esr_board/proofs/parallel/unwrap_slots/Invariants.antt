@@ -1,7 +1,7 @@
 use Rattle.std.proofs.Common.{◌≡◌, ℕ, ◌≤◌, get_or, take, vec_len, None}
 use Rattle.std.specs.List.{AllZip}
 use Rattle.esr_board.specs.Shares.{IsKeptOf}
-use Rattle.esr_board.proofs.parallel.unwrapped.Given as goal
+use Rattle.esr_board.proofs.parallel.unwrap_slots.Given as goal
 
 abbrev pub invariant-loop-k : goal.invariant-loop-k
 invariant-loop-k g l = record {

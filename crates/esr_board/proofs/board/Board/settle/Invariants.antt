@@ -1,7 +1,7 @@
 use Rattle.std.proofs.Common.{◌≡◌, ℕ, ◌+◌, ◌*◌, ◌≤◌, [], All, vec_len, sum_by, length}
 use Rattle.esr_board.specs.Claims.{passes_of}
 use Rattle.esr_board.specs.Boards.{IsSeatOf, hand_of, drawn}
-use Rattle.esr_board.proofs.board.Board.settled.Given as goal
+use Rattle.esr_board.proofs.board.Board.settle.Given as goal
 
 abbrev pub invariant-loop-next : goal.invariant-loop-next
 invariant-loop-next l = record {

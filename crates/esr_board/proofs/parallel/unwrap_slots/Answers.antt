@@ -4,7 +4,7 @@ use Rattle.std.proofs.lemmas.List.{take_more, take_all, get_or_default}
 use Rattle.esr_history.specs.declared.event.TxnId.{TxnId}
 use Rattle.esr_board.specs.Shares.{IsKeptOf, query_of}
 use Rattle.esr_board.proofs.Keeping.{all_zip_push}
-use Rattle.esr_board.proofs.parallel.unwrapped.Goals as goal
+use Rattle.esr_board.proofs.parallel.unwrap_slots.Goals as goal
 
 pub loop-k-preserved : goal.loop-k-preserved
 loop-k-preserved g c = let was = c.loop-k.invariant in let k = c.loop-k.k in let x = c.in-Some.one in
