@@ -1,10 +1,12 @@
 -- What contracts see of an engine.
-use Rattle.std.specs.Prelude.{◌≡◌, ℕ, Bool, true, false, length}
-use Rattle.esr_history.specs.Machine.{Distance, Schedule}
+use Rattle.std.specs.Prelude.{◌≡◌, ◌≤◌, ℕ, ℤ, Bool, true, false, List, Err, length}
+use Rattle.esr_history.specs.declared.limits.TheConstants.{MOST_ENTRIES}
+use Rattle.esr_history.specs.Machine.{Distance, Schedule, IsLegal}
 use Rattle.esr_history.specs.Totals.{all_imports, all_exports}
 use Rattle.esr_core.specs.declared.machine.Totals.{Totals}
 use Rattle.esr_session.specs.declared.receipt.CloseError.{CloseError}
-use Rattle.esr_session.specs.declared.receipt.CloseError.TheVariants.{SessionMissing}
+use Rattle.esr_session.specs.declared.receipt.CloseError.TheVariants.{SessionMissing, ForeignReceipt, NoMemory}
+use Rattle.esr_session.specs.Receipts.{Receipt, IsVerdict}
 
 -- how many sessions were opened
 pub record Sessions : Type 0 where
@@ -15,6 +17,23 @@ pub record AreTotals (d : Distance) (h : Schedule) (totals : Totals) : Type 0 wh
   pub import : totals.import ≡ all_imports d h
   pub export : totals.export ≡ all_exports d h
   pub entries : totals.entries ≡ length h.entries
+
+-- A history that an engine of these opening values and weights may have, and which the receipts do not match by this error.
+pub record DoNotMatch (d : Distance) (opening : List ℤ) (weights : List ℕ) (lists : List (List Receipt))
+    (error : CloseError) : Type 0 where
+  pub history : Schedule
+  pub legal : IsLegal d history
+  pub opening_is : history.opening ≡ opening
+  pub weights_are : history.weights ≡ weights
+  pub most : length history.entries ≤ MOST_ENTRIES
+  pub verdict : IsVerdict history.entries lists (Err error)
+
+-- Why a close was refused, as far as it can be said of a history that stays behind the lock: out of memory, or so.
+abbrev pub IsRefusal : Distance → List ℤ → List ℕ → List (List Receipt) → CloseError → Type 0
+IsRefusal d opening weights lists NoMemory = Unit {0}
+IsRefusal d opening weights lists (SessionMissing gathered total) =
+    DoNotMatch d opening weights lists (SessionMissing gathered total)
+IsRefusal d opening weights lists (ForeignReceipt r) = DoNotMatch d opening weights lists (ForeignReceipt r)
 
 abbrev pub is_missing : CloseError → Bool
 is_missing (SessionMissing gathered total) = true

@@ -10,8 +10,8 @@
 ghost use Rattle.esr_session.specs.declared.naming.TheConstants.{LEDGER_PARTS, MOST_SESSIONS};
 ghost use Rattle.std.specs.Prelude.{◌≡◌, ◌+◌, ◌<◌, ◌≤◌, [], true, length, Some, None, All, IfOk, OnOk, IfErr, OnErr, vec_len, map, vec_capacity};
 ghost use Rattle.esr_history.specs.Machine.{IsLegal};
-ghost use Rattle.esr_session.specs.Receipts.{Matches, count_in};
-ghost use Rattle.esr_session.specs.Engine.{is_missing, AreTotals, Sessions};
+ghost use Rattle.esr_session.specs.Receipts.{Matches, IsVerdict, count_in};
+ghost use Rattle.esr_session.specs.Engine.{is_missing, AreTotals, IsRefusal, Sessions};
 ghost use Rattle.esr_session.specs.declared.engine.TheConstants.{SEAL};
 
 use crate::locked::{Locked, Pocket};
@@ -138,6 +138,7 @@ impl<M: Metric + Drop, N: Naming> Engine<M, N> {
         ensures every_call { IfOk result (λ closed. length closed.history.schedule.entries ≡ count_in sessions.items) }
         ensures refused { IfErr result (λ refused. (refused.engine ≡ self)
             × (refused.sessions.items ≡ sessions.items)) }
+        ensures why { IfErr result (λ refused. IsRefusal M.distance_by N.opening N.weights sessions.items refused.error) }
         ensures missing { IfErr result (λ refused. is_missing refused.error ≡ true → vec_len sessions < self.opened) }
     {
         let mut engine = self;
@@ -225,6 +226,7 @@ fn close_shared<M: Metric + Drop, N: Naming, R: Wait>(
     ensures every_call { IfOk result (λ machine. length machine.entries ≡ count_in sessions.old) }
     ensures sessions { sessions.new ≡ sessions.old }
     ensures err { OnErr result ((rest.new.parts ≡ rest.old.parts) × (rest.new.amount ≡ rest.old.amount)) }
+    ensures why { IfErr result (IsRefusal M.distance_by N.opening N.weights sessions.old) }
     ensures missing { IfErr result (λ error. is_missing error ≡ true → rest.old.parts + length sessions.old < N.parts) }
 {
     let mut locked = shared.lock(rt);
@@ -247,6 +249,7 @@ fn close_on<M: Metric + Drop, N: Naming>(
     ensures sessions { sessions.new ≡ sessions.old }
     ensures err { OnErr result ((locked.new ≡ locked.old) × (rest.new.parts ≡ rest.old.parts)
         × (rest.new.amount ≡ rest.old.amount)) }
+    ensures why { IfErr result (IsRefusal M.distance_by N.opening N.weights sessions.old) }
     ensures missing { IfErr result (λ error. is_missing error ≡ true → rest.old.parts + length sessions.old < N.parts) }
 {
     audit_from(&mut locked.total, rest, sessions);
@@ -303,8 +306,8 @@ fn match_sessions<M: Metric + Drop, N: Naming>(
     history: &History<M>,
     sessions: &[Session<M, N>],
 ) -> Result<(), CloseError>
-    ensures matching { OnOk result (Matches history.now.schedule.entries sessions.now) }
     ensures enough { OnOk result (length history.now.schedule.entries ≤ count_in sessions.now) }
+    ensures verdict { IsVerdict history.now.schedule.entries sessions.now result }
     ensures missing { IfErr result (λ error. is_missing error ≡ true
         → count_in sessions.now < length history.now.schedule.entries) }
 {

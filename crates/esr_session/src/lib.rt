@@ -14,7 +14,7 @@ mod session;
 
 pub use engine::{CloseRefused, Closed, Engine};
 pub use locked::{Locked, Pocket, step_on};
-pub use matching::match_receipts;
+pub use matching::{HasReceipts, match_receipts};
 pub use naming::{LEDGER_PARTS, MOST_SESSIONS, Naming};
 pub use receipt::{CloseError, Receipt};
 pub use session::Session;

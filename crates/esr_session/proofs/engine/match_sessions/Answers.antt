@@ -12,6 +12,9 @@ fewer es lists (Ok _) v = tt
 fewer es lists (Err (SessionMissing n total)) v = λ _. omega (arith, v)
 fewer es lists (Err _) v = λ is. absurd (cc)
 
+pub returns-clause-verdict : goal.returns-clause-verdict
+returns-clause-verdict g c = rw map-id at c.match_all.ensures.verdict
+
 pub returns-clause-missing : goal.returns-clause-missing
 returns-clause-missing g c =
     fewer c.args.history.now.schedule.entries c.args.sessions.now c.match_all.result (rw map-id at c.match_all.ensures.verdict)
