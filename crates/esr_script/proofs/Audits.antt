@@ -6,6 +6,7 @@ use Rattle.esr_history.specs.Queries.{is_committed_query}
 use Rattle.esr_cert.specs.Views.{certificate_of}
 use Rattle.esr_order.specs.Placements.{is_among}
 use Rattle.esr_order.specs.Least.{least_set, least_cost}
+use Rattle.esr_order.specs.Near.{AreNear}
 use Rattle.esr_order.proofs.Least.{law_of_listed_sets}
 use Rattle.esr_audit.specs.declared.finding.Finding.{Finding}
 use Rattle.esr_audit.specs.declared.finding.AuditError.{AuditError}
@@ -33,6 +34,10 @@ module _ (d : Distance) (h : Schedule) (q : ℕ) where
   pub shown_is : (r : Result Finding AuditError) → IfOk r (IsFindingOf d h q) → IfOk r (λ f. IsShown d h q f.distance (map (λ t. t.0) f.before.items) f.problem (certificate_of f.certificate))
   shown_is (Ok f) a = a.shown
   shown_is (Err e) a = tt
+
+  pub near_is : (r : Result Finding AuditError) → IfOk r (IsFindingOf d h q) → IfOk r (λ f. AreNear h q f.problem.updates)
+  near_is (Ok f) a = a.near
+  near_is (Err e) a = tt
 
   pub committed : (r : Result Finding AuditError) → IsErrOf r NotACommittedQuery ↔ (is_committed_query h q ≡ false) → IfOk r (λ f. is_committed_query h q ≡ true)
   committed (Ok f) refused = grind (arith, common_steps)

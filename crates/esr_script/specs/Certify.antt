@@ -5,6 +5,7 @@ use Rattle.esr_history.specs.Machine.{Schedule}
 use Rattle.esr_cert.specs.Problem.{Problem}
 use Rattle.esr_cert.specs.Certificate.{Certificate, Certifies}
 use Rattle.esr_order.specs.Least.{least_set}
+use Rattle.esr_order.specs.Near.{AreNear}
 use Rattle.esr_audit.specs.Problems.{StandsFor}
 use Rattle.esr_audit.specs.Findings.{IsCounted}
 use Rattle.esr_bundle.specs.Bundle.{bundle}
@@ -16,12 +17,13 @@ abbrev pub IsTold : Bool → Problem → Certificate → Type 0
 IsTold true p c = IsCounted p c
 IsTold false p c = c.augmentations ≡ None
 
--- The text is the bundle of a problem that stands for the query, and of a certificate of it with the smallest least
--- set.
+-- The text is the bundle of a problem of the near updates that stands for the query, and of a certificate of it with the
+-- smallest least set.
 pub record IsBundleOf (steps : Bool) (h : Schedule) (q : ℕ) (text : List ℕ) : Type 0 where
   pub problem : Problem
   pub certificate : Certificate
   pub stands : StandsFor weighted h q problem
+  pub near : AreNear h q problem.updates
   pub certified : Certifies problem certificate
   pub set_is : filter_map (slice_get problem.updates) certificate.set ≡ least_set weighted h q
   pub told : IsTold steps problem certificate

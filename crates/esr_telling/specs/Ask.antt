@@ -7,16 +7,18 @@ use Rattle.esr_cert.specs.Problem.{Problem, in_set, IsSmallestLeast}
 use Rattle.esr_cert.specs.Certificate.{Certificate, Certifies}
 use Rattle.esr_cert.specs.Views.{certificate_of}
 use Rattle.esr_order.specs.Least.{least_set}
+use Rattle.esr_order.specs.Near.{AreNear}
 use Rattle.esr_audit.specs.declared.finding.Finding.{Finding}
 use Rattle.esr_audit.specs.Findings.{summary, summary_of}
 use Rattle.esr_audit.specs.Problems.{StandsFor}
 use Rattle.esr_telling.specs.declared.asked.Asked.{Asked}
 use Rattle.esr_telling.specs.State.{ScriptState, transaction_called}
 
--- The problem stands for the query of the history; the certificate certifies it, with the smallest least set, and does
--- not tell how many augmentations lead to its flow.
+-- The problem stands for the query of the history, and is one of just its near updates; the certificate certifies it,
+-- with the smallest least set, and does not tell how many augmentations lead to its flow.
 pub record IsFound (h : Schedule) (q : ℕ) (problem : Problem) (certificate : Certificate) : Type 0 where
   pub stands : StandsFor weighted h q problem
+  pub near : AreNear h q problem.updates
   pub certified : Certifies problem certificate
   pub set_is : filter_map (slice_get problem.updates) certificate.set ≡ least_set weighted h q
   pub smallest : IsSmallestLeast problem (in_set certificate.set)
