@@ -1,11 +1,17 @@
 -- Sessions with their blocks, and what came of them.
-use Rattle.std.proofs.Common.{◌≡◌, ℕ, zero, suc, ◌+◌, ◌<◌, List, [], ◌∷◌, ◌++◌, All, length, map, take, get_or, Result, Ok, IfOk, Vec, Global, refl, ap, sym, subst, ◌∙◌, arith}
+use Rattle.std.proofs.Common.{◌≡◌, ℕ, zero, suc, ◌+◌, ◌<◌, ◌≤◌, ◌*◌, true, sum_by, List, [], ◌∷◌, ◌++◌, All, length, map, take, get_or, Result, Ok, IfOk, Vec, Global, refl, ap, sym, subst, ◌∙◌, arith}
 use Rattle.std.proofs.lemmas.List.{take_more, map-append}
 use Rattle.std.proofs.lemmas.List.Elements.{All-push}
+use Rattle.std.proofs.lemmas.List.Sums.{sum_by-cons}
+use Rattle.esr_history.specs.declared.limits.TheConstants.{MOST_ENTRIES}
 use Rattle.esr_history.specs.declared.event.Reply.{Reply}
 use Rattle.esr_core.specs.declared.machine.StepError.{StepError}
 use Rattle.esr_session.specs.declared.receipt.Receipt.{Receipt}
+use Rattle.esr_session.specs.Receipts.{count_in}
 use Rattle.esr_plan.specs.declared.call.Call.{Call}
+use Rattle.esr_plan.specs.declared.fault.DriveFault.{DriveFault}
+use Rattle.esr_plan.specs.declared.fault.DriveFault.TheVariants as fault
+use Rattle.esr_drive.specs.Faults.{is_engine_fault, IsEngineFault}
 use Rattle.esr_plan.specs.Calls.{command_of, answers_of, AreResolved, all_answers, AreAnswered}
 use Rattle.esr_plan.specs.Blocks.{Answered, AreBlocks}
 use Rattle.esr_drive.specs.Runs.{IsBlockRun}
@@ -36,6 +42,27 @@ pub tasks_more : {J : Type 0} (f : J → List Call) (tasks all : List J) (j : J)
 tasks_more f tasks all j blocks i b is so_far lt at calls =
     ap (map f) is ∙ (map-append f tasks (j ∷ []) ∙ (ap (λ l. l ++ f j ∷ []) so_far ∙ (ap (λ c. map (λ (b : Vec Call Global). b.items) (take i blocks) ++ c ∷ []) (calls ∙ ap (λ (b : Vec Call Global). b.items) at)
     ∙ (sym (map-append (λ (b : Vec Call Global). b.items) (take i blocks) (get_or blocks i b ∷ [])) ∙ ap (map (λ (b : Vec Call Global). b.items)) (sym (take_more blocks i b lt))))))
+
+-- where the blocks leave as many receipts as a history has entries, their lines can fill one
+receipts_most : {J R : Type 0} (calls : J → List Call) (session : R → List Receipt) (tasks : List J) (rans : List R) → length rans ≡ length tasks
+    → ((i : ℕ) (j : J) (r : R) → i < length tasks → length (session (get_or rans i r)) ≤ 100 * length (calls (get_or tasks i j)))
+    → sum_by length (map session rans) ≤ 100 * sum_by length (map calls tasks)
+receipts_most calls session [] [] len most = omega arith
+receipts_most calls session [] (r ∷ rans) len most = absurd (omega (arith, len))
+receipts_most calls session (j ∷ tasks) [] len most = absurd (omega (arith, len))
+receipts_most calls session (j ∷ tasks) (r ∷ rans) len most =
+    let here = most 0 j r (omega arith) in
+    let rest = receipts_most calls session tasks rans (omega (arith, len)) (λ i x y lt. most (suc i) x y (omega (arith, lt))) in
+    omega (arith, here, rest, sum_by-cons length (session r) (map session rans), sum_by-cons length (calls j) (map calls tasks))
+
+pub fault_told : {J R : Type 0} (calls : J → List Call) (session : R → List Receipt) (tasks : List J) (rans : List R) (e : DriveFault) → length rans ≡ length tasks
+    → ((i : ℕ) (j : J) (r : R) → i < length tasks → length (session (get_or rans i r)) ≤ 100 * length (calls (get_or tasks i j)))
+    → is_engine_fault e ≡ true → (e ≡ fault.HistoryFull → count_in (map session rans) ≡ MOST_ENTRIES) → IsEngineFault (map calls tasks) e
+fault_told calls session tasks rans fault.NoMemory len most is full = tt
+fault_told calls session tasks rans fault.HistoryFull len most is full =
+    omega (arith, full refl, receipts_most calls session tasks rans len most)
+fault_told calls session tasks rans fault.Close len most is full = tt
+fault_told calls session tasks rans _ len most is full = cc
 
 head_same : {X : Type 0} (x y : X) (xs ys : List X) → x ∷ xs ≡ y ∷ ys → x ≡ y
 head_same x y xs ys e = cc

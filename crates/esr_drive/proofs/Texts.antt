@@ -1,6 +1,8 @@
 -- From the parts of a drive to its text.
-use Rattle.std.proofs.Common.{◌≡◌, ℕ, zero, suc, All, arith, ◌+◌, true, ◌⊎◌, inl, inr, List, [], ◌∷◌, ◌++◌, map, Option, Some, None, Result, Ok, Err, Vec, Global, ap, sym, subst, ◌∙◌}
+use Rattle.std.proofs.Common.{◌≡◌, ℕ, zero, suc, All, arith, ◌+◌, ◌⊎◌, length, sum_by, refl, inl, inr, List, [], ◌∷◌, ◌++◌, map, Option, Some, None, Result, Ok, Err, Vec, Global, ap, sym, subst, ◌∙◌}
 use mathlib.Core.List.{map-map}
+use Rattle.std.proofs.lemmas.List.{length-map}
+use Rattle.std.proofs.lemmas.List.Sums.{sum_by-cons}
 use Rattle.esr_history.specs.declared.event.Reply.{Reply}
 use Rattle.esr_history.specs.Machine.{Schedule}
 use Rattle.esr_line.specs.Lines.{lines}
@@ -9,13 +11,14 @@ use Rattle.esr_plan.specs.declared.fault.DriveFault.TheVariants as fault
 use Rattle.esr_plan.specs.declared.sheet.Sheet.{Sheet}
 use Rattle.esr_plan.specs.declared.call.Call.{Call}
 use Rattle.esr_plan.specs.Calls.{command_of, AreResolved, all_answers}
+use Rattle.esr_plan.specs.Drafts.{commands_in}
 use Rattle.esr_plan.specs.Plan.{Plan, plan_of, plan_from, cut_fault, with_line, nothing, weights_of}
 use Rattle.esr_plan.specs.Sheets.{plan_in, IsSound}
 use Rattle.esr_plan.proofs.Cuts.{IsCut, IsNoneOrCut, all_cut}
 use Rattle.esr_drive.specs.Driven.{IsDriven}
 use Rattle.esr_drive.specs.Drive.{IsDriveText}
 use Rattle.esr_plan.specs.Text.{text_of}
-use Rattle.esr_drive.specs.Faults.{IsTextFault, is_engine_fault}
+use Rattle.esr_drive.specs.Faults.{IsTextFault, IsEngineFault, CanFill}
 
 all_items : (P : List Call → Type 0) (bs : List (Vec Call Global)) → All (λ b. P b.items) bs → All P (map (λ b. b.items) bs)
 all_items P [] all i x lt = absurd (omega (arith, lt))
@@ -87,12 +90,18 @@ pub text_fault : (bytes : List ℕ) (e : DriveFault) → (e ≡ fault.NoMemory) 
 text_fault bytes e (inl is) = subst (λ (f : DriveFault). IsTextFault bytes f) (sym is) tt
 text_fault bytes e (inr is) = fault_is bytes e (subst (λ (r : Result Plan DriveFault). IsFine r) is (plan_fine bytes)) is
 
+-- as many lines as commands
+same_lines : (bs : List (Vec Call Global)) → sum_by length (map (λ b. b.items) bs) ≡ sum_by length (map (λ b. commands_in b.items) bs)
+same_lines [] = refl
+same_lines (b ∷ bs) =
+    omega (arith, sum_by-cons length b.items (map (λ b. b.items) bs), sum_by-cons length (commands_in b.items) (map (λ b. commands_in b.items) bs), length-map b.items command_of, same_lines bs)
+
 -- a fault of the engine, where the file has a plan
-pub engine_fault : (bytes : List ℕ) (p : Plan) (e : DriveFault) → plan_of bytes ≡ Ok p → is_engine_fault e ≡ true → IsTextFault bytes e
-engine_fault bytes p fault.NoMemory planned is = tt
-engine_fault bytes p fault.HistoryFull planned is = (p, planned)
-engine_fault bytes p fault.Close planned is = (p, planned)
-engine_fault bytes p _ planned is = cc
+pub engine_fault : (bytes : List ℕ) (s : Sheet) (e : DriveFault) → plan_of bytes ≡ Ok (plan_in s) → IsEngineFault (map (λ b. b.items) s.blocks.items) e → IsTextFault bytes e
+engine_fault bytes s fault.NoMemory planned is = tt
+engine_fault bytes s fault.HistoryFull planned is = (plan_in s, planned, omega (arith, same_lines s.blocks.items, is))
+engine_fault bytes s fault.Close planned is = (plan_in s, planned)
+engine_fault bytes s _ planned is = absurd is
 
 -- four parts, one after another
 pub four_parts : (o0 o1 o2 o3 o4 a b c d : List ℕ) → o0 ≡ [] → o1 ≡ o0 ++ a → o2 ≡ o1 ++ b → o3 ≡ o2 ++ c → o4 ≡ o3 ++ d → o4 ≡ a ++ b ++ c ++ d

@@ -11,6 +11,7 @@ use Rattle.esr_plan.specs.declared.fault.DriveFault.TheVariants as fault
 use Rattle.esr_plan.specs.Plan.{Plan, plan_of, weights_of}
 use Rattle.esr_plan.specs.Blocks.{Answered, AreBlocks, commands_of}
 use Rattle.esr_plan.specs.Text.{text_of}
+use Rattle.esr_drive.specs.Faults.{CanFill}
 
 -- Each command of the plan has a run of receipts, which match one legal history over the plan's items, and the text is
 -- that of the last replies, the findings and the totals of this history.
@@ -39,7 +40,8 @@ IsDriveBy input left (Err fault.Read) written = written ≡ []
 IsDriveBy input left (Err fault.Write) written = (text : List ℕ) × IsDriveText input text × BeginsWith text written
 IsDriveBy input left (Err fault.LineTooLong) written = (written ≡ []) × (plan_of input ≡ Err fault.LineTooLong)
 IsDriveBy input left (Err fault.NoMemory) written = written ≡ []
-IsDriveBy input left (Err fault.HistoryFull) written = (written ≡ []) × ((p : Plan) × (plan_of input ≡ Ok p))
+IsDriveBy input left (Err fault.HistoryFull) written =
+    (written ≡ []) × ((p : Plan) × (plan_of input ≡ Ok p) × CanFill p.blocks)
 IsDriveBy input left (Err fault.TooManyLines) written = (written ≡ []) × (plan_of input ≡ Err fault.TooManyLines)
 IsDriveBy input left (Err (fault.BadScript line error)) written =
     (written ≡ []) × (plan_of input ≡ Err (fault.BadScript line error))

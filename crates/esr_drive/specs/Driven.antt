@@ -1,5 +1,5 @@
 -- What the engine of a drive leaves.
-use Rattle.std.specs.Prelude.{◌≡◌, ◌≤◌, ℕ, ℤ, List, All, Result, Ok, Err, length, map, true}
+use Rattle.std.specs.Prelude.{◌≡◌, ◌≤◌, ℕ, ℤ, List, All, Result, Ok, Err, length, map}
 use Rattle.esr_items.specs.Weights.{weighted}
 use Rattle.esr_history.specs.declared.limits.TheConstants.{MOST_ENTRIES}
 use Rattle.esr_history.specs.declared.event.Reply.{Reply}
@@ -12,7 +12,7 @@ use Rattle.esr_plan.specs.Calls.{command_of, all_answers, AreAnswered, AreResolv
 use Rattle.esr_plan.specs.Blocks.{AreBlocks}
 use Rattle.esr_plan.specs.declared.fault.DriveFault.{DriveFault}
 use Rattle.esr_drive.specs.declared.driven.Driven.{Driven}
-use Rattle.esr_drive.specs.Faults.{is_engine_fault}
+use Rattle.esr_drive.specs.Faults.{IsEngineFault}
 
 -- A legal history over these opening values and weights, whose entries the receipts of the blocks name, with the last
 -- replies of each block. The names of items are those that the calls were resolved by.
@@ -34,4 +34,4 @@ abbrev pub DrivesTo : List ℤ → List ℕ → List (List Call) → Result Driv
 DrivesTo opening weights blocks (Ok d) =
     IsDriven opening weights blocks d.history.schedule (map (λ r. r.items) d.replies.items)
     × AreTotals weighted d.history.schedule d.totals
-DrivesTo opening weights blocks (Err fault) = is_engine_fault fault ≡ true
+DrivesTo opening weights blocks (Err fault) = IsEngineFault blocks fault

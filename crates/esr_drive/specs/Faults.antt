@@ -1,6 +1,7 @@
 -- The faults of a drive that neither its reader nor its writer makes.
-use Rattle.std.specs.Prelude.{◌≡◌, ℕ, List, Bool, true, false, Option, Some, None, Result, Ok, Err, unwrap_or, if◌then◌else◌}
+use Rattle.std.specs.Prelude.{◌≡◌, ◌≤◌, ◌*◌, ◌==◌, ℕ, List, Bool, true, false, Option, Some, None, Result, Ok, Err, length, sum_by, unwrap_or, if◌then◌else◌}
 use Rattle.std.specs.List.{list_any}
+use Rattle.esr_history.specs.declared.limits.TheConstants.{MOST_ENTRIES}
 use Rattle.esr_core.specs.declared.machine.StepError.{StepError}
 use Rattle.esr_core.specs.declared.machine.StepError.TheVariants as error
 use Rattle.esr_plan.specs.Plan.{Plan, plan_of}
@@ -14,13 +15,24 @@ is_engine_fault fault.HistoryFull = true
 is_engine_fault fault.Close = true
 is_engine_fault _ = false
 
+-- the lines of these blocks, each given 100 times, can fill a history
+abbrev pub CanFill : {X : Type 0} → List (List X) → Type 0
+CanFill blocks = MOST_ENTRIES ≤ 100 * sum_by length blocks
+
+-- a fault of the engine that runs these blocks, or of memory
+abbrev pub IsEngineFault : {X : Type 0} → List (List X) → DriveFault → Type 0
+IsEngineFault blocks fault.NoMemory = Unit {0}
+IsEngineFault blocks fault.HistoryFull = CanFill blocks
+IsEngineFault blocks fault.Close = Unit {0}
+IsEngineFault blocks _ = ⊥
+
 -- the fault of a drive of these bytes, where neither reading nor writing failed
 abbrev pub IsTextFault : List ℕ → DriveFault → Type 0
 IsTextFault bytes fault.Read = ⊥
 IsTextFault bytes fault.Write = ⊥
 IsTextFault bytes fault.LineTooLong = plan_of bytes ≡ Err fault.LineTooLong
 IsTextFault bytes fault.NoMemory = Unit {0}
-IsTextFault bytes fault.HistoryFull = (p : Plan) × (plan_of bytes ≡ Ok p)
+IsTextFault bytes fault.HistoryFull = (p : Plan) × (plan_of bytes ≡ Ok p) × CanFill p.blocks
 IsTextFault bytes fault.TooManyLines = plan_of bytes ≡ Err fault.TooManyLines
 IsTextFault bytes (fault.BadScript line error) = plan_of bytes ≡ Err (fault.BadScript line error)
 IsTextFault bytes fault.Close = (p : Plan) × (plan_of bytes ≡ Ok p)
@@ -56,6 +68,12 @@ abbrev pub told_fault : {V : Type 0} → List (Result V StepError) → Option Dr
 told_fault outcomes =
     first_of (list_any (is_outcome is_memory) outcomes) (list_any (is_outcome is_full) outcomes)
     (list_any (is_outcome is_closed) outcomes)
+
+-- the same once the receipts were counted: where a session answered that the history is full and there are not so many
+-- receipts, they do not match
+abbrev pub confirmed : ℕ → DriveFault → DriveFault
+confirmed receipts fault.HistoryFull = if receipts == MOST_ENTRIES then fault.HistoryFull else fault.Close
+confirmed receipts told = told
 
 -- the fault that is told after one more error
 abbrev pub worse : Option DriveFault → StepError → DriveFault

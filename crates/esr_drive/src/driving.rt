@@ -11,7 +11,7 @@ ghost use Rattle.esr_drive.specs.Driven.{IsDriven};
 ghost use Rattle.esr_items.specs.Weights.{weighted};
 ghost use Rattle.esr_session.specs.Engine.{AreTotals};
 ghost use Rattle.esr_plan.specs.Calls.{all_answers};
-ghost use Rattle.esr_drive.specs.Faults.{IsTextFault, is_engine_fault};
+ghost use Rattle.esr_drive.specs.Faults.{IsTextFault, IsEngineFault};
 ghost use Rattle.esr_plan.specs.Sheets.{plan_in, IsSound};
 ghost use Rattle.esr_plan.specs.Plan.{cut_fault, weights_of};
 
@@ -96,7 +96,7 @@ fn run_sheet<R: Threads + Wait + Sync, G: Gate + Sync>(
     ensures ok { IfOk result (λ d. IsDriven sheet.now.values.items (weights_of sheet.now.weights.items)
         (map (λ b. b.items) sheet.now.blocks.items) d.history.schedule (map (λ r. r.items) d.replies.items)) }
     ensures totals { IfOk result (λ d. AreTotals weighted d.history.schedule d.totals) }
-    ensures err { IfErr result (λ e. is_engine_fault e ≡ true) }
+    ensures err { IfErr result (IsEngineFault (map (λ b. b.items) sheet.now.blocks.items)) }
 {
     let items = Store::of_valid(alloc, &sheet.values)?;
     let metric = metric_of(alloc, sheet.weights.as_slice())?;

@@ -1,7 +1,7 @@
 //! Runs the blocks of a plan, each by a session on a thread of its own. A line that is blocked is given again, up to
 //! 100 times in all, and its last answer counts.
 
-ghost use Rattle.std.specs.Prelude.{◌≡◌, ◌<◌, ◌+◌, List, [], ◌∷◌, ◌++◌, true, IfOk, length};
+ghost use Rattle.std.specs.Prelude.{◌≡◌, ◌<◌, ◌≤◌, ◌+◌, ◌*◌, List, [], ◌∷◌, ◌++◌, true, IfOk, length};
 ghost use Rattle.esr_items.specs.Weights.{weighted};
 ghost use Rattle.esr_session.specs.declared.receipt.Receipt.{Receipt};
 ghost use Rattle.esr_session.specs.Receipts.{AreBlocked, is_blocked};
@@ -33,7 +33,8 @@ pub fn run_block<N: Naming, R: Wait>(
     session: Session<Weighted, N>,
 ) -> Ran<N>
     requires { session ≡ [] }
-    ensures { IfOk result.outcome (λ replies. IsBlockRun calls.now replies.items result.session) }
+    ensures run { IfOk result.outcome (λ replies. IsBlockRun calls.now replies.items result.session) }
+    ensures most { length result.session ≤ 100 * length calls.now }
 {
     let mut session = session;
     let outcome = call_all(rt, alloc, calls, &mut session);
@@ -50,6 +51,7 @@ fn call_in_turns<N: Naming, R: Wait>(
         × AreBlocked weighted N.opening N.weights event blocked × (length blocked < 100)
         × (is_blocked r.reply ≡ true → length blocked + 1 ≡ 100)) }
     ensures event { IfOk result (λ r. r.event ≡ event) }
+    ensures most { length session.new ≤ length session.old + 100 }
 {
     session.call_patient(rt, event, TURNS)
 }
@@ -62,7 +64,8 @@ fn call_all<N: Naming, R: Wait>(
     session: &mut Session<Weighted, N>,
 ) -> Result<Vec<Reply>, StepError>
     requires { session.old ≡ [] }
-    ensures { IfOk result (λ replies. IsBlockRun calls.now replies.items session.new) }
+    ensures run { IfOk result (λ replies. IsBlockRun calls.now replies.items session.new) }
+    ensures most { length session.new ≤ 100 * length calls.now }
 {
     let Ok(mut replies) = Vec::with_capacity(alloc, calls.len()) else {
         return Err(StepError::NoMemory);

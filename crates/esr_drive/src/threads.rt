@@ -1,17 +1,20 @@
 //! Blocks on threads of their own, joined, and what came of them taken apart. Where blocks were not run to their ends,
 //! one fault is told, in a fixed order.
 
-ghost use Rattle.std.specs.Prelude.{◌≡◌, ◌⊎◌, [], true, Ok, Some, IfOk, IfErr, All, map, vec_len};
-ghost use Rattle.esr_drive.specs.Faults.{is_engine_fault, told_fault, worse};
+ghost use Rattle.std.specs.Prelude.{◌≡◌, ◌⊎◌, ◌≤◌, ◌*◌, ◌==◌, [], true, Ok, Some, IfOk, IfErr, All, length, map, vec_len};
+ghost use Rattle.esr_drive.specs.Faults.{is_engine_fault, told_fault, confirmed, worse};
+ghost use Rattle.esr_history.specs.declared.limits.TheConstants.{MOST_ENTRIES};
+ghost use Rattle.esr_plan.specs.declared.fault.DriveFault.{DriveFault};
+ghost use Rattle.esr_session.specs.Receipts.{count_in};
 ghost use Rattle.esr_drive.specs.Runs.{IsBlockRun, AllPairs};
 
 use crate::run::{Ran, run_block};
 use esr_board::Gate;
 use esr_core::StepError;
-use esr_history::Reply;
+use esr_history::{MOST_ENTRIES, Reply};
 use esr_items::Weighted;
 use esr_plan::{Call, DriveFault};
-use esr_session::{Naming, Session};
+use esr_session::{HasReceipts, Naming, Session};
 use std::alloc::{AllocError, Global};
 use std::sync::Wait;
 use std::thread;
@@ -36,13 +39,16 @@ pub fn run_blocks<'a, 't, N: Naming + Send + Sync, R: Threads + Wait + Sync, G: 
     ensures len { IfOk result (λ v. vec_len v ≡ vec_len tasks.entry) }
     ensures runs { IfOk result (λ v. AllPairs (λ task ran.
         IfOk ran.outcome (λ replies. IsBlockRun task.calls.now replies.items ran.session)) tasks.entry.items v.items) }
+    ensures most { IfOk result (λ v. AllPairs (λ task ran. length ran.session ≤ 100 * length task.calls.now)
+        tasks.entry.items v.items) }
 {
     thread::map_vec(
         rt,
         tasks,
         &|task: BlockTask<'_, '_, N>| -> Ran<N>
             requires { task.session ≡ [] }
-            ensures { IfOk result.outcome (λ replies. IsBlockRun task.entry.calls.now replies.items result.session) }
+            ensures run { IfOk result.outcome (λ replies. IsBlockRun task.entry.calls.now replies.items result.session) }
+            ensures most { length result.session ≤ 100 * length task.entry.calls.now }
         {
             gate.enter(task.number);
             run_block(rt, alloc, task.calls, task.session)
@@ -57,14 +63,18 @@ pub struct BlockResults<N: Naming> {
     pub replies: Vec<Vec<Reply>>,
 }
 
-/// Takes apart what came of the blocks. Where blocks were not run to their ends, the answer is the
-/// first of out of memory, a full history and a closed engine that one of them ended by.
+/// Takes apart what came of the blocks. Where blocks were not run to their ends, the answer is the first of out of
+/// memory, a full history and a closed engine that one of them ended by; and a history is full only where the receipts
+/// say so too.
 pub fn gather<N: Naming>(alloc: Global, all: Vec<Ran<N>>) -> Result<BlockResults<N>, DriveFault>
     ensures sessions { IfOk result (λ g. g.sessions.items ≡ map (λ ran. ran.session) all.items) }
     ensures replies { IfOk result (λ g. map (λ ran. ran.outcome) all.items ≡ map (λ r. Ok r) g.replies.items) }
     ensures engine { IfErr result (λ e. is_engine_fault e ≡ true) }
+    ensures full { IfErr result (λ e. e ≡ DriveFault.HistoryFull
+        → count_in (map (λ ran. ran.session) all.items) ≡ MOST_ENTRIES) }
     ensures told { IfErr result (λ e. (e ≡ DriveFault.NoMemory)
-        ⊎ (told_fault (map (λ ran. ran.outcome) all.items) ≡ Some e)) }
+        ⊎ ((fault : DriveFault) × (told_fault (map (λ ran. ran.outcome) all.items) ≡ Some fault)
+        × (e ≡ confirmed (count_in (map (λ ran. ran.session) all.items)) fault))) }
 {
     let mut sessions = Vec::new(alloc);
     let mut replies = Vec::new(alloc);
@@ -84,9 +94,35 @@ pub fn gather<N: Naming>(alloc: Global, all: Vec<Ran<N>>) -> Result<BlockResults
         }
     }
     match worst {
-        Some(fault) => Err(fault),
+        Some(fault) => Err(confirm(fault, sessions.as_slice())),
         None => Ok(BlockResults { sessions, replies }),
     }
+}
+
+/// The fault of blocks that left these receipts. No contract tells a session how many entries the history has when it
+/// answers that it is full; when all threads are joined the receipts tell, each entry having one.
+fn confirm<N: Naming>(fault: DriveFault, sessions: &[Session<Weighted, N>]) -> DriveFault
+    ensures { result ≡ confirmed (count_in sessions.now) fault }
+{
+    match fault {
+        DriveFault::HistoryFull if !is_full(sessions) => DriveFault::Close,
+        fault => fault,
+    }
+}
+
+/// Whether there are as many receipts as a history may have entries.
+fn is_full<N: Naming>(sessions: &[Session<Weighted, N>]) -> bool
+    ensures { result ≡ (count_in sessions.now == MOST_ENTRIES) }
+{
+    let mut left = MOST_ENTRIES;
+    for session in sessions {
+        let receipts = session.receipts().len();
+        if receipts > left {
+            return false;
+        }
+        left -= receipts;
+    }
+    left == 0
 }
 
 /// The fault that is told after one more error.

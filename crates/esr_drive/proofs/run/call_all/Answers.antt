@@ -1,4 +1,4 @@
-use Rattle.std.proofs.Common.{◌+◌, ◌≤◌, length, [], List, take, sym, subst, rules, take_all}
+use Rattle.std.proofs.Common.{arith, ap, ◌+◌, ◌≤◌, length, [], List, take, sym, subst, rules, take_all}
 use Rattle.esr_items.specs.Weights.{weighted}
 use Rattle.esr_history.specs.declared.event.Reply.{Reply}
 use Rattle.esr_session.specs.declared.receipt.Receipt.{Receipt}
@@ -10,7 +10,7 @@ use Rattle.esr_drive.proofs.run.call_all.Goals as goal
 
 pub loop-i-init : goal.loop-i-init
 loop-i-init g c =
-    (search rules, search rules, λ names resolved. subst (λ (l : List Receipt). AreRuns names [] l) (sym c.requires) start)
+    (search rules, search rules, λ names resolved. subst (λ (l : List Receipt). AreRuns names [] l) (sym c.requires) start, omega (arith, ap length c.requires))
 
 pub loop-i-preserved : goal.loop-i-preserved
 loop-i-preserved g c =
@@ -22,10 +22,14 @@ loop-i-preserved g c =
       λ names resolved.
           subst (λ (l : List Reply). AreRuns names (answers_of (take (c.loop-i.i + 1) c.args.calls.now) l) c.call_in_turns.new.session) (sym c.push_reserved.ensures.items)
           (block_more names weighted g.N.Naming.opening g.N.Naming.weights c.args.calls.now c.loop-i.replies.items c.deref.result.now c.loop-i.i _ c.event_of-event.result r c.loop-i.session c.call_in_turns.new.session ok.0 c.deref.ensures.value c.loop-i-test.true (search rules) resolved (inv.2 names resolved) c.event_of-event.ensures ok.1 ok.2 ok.3 ok.4 c.in-Ok-call_in_turns.ensures.event),
+      omega (arith, inv.3, c.call_in_turns.ensures.most),
     )
 
-pub returns : goal.returns
-returns g c =
+pub returns-in-Err-clause-most : goal.returns-in-Err-clause-most
+returns-in-Err-clause-most g c = omega (arith, c.loop-i.invariant.3, c.call_in_turns.ensures.most, c.loop-i-test.true)
+
+pub returns-clause-run : goal.returns-clause-run
+returns-clause-run g c =
     let le : length c.args.calls.now ≤ c.loop-i.i = search rules in
     record {
       every = search rules;
