@@ -251,48 +251,6 @@ fn pages_by<M: Metric + Sync, R: Threads + Sync, G: Gate + Sync, T: From<Finding
     }
 }
 
-/// The committed updates of a history, and what so many workers find of its committed queries.
-fn book_by<M: Metric + Sync, R: Threads + Sync, G: Gate + Sync>(
-    rt: &R,
-    alloc: Global,
-    history: &History<M>,
-    workers: u64,
-    gate: &G,
-) -> Result<Book, AuditError>
-    ensures book { IfOk result (IsBook M.distance_by history.now.schedule) }
-    ensures workers { (result ≡ Err AuditError.WorkersOutOfRange) ↔ ((workers ≡ 0) ⊎ (MOST_SEATS < workers)) }
-    ensures err { IfErr result (λ e. (e ≡ AuditError.NoMemory) ⊎ (e ≡ AuditError.WorkersOutOfRange)) }
-{
-    match pages_by(rt, alloc, history, workers, gate) {
-        Ok(Pages { order, kept }) => Ok(Book {
-            order,
-            findings: kept,
-        }),
-        Err(failed) => Err(failed),
-    }
-}
-
-/// The same in summaries.
-fn summaries_by<M: Metric + Sync, R: Threads + Sync, G: Gate + Sync>(
-    rt: &R,
-    alloc: Global,
-    history: &History<M>,
-    workers: u64,
-    gate: &G,
-) -> Result<Summaries, AuditError>
-    ensures summaries { IfOk result (AreSummaries M.distance_by history.now.schedule) }
-    ensures workers { (result ≡ Err AuditError.WorkersOutOfRange) ↔ ((workers ≡ 0) ⊎ (MOST_SEATS < workers)) }
-    ensures err { IfErr result (λ e. (e ≡ AuditError.NoMemory) ⊎ (e ≡ AuditError.WorkersOutOfRange)) }
-{
-    match pages_by(rt, alloc, history, workers, gate) {
-        Ok(Pages { order, kept }) => Ok(Summaries {
-            order,
-            summaries: kept,
-        }),
-        Err(failed) => Err(failed),
-    }
-}
-
 /// The audit of a history by so many workers, each on a thread of its own: what `audit_history`
 /// finds, up to the choice of a flow in the certificates. It calls `enter` of the gate before the
 /// audit of the k-th committed query, with k, counted from 0.
@@ -319,7 +277,13 @@ pub fn audit_parallel<M: Metric + Sync, R: Threads + Sync, G: Gate + Sync>(
         (map (λ t. t.0) f.before.items)) b.findings.items) }
 {
     let _legal = history.log(); // brings the invariant into the proof
-    book_by(rt, alloc, history, workers, gate)
+    match pages_by(rt, alloc, history, workers, gate) {
+        Ok(Pages { order, kept }) => Ok(Book {
+            order,
+            findings: kept,
+        }),
+        Err(failed) => Err(failed),
+    }
 }
 
 /// The same in summaries, for which each worker keeps no problem and no certificate: they take the most memory of a
@@ -346,5 +310,11 @@ pub fn summarize_parallel<M: Metric + Sync, R: Threads + Sync, G: Gate + Sync>(
         (map (λ t. t.0) s.before.items)) b.summaries.items) }
 {
     let _legal = history.log(); // brings the invariant into the proof
-    summaries_by(rt, alloc, history, workers, gate)
+    match pages_by(rt, alloc, history, workers, gate) {
+        Ok(Pages { order, kept }) => Ok(Summaries {
+            order,
+            summaries: kept,
+        }),
+        Err(failed) => Err(failed),
+    }
 }

@@ -1,5 +1,10 @@
+use Rattle.std.proofs.Common.{Ok}
 use Rattle.esr_audit.proofs.Stays.{findings_stay}
+use Rattle.esr_board.proofs.Keeping.{book_kept}
 use Rattle.esr_board.proofs.parallel.audit_parallel.Goals as goal
 
-pub returns-clause-stays : goal.returns-clause-stays
-returns-clause-stays g c = findings_stay g.M.Metric.distance_by c.args.history.now.schedule c.book_by.result c.book_by.ensures.book
+pub returns-in-Ok-clause-book : goal.returns-in-Ok-clause-book
+returns-in-Ok-clause-book g c = book_kept g.M.Metric.distance_by c.args.history.now.schedule _ c.in-Ok.ensures.order c.in-Ok.ensures.kept
+
+pub returns-in-Ok-clause-stays : goal.returns-in-Ok-clause-stays
+returns-in-Ok-clause-stays g c = findings_stay g.M.Metric.distance_by c.args.history.now.schedule (Ok _) (returns-in-Ok-clause-book g c)

@@ -1,5 +1,10 @@
+use Rattle.std.proofs.Common.{Ok}
 use Rattle.esr_audit.proofs.Stays.{summaries_stay}
+use Rattle.esr_board.proofs.Keeping.{summaries_kept}
 use Rattle.esr_board.proofs.parallel.summarize_parallel.Goals as goal
 
-pub returns-clause-stays : goal.returns-clause-stays
-returns-clause-stays g c = summaries_stay g.M.Metric.distance_by c.args.history.now.schedule c.summaries_by.result c.summaries_by.ensures.summaries
+pub returns-in-Ok-clause-summaries : goal.returns-in-Ok-clause-summaries
+returns-in-Ok-clause-summaries g c = summaries_kept g.M.Metric.distance_by c.args.history.now.schedule _ c.in-Ok.ensures.order c.in-Ok.ensures.kept
+
+pub returns-in-Ok-clause-stays : goal.returns-in-Ok-clause-stays
+returns-in-Ok-clause-stays g c = summaries_stay g.M.Metric.distance_by c.args.history.now.schedule (Ok _) (returns-in-Ok-clause-summaries g c)
