@@ -68,7 +68,8 @@ fn an_upgrade_waits_for_the_smallest_other_reader(rt: HostRuntime) {
     assert!(rt; locks.items_of(u).is_empty());
 }
 
-/// No clause can say that the lock of a query finds room: a table that never has any would be proved.
+/// No clause can say that the lock of a query finds room: a table that never has any would be proved. A second read of
+/// one query counts with the first.
 #[test]
 fn queries_stand_by_their_numbers_with_counts(rt: HostRuntime) {
     let mut locks = table(&rt, rt.alloc());
@@ -78,12 +79,14 @@ fn queries_stand_by_their_numbers_with_counts(rt: HostRuntime) {
     locks.add_read_query(q, B);
     make_room(&rt, &mut locks, r, B);
     locks.add_read_query(r, B);
+    make_room(&rt, &mut locks, q, B);
+    locks.add_read_query(q, B);
     assert!(rt; locks.query_reads(A).is_empty());
     assert!(rt;
         locks.query_reads(B)
             == [
                 QueryReads { query: r, count: 1 },
-                QueryReads { query: q, count: 1 }
+                QueryReads { query: q, count: 2 }
             ]
             .as_slice()
     );

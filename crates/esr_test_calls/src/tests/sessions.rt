@@ -23,7 +23,7 @@ fn zeros(rt: &impl Abort, alloc: Global, count: usize) -> Store {
         panic!(rt; "memory")
     };
     let Ok(items) = Store::new(alloc, values) else {
-        panic!(rt; "items")
+        panic!(rt; "memory for items")
     };
     items
 }
@@ -390,4 +390,97 @@ fn check_turns(rt: &impl Abort, closed: &Closed<Plain>) {
     assert!(rt; receipts.len() == 2);
     assert!(rt; receipts[0].len() == 2);
     assert!(rt; receipts[1].len() == 4);
+}
+
+/// No contract makes memory: where it is refused, each call is made once more. What is lost of a call that was refused,
+/// shows where each request is refused in turn (checks/faults).
+#[test]
+fn each_call_is_made_once_more(rt: HostRuntime) {
+    let alloc = rt.alloc();
+    let items = zeros(&rt, alloc, 1);
+    call_once_more::<Brand, _>(rt, alloc, Blank::new(LEDGER_PARTS), items);
+}
+
+/// A session writes, and commits in a patient call; the engine is closed and its receipts are compared again.
+fn call_once_more<N, R>(rt: R, alloc: Global, blank: Blank, items: Store)
+where
+    N: Naming,
+    R: Wait + Abort + Copy,
+    requires name { blank.name ≡ N.name }
+    requires parts { (blank.parts ≡ N.parts) × (blank.parts ≡ LEDGER_PARTS) }
+    requires opening { map (λ w. w.committed) items ≡ N.opening }
+    requires weights { [] ≡ N.weights }
+{
+    let Ok(mut engine) = Engine::<Plain, N>::new(alloc, blank, items, Plain) else {
+        panic!(rt; "memory for an engine")
+    };
+    let opened = match engine.open_sessions(2) {
+        Err(_) => engine.open_sessions(2),
+        opened => opened,
+    };
+    let Ok(mut sessions) = opened else {
+        panic!(rt; "refused twice")
+    };
+    for session in &mut sessions {
+        write_once_more(&rt, session);
+    }
+    let closed = close_once_more(&rt, engine, sessions);
+    assert!(rt; closed.history.log().len() == 6);
+    match_once_more(&rt, alloc, &closed);
+}
+
+/// The session begins an update, writes and commits.
+fn write_once_more<N: Naming, R: Wait + Abort>(rt: &R, session: &mut Session<Plain, N>) {
+    let begun = insist(rt, session, Event::BeginUpdate { limit: 0 });
+    let Reply::Begun(txn) = begun else {
+        panic!(rt; "no update begun")
+    };
+    let wrote = insist(rt, session, writing(txn.0));
+    assert!(rt; wrote == Reply::Wrote);
+    let committed = insist(rt, session, Event::Commit { txn });
+    assert!(rt; committed == Reply::Committed);
+}
+
+/// The reply to a call, which is made once more where memory is refused, as a patient one.
+fn insist<N: Naming, R: Wait + Abort>(
+    rt: &R,
+    session: &mut Session<Plain, N>,
+    event: Event,
+) -> Reply {
+    let answer = match session.call(rt, event) {
+        Err(StepError::NoMemory) => session.call_patient(rt, event, 2),
+        answer => answer,
+    };
+    let Ok(receipt) = answer else {
+        panic!(rt; "refused twice")
+    };
+    receipt.reply
+}
+
+/// Closes the engine, once more where memory is refused.
+fn close_once_more<N: Naming, R: Wait + Abort>(
+    rt: &R,
+    engine: Engine<Plain, N>,
+    sessions: Vec<Session<Plain, N>>,
+) -> Closed<Plain> {
+    match engine.close(rt, sessions) {
+        Ok(closed) => closed,
+        Err(refused) => {
+            let CloseError::NoMemory = refused.error else {
+                panic!(rt; "refused for another reason")
+            };
+            closed(rt, refused.engine, refused.sessions)
+        }
+    }
+}
+
+/// Compares the receipts, once more where memory is refused.
+fn match_once_more(rt: &impl Abort, alloc: Global, closed: &Closed<Plain>) {
+    let answer = match match_receipts(alloc, &closed.history, closed.receipts.as_slice()) {
+        Err(CloseError::NoMemory) => {
+            match_receipts(alloc, &closed.history, closed.receipts.as_slice())
+        }
+        answer => answer,
+    };
+    assert!(rt; answer == Ok(()));
 }
