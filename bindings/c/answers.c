@@ -68,6 +68,7 @@ static void audit(esr_engine *engine) {
 static void bundle(esr_engine *engine) {
     static uint8_t bytes[1000];
     size_t length = 0, again = 0;
+    esr_verdict verdict = {0, 0};
     WANT(esr_bundle(engine, 2, bytes, 1, &length), ESR_TOO_SMALL);
     WANT(bytes[0], 0);
     WANT(length > 100 && length < sizeof bytes, 1);
@@ -78,6 +79,12 @@ static void bundle(esr_engine *engine) {
     WANT(bytes[length - 1], '}');
     WANT(bytes[length], 0);
     WANT(esr_bundle(engine, 1, bytes, length, &again), ESR_NOT_A_COMMITTED_QUERY);
+    WANT(esr_check(bytes, length, &verdict), ESR_DONE);
+    WANT(verdict.kind, ESR_VALID);
+    WANT(verdict.number, 100);
+    WANT(esr_check(bytes, length - 1, &verdict), ESR_DONE);
+    WANT(verdict.kind, ESR_BAD);
+    WANT(verdict.number, 1);
 }
 
 /* A renewal keeps the committed values, and nothing else: numbers begin at 1 again, and an abort puts back. */

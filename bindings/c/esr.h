@@ -134,6 +134,16 @@ typedef struct esr_finding {
     size_t count;      /* how many updates stand before that placement */
 } esr_finding;
 
+typedef struct esr_verdict {
+    uint32_t kind;
+    uint64_t number;
+} esr_verdict;
+enum {
+    ESR_VALID = 1,   /* number: the least cost, which the bundle shows */
+    ESR_INVALID = 2, /* number: of the certificate's first fault */
+    ESR_BAD = 3      /* number: of the bundle's fault; it is none */
+};
+
 esr_status esr_open(esr_engine *engine, const int64_t *opening, size_t items);
 /* A difference of an item counts as often as its weight says, 1 to 1,000; an item past the weights counts once. */
 esr_status esr_open_weighted(esr_engine *engine, const int64_t *opening, size_t items, const uint32_t *weights,
@@ -162,6 +172,9 @@ esr_status esr_values(esr_engine *engine, int64_t *values, size_t room, size_t *
 esr_status esr_audit(esr_engine *engine, uint32_t query, uint32_t *before, size_t room, esr_finding *finding);
 /* The audit as one JSON object, with no 0 at its end, which `esr check` judges without this engine. */
 esr_status esr_bundle(esr_engine *engine, uint32_t query, uint8_t *bytes, size_t room, size_t *count);
+
+/* The verdict on a bundle, as `esr check` gives it. It needs no engine. */
+esr_status esr_check(const uint8_t *bytes, size_t length, esr_verdict *verdict);
 
 /* Goes on from the committed values with an empty history, and the same weights. Transactions are numbered from 1 again,
  * and the old history is gone: audit what is of interest before. */

@@ -53,6 +53,7 @@ static int day(void) {
     esr_reply reply;
     esr_totals totals;
     esr_finding finding;
+    esr_verdict verdict;
     int64_t opening[2] = {500, 1500}, values[2];
     uint32_t before[2];
     uint8_t bytes[1000];
@@ -68,12 +69,13 @@ static int day(void) {
     WANT(esr_commit(&engine, 2, &reply), ESR_DONE);
     WANT(esr_audit(&engine, 2, before, 2, &finding), ESR_DONE);
     WANT(esr_bundle(&engine, 2, bytes, sizeof bytes, &length), ESR_DONE);
+    WANT(esr_check(bytes, length, &verdict), ESR_DONE);
     WANT(esr_totals_of(&engine, &totals), ESR_DONE);
     WANT(esr_renew(&engine), ESR_DONE);
     WANT(esr_values(&engine, values, 2, &count), ESR_DONE);
     esr_close(&engine);
     return totals.entries != 8 || totals.low != 200 || finding.distance != 100 || finding.import != 200
-        || finding.count != 0 || values[0] != 400 || values[1] != 1600 || bytes[length - 1] != '}';
+        || finding.count != 0 || verdict.kind != ESR_VALID || verdict.number != 100 || values[0] != 400 || values[1] != 1600 || bytes[length - 1] != '}';
 }
 
 static int each(const char *name, int (*program)(void)) {

@@ -31,12 +31,16 @@ use Rattle.esr_cert.specs.Views.{certificate_of}
 use Rattle.esr_audit.specs.Findings.{IsAnswer, IsFindingOf}
 use Rattle.esr_audit.specs.declared.finding.Finding.{Finding}
 use Rattle.esr_bundle.specs.Bundle.{bundle}
+use Rattle.esr_bundle.specs.Judge.{IsVerdictOf}
+use Rattle.esr_bundle.specs.declared.judging.Verdict.{Verdict}
+use Rattle.esr_bundle.specs.declared.judging.Verdict.TheVariants.{Valid, Invalid, Bad}
 use Rattle.esr_c.specs.declared.account.EsrAccount.{EsrAccount}
 use Rattle.esr_c.specs.declared.audit.EsrFinding.{EsrFinding}
 use Rattle.esr_c.specs.declared.audit.EsrTotals.{EsrTotals}
 use Rattle.esr_c.specs.declared.engine.Status.{Status}
 use Rattle.esr_c.specs.declared.engine.Status.TheVariants.{Done, TooManyItems, OutOfRange, NotBegun, WeightOutOfRange, NotACommittedQuery, TooSmall, Full, NoMemory, Closed, Open, Active}
 use Rattle.esr_c.specs.declared.reply.EsrReply.{EsrReply}
+use Rattle.esr_c.specs.declared.verdict.EsrVerdict.{EsrVerdict}
 
 -- a history of these opening values and weights, with no entry
 abbrev pub opened : List ℤ → List ℕ → Schedule
@@ -180,6 +184,15 @@ account_fields a = record { query = is_query_kind a.kind; standing = standing_nu
 
 abbrev pub IsAccount : Schedule → ℕ → EsrAccount → Type 0
 IsAccount h t a = Some a ≡ option_map account_fields (account_of weighted h t)
+
+-- a verdict by numbers, and the one on these bytes
+abbrev pub verdict_fields : Verdict → EsrVerdict
+verdict_fields (Valid worth) = record { kind = 1; number = worth }
+verdict_fields (Invalid fault) = record { kind = 2; number = fault }
+verdict_fields (Bad fault) = record { kind = 3; number = fault }
+
+abbrev pub IsVerdictIn : List ℕ → EsrVerdict → Type 0
+IsVerdictIn bytes v = (found : Verdict) × IsVerdictOf bytes found × (v ≡ verdict_fields found)
 
 -- the statuses of an opening, of a renewal, of values, and of an audit or a bundle
 abbrev pub IsOpenStatus : ℕ → Type 0

@@ -186,8 +186,8 @@ fn tell_for_update(engine: &mut Engine, txn: TxnId, item: ItemId, reply: &mut Es
     ensures err { result ≢ Status.Done → (reply.new ≡ reply.old) × IsPartlyDone engine.old engine.new txn item }
 {
     match engine.read_for_update(txn, item) {
-        Ok(answer) => {
-            *reply = tell(answer);
+        Ok(read) => {
+            *reply = tell(read);
             Status::Done
         }
         Err(Unanswered::Full) => Status::Full,

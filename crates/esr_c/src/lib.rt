@@ -18,7 +18,7 @@ ghost use Rattle.esr_history.specs.Queries.{is_committed_query};
 ghost use Rattle.esr_history.specs.Totals.{IsWithinLimits};
 ghost use Rattle.esr_core.specs.Renewed.{has_active, renewed};
 ghost use Rattle.esr_engine.specs.Room.{NeverStuck, counts_of};
-ghost use Rattle.esr_c.specs.Answers.{opened, IsEventCall, IsForUpdateCall, IsTotal, IsAccount, IsFound, IsCounted, IsBundleIn, IsBundleLong, AreValuesIn, GoesOn, IsSound, IsOpenStatus, IsWeightedOpenStatus, IsRenewStatus, IsValuesStatus, IsAuditStatus};
+ghost use Rattle.esr_c.specs.Answers.{opened, IsEventCall, IsForUpdateCall, IsTotal, IsAccount, IsFound, IsCounted, IsBundleIn, IsBundleLong, AreValuesIn, GoesOn, IsSound, IsOpenStatus, IsWeightedOpenStatus, IsRenewStatus, IsValuesStatus, IsAuditStatus, IsVerdictIn};
 
 mod account;
 mod audit;
@@ -26,6 +26,7 @@ mod engine;
 mod handle;
 mod loose;
 mod reply;
+mod verdict;
 
 pub use account::EsrAccount;
 use account::show_account;
@@ -38,6 +39,8 @@ use esr_history::{Event, TxnId};
 use esr_items::ItemId;
 pub use reply::EsrReply;
 use std::alloc::Global;
+pub use verdict::EsrVerdict;
+use verdict::show_verdict;
 
 /// Opens an engine over items with these values, where it is closed.
 ///
@@ -351,6 +354,16 @@ pub extern "C" fn esr_bundle(
     let status = show_bundle(alloc, &mut inner, query, bytes, count);
     *engine = open_with(inner);
     status.number()
+}
+
+/// The verdict on a bundle, whose it be: 0, or 13 where an allocation failed. It needs no engine.
+#[unsafe(no_mangle)]
+pub extern "C" fn esr_check(alloc: Global, bytes: &[u8], verdict: &mut EsrVerdict) -> u32
+    ensures status { (result ≡ 0) ⊎ (result ≡ 13) }
+    ensures verdict { result ≡ 0 → IsVerdictIn bytes.now verdict.new }
+    ensures err { result ≢ 0 → verdict.new ≡ verdict.old }
+{
+    show_verdict(alloc, bytes, verdict).number()
 }
 
 /// Goes on from the committed values with an empty history, in which transactions are numbered from 1 again.
