@@ -1,13 +1,11 @@
 -- Whether a transaction is active, by the place of its end; and that there is always room for the end of one that is.
-use Rattle.std.proofs.Common.{◌≡◌, ◌≤◌, ◌<◌, ◌+◌, ◌-◌, ℕ, List, [], ◌∷◌, ◌++◌, length, length-append, Bool, true, false, not, ◌&&◌, ◌||◌, ◌==◌, refl, sym, ◌∙◌, ap, subst, arith, Option, None, Some, is_some, is_none, map, filter, if◌then◌else◌, option_map, unwrap_or, nat_le, nat_lt}
+use Rattle.std.proofs.Common.{◌≡◌, ◌≤◌, ◌+◌, ◌-◌, ℕ, List, [], ◌∷◌, ◌++◌, length-append, Bool, true, false, not, ◌&&◌, ◌||◌, ◌==◌, refl, sym, ◌∙◌, ap, arith, Option, None, Some, is_some, is_none, map, filter, if◌then◌else◌, nat_le}
 use Rattle.std.specs.List.{last_or, list_any, filter_map}
 use Rattle.std.proofs.lemmas.List.{take-append-le}
 use Rattle.esr_order.specs.Index.{Indexed, IsIndexOf}
 use Rattle.esr_order.specs.Scans.{commit_in}
-use Rattle.std.proofs.lemmas.Bool.{false≢true, or_right, or_left, and_parts, not-true, cases_Bool}
-use Rattle.std.proofs.lemmas.Bool.Decides.{nat_tests}
+use Rattle.std.proofs.lemmas.Bool.{false≢true}
 use Rattle.esr_history.specs.declared.back_links.Facts.{Facts}
-use Rattle.esr_history.specs.declared.event.Reply.{Reply}
 use Rattle.esr_history.specs.BackLinks.{accepted_end, ender, is_key, places_from, last_place, facts_by, facts_of}
 use Rattle.esr_history.specs.declared.event.TxnId.{TxnId}
 use Rattle.esr_history.specs.declared.event.Event.{Event}
@@ -16,10 +14,10 @@ use Rattle.esr_history.specs.declared.event.Event.TheVariants.{BeginUpdate, Begi
 use Rattle.esr_history.specs.declared.event.Reply.TheVariants.{Committed, Aborted}
 use Rattle.esr_history.specs.declared.event.Refusal.TheVariants.{NoSuchTransaction, AlreadyEnded}
 use Rattle.esr_history.specs.Events.{Beginning, accepted, beginning, is_begun, is_committed, is_aborted, is_active, is_refusal, commits, aborts}
-use Rattle.esr_history.specs.Machine.{Distance, Schedule, done, reply_to, refusal, reasons, when, answered, acceptance, first_reason, not_begun, ended}
+use Rattle.esr_history.specs.Machine.{Distance, Schedule, done, when, answered, first_reason, not_begun, ended}
 use Rattle.esr_history.proofs.Lists.{or_false}
 use Rattle.esr_history.proofs.Orderly.{active_parts}
-use Rattle.esr_engine.specs.Room.{active_count, taken, is_full, NeverStuck}
+use Rattle.esr_engine.specs.Room.{taken, NeverStuck}
 
 -- whether an event of a list ends the transaction
 abbrev ended_in : ℕ → List Event → Bool

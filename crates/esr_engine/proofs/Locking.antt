@@ -1,8 +1,8 @@
 -- What a read for update reads is the current value, and its reader holds the write lock.
-use Rattle.std.proofs.Common.{◌≡◌, ◌<◌, ◌≤◌, ℕ, ℤ, pos, ◌+◌, List, [], ◌∷◌, ◌++◌, length, Bool, true, false, not, ◌&&◌, ◌||◌, ◌==◌, refl, sym, ◌∙◌, ap, subst, arith, inl, inr, Option, None, Some, if◌then◌else◌, option_map, unwrap_or, nat_lt, nat_le}
+use Rattle.std.proofs.Common.{◌≡◌, ℕ, ℤ, pos, ◌+◌, List, [], ◌∷◌, ◌++◌, length, Bool, true, false, not, ◌&&◌, ◌==◌, refl, sym, ◌∙◌, ap, subst, arith, inl, inr, Option, None, Some, if◌then◌else◌, option_map, unwrap_or, nat_lt, nat_le}
 use Rattle.std.specs.Prelude.{Result, Ok, Err, IfOk, OnOk}
 use Rattle.std.specs.List.{list_any}
-use Rattle.std.proofs.lemmas.Bool.{cases_Bool, cases_eq, false≢true, false_from_ne_true, and_parts, and_from, and_right, or_right, eq-eqb}
+use Rattle.std.proofs.lemmas.Bool.{cases_eq, false≢true, false_from_ne_true, and_parts, and_from, or_right, eq-eqb}
 use Rattle.std.proofs.lemmas.Bool.Decides.{nat_tests}
 use Rattle.esr_items.specs.Values.{value_at}
 use Rattle.esr_items.specs.Weights.{weighted}
@@ -14,8 +14,8 @@ use Rattle.esr_history.specs.declared.event.Refusal.{Refusal}
 use Rattle.esr_history.specs.declared.event.Event.TheVariants.{Read, Write}
 use Rattle.esr_history.specs.declared.event.Reply.TheVariants.{Value, Wrote, Refused}
 use Rattle.esr_history.specs.declared.event.Refusal.TheVariants.{NoSuchItem}
-use Rattle.esr_history.specs.Events.{reads, writes, commits, aborts, is_active, is_begun, is_committed, is_aborted, is_update, is_refusal, holds_write, committed_value, current_value}
-use Rattle.esr_history.specs.Machine.{Schedule, done, extended, reply_to, refusal, reasons, acceptance, writer}
+use Rattle.esr_history.specs.Events.{reads, writes, is_active, is_begun, is_committed, is_aborted, is_update, is_refusal, holds_write, committed_value, current_value}
+use Rattle.esr_history.specs.Machine.{Schedule, done, extended, reply_to, refusal, reasons, writer}
 use Rattle.esr_history.specs.Orderly.{IsOrderly}
 use Rattle.esr_history.proofs.Allowed.{none_applies, write_allowed, read_allowed}
 use Rattle.esr_history.proofs.Lawful.{done-accepted, follows, not_ended, when_none}
@@ -26,7 +26,7 @@ use Rattle.esr_history.proofs.Values.{current-write, stays}
 use Rattle.esr_core.proofs.Held.{active-kept}
 use Rattle.esr_core.proofs.Locks.{writer_is}
 use Rattle.esr_engine.specs.declared.engine.Unanswered.{Unanswered}
-use Rattle.esr_engine.specs.ForUpdate.{after, has_lock, locking, locked, lock_refused, reply_for_update, after_for_update, IsHeldValue}
+use Rattle.esr_engine.specs.ForUpdate.{after, has_lock, locking, locked, reply_for_update, after_for_update, IsHeldValue}
 
 settles : (begun committed aborted : Bool) → begun ≡ true → (begun && (not committed && not aborted)) ≡ false → (committed ≡ true → aborted ≡ false) → committed ≡ not aborted
 settles true true aborted b none once = sym (ap not (once refl))

@@ -1,13 +1,11 @@
 -- What facts tell of a transaction, as its account.
-use Rattle.std.proofs.Common.{◌≡◌, ℕ, List, Bool, true, false, not, ◌&&◌, refl, sym, ◌∙◌, ap, Option, None, Some, is_some, is_none, if◌then◌else◌, option_map, arith}
+use Rattle.std.proofs.Common.{◌≡◌, ℕ, true, false, not, ◌&&◌, refl, sym, ◌∙◌, ap, Option, None, Some, is_some, if◌then◌else◌, option_map}
 use Rattle.esr_history.specs.declared.back_links.Facts.{Facts}
 use Rattle.esr_history.specs.BackLinks.{accepted_end, last_place, facts_by, facts_of}
-use Rattle.esr_history.specs.declared.event.Entry.{Entry}
-use Rattle.esr_history.specs.Events.{Beginning, accepted, beginning, is_active, is_begun, is_committed}
+use Rattle.esr_history.specs.Events.{Beginning, beginning, is_active, is_begun, is_committed}
 use Rattle.esr_history.specs.Machine.{Distance, Schedule, IsLegal, done}
 use Rattle.esr_order.specs.Scans.{is_commit_at}
-use Rattle.esr_order.proofs.Commits.{commit_at_end, facts_some, facts_none}
-use Rattle.esr_engine.specs.declared.account.Account.{Account}
+use Rattle.esr_order.proofs.Commits.{commit_at_end, facts_none}
 use Rattle.esr_engine.specs.declared.account.Standing.{Standing}
 use Rattle.esr_engine.specs.declared.account.Standing.TheVariants.{Active, Committed, Aborted}
 use Rattle.esr_engine.specs.Accounts.{standing_of, charged_to, kind_of, account_from, account_of}

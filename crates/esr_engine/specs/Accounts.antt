@@ -1,5 +1,5 @@
 -- What a history says of one transaction.
-use Rattle.std.specs.Prelude.{ℕ, Bool, true, false, List, Option, None, Some, option_map, if◌then◌else◌}
+use Rattle.std.specs.Prelude.{ℕ, Bool, true, false, List, Option, option_map, if◌then◌else◌}
 use Rattle.esr_history.specs.declared.event.Event.{Event}
 use Rattle.esr_history.specs.Events.{Beginning, beginning, is_active, is_committed}
 use Rattle.esr_history.specs.Machine.{Distance, Schedule, done, charges_in, import_in, export_in}

@@ -1,6 +1,6 @@
 -- A read of an item by an update that is going to write it: the write lock first, by a write of the value that the item
 -- has, and then the read.
-use Rattle.std.specs.Prelude.{◌≡◌, ◌+◌, ◌⊎◌, ◌==◌, ◌&&◌, ℕ, ℤ, pos, Bool, true, false, nat_lt, length, Option, None, Some, option_map, unwrap_or, if◌then◌else◌, ⊤}
+use Rattle.std.specs.Prelude.{◌≡◌, ◌+◌, ◌⊎◌, ◌==◌, ◌&&◌, ℕ, pos, Bool, true, false, nat_lt, length, option_map, unwrap_or, if◌then◌else◌, ⊤}
 use Rattle.esr_items.specs.Weights.{weighted}
 use Rattle.esr_history.specs.declared.limits.TheConstants.{MOST_ENTRIES}
 use Rattle.esr_items.specs.declared.metric.ItemId.{ItemId}
@@ -8,7 +8,7 @@ use Rattle.esr_history.specs.declared.event.TxnId.{TxnId}
 use Rattle.esr_history.specs.declared.event.Event.{Event}
 use Rattle.esr_history.specs.declared.event.Reply.{Reply}
 use Rattle.esr_history.specs.declared.event.Event.TheVariants.{Read, Write}
-use Rattle.esr_history.specs.declared.event.Reply.TheVariants.{Value, Refused}
+use Rattle.esr_history.specs.declared.event.Reply.TheVariants.{Value}
 use Rattle.esr_history.specs.Events.{is_refusal, holds_write, committed_value, current_value}
 use Rattle.esr_history.specs.Machine.{Schedule, done, extended, reply_to, writer}
 use Rattle.esr_engine.specs.Room.{taken}

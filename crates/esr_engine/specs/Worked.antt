@@ -1,5 +1,5 @@
 -- Rooms of small histories.
-use Rattle.std.specs.Prelude.{◌≡◌, refl, true, false, [], ◌∷◌, pos}
+use Rattle.std.specs.Prelude.{◌≡◌, refl, false, [], ◌∷◌, pos}
 use Rattle.esr_history.specs.declared.event.Event.TheVariants.{BeginUpdate, Write, Commit}
 use Rattle.esr_history.specs.declared.event.Reply.TheVariants.{Begun, Wrote}
 use Rattle.esr_history.specs.Machine.{Schedule}

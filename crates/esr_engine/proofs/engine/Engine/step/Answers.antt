@@ -1,10 +1,10 @@
-use Rattle.std.proofs.Common.{◌≡◌, ◌<◌, ◌≤◌, ◌∙◌, ◌+◌, ap, sym, subst, arith, true, false, length}
+use Rattle.std.proofs.Common.{◌≡◌, ◌<◌, ◌≤◌, ◌∙◌, ◌+◌, ap, sym, subst, arith, false, length}
 use Rattle.esr_history.specs.declared.event.Reply.{Reply}
 use Rattle.esr_items.specs.Weights.{weighted}
 use Rattle.esr_history.specs.Machine.{Schedule, done, extended}
 use Rattle.esr_history.proofs.Lawful.{legal_orderly}
 use Rattle.esr_order.specs.Index.{IsIndexOf}
-use Rattle.esr_engine.specs.Room.{active_after, active_count, is_end, is_full, taken}
+use Rattle.esr_engine.specs.Room.{active_after, active_count, is_full, taken}
 use Rattle.esr_engine.proofs.Active.{Counted, counted, room_after}
 use Rattle.esr_engine.proofs.Ends.{index_later}
 use Rattle.esr_engine.proofs.engine.Engine.step.Goals as goal
