@@ -68,6 +68,7 @@ static void audit(esr_engine *engine) {
 static void bundle(esr_engine *engine) {
     static uint8_t bytes[1000];
     size_t length = 0, again = 0;
+    esr_verdict verdict = {0, 0};
     WANT(esr_bundle(engine, 2, bytes, 1, &length), ESR_TOO_SMALL);
     WANT(bytes[0], 0);
     WANT(length > 100 && length < sizeof bytes, 1);
@@ -78,6 +79,12 @@ static void bundle(esr_engine *engine) {
     WANT(bytes[length - 1], '}');
     WANT(bytes[length], 0);
     WANT(esr_bundle(engine, 1, bytes, length, &again), ESR_NOT_A_COMMITTED_QUERY);
+    WANT(esr_check(bytes, length, &verdict), ESR_DONE);
+    WANT(verdict.kind, ESR_VALID);
+    WANT(verdict.number, 100);
+    WANT(esr_check(bytes, length - 1, &verdict), ESR_DONE);
+    WANT(verdict.kind, ESR_BAD);
+    WANT(verdict.number, 1);
 }
 
 /* A renewal keeps the committed values, and nothing else: numbers begin at 1 again, and an abort puts back. */
@@ -103,9 +110,84 @@ static void renewed(esr_engine *engine) {
     WANT(values[0], 400);
 }
 
+/* Weights: a difference of 10 on an item of weight 3 is charged 30, on the item past the list 10. They stay at a renewal. */
+static void weights(void) {
+    static const int64_t opening[2] = {100, 100};
+    static const uint32_t three[1] = {3};
+    esr_engine engine = ESR_CLOSED;
+    esr_reply reply;
+    esr_account account;
+    WANT(esr_open_weighted(&engine, opening, 2, three, 1), ESR_DONE);
+    for (int round = 0; round < 2; round++) {
+        begun(esr_begin_update(&engine, 40, &reply), &reply, 1);
+        begun(esr_begin_query(&engine, 100, true, &reply), &reply, 2);
+        answered(esr_write(&engine, 1, 0, 90, &reply), &reply, ESR_WROTE);
+        answered(esr_write(&engine, 1, 1, 110, &reply), &reply, ESR_WROTE);
+        value(esr_read(&engine, 2, 0, &reply), &reply, 90);
+        WANT(esr_account_of(&engine, 2, &account), ESR_DONE);
+        WANT(account.query, true);
+        WANT(account.standing, ESR_ACTIVE);
+        WANT(account.charged, 30);
+        value(esr_read(&engine, 2, 1, &reply), &reply, 110);
+        WANT(esr_account_of(&engine, 1, &account), ESR_DONE);
+        WANT(account.query, false);
+        WANT(account.limit, 40);
+        WANT(account.charged, 40);
+        answered(esr_abort(&engine, 1, &reply), &reply, ESR_ABORTED);
+        answered(esr_commit(&engine, 2, &reply), &reply, ESR_COMMITTED);
+        WANT(esr_account_of(&engine, 1, &account), ESR_DONE);
+        WANT(account.standing, ESR_ABORTED);
+        WANT(esr_account_of(&engine, 2, &account), ESR_DONE);
+        WANT(account.standing, ESR_COMMITTED);
+        WANT(esr_account_of(&engine, 3, &account), ESR_NOT_BEGUN);
+        WANT(esr_renew(&engine), ESR_DONE);
+    }
+    esr_close(&engine);
+}
+
+/* Of two updates that want to change one item the second is told at its read, not at its write. */
+static void for_update(void) {
+    static const int64_t opening[1] = {7};
+    esr_engine engine = ESR_CLOSED;
+    esr_reply reply;
+    esr_counts counts;
+    WANT(esr_open(&engine, opening, 1), ESR_DONE);
+    begun(esr_begin_update(&engine, 0, &reply), &reply, 1);
+    begun(esr_begin_update(&engine, 0, &reply), &reply, 2);
+    value(esr_read_for_update(&engine, 1, 0, &reply), &reply, 7);
+    answered(esr_read_for_update(&engine, 2, 0, &reply), &reply, ESR_REFUSED);
+    WANT(reply.refusal, ESR_BLOCKED_BY_LOCK);
+    WANT(reply.txn, 1);
+    answered(esr_write(&engine, 1, 0, 8, &reply), &reply, ESR_WROTE);
+    value(esr_read_for_update(&engine, 1, 0, &reply), &reply, 8);
+    answered(esr_commit(&engine, 1, &reply), &reply, ESR_COMMITTED);
+    value(esr_read_for_update(&engine, 2, 0, &reply), &reply, 8);
+    answered(esr_read_for_update(&engine, 2, 1, &reply), &reply, ESR_REFUSED);
+    WANT(reply.refusal, ESR_NO_SUCH_ITEM);
+    WANT(esr_counts_of(&engine, &counts), ESR_DONE);
+    WANT(counts.entries, 11);
+    WANT(counts.transactions, 2);
+    WANT(counts.active, 1);
+    WANT(counts.entries_left, 1000000 - 12);
+    WANT(counts.transactions_left, 65533);
+    esr_close(&engine);
+}
+
+/* The words of each status and refusal are there, and no two are alike but where they say the same. */
+static void texts(void) {
+    WANT(strcmp(esr_status_text(ESR_HISTORY_FULL), "history full"), 0);
+    WANT(strcmp(esr_status_text(99), "no such status"), 0);
+    WANT(strcmp(esr_refusal_text(ESR_BLOCKED_BY_LOCK), "blocked by a lock"), 0);
+    WANT(strcmp(esr_refusal_text(0), "no such refusal"), 0);
+    for (uint32_t n = 1; n <= 11; n++) WANT(strcmp(esr_refusal_text(n), "no such refusal") == 0, 0);
+}
+
 int main(void) {
     esr_engine engine = ESR_CLOSED;
     esr_reply reply;
+    weights();
+    for_update();
+    texts();
     day(&engine);
     audit(&engine);
     bundle(&engine);

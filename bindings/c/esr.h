@@ -1,4 +1,4 @@
-/* esr: an epsilon-serializable transaction engine, embedded.
+/* esr: an epsilon-serializable transaction engine, embedded. Version 0.2.0.
  *
  * An engine is a variable of the caller's, which begins as ESR_CLOSED:
  *
@@ -18,6 +18,17 @@
  * - No call is made from a signal handler, or in the child of a fork of a process with threads.
  * - malloc, realloc and free are those of one allocator.
  *
+ * What a refusal leaves: a reply of kind ESR_REFUSED has changed no value, no lock and no charge, and is an entry of the
+ * history. Where it is one of the last three, the same event may pass once another transaction has ended: try again after
+ * a pause, or abort. Two updates that read an item and then write it block each other for good: read what is going to be
+ * written by esr_read_for_update.
+ *
+ * An engine is never stuck. It keeps an entry free for the end of each active transaction; an event for which there is no
+ * room beside these, and a begin where no number is left, is answered ESR_HISTORY_FULL and is no entry. So where that is
+ * answered: end what is active, or let it end, audit what is of interest, and esr_renew; or esr_renew_aborting, which
+ * goes through whatever is active. After either, transactions are numbered from 1 again: an old number may be that of
+ * another transaction.
+ *
  * What is answered, and does no harm: calls before esr_open and after esr_close, opening twice, closing twice, numbers of
  * transactions and items that there are not, values and limits out of range. Several engines may live at once.
  */
@@ -32,19 +43,33 @@
 extern "C" {
 #endif
 
+#define ESR_VERSION "0.2.0"
+
+/* The limits. */
+#define ESR_MOST_ITEMS 4096u
+#define ESR_MOST_ENTRIES 1000000u      /* of a history */
+#define ESR_MOST_TRANSACTIONS 65535u   /* of a history */
+#define ESR_MOST_READS 1000u           /* of a query */
+#define ESR_LARGEST_VALUE INT64_C(1000000000000)
+#define ESR_LARGEST_LIMIT UINT64_C(1000000000000000000)
+#define ESR_LARGEST_WEIGHT 1000u
+
 /* What a call answers. Unless it is ESR_DONE nothing has changed, but for ESR_TOO_SMALL: esr_values and esr_bundle have
- * told the count then, esr_audit the whole finding, and the room is as it was. */
+ * told the count then, esr_audit the whole finding, and the room is as it was; and for esr_read_for_update, where the lock
+ * may have been taken with ESR_NO_MEMORY. */
 typedef uint32_t esr_status;
 enum {
     ESR_DONE = 0,
-    ESR_TOO_MANY_ITEMS = 1,        /* esr_open: more than 4,096 */
-    ESR_VALUE_OUT_OF_RANGE = 2,    /* esr_open: a value outside -10^12 to 10^12 */
+    ESR_TOO_MANY_ITEMS = 1,        /* an opening: more than 4,096, or as many weights */
+    ESR_VALUE_OUT_OF_RANGE = 2,    /* an opening: a value outside -10^12 to 10^12 */
+    ESR_NOT_BEGUN = 3,             /* esr_account_of: there is no such transaction */
+    ESR_WEIGHT_OUT_OF_RANGE = 4,   /* esr_open_weighted: a weight of 0, or above 1,000 */
     ESR_NOT_A_COMMITTED_QUERY = 6, /* esr_audit, esr_bundle */
     ESR_TOO_SMALL = 7,             /* esr_values, esr_audit, esr_bundle: there is not room for all; the count is told */
-    ESR_HISTORY_FULL = 12,         /* an event: the history has 1,000,000 entries */
+    ESR_HISTORY_FULL = 12,         /* an event: there is no room for it beside the ends of what is active */
     ESR_NO_MEMORY = 13,
     ESR_IS_CLOSED = 14,            /* the engine was not opened, or has been closed */
-    ESR_IS_OPEN = 15,              /* esr_open: the engine is open */
+    ESR_IS_OPEN = 15,              /* an opening: the engine is open */
     ESR_TRANSACTION_ACTIVE = 16    /* esr_renew */
 };
 
@@ -70,7 +95,7 @@ enum {
     ESR_QUERY_MAY_NOT_WRITE = 4,
     ESR_WRITTEN_VALUE_OUT_OF_RANGE = 5,
     ESR_LIMIT_OUT_OF_RANGE = 6,    /* above 10^18 */
-    ESR_TOO_MANY_TRANSACTIONS = 7, /* 65,535 have begun: see esr_renew */
+    ESR_TOO_MANY_TRANSACTIONS = 7, /* not of these calls, which answer ESR_HISTORY_FULL */
     ESR_TOO_MANY_READS = 8,        /* of one query: more than 1,000 */
     ESR_BLOCKED_BY_LOCK = 9,       /* these three may pass later: try again, or abort */
     ESR_BLOCKED_BY_IMPORT = 10,
@@ -88,13 +113,41 @@ typedef struct esr_totals {
     uint64_t entries;
 } esr_totals;
 
+typedef struct esr_counts {
+    uint64_t entries, transactions, active;
+    uint64_t entries_left;      /* beside the ends of what is active */
+    uint64_t transactions_left;
+} esr_counts;
+
+/* An account at any time. A query's reads so far are off by at most what it was charged. */
+typedef struct esr_account {
+    bool query;        /* else an update */
+    uint32_t standing; /* ESR_ACTIVE, ESR_COMMITTED or ESR_ABORTED */
+    uint64_t limit;
+    uint64_t charged;  /* of its limit so far: what a query has imported, or an update exported */
+} esr_account;
+enum { ESR_ACTIVE = 0 };
+
 typedef struct esr_finding {
     uint64_t distance; /* of what the query read from the nearest serial placement */
     uint64_t import;   /* what the query was charged: at least the distance */
     size_t count;      /* how many updates stand before that placement */
 } esr_finding;
 
+typedef struct esr_verdict {
+    uint32_t kind;
+    uint64_t number;
+} esr_verdict;
+enum {
+    ESR_VALID = 1,   /* number: the least cost, which the bundle shows */
+    ESR_INVALID = 2, /* number: of the certificate's first fault */
+    ESR_BAD = 3      /* number: of the bundle's fault; it is none */
+};
+
 esr_status esr_open(esr_engine *engine, const int64_t *opening, size_t items);
+/* A difference of an item counts as often as its weight says, 1 to 1,000; an item past the weights counts once. */
+esr_status esr_open_weighted(esr_engine *engine, const int64_t *opening, size_t items, const uint32_t *weights,
+                             size_t weighted);
 void esr_close(esr_engine *engine);
 
 /* Events. Each answers ESR_DONE and writes the reply, or changes neither the engine nor the reply. */
@@ -105,7 +158,14 @@ esr_status esr_write(esr_engine *engine, uint32_t txn, uint32_t item, int64_t va
 esr_status esr_commit(esr_engine *engine, uint32_t txn, esr_reply *reply);
 esr_status esr_abort(esr_engine *engine, uint32_t txn, esr_reply *reply);
 
+/* Takes the write lock on an item, where the update does not hold it, by a write of the value that the item has, which is
+ * charged nothing; then reads the item. The reply is the value, or the refusal of the write. Nobody else comes between
+ * this read and the update's next write. It wants two entries. */
+esr_status esr_read_for_update(esr_engine *engine, uint32_t txn, uint32_t item, esr_reply *reply);
+
 esr_status esr_totals_of(esr_engine *engine, esr_totals *totals);
+esr_status esr_counts_of(esr_engine *engine, esr_counts *counts);
+esr_status esr_account_of(esr_engine *engine, uint32_t txn, esr_account *account);
 /* The committed values of the items, in their order. */
 esr_status esr_values(esr_engine *engine, int64_t *values, size_t room, size_t *count);
 /* The audit of a committed query, with the updates before the placement, in the order of their commits. */
@@ -113,10 +173,49 @@ esr_status esr_audit(esr_engine *engine, uint32_t query, uint32_t *before, size_
 /* The audit as one JSON object, with no 0 at its end, which `esr check` judges without this engine. */
 esr_status esr_bundle(esr_engine *engine, uint32_t query, uint8_t *bytes, size_t room, size_t *count);
 
-/* Goes on from the committed values with an empty history. A history ends at 1,000,000 entries and at 65,535
- * transactions: before that, begin nothing more, let what is active end, audit what is of interest, and renew.
- * Transactions are numbered from 1 again, and the old history is gone. */
+/* The verdict on a bundle, as `esr check` gives it. It needs no engine. */
+esr_status esr_check(const uint8_t *bytes, size_t length, esr_verdict *verdict);
+
+/* Goes on from the committed values with an empty history, and the same weights. Transactions are numbered from 1 again,
+ * and the old history is gone: audit what is of interest before. */
 esr_status esr_renew(esr_engine *engine);
+/* The same from every state: what is active is aborted. */
+esr_status esr_renew_aborting(esr_engine *engine);
+
+/* The words of a status, and of a refusal. */
+static inline const char *esr_status_text(esr_status status) {
+    switch (status) {
+    case ESR_DONE: return "done";
+    case ESR_TOO_MANY_ITEMS: return "more than 4,096 items";
+    case ESR_VALUE_OUT_OF_RANGE: return "value out of range";
+    case ESR_NOT_BEGUN: return "no such transaction";
+    case ESR_WEIGHT_OUT_OF_RANGE: return "weight out of range";
+    case ESR_NOT_A_COMMITTED_QUERY: return "not a committed query";
+    case ESR_TOO_SMALL: return "room too small";
+    case ESR_HISTORY_FULL: return "history full";
+    case ESR_NO_MEMORY: return "out of memory";
+    case ESR_IS_CLOSED: return "engine closed";
+    case ESR_IS_OPEN: return "engine open";
+    case ESR_TRANSACTION_ACTIVE: return "a transaction is active";
+    default: return "no such status";
+    }
+}
+static inline const char *esr_refusal_text(uint32_t refusal) {
+    switch (refusal) {
+    case ESR_NO_SUCH_TRANSACTION: return "no such transaction";
+    case ESR_ALREADY_ENDED: return "already ended";
+    case ESR_NO_SUCH_ITEM: return "no such item";
+    case ESR_QUERY_MAY_NOT_WRITE: return "a query may not write";
+    case ESR_WRITTEN_VALUE_OUT_OF_RANGE: return "value out of range";
+    case ESR_LIMIT_OUT_OF_RANGE: return "limit out of range";
+    case ESR_TOO_MANY_TRANSACTIONS: return "too many transactions";
+    case ESR_TOO_MANY_READS: return "too many reads";
+    case ESR_BLOCKED_BY_LOCK: return "blocked by a lock";
+    case ESR_BLOCKED_BY_IMPORT: return "blocked by an import limit";
+    case ESR_BLOCKED_BY_EXPORT: return "blocked by an export limit";
+    default: return "no such refusal";
+    }
+}
 
 #ifdef __cplusplus
 }

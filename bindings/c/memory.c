@@ -27,12 +27,33 @@ void *__wrap_realloc(void *block, size_t size) { return fails() ? NULL : __real_
         } \
     } while (0)
 
+/* Read for update, and a renewal with an update active. */
+static int aborted_day(void) {
+    esr_engine engine = ESR_CLOSED;
+    esr_reply reply;
+    int64_t opening[2] = {500, 1500}, values[2];
+    uint32_t weights[1] = {2};
+    size_t count;
+    WANT(esr_open_weighted(&engine, opening, 2, weights, 1), ESR_DONE);
+    WANT(esr_begin_update(&engine, 200, &reply), ESR_DONE);
+    WANT(esr_read_for_update(&engine, 1, 0, &reply), ESR_DONE);
+    WANT(esr_write(&engine, 1, 0, reply.value - 100, &reply), ESR_DONE);
+    WANT(esr_commit(&engine, 1, &reply), ESR_DONE);
+    WANT(esr_begin_update(&engine, 200, &reply), ESR_DONE);
+    WANT(esr_write(&engine, 2, 1, 7, &reply), ESR_DONE);
+    WANT(esr_renew_aborting(&engine), ESR_DONE);
+    WANT(esr_values(&engine, values, 2, &count), ESR_DONE);
+    esr_close(&engine);
+    return values[0] != 400 || values[1] != 1500;
+}
+
 /* The bank of the README, with its audit, its bundle and a renewal. */
 static int day(void) {
     esr_engine engine = ESR_CLOSED;
     esr_reply reply;
     esr_totals totals;
     esr_finding finding;
+    esr_verdict verdict;
     int64_t opening[2] = {500, 1500}, values[2];
     uint32_t before[2];
     uint8_t bytes[1000];
@@ -48,24 +69,28 @@ static int day(void) {
     WANT(esr_commit(&engine, 2, &reply), ESR_DONE);
     WANT(esr_audit(&engine, 2, before, 2, &finding), ESR_DONE);
     WANT(esr_bundle(&engine, 2, bytes, sizeof bytes, &length), ESR_DONE);
+    WANT(esr_check(bytes, length, &verdict), ESR_DONE);
     WANT(esr_totals_of(&engine, &totals), ESR_DONE);
     WANT(esr_renew(&engine), ESR_DONE);
     WANT(esr_values(&engine, values, 2, &count), ESR_DONE);
     esr_close(&engine);
     return totals.entries != 8 || totals.low != 200 || finding.distance != 100 || finding.import != 200
-        || finding.count != 0 || values[0] != 400 || values[1] != 1600 || bytes[length - 1] != '}';
+        || finding.count != 0 || verdict.kind != ESR_VALID || verdict.number != 100 || values[0] != 400 || values[1] != 1600 || bytes[length - 1] != '}';
 }
 
-int main(void) {
+static int each(const char *name, int (*program)(void)) {
     long n = 0;
+    calls = 0;
     do {
         left = n++;
         failed = 0;
-        if (day()) {
-            fprintf(stderr, "allocation %ld\n", n);
+        if (program()) {
+            fprintf(stderr, "%s: allocation %ld\n", name, n);
             return 1;
         }
     } while (failed);
-    printf("%ld allocations failed in turn, and %ld calls answered so\n", n - 1, calls);
+    printf("%s: %ld allocations failed in turn, and %ld calls answered so\n", name, n - 1, calls);
     return calls == 0;
 }
+
+int main(void) { return each("a day", day) || each("a day that is aborted", aborted_day); }

@@ -13,11 +13,14 @@ static int wrong;
     } while (0)
 
 _Static_assert(sizeof(esr_engine) == 2 * sizeof(void *), "an engine is two words");
+_Static_assert(sizeof(esr_counts) == 40 && sizeof(esr_account) == 24, "counts are five words, an account three");
 _Static_assert(sizeof(esr_reply) == 24 && sizeof(esr_totals) == 24 && sizeof(esr_finding) == 24, "results are three words");
 
 static void closed(esr_engine *engine) {
     esr_reply reply = {9, 9, 9, 9};
     esr_totals totals;
+    esr_counts counts;
+    esr_account account;
     esr_finding finding;
     uint32_t before[1];
     uint8_t bytes[1];
@@ -35,6 +38,10 @@ static void closed(esr_engine *engine) {
     WANT(esr_audit(engine, 1, before, 1, &finding), ESR_IS_CLOSED);
     WANT(esr_bundle(engine, 1, bytes, 1, &count), ESR_IS_CLOSED);
     WANT(esr_renew(engine), ESR_IS_CLOSED);
+    WANT(esr_renew_aborting(engine), ESR_IS_CLOSED);
+    WANT(esr_read_for_update(engine, 1, 0, &reply), ESR_IS_CLOSED);
+    WANT(esr_counts_of(engine, &counts), ESR_IS_CLOSED);
+    WANT(esr_account_of(engine, 1, &account), ESR_IS_CLOSED);
     esr_close(engine);
 }
 
@@ -46,8 +53,12 @@ static void refused(esr_status status, const esr_reply *reply, uint32_t refusal)
 
 static void open_engine(esr_engine *engine) {
     static const int64_t many[4097], far[2] = {0, 1000000000001}, opening[2] = {500, 1500};
+    static const uint32_t none[4097], heavy[2] = {1000, 1001};
     WANT(esr_open(engine, many, 4097), ESR_TOO_MANY_ITEMS);
     WANT(esr_open(engine, far, 2), ESR_VALUE_OUT_OF_RANGE);
+    WANT(esr_open_weighted(engine, opening, 2, none, 1), ESR_WEIGHT_OUT_OF_RANGE);
+    WANT(esr_open_weighted(engine, opening, 2, heavy, 2), ESR_WEIGHT_OUT_OF_RANGE);
+    WANT(esr_open_weighted(engine, opening, 2, none, 4097), ESR_TOO_MANY_ITEMS);
     closed(engine);
     WANT(esr_open(engine, opening, 2), ESR_DONE);
     WANT(esr_open(engine, opening, 2), ESR_IS_OPEN);

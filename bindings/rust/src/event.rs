@@ -63,7 +63,7 @@ pub enum Refusal {
     ValueOutOfRange,
     /// Above 10^18.
     LimitOutOfRange,
-    /// 65,535 have begun: see [`Engine::renew`](crate::Engine::renew).
+    /// Not of this crate's calls, which answer `HistoryFull` where 65,535 have begun.
     TooManyTransactions,
     /// Of one query: more than 1,000.
     TooManyReads,
@@ -120,7 +120,8 @@ pub enum Error {
     ValueOutOfRange,
     /// The transaction is no query, or has not committed.
     NotACommittedQuery,
-    /// The history has 1,000,000 entries: see [`Engine::renew`](crate::Engine::renew).
+    /// There is no room for the event beside the ends of what is active, or no number for a begin: end that, and
+    /// [`Engine::renew`](crate::Engine::renew).
     HistoryFull,
     NoMemory,
     /// A transaction is active.

@@ -50,10 +50,11 @@ use std::fmt;
 /// The most items of an engine.
 pub const MOST_ITEMS: usize = 4_096;
 
-/// The most entries of a history: after them no event is answered until [`Engine::renew`].
+/// The most entries of a history. One is kept free for the end of each active transaction: what has no room beside these
+/// is answered `HistoryFull`, and a commit or an abort always goes through.
 pub const MOST_ENTRIES: u64 = 1_000_000;
 
-/// The most transactions of a history: after them no begin is accepted until [`Engine::renew`].
+/// The most transactions of a history: after them a begin is answered `HistoryFull` until [`Engine::renew`].
 pub const MOST_TRANSACTIONS: u32 = 65_535;
 
 /// An engine. It is closed where it is dropped.
@@ -269,8 +270,8 @@ impl Engine {
     }
 
     /// Goes on from the committed values with an empty history, in which transactions are numbered from 1 again. A
-    /// history ends at [`MOST_ENTRIES`] and at [`MOST_TRANSACTIONS`]: before that, let what is active end, audit what is
-    /// of interest, and renew.
+    /// history ends at [`MOST_ENTRIES`] and at [`MOST_TRANSACTIONS`]: then let what is active end, audit what is of
+    /// interest, and renew.
     ///
     /// # Errors
     /// `TransactionActive`, `NoMemory`: then nothing has changed.

@@ -102,7 +102,7 @@ impl Update<'_> {
 impl Drop for Update<'_> {
     fn drop(&mut self) {
         if !self.ended {
-            // Where the history is full or memory is wanting, the update stays active until its engine is dropped.
+            // Where memory is wanting, the update stays active until its engine is dropped.
             let _ = lock(self.engine).abort(self.txn);
         }
     }

@@ -118,7 +118,7 @@ fn bad(fault: BundleFault) -> Result<Verdict, AllocError>
 }
 
 /// The verdict on the bytes.
-fn verdict_of(alloc: Global, bytes: &[u8]) -> Result<Verdict, AllocError>
+pub fn verdict_of(alloc: Global, bytes: &[u8]) -> Result<Verdict, AllocError>
     ensures { IfOk result (IsVerdictOf bytes.now) }
 {
     match from_json(alloc, bytes) {

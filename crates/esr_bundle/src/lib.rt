@@ -13,6 +13,6 @@ mod reading;
 mod sound;
 mod writing;
 
-pub use judging::{JudgeFault, Verdict, judge};
+pub use judging::{JudgeFault, Verdict, judge, verdict_of};
 pub use reading::from_json;
 pub use writing::to_json;

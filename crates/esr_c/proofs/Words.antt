@@ -1,4 +1,4 @@
--- The machine values of a box, of a `Loose` and of a `MachineHandle`: one word each. Assumes `Logic`.
+-- The machine values of a box, of a `Loose` and of an `EngineHandle`: one word each. Assumes `Logic`.
 use Rattle.std.proofs.Common.{◌≡◌, List, [], ◌∷◌, ◌++◌, refl, subst}
 use mir.Syntax.{dnil, impl, tnil}
 use mir.Raw.{raw as bare}
@@ -24,7 +24,7 @@ use Rattle.std.specs.contracts.alloc.Global as heap
 use Rattle.std.proofs.alloc.Global.TheLaws as heap_laws
 use Rattle.std.specs.contracts.impls.GlobalAllocator.TheImpl as Heap
 use Rattle.esr_c.specs.Owned.{owned}
-use Rattle.esr_c.specs.contracts.handle.MachineHandle as handle
+use Rattle.esr_c.specs.contracts.handle.EngineHandle as handle
 use Rattle.esr_c.specs.contracts.loose.Loose as loose
 
 abbrev pub alone : Val → Val
@@ -69,19 +69,19 @@ module _ (R : RattleType) where
         fsplit t $ fpick t (λ vss. fsplit t $ feq_l t (λ ev. fsplit t $ feq_l t (λ ep. drop t $
         k (subst (λ (ps : List Val). vs ≡ vstruct (of_list (ps ++ [])) ∷ []) ep ev))))
 
-abbrev pub MachineHandle : RattleType
-MachineHandle = handle.the_row
+abbrev pub EngineHandle : RattleType
+EngineHandle = handle.the_row
 
 module _ {M : Type 1} {𝓤 : Ura M} {𝓛 : Logic 𝓤} {K : Type 0} {Γ : List (Item 𝓤)} {G : Goal 𝓤 𝓛.H} where
-  pub held_in : K → (h : MachineHandle.Denot)
-      → Step K 𝓛 (‵ (MachineHandle.own_val h (alone (ptr_val h.at) ∷ [])) ∷ Γ) G (‵ (owned h.at h.machine) ∷ Γ) G
+  pub held_in : K → (h : EngineHandle.Denot)
+      → Step K 𝓛 (‵ (EngineHandle.own_val h (alone (ptr_val h.at) ∷ [])) ∷ Γ) G (‵ (owned h.at h.history) ∷ Γ) G
   held_in t h = step (λ s. let v : Val = alone (ptr_val h.at) in
       nothing t $ feq_i t (List Val) (ptr_val h.at ∷ []) (ptr_val h.at ∷ []) refl $ fjoin t $ feq_i t (List Val) (v ∷ []) (v ∷ []) refl $ fjoin t $
       fpack t (Valss (RawPtr ∷ [])) (within (shape handle.the_type) (h.at, tt) (v ∷ [])) (ptr_val h.at ∷ [], tt) $ fjoin t $ s)
 
-  pub held_out : K → (h : MachineHandle.Denot) (vs : List Val)
-      → (vs ≡ alone (ptr_val h.at) ∷ [] → Seq K 𝓛 (‵ (owned h.at h.machine) ∷ Γ) G)
-      → Seq K 𝓛 (‵ (MachineHandle.own_val h vs) ∷ Γ) G
+  pub held_out : K → (h : EngineHandle.Denot) (vs : List Val)
+      → (vs ≡ alone (ptr_val h.at) ∷ [] → Seq K 𝓛 (‵ (owned h.at h.history) ∷ Γ) G)
+      → Seq K 𝓛 (‵ (EngineHandle.own_val h vs) ∷ Γ) G
   held_out t h vs k =
       fsplit t $ fpick t (λ vss. fsplit t $ feq_l t (λ ev. fsplit t $ feq_l t (λ ep. drop t $
       k (subst (λ (ps : List Val). vs ≡ vstruct (of_list (ps ++ [])) ∷ []) ep ev))))

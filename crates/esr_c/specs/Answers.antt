@@ -1,7 +1,10 @@
 -- What C is told: replies and refusals by numbers.
-use Rattle.std.specs.Prelude.{◌≡◌, ◌≢◌, ◌↔◌, ◌*◌, ◌+◌, ◌^◌, ℕ, ℤ, List, [], length, Option, Some, None, IfSome, pos, take, ◌⊎◌}
+use Rattle.std.specs.Prelude.{◌≡◌, ◌≢◌, ◌↔◌, ◌*◌, ◌+◌, ◌^◌, ℕ, ℤ, Bool, true, false, List, [], length, Option, Some, None, IfSome, option_map, pos, take, ◌⊎◌}
+use Rattle.std.proofs.Math.Nat.{one-mul}
 use Rattle.esr_items.specs.Values.{gap}
-use Rattle.esr_history.specs.declared.limits.TheConstants.{MOST_ENTRIES}
+use Rattle.esr_items.specs.Weights.{weighted}
+use Rattle.esr_items.specs.declared.metric.ItemId.{ItemId}
+use Rattle.esr_history.specs.declared.event.TxnId.{TxnId}
 use Rattle.esr_history.specs.declared.event.Entry.{Entry}
 use Rattle.esr_history.specs.declared.event.Event.{Event}
 use Rattle.esr_history.specs.declared.event.Reply.{Reply}
@@ -9,30 +12,43 @@ use Rattle.esr_history.specs.declared.event.Reply.TheVariants.{Begun, Value, Wro
 use Rattle.esr_history.specs.declared.event.Refusal.{Refusal}
 use Rattle.esr_history.specs.declared.event.Refusal.TheVariants.{BlockedByLock, BlockedByImport, BlockedByExport}
 use Rattle.esr_history.specs.Legal.{along}
-use Rattle.esr_history.specs.Machine.{Distance, Schedule, IsLegal, extended, reply_to}
+use Rattle.esr_history.specs.Machine.{Schedule, IsLegal, extended, reply_to}
 use Rattle.esr_history.specs.Queries.{ImportBoundsDistance}
 use Rattle.esr_history.specs.Refusals.{refusal_number}
 use Rattle.esr_history.specs.Serial.{IsSerializable}
 use Rattle.esr_history.specs.Totals.{IsWithinLimits, all_imports}
-use Rattle.esr_core.specs.Renewed.{committed_values, AreSerializableAsOne}
+use Rattle.esr_core.specs.Renewed.{committed_values, renewed, AreSerializableAsOne}
+use Rattle.esr_engine.specs.Accounts.{account_of}
+use Rattle.esr_engine.specs.ForUpdate.{after_for_update, no_pair, reply_for_update, IsPartlyDone}
+use Rattle.esr_engine.specs.Room.{is_full}
+use Rattle.esr_engine.specs.declared.account.Account.{Account}
+use Rattle.esr_engine.specs.declared.account.Kind.{Kind}
+use Rattle.esr_engine.specs.declared.account.Kind.TheVariants.{Update, Query}
+use Rattle.esr_engine.specs.declared.account.Standing.{Standing}
+use Rattle.esr_engine.specs.declared.account.Standing.TheVariants as standing
 use Rattle.esr_cert.specs.Certificate.{Certificate}
 use Rattle.esr_cert.specs.Views.{certificate_of}
 use Rattle.esr_audit.specs.Findings.{IsAnswer, IsFindingOf}
 use Rattle.esr_audit.specs.declared.finding.Finding.{Finding}
 use Rattle.esr_bundle.specs.Bundle.{bundle}
+use Rattle.esr_bundle.specs.Judge.{IsVerdictOf}
+use Rattle.esr_bundle.specs.declared.judging.Verdict.{Verdict}
+use Rattle.esr_bundle.specs.declared.judging.Verdict.TheVariants.{Valid, Invalid, Bad}
+use Rattle.esr_c.specs.declared.account.EsrAccount.{EsrAccount}
 use Rattle.esr_c.specs.declared.audit.EsrFinding.{EsrFinding}
 use Rattle.esr_c.specs.declared.audit.EsrTotals.{EsrTotals}
 use Rattle.esr_c.specs.declared.engine.Status.{Status}
-use Rattle.esr_c.specs.declared.engine.Status.TheVariants.{Done, TooManyItems, OutOfRange, NotACommittedQuery, TooSmall, Full, NoMemory, Closed, Open, Active}
+use Rattle.esr_c.specs.declared.engine.Status.TheVariants.{Done, TooManyItems, OutOfRange, NotBegun, WeightOutOfRange, NotACommittedQuery, TooSmall, Full, NoMemory, Closed, Open, Active}
 use Rattle.esr_c.specs.declared.reply.EsrReply.{EsrReply}
+use Rattle.esr_c.specs.declared.verdict.EsrVerdict.{EsrVerdict}
 
--- the distance of plain values
-abbrev pub plain : Distance
-plain w x a b = gap a b
+-- a history of these opening values and weights, with no entry
+abbrev pub opened : List ℤ → List ℕ → Schedule
+opened opening weights = record { opening = opening; weights = weights; entries = [] }
 
--- a history of these opening values, with no entry
-abbrev pub fresh : List ℤ → Schedule
-fresh opening = record { opening = opening; weights = []; entries = [] }
+-- where no weight is given, the distance of two values is their difference
+pub plain : (x : ℕ) (a b : ℤ) → weighted [] x a b ≡ gap a b
+plain x a b = one-mul (gap a b)
 
 -- whom a refusal names
 abbrev pub named : Refusal → ℕ
@@ -53,16 +69,16 @@ reply_fields (Refused why) = record { kind = 6; refusal = refusal_number why; tx
 -- what an answered event does: the machine's reply is told, and the history has it at its end
 abbrev pub IsReply : Event → Option Schedule → Option Schedule → EsrReply → Type 0
 IsReply event old new reply =
-    IfSome old (λ h. (new ≡ Some (extended h event (reply_to plain h event)))
-    × (reply ≡ reply_fields (reply_to plain h event)))
+    IfSome old (λ h. (new ≡ Some (extended h event (reply_to weighted h event)))
+    × (reply ≡ reply_fields (reply_to weighted h event)))
 
 -- all imports, by two words of 64 bits, and the count of entries
 abbrev pub IsTotal : EsrTotals → Schedule → Type 0
-IsTotal t h = (t.high * 2 ^ 64 + t.low ≡ all_imports plain h) × (t.entries ≡ length h.entries)
+IsTotal t h = (t.high * 2 ^ 64 + t.low ≡ all_imports weighted h) × (t.entries ≡ length h.entries)
 
 -- the answer of an audit, with the count of the updates before the position, which are listed
 abbrev pub IsTold : Schedule → ℕ → EsrFinding → List ℕ → Type 0
-IsTold h q f before = IsAnswer plain h q f.distance f.import before × (f.count ≡ length before)
+IsTold h q f before = IsAnswer weighted h q f.distance f.import before × (f.count ≡ length before)
 
 -- the same, where they are at the head of a room
 abbrev pub IsFound : Schedule → ℕ → EsrFinding → List ℕ → Type 0
@@ -79,7 +95,7 @@ untold c = record c { augmentations = None }
 -- the bytes are the bundle of what the audit of a query finds
 pub record IsBundleOf (h : Schedule) (q : ℕ) (bytes : List ℕ) : Type 0 where
   pub finding : Finding
-  pub found : IsFindingOf plain h q finding
+  pub found : IsFindingOf weighted h q finding
   pub text : bytes ≡ bundle finding.problem (untold (certificate_of finding.certificate))
 
 -- such bytes are at the head of a room
@@ -96,21 +112,23 @@ AreValuesIn h count room = (take count room ≡ committed_values h) × (count �
 
 -- whatever the history of a renewed engine comes to be, it and the one before it are serializable as one
 pub record GoesOn (h : Schedule) : Type 0 where
-  pub as_one : (later : List Entry) → IsLegal plain (along (fresh (committed_values h)) later)
-      → AreSerializableAsOne h (along (fresh (committed_values h)) later)
+  pub as_one : (later : List Entry) → IsLegal weighted (along (renewed h h.weights) later)
+      → AreSerializableAsOne h (along (renewed h h.weights) later)
 
 -- what holds of the history of an engine, at any time
 pub record IsSound (h : Schedule) : Type 0 where
-  pub legal : IsLegal plain h
-  pub limits : IsWithinLimits plain h
+  pub legal : IsLegal weighted h
+  pub limits : IsWithinLimits weighted h
   pub serializable : IsSerializable h
-  pub bounded : ImportBoundsDistance plain h
+  pub bounded : ImportBoundsDistance weighted h
 
 -- the number of each status
 abbrev pub status_number : Status → ℕ
 status_number Done = 0
 status_number TooManyItems = 1
 status_number OutOfRange = 2
+status_number NotBegun = 3
+status_number WeightOutOfRange = 4
 status_number NotACommittedQuery = 6
 status_number TooSmall = 7
 status_number Full = 12
@@ -128,13 +146,60 @@ IsEventStatus n = (n ≡ 0) ⊎ ((n ≡ 12) ⊎ ((n ≡ 13) ⊎ (n ≡ 14)))
 pub record IsEventCall (event : Event) (old new : Option Schedule) (before after : EsrReply) (status : ℕ) : Type 0 where
   pub known : IsEventStatus status
   pub closed : status ≡ 14 ↔ (old ≡ None)
-  pub full : IfSome old (λ h. (status ≡ 12) ↔ (length h.entries ≡ MOST_ENTRIES))
+  pub full : IfSome old (λ h. (status ≡ 12) ↔ (is_full h event ≡ true))
   pub reply : status ≡ 0 → IsReply event old new after
   pub err : status ≢ 0 → (new ≡ old) × (after ≡ before)
+
+-- what a read for update does: its reply is told and its entries stand in the history
+abbrev pub IsForUpdateReply : TxnId → ItemId → Option Schedule → Option Schedule → EsrReply → Type 0
+IsForUpdateReply t x old new reply =
+    IfSome old (λ h. (new ≡ Some (after_for_update h t x)) × (reply ≡ reply_fields (reply_for_update h t x)))
+
+-- nothing has changed, but that the lock may have been taken
+abbrev pub IsPartly : Option Schedule → Option Schedule → TxnId → ItemId → Type 0
+IsPartly None new t x = new ≡ None
+IsPartly (Some h) None t x = ⊥
+IsPartly (Some h) (Some g) t x = IsPartlyDone h g t x
+
+-- A call that read an item for an update ended with this status. Where memory was refused the lock may have been taken.
+pub record IsForUpdateCall (t : TxnId) (x : ItemId) (old new : Option Schedule) (before after : EsrReply) (status : ℕ) : Type 0 where
+  pub known : IsEventStatus status
+  pub closed : status ≡ 14 ↔ (old ≡ None)
+  pub full : IfSome old (λ h. (status ≡ 12) ↔ (no_pair h ≡ true))
+  pub reply : status ≡ 0 → IsForUpdateReply t x old new after
+  pub err : status ≢ 0 → (after ≡ before) × IsPartly old new t x
+
+-- how a transaction stands, and its account
+abbrev pub standing_number : Standing → ℕ
+standing_number standing.Active = 0
+standing_number standing.Committed = 4
+standing_number standing.Aborted = 5
+
+abbrev pub is_query_kind : Kind → Bool
+is_query_kind Query = true
+is_query_kind Update = false
+
+abbrev pub account_fields : Account → EsrAccount
+account_fields a = record { query = is_query_kind a.kind; standing = standing_number a.standing; limit = a.limit; charged = a.charged }
+
+abbrev pub IsAccount : Schedule → ℕ → EsrAccount → Type 0
+IsAccount h t a = Some a ≡ option_map account_fields (account_of weighted h t)
+
+-- a verdict by numbers, and the one on these bytes
+abbrev pub verdict_fields : Verdict → EsrVerdict
+verdict_fields (Valid worth) = record { kind = 1; number = worth }
+verdict_fields (Invalid fault) = record { kind = 2; number = fault }
+verdict_fields (Bad fault) = record { kind = 3; number = fault }
+
+abbrev pub IsVerdictIn : List ℕ → EsrVerdict → Type 0
+IsVerdictIn bytes v = (found : Verdict) × IsVerdictOf bytes found × (v ≡ verdict_fields found)
 
 -- the statuses of an opening, of a renewal, of values, and of an audit or a bundle
 abbrev pub IsOpenStatus : ℕ → Type 0
 IsOpenStatus n = (n ≡ 0) ⊎ ((n ≡ 1) ⊎ ((n ≡ 2) ⊎ ((n ≡ 13) ⊎ (n ≡ 15))))
+
+abbrev pub IsWeightedOpenStatus : ℕ → Type 0
+IsWeightedOpenStatus n = IsOpenStatus n ⊎ (n ≡ 4)
 
 abbrev pub IsRenewStatus : ℕ → Type 0
 IsRenewStatus n = (n ≡ 0) ⊎ ((n ≡ 13) ⊎ ((n ≡ 14) ⊎ (n ≡ 16)))

@@ -2,17 +2,17 @@
 //! certificate.
 
 ghost use Rattle.std.specs.Prelude.{◌↔◌, ◌⊎◌, ◌<◌, ◌≤◌, IfOk, IfErr, IsErrOf, IsTrue, true, false, ◌≡◌, ◌≢◌, length, map, take};
+ghost use Rattle.esr_items.specs.Weights.{weighted};
 ghost use Rattle.esr_history.specs.Queries.{is_committed_query};
 ghost use Rattle.esr_history.specs.Totals.{IsWithinLimits};
 ghost use Rattle.esr_audit.specs.Findings.{IsFindingOf};
-ghost use Rattle.esr_c.specs.Answers.{plain, IsTotal, IsFound, IsCounted, IsBundleOf, IsBundleIn, IsBundleLong, AreValuesIn, IsAuditStatus, IsValuesStatus, status_number};
+ghost use Rattle.esr_c.specs.Answers.{IsTotal, IsFound, IsCounted, IsBundleOf, IsBundleIn, IsBundleLong, AreValuesIn, IsAuditStatus, IsValuesStatus, status_number};
 
 use crate::engine::Status;
-use esr_audit::{AuditError, Finding, audit_query};
+use esr_audit::{AuditError, Finding};
 use esr_bundle::to_json;
-use esr_core::Machine;
+use esr_engine::Engine;
 use esr_history::TxnId;
-use esr_items::Plain;
 use std::alloc::{AllocError, Global};
 
 /// What all queries have imported, which is what all updates have exported, as its high and its low 64 bits, and how
@@ -34,11 +34,11 @@ pub struct EsrFinding {
     pub count: usize,
 }
 
-pub(crate) fn totals_of(machine: &Machine<Plain>) -> EsrTotals
-    ensures total { IsTotal result machine.now }
-    ensures limits { IsWithinLimits plain machine.now }
+pub(crate) fn totals_of(engine: &Engine) -> EsrTotals
+    ensures total { IsTotal result engine.now }
+    ensures limits { IsWithinLimits weighted engine.now }
 {
-    let totals = machine.totals();
+    let totals = engine.totals();
     let word: u128 = 1 << 64;
     EsrTotals {
         high: (totals.import / word) as u64,
@@ -79,19 +79,19 @@ fn hand_out<T: Copy>(room: &mut [T], count: &mut usize, list: &[T]) -> Status
 
 pub(crate) fn show_values(
     alloc: Global,
-    machine: &Machine<Plain>,
+    engine: &Engine,
     values: &mut [i64],
     count: &mut usize,
 ) -> Status
     ensures known { IsValuesStatus (status_number result) }
     ensures open { result ≢ Status.Closed }
-    ensures values { result ≡ Status.Done → AreValuesIn machine.now count.new values.new }
+    ensures values { result ≡ Status.Done → AreValuesIn engine.now count.new values.new }
     ensures small { result ≡ Status.TooSmall → (length values.old < count.new)
-        × (count.new ≡ length machine.now.opening) }
+        × (count.new ≡ length engine.now.opening) }
     ensures kept { result ≢ Status.Done → values.new ≡ values.old }
     ensures untold { result ≢ Status.Done → result ≢ Status.TooSmall → count.new ≡ count.old }
 {
-    match machine.committed_values(alloc) {
+    match engine.committed_values(alloc) {
         Ok(list) => hand_out(values, count, &list),
         Err(_) => Status::NoMemory,
     }
@@ -104,12 +104,13 @@ fn numbers(alloc: Global, txns: &[TxnId]) -> Result<Vec<u32>, AllocError>
 }
 
 /// The audit of a query, or why there is none.
-fn found(alloc: Global, machine: &Machine<Plain>, query: u32) -> Result<Finding, Status>
-    ensures ok { IfOk result (IsFindingOf plain machine.now query) }
-    ensures refused { IsErrOf result Status.NotACommittedQuery ↔ (is_committed_query machine.now query ≡ false) }
+fn found(alloc: Global, engine: &mut Engine, query: u32) -> Result<Finding, Status>
+    ensures same { engine.new ≡ engine.old }
+    ensures ok { IfOk result (IsFindingOf weighted engine.old query) }
+    ensures refused { IsErrOf result Status.NotACommittedQuery ↔ (is_committed_query engine.old query ≡ false) }
     ensures err { IfErr result (λ e. (e ≡ Status.NotACommittedQuery) ⊎ (e ≡ Status.NoMemory)) }
 {
-    match audit_query(alloc, machine.history(), TxnId(query)) {
+    match engine.audit(alloc, TxnId(query)) {
         Ok(found) => Ok(found),
         Err(AuditError::NotACommittedQuery) => Err(Status::NotACommittedQuery),
         Err(_) => Err(Status::NoMemory),
@@ -118,21 +119,22 @@ fn found(alloc: Global, machine: &Machine<Plain>, query: u32) -> Result<Finding,
 
 pub(crate) fn show_finding(
     alloc: Global,
-    machine: &Machine<Plain>,
+    engine: &mut Engine,
     query: u32,
     before: &mut [u32],
     finding: &mut EsrFinding,
 ) -> Status
+    ensures same { engine.new ≡ engine.old }
     ensures known { IsAuditStatus (status_number result) }
     ensures open { result ≢ Status.Closed }
-    ensures refused { (result ≡ Status.NotACommittedQuery) ↔ (is_committed_query machine.now query ≡ false) }
-    ensures found { result ≡ Status.Done → IsFound machine.now query finding.new before.new }
+    ensures refused { (result ≡ Status.NotACommittedQuery) ↔ (is_committed_query engine.old query ≡ false) }
+    ensures found { result ≡ Status.Done → IsFound engine.old query finding.new before.new }
     ensures small { result ≡ Status.TooSmall → (length before.old < finding.new.count)
-        × IsCounted machine.now query finding.new }
+        × IsCounted engine.old query finding.new }
     ensures kept { result ≢ Status.Done → before.new ≡ before.old }
     ensures untold { result ≢ Status.Done → result ≢ Status.TooSmall → finding.new ≡ finding.old }
 {
-    let found = match found(alloc, machine, query) {
+    let found = match found(alloc, engine, query) {
         Ok(found) => found,
         Err(why) => return why,
     };
@@ -145,12 +147,13 @@ pub(crate) fn show_finding(
 }
 
 /// The bundle of a query, or why there is none.
-fn bundled(alloc: Global, machine: &Machine<Plain>, query: u32) -> Result<Vec<u8>, Status>
-    ensures ok { IfOk result (λ v. IsBundleOf machine.now query v.items) }
-    ensures refused { IsErrOf result Status.NotACommittedQuery ↔ (is_committed_query machine.now query ≡ false) }
+fn bundle(alloc: Global, engine: &mut Engine, query: u32) -> Result<Vec<u8>, Status>
+    ensures same { engine.new ≡ engine.old }
+    ensures ok { IfOk result (λ v. IsBundleOf engine.old query v.items) }
+    ensures refused { IsErrOf result Status.NotACommittedQuery ↔ (is_committed_query engine.old query ≡ false) }
     ensures err { IfErr result (λ e. (e ≡ Status.NotACommittedQuery) ⊎ (e ≡ Status.NoMemory)) }
 {
-    let mut found = found(alloc, machine, query)?;
+    let mut found = found(alloc, engine, query)?;
     found.certificate.augmentations = None;
     match to_json(alloc, &found.problem, &found.certificate) {
         Ok(text) => Ok(text),
@@ -160,21 +163,22 @@ fn bundled(alloc: Global, machine: &Machine<Plain>, query: u32) -> Result<Vec<u8
 
 pub(crate) fn show_bundle(
     alloc: Global,
-    machine: &Machine<Plain>,
+    engine: &mut Engine,
     query: u32,
     bytes: &mut [u8],
     count: &mut usize,
 ) -> Status
+    ensures same { engine.new ≡ engine.old }
     ensures known { IsAuditStatus (status_number result) }
     ensures open { result ≢ Status.Closed }
-    ensures refused { (result ≡ Status.NotACommittedQuery) ↔ (is_committed_query machine.now query ≡ false) }
-    ensures bundle { result ≡ Status.Done → IsBundleIn machine.now query count.new bytes.new }
+    ensures refused { (result ≡ Status.NotACommittedQuery) ↔ (is_committed_query engine.old query ≡ false) }
+    ensures bundle { result ≡ Status.Done → IsBundleIn engine.old query count.new bytes.new }
     ensures small { result ≡ Status.TooSmall → (length bytes.old < count.new)
-        × IsBundleLong machine.now query count.new }
+        × IsBundleLong engine.old query count.new }
     ensures kept { result ≢ Status.Done → bytes.new ≡ bytes.old }
     ensures untold { result ≢ Status.Done → result ≢ Status.TooSmall → count.new ≡ count.old }
 {
-    match bundled(alloc, machine, query) {
+    match bundle(alloc, engine, query) {
         Ok(text) => hand_out(bytes, count, &text),
         Err(why) => why,
     }

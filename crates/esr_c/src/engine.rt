@@ -1,19 +1,22 @@
 //! Engines as C holds them, and the statuses of its calls.
 //!
-//! A call takes the machine out of the variable and puts it back; in between it is safe code, which the prover does by
-//! itself. Opening values are looked at before memory is asked for, so that 1 and 2 come exactly where the values are
-//! at fault.
+//! A call takes the engine out of the variable and puts it back; in between it is safe code, which the prover does by
+//! itself.
 
-ghost use Rattle.std.specs.Prelude.{◌⊎◌, ◌<◌, ◌≤◌, All, Any, IsTrue, true, IsErrOf, ◌≡◌, ◌≢◌, IfOk, IfErr, ◌↔◌, length, is_some, None, Some, IsSome, MatchOption};
+ghost use Rattle.std.specs.Prelude.{◌⊎◌, ◌<◌, ◌≤◌, All, Any, true, ◌≡◌, ◌≢◌, ◌↔◌, length, is_some, IfOk, IfErr, IsErrOf, None, Some, IsSome, MatchOption};
+ghost use Rattle.esr_items.specs.declared.TheConstants.{MOST_ITEMS};
 ghost use Rattle.esr_items.specs.Values.{IsValue};
-ghost use Rattle.esr_core.specs.Renewed.{committed_values, has_active};
-ghost use Rattle.esr_c.specs.Answers.{fresh, status_number, IsEventCall, IsOpenStatus, IsRenewStatus, IsSound, GoesOn};
+ghost use Rattle.esr_items.specs.Weights.{IsWeight};
+ghost use Rattle.esr_core.specs.Renewed.{has_active, renewed};
+ghost use Rattle.esr_engine.specs.ForUpdate.{after_for_update, no_pair, reply_for_update, IsPartlyDone};
+ghost use Rattle.esr_c.specs.Answers.{opened, reply_fields, status_number, IsEventCall, IsForUpdateCall, IsWeightedOpenStatus, IsRenewStatus, IsSound, GoesOn};
 
-use crate::handle::{MachineHandle, give, nothing, take};
+use crate::handle::{EngineHandle, give, nothing, take};
 use crate::reply::{EsrReply, tell};
-use esr_core::{Machine, RenewError, StepError};
-use esr_history::Event;
-use esr_items::{LARGEST_VALUE, MOST_ITEMS, Plain, Store};
+use esr_core::RenewError;
+use esr_engine::{Engine, OpenError, Unanswered};
+use esr_history::{Event, Reply, TxnId};
+use esr_items::ItemId;
 use std::alloc::Global;
 use std::mem;
 
@@ -22,8 +25,8 @@ use std::mem;
 #[derive(Drop)]
 pub struct EsrEngine {
     is_open: bool,
-    pub(crate) held: MachineHandle,
-    ghost agrees: { is_open ≡ is_some held.machine },
+    pub(crate) held: EngineHandle,
+    ghost agrees: { is_open ≡ is_some held.history },
 }
 
 /// Why a call of C is not answered, with the number of each reason; 0 is an answer.
@@ -32,6 +35,8 @@ pub enum Status {
     Done = 0,
     TooManyItems = 1,
     OutOfRange = 2,
+    NotBegun = 3,
+    WeightOutOfRange = 4,
     NotACommittedQuery = 6,
     TooSmall = 7,
     Full = 12,
@@ -51,7 +56,7 @@ impl Status {
 }
 
 pub(crate) fn closed() -> EsrEngine
-    ensures { result.held.machine ≡ None }
+    ensures { result.held.history ≡ None }
 {
     EsrEngine {
         is_open: false,
@@ -59,101 +64,97 @@ pub(crate) fn closed() -> EsrEngine
     }
 }
 
-pub(crate) fn opened(machine: Box<Machine<Plain>, Global>) -> EsrEngine
-    ensures { result.held.machine ≡ Some machine.value }
+pub(crate) fn open_with(engine: Box<Engine, Global>) -> EsrEngine
+    ensures { result.held.history ≡ Some engine.value }
 {
     EsrEngine {
         is_open: true,
-        held: give(machine),
+        held: give(engine),
     }
 }
 
-/// The machine of an engine, which is closed from then on.
-pub(crate) fn out_of(alloc: Global, engine: &mut EsrEngine) -> Option<Box<Machine<Plain>, Global>>
-    ensures machine { MatchOption result (engine.old.held.machine ≡ None)
-        (λ b. engine.old.held.machine ≡ Some b.value) }
-    ensures closed { engine.new.held.machine ≡ None }
+/// The engine of a variable, which is closed from then on.
+pub(crate) fn out_of(alloc: Global, variable: &mut EsrEngine) -> Option<Box<Engine, Global>>
+    ensures engine { MatchOption result (variable.old.held.history ≡ None)
+        (λ b. variable.old.held.history ≡ Some b.value) }
+    ensures closed { variable.new.held.history ≡ None }
 {
-    if !engine.is_open {
+    if !variable.is_open {
         return None;
     }
-    let EsrEngine { is_open: _, held } = mem::replace(engine, closed());
+    let EsrEngine { is_open: _, held } = mem::replace(variable, closed());
     Some(take(alloc, held))
 }
 
-fn is_value(v: i64) -> bool
-    ensures { IsTrue result ↔ IsValue v }
+/// An engine of these values and weights on the heap, where they may be such.
+fn make(alloc: Global, opening: &[i64], weights: &[u32]) -> Result<Box<Engine, Global>, Status>
+    ensures ok { IfOk result (λ b. b.value ≡ opened opening.now weights.now) }
+    ensures many { IsErrOf result Status.TooManyItems
+        ↔ ((MOST_ITEMS < length opening.now) ⊎ (MOST_ITEMS < length weights.now)) }
+    ensures range { IsErrOf result Status.OutOfRange ↔ ((length opening.now ≤ MOST_ITEMS)
+        × (length weights.now ≤ MOST_ITEMS) × Any (λ v. ¬ IsValue v) opening.now) }
+    ensures weights { IsErrOf result Status.WeightOutOfRange ↔ ((length opening.now ≤ MOST_ITEMS)
+        × (length weights.now ≤ MOST_ITEMS) × All IsValue opening.now × Any (λ w. ¬ IsWeight w) weights.now) }
+    ensures err { IfErr result (λ e. (e ≡ Status.TooManyItems) ⊎ ((e ≡ Status.OutOfRange)
+        ⊎ ((e ≡ Status.WeightOutOfRange) ⊎ (e ≡ Status.NoMemory)))) }
 {
-    v.unsigned_abs() <= LARGEST_VALUE
-}
-
-/// Refuses opening values of which there are too many, or one is out of range.
-fn check_opening(opening: &[i64]) -> Result<(), Status>
-    ensures ok { IfOk result (λ _. (length opening.now ≤ MOST_ITEMS) × All IsValue opening.now) }
-    ensures many { IsErrOf result Status.TooManyItems ↔ (MOST_ITEMS < length opening.now) }
-    ensures range { IsErrOf result Status.OutOfRange ↔
-        ((length opening.now ≤ MOST_ITEMS) × Any (λ v. ¬ IsValue v) opening.now) }
-    ensures err { IfErr result (λ e. (e ≡ Status.TooManyItems) ⊎ (e ≡ Status.OutOfRange)) }
-{
-    if opening.len() > MOST_ITEMS {
-        return Err(Status::TooManyItems);
-    }
-    if !opening.iter().all(|v| is_value(*v)) {
-        return Err(Status::OutOfRange);
-    }
-    Ok(())
-}
-
-/// A machine of these opening values on the heap.
-fn machine_of(alloc: Global, opening: &[i64]) -> Result<Box<Machine<Plain>, Global>, Status>
-    requires few { length opening.now ≤ MOST_ITEMS }
-    requires range { All IsValue opening.now }
-    ensures ok { IfOk result (λ b. b.value ≡ fresh opening.now) }
-    ensures err { IfErr result (λ e. e ≡ Status.NoMemory) }
-{
-    let Ok(items) = Store::of_valid(alloc, opening) else {
-        return Err(Status::NoMemory);
+    let engine = match Engine::new(alloc, opening, weights) {
+        Ok(engine) => engine,
+        Err(OpenError::TooManyItems) => return Err(Status::TooManyItems),
+        Err(OpenError::ValueOutOfRange) => return Err(Status::OutOfRange),
+        Err(OpenError::WeightOutOfRange) => return Err(Status::WeightOutOfRange),
+        Err(OpenError::NoMemory) => return Err(Status::NoMemory),
     };
-    let Ok(machine) = Machine::new(alloc, items, Plain) else {
-        return Err(Status::NoMemory);
-    };
-    match Box::new(alloc, machine) {
-        Ok(machine) => Ok(machine),
+    match Box::new(alloc, engine) {
+        Ok(engine) => Ok(engine),
         Err(_) => Err(Status::NoMemory),
     }
 }
 
-/// A machine of these opening values on the heap, where they may be such.
-fn made(alloc: Global, opening: &[i64]) -> Result<Box<Machine<Plain>, Global>, Status>
-    ensures ok { IfOk result (λ b. b.value ≡ fresh opening.now) }
-    ensures many { IsErrOf result Status.TooManyItems ↔ (MOST_ITEMS < length opening.now) }
-    ensures range { IsErrOf result Status.OutOfRange ↔
-        ((length opening.now ≤ MOST_ITEMS) × Any (λ v. ¬ IsValue v) opening.now) }
-    ensures err { IfErr result (λ e. (e ≡ Status.TooManyItems) ⊎ ((e ≡ Status.OutOfRange) ⊎ (e ≡ Status.NoMemory))) }
-{
-    check_opening(opening)?;
-    machine_of(alloc, opening)
-}
-
 /// Opens a closed engine.
-pub(crate) fn open(alloc: Global, engine: &mut EsrEngine, opening: &[i64]) -> Status
-    ensures known { IsOpenStatus (status_number result) }
-    ensures open { result ≡ Status.Open ↔ IsSome engine.old.held.machine }
-    ensures many { result ≡ Status.TooManyItems ↔ (engine.old.held.machine ≡ None) × (MOST_ITEMS < length opening.now) }
-    ensures range { result ≡ Status.OutOfRange ↔ (engine.old.held.machine ≡ None) × (length opening.now ≤ MOST_ITEMS)
-        × Any (λ v. ¬ IsValue v) opening.now }
-    ensures opened { result ≡ Status.Done → engine.new.held.machine ≡ Some (fresh opening.now) }
-    ensures err { result ≢ Status.Done → engine.new.held.machine ≡ engine.old.held.machine }
+pub(crate) fn open(
+    alloc: Global,
+    variable: &mut EsrEngine,
+    opening: &[i64],
+    weights: &[u32],
+) -> Status
+    ensures known { IsWeightedOpenStatus (status_number result) }
+    ensures open { result ≡ Status.Open ↔ IsSome variable.old.held.history }
+    ensures many { result ≡ Status.TooManyItems ↔ (variable.old.held.history ≡ None)
+        × ((MOST_ITEMS < length opening.now) ⊎ (MOST_ITEMS < length weights.now)) }
+    ensures range { result ≡ Status.OutOfRange ↔ (variable.old.held.history ≡ None)
+        × (length opening.now ≤ MOST_ITEMS) × (length weights.now ≤ MOST_ITEMS) × Any (λ v. ¬ IsValue v) opening.now }
+    ensures weights { result ≡ Status.WeightOutOfRange ↔ (variable.old.held.history ≡ None)
+        × (length opening.now ≤ MOST_ITEMS) × (length weights.now ≤ MOST_ITEMS) × All IsValue opening.now
+        × Any (λ w. ¬ IsWeight w) weights.now }
+    ensures opened { result ≡ Status.Done → variable.new.held.history ≡ Some (opened opening.now weights.now) }
+    ensures err { result ≢ Status.Done → variable.new.held.history ≡ variable.old.held.history }
 {
-    if engine.is_open {
+    if variable.is_open {
         return Status::Open;
     }
-    match made(alloc, opening) {
-        Ok(machine) => {
-            *engine = opened(machine);
+    match make(alloc, opening, weights) {
+        Ok(engine) => {
+            *variable = open_with(engine);
             Status::Done
         }
         Err(why) => why,
+    }
+}
+
+/// Tells a reply, or why there is none.
+fn answer(answered: Result<Reply, Unanswered>, reply: &mut EsrReply) -> Status
+    ensures ok { IfOk answered (λ r. (result ≡ Status.Done) × (reply.new ≡ reply_fields r)) }
+    ensures full { result ≡ Status.Full ↔ IsErrOf answered Unanswered.Full }
+    ensures err { IfErr answered (λ _. ((result ≡ Status.Full) ⊎ (result ≡ Status.NoMemory)) × (reply.new ≡ reply.old)) }
+{
+    match answered {
+        Ok(answer) => {
+            *reply = tell(answer);
+            Status::Done
+        }
+        Err(Unanswered::Full) => Status::Full,
+        Err(Unanswered::NoMemory) => Status::NoMemory,
     }
 }
 
@@ -161,47 +162,90 @@ pub(crate) fn open(alloc: Global, engine: &mut EsrEngine, opening: &[i64]) -> St
 #[inline(always)]
 pub(crate) fn step(
     alloc: Global,
-    engine: &mut EsrEngine,
+    variable: &mut EsrEngine,
     event: Event,
     reply: &mut EsrReply,
 ) -> Status
-    ensures { IsEventCall event engine.old.held.machine engine.new.held.machine reply.old reply.new
+    ensures { IsEventCall event variable.old.held.history variable.new.held.history reply.old reply.new
         (status_number result) }
 {
-    let Some(mut machine) = out_of(alloc, engine) else {
+    let Some(mut engine) = out_of(alloc, variable) else {
         return Status::Closed;
     };
-    let status = match machine.step(event) {
-        Ok(answer) => {
-            *reply = tell(answer);
-            Status::Done
-        }
-        Err(StepError::HistoryFull) => Status::Full,
-        Err(_) => Status::NoMemory,
-    };
-    *engine = opened(machine);
+    let status = answer(engine.step(event), reply);
+    *variable = open_with(engine);
     status
 }
 
-/// Renews a machine.
-pub(crate) fn go_on(alloc: Global, machine: &mut Machine<Plain>) -> Status
+/// Takes the write lock on an item and reads it, and tells the reply.
+fn tell_for_update(engine: &mut Engine, txn: TxnId, item: ItemId, reply: &mut EsrReply) -> Status
+    ensures known { (result ≡ Status.Done) ⊎ ((result ≡ Status.Full) ⊎ (result ≡ Status.NoMemory)) }
+    ensures full { result ≡ Status.Full ↔ (no_pair engine.old ≡ true) }
+    ensures done { result ≡ Status.Done → (engine.new ≡ after_for_update engine.old txn item)
+        × (reply.new ≡ reply_fields (reply_for_update engine.old txn item)) }
+    ensures err { result ≢ Status.Done → (reply.new ≡ reply.old) × IsPartlyDone engine.old engine.new txn item }
+{
+    match engine.read_for_update(txn, item) {
+        Ok(read) => {
+            *reply = tell(read);
+            Status::Done
+        }
+        Err(Unanswered::Full) => Status::Full,
+        Err(Unanswered::NoMemory) => Status::NoMemory,
+    }
+}
+
+/// Takes the write lock on an item and reads it.
+pub(crate) fn read_for_update(
+    alloc: Global,
+    variable: &mut EsrEngine,
+    txn: TxnId,
+    item: ItemId,
+    reply: &mut EsrReply,
+) -> Status
+    ensures { IsForUpdateCall txn item variable.old.held.history variable.new.held.history reply.old reply.new
+        (status_number result) }
+{
+    let Some(mut engine) = out_of(alloc, variable) else {
+        return Status::Closed;
+    };
+    let status = tell_for_update(&mut engine, txn, item, reply);
+    *variable = open_with(engine);
+    status
+}
+
+/// Renews an engine.
+pub(crate) fn go_on(alloc: Global, engine: &mut Engine) -> Status
     ensures known { IsRenewStatus (status_number result) }
     ensures open { result ≢ Status.Closed }
-    ensures active { (result ≡ Status.Active) ↔ (has_active machine.old ≡ true) }
-    ensures renewed { status_number result ≡ 0 → machine.new ≡ fresh (committed_values machine.old) }
-    ensures serializable { result ≡ Status.Done → GoesOn machine.old }
-    ensures err { result ≢ Status.Done → machine.new ≡ machine.old }
+    ensures active { (result ≡ Status.Active) ↔ (has_active engine.old ≡ true) }
+    ensures renewed { status_number result ≡ 0 → engine.new ≡ renewed engine.old engine.old.weights }
+    ensures serializable { result ≡ Status.Done → GoesOn engine.old }
+    ensures err { result ≢ Status.Done → engine.new ≡ engine.old }
 {
-    match machine.renew(alloc, Plain) {
+    match engine.renew(alloc) {
         Ok(()) => Status::Done,
         Err(RenewError::TransactionActive) => Status::Active,
         Err(RenewError::NoMemory) => Status::NoMemory,
     }
 }
 
-/// Ends a machine, and drops its history.
-pub(crate) fn end(machine: Box<Machine<Plain>, Global>)
-    ensures { IsSound machine.value }
+/// Renews an engine, with what is active aborted.
+pub(crate) fn go_on_aborting(alloc: Global, engine: &mut Engine) -> Status
+    ensures known { (result ≡ Status.Done) ⊎ (result ≡ Status.NoMemory) }
+    ensures renewed { status_number result ≡ 0 → engine.new ≡ renewed engine.old engine.old.weights }
+    ensures serializable { result ≡ Status.Done → GoesOn engine.old }
+    ensures err { result ≢ Status.Done → engine.new ≡ engine.old }
 {
-    let _history = Box::into_inner(machine).close();
+    match engine.renew_aborting(alloc) {
+        Ok(()) => Status::Done,
+        Err(_) => Status::NoMemory,
+    }
+}
+
+/// Ends an engine, and drops its history.
+pub(crate) fn end(engine: Box<Engine, Global>)
+    ensures { IsSound engine.value }
+{
+    let _history = Box::into_inner(engine).close();
 }

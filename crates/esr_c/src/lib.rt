@@ -1,5 +1,5 @@
 //! Engines for C programs. An engine lives in a variable of its caller, who gives it to one call at a time: closed, or
-//! holds a machine. `bindings/c/esr.h` declares what is here.
+//! holds an engine of `esr_engine`. `bindings/c/esr.h` declares what is here.
 //!
 //! The variable is two words that begin as zeros, so an engine has a closed state that each call can answer, and
 //! contracts speak of the history behind the variable in place of memory. No export has a premise, since a premise that
@@ -8,28 +8,39 @@
 #![tactic(auto)]
 
 ghost use Rattle.esr_items.specs.declared.TheConstants.{MOST_ITEMS};
-ghost use Rattle.std.specs.Prelude.{IsSome, Any, ◌≡◌, ◌≢◌, ◌↔◌, ◌<◌, ◌≤◌, length, None, Some, IfSome, true, false};
+ghost use Rattle.std.specs.Prelude.{IsSome, All, Any, ◌≡◌, ◌≢◌, ◌↔◌, ◌⊎◌, ◌<◌, ◌≤◌, [], length, None, Some, IfSome, true, false};
 ghost use Rattle.esr_items.specs.Values.{IsValue};
+ghost use Rattle.esr_items.specs.Weights.{IsWeight, weighted};
 ghost use Rattle.esr_history.specs.declared.event.Event.TheVariants.{BeginUpdate, BeginQuery, Read, Write, Commit, Abort};
+ghost use Rattle.esr_history.specs.Events.{is_begun};
+ghost use Rattle.esr_history.specs.Machine.{done};
 ghost use Rattle.esr_history.specs.Queries.{is_committed_query};
 ghost use Rattle.esr_history.specs.Totals.{IsWithinLimits};
-ghost use Rattle.esr_core.specs.Renewed.{committed_values, has_active};
-ghost use Rattle.esr_c.specs.Answers.{plain, fresh, IsEventCall, IsTotal, IsFound, IsCounted, IsBundleIn, IsBundleLong, AreValuesIn, GoesOn, IsSound, IsOpenStatus, IsRenewStatus, IsValuesStatus, IsAuditStatus};
+ghost use Rattle.esr_core.specs.Renewed.{has_active, renewed};
+ghost use Rattle.esr_engine.specs.Room.{NeverStuck, counts_of};
+ghost use Rattle.esr_c.specs.Answers.{opened, IsEventCall, IsForUpdateCall, IsTotal, IsAccount, IsFound, IsCounted, IsBundleIn, IsBundleLong, AreValuesIn, GoesOn, IsSound, IsOpenStatus, IsWeightedOpenStatus, IsRenewStatus, IsValuesStatus, IsAuditStatus, IsVerdictIn};
 
+mod account;
 mod audit;
 mod engine;
 mod handle;
 mod loose;
 mod reply;
+mod verdict;
 
+pub use account::EsrAccount;
+use account::show_account;
 pub use audit::{EsrFinding, EsrTotals};
 use audit::{show_bundle, show_finding, show_values, totals_of};
 pub use engine::EsrEngine;
-use engine::{Status, end, go_on, open, opened, out_of, step};
+use engine::{Status, end, go_on, go_on_aborting, open, open_with, out_of, read_for_update, step};
+use esr_engine::Counts;
 use esr_history::{Event, TxnId};
 use esr_items::ItemId;
 pub use reply::EsrReply;
 use std::alloc::Global;
+pub use verdict::EsrVerdict;
+use verdict::show_verdict;
 
 /// Opens an engine over items with these values, where it is closed.
 ///
@@ -38,20 +49,45 @@ use std::alloc::Global;
 #[unsafe(no_mangle)]
 pub extern "C" fn esr_open(alloc: Global, engine: &mut EsrEngine, opening: &[i64]) -> u32
     ensures status { IsOpenStatus result }
-    ensures open { result ≡ 15 ↔ IsSome engine.old.held.machine }
-    ensures many { result ≡ 1 ↔ (engine.old.held.machine ≡ None) × (MOST_ITEMS < length opening.now) }
-    ensures range { result ≡ 2 ↔ (engine.old.held.machine ≡ None) × (length opening.now ≤ MOST_ITEMS)
+    ensures open { result ≡ 15 ↔ IsSome engine.old.held.history }
+    ensures many { result ≡ 1 ↔ (engine.old.held.history ≡ None) × (MOST_ITEMS < length opening.now) }
+    ensures range { result ≡ 2 ↔ (engine.old.held.history ≡ None) × (length opening.now ≤ MOST_ITEMS)
         × Any (λ v. ¬ IsValue v) opening.now }
-    ensures opened { result ≡ 0 → engine.new.held.machine ≡ Some (fresh opening.now) }
-    ensures err { result ≢ 0 → engine.new.held.machine ≡ engine.old.held.machine }
+    ensures opened { result ≡ 0 → engine.new.held.history ≡ Some (opened opening.now []) }
+    ensures err { result ≢ 0 → engine.new.held.history ≡ engine.old.held.history }
 {
-    open(alloc, engine, opening).number()
+    open(alloc, engine, opening, &[]).number()
+}
+
+/// The same with weights of the items: a difference of an item counts so many times, an item past the list once.
+///
+/// Besides, 1 for more than 4,096 weights, 4 for a weight of 0 or above 1,000.
+#[unsafe(no_mangle)]
+pub extern "C" fn esr_open_weighted(
+    alloc: Global,
+    engine: &mut EsrEngine,
+    opening: &[i64],
+    weights: &[u32],
+) -> u32
+    ensures status { IsWeightedOpenStatus result }
+    ensures open { result ≡ 15 ↔ IsSome engine.old.held.history }
+    ensures many { result ≡ 1 ↔ (engine.old.held.history ≡ None)
+        × ((MOST_ITEMS < length opening.now) ⊎ (MOST_ITEMS < length weights.now)) }
+    ensures range { result ≡ 2 ↔ (engine.old.held.history ≡ None) × (length opening.now ≤ MOST_ITEMS)
+        × (length weights.now ≤ MOST_ITEMS) × Any (λ v. ¬ IsValue v) opening.now }
+    ensures weights { result ≡ 4 ↔ (engine.old.held.history ≡ None) × (length opening.now ≤ MOST_ITEMS)
+        × (length weights.now ≤ MOST_ITEMS) × All IsValue opening.now × Any (λ w. ¬ IsWeight w) weights.now }
+    ensures opened { result ≡ 0 → engine.new.held.history ≡ Some (opened opening.now weights.now) }
+    ensures err { result ≢ 0 → engine.new.held.history ≡ engine.old.held.history }
+{
+    open(alloc, engine, opening, weights).number()
 }
 
 /// Begins an update that may export up to `limit`.
 ///
-/// This and the five calls below answer 0 and write the reply, or 12 where the history is full, 13 where an
-/// allocation failed, 14 where the engine is closed; then neither the engine nor the reply has changed.
+/// This and the five calls below answer 0 and write the reply, or 12 where there is no room for the event beside the ends
+/// of what is active, 13 where an allocation failed, 14 where the engine is closed; then neither the engine nor the reply
+/// has changed.
 #[unsafe(no_mangle)]
 pub extern "C" fn esr_begin_update(
     alloc: Global,
@@ -60,7 +96,7 @@ pub extern "C" fn esr_begin_update(
     reply: &mut EsrReply,
 ) -> u32
     ensures { IsEventCall
-        (BeginUpdate limit) engine.old.held.machine engine.new.held.machine reply.old reply.new result }
+        (BeginUpdate limit) engine.old.held.history engine.new.held.history reply.old reply.new result }
 {
     step(alloc, engine, Event::BeginUpdate { limit }, reply).number()
 }
@@ -75,7 +111,7 @@ pub extern "C" fn esr_begin_query(
     reply: &mut EsrReply,
 ) -> u32
     ensures { IsEventCall
-        (BeginQuery limit strict) engine.old.held.machine engine.new.held.machine reply.old reply.new result }
+        (BeginQuery limit strict) engine.old.held.history engine.new.held.history reply.old reply.new result }
 {
     step(alloc, engine, Event::BeginQuery { limit, strict }, reply).number()
 }
@@ -90,7 +126,7 @@ pub extern "C" fn esr_read(
     reply: &mut EsrReply,
 ) -> u32
     ensures { IsEventCall (Read (record { 0 = txn })
-        (record { 0 = item })) engine.old.held.machine engine.new.held.machine reply.old reply.new result }
+        (record { 0 = item })) engine.old.held.history engine.new.held.history reply.old reply.new result }
 {
     let event = Event::Read {
         txn: TxnId(txn),
@@ -110,7 +146,7 @@ pub extern "C" fn esr_write(
     reply: &mut EsrReply,
 ) -> u32
     ensures { IsEventCall (Write (record { 0 = txn })
-        (record { 0 = item }) value) engine.old.held.machine engine.new.held.machine reply.old reply.new result }
+        (record { 0 = item }) value) engine.old.held.history engine.new.held.history reply.old reply.new result }
 {
     let event = Event::Write {
         txn: TxnId(txn),
@@ -118,6 +154,25 @@ pub extern "C" fn esr_write(
         value,
     };
     step(alloc, engine, event, reply).number()
+}
+
+/// Reads an item for an update that is going to write it: the write lock is taken first, where it is not held. The reply
+/// is the value, or the refusal of the lock.
+///
+/// As an event, but that with 13 the lock may have been taken, and the call may be given again; 12 where there are not
+/// two entries left beside the ends.
+#[unsafe(no_mangle)]
+pub extern "C" fn esr_read_for_update(
+    alloc: Global,
+    engine: &mut EsrEngine,
+    txn: u32,
+    item: u32,
+    reply: &mut EsrReply,
+) -> u32
+    ensures { IsForUpdateCall (record { 0 = txn })
+        (record { 0 = item }) engine.old.held.history engine.new.held.history reply.old reply.new result }
+{
+    read_for_update(alloc, engine, TxnId(txn), ItemId(item), reply).number()
 }
 
 /// Commits a transaction.
@@ -129,7 +184,7 @@ pub extern "C" fn esr_commit(
     reply: &mut EsrReply,
 ) -> u32
     ensures { IsEventCall
-        (Commit (record { 0 = txn })) engine.old.held.machine engine.new.held.machine reply.old reply.new result }
+        (Commit (record { 0 = txn })) engine.old.held.history engine.new.held.history reply.old reply.new result }
 {
     step(alloc, engine, Event::Commit { txn: TxnId(txn) }, reply).number()
 }
@@ -143,7 +198,7 @@ pub extern "C" fn esr_abort(
     reply: &mut EsrReply,
 ) -> u32
     ensures { IsEventCall
-        (Abort (record { 0 = txn })) engine.old.held.machine engine.new.held.machine reply.old reply.new result }
+        (Abort (record { 0 = txn })) engine.old.held.history engine.new.held.history reply.old reply.new result }
 {
     step(alloc, engine, Event::Abort { txn: TxnId(txn) }, reply).number()
 }
@@ -156,19 +211,61 @@ pub extern "C" fn esr_totals_of(
     engine: &mut EsrEngine,
     totals: &mut EsrTotals,
 ) -> u32
-    ensures closed { result ≡ 14 ↔ (engine.old.held.machine ≡ None) }
+    ensures closed { result ≡ 14 ↔ (engine.old.held.history ≡ None) }
     ensures done { result ≢ 14 → result ≡ 0 }
-    ensures same { engine.new.held.machine ≡ engine.old.held.machine }
-    ensures totals { result ≡ 0 → IfSome engine.old.held.machine (IsTotal totals.new) }
-    ensures limits { result ≡ 0 → IfSome engine.old.held.machine (IsWithinLimits plain) }
+    ensures same { engine.new.held.history ≡ engine.old.held.history }
+    ensures totals { result ≡ 0 → IfSome engine.old.held.history (IsTotal totals.new) }
+    ensures limits { result ≡ 0 → IfSome engine.old.held.history (IsWithinLimits weighted) }
     ensures err { result ≢ 0 → totals.new ≡ totals.old }
 {
-    let Some(machine) = out_of(alloc, engine) else {
+    let Some(inner) = out_of(alloc, engine) else {
         return Status::Closed.number();
     };
-    *totals = totals_of(&machine);
-    *engine = opened(machine);
+    *totals = totals_of(&inner);
+    *engine = open_with(inner);
     Status::Done.number()
+}
+
+/// What the history has, and what is left of it: 0, or 14 where the engine is closed. It is never stuck: whatever is
+/// active can be committed or aborted.
+#[unsafe(no_mangle)]
+pub extern "C" fn esr_counts_of(alloc: Global, engine: &mut EsrEngine, counts: &mut Counts) -> u32
+    ensures closed { result ≡ 14 ↔ (engine.old.held.history ≡ None) }
+    ensures done { result ≢ 14 → result ≡ 0 }
+    ensures same { engine.new.held.history ≡ engine.old.held.history }
+    ensures counts { result ≡ 0 → IfSome engine.old.held.history (λ h. counts.new ≡ counts_of h) }
+    ensures never_stuck { IfSome engine.old.held.history (NeverStuck weighted) }
+    ensures err { result ≢ 0 → counts.new ≡ counts.old }
+{
+    let Some(inner) = out_of(alloc, engine) else {
+        return Status::Closed.number();
+    };
+    *counts = inner.counts();
+    *engine = open_with(inner);
+    Status::Done.number()
+}
+
+/// The account of a transaction, at any time: 0, or 3 where it has not begun, 14 where the engine is closed.
+#[unsafe(no_mangle)]
+pub extern "C" fn esr_account_of(
+    alloc: Global,
+    engine: &mut EsrEngine,
+    txn: u32,
+    account: &mut EsrAccount,
+) -> u32
+    ensures closed { result ≡ 14 ↔ (engine.old.held.history ≡ None) }
+    ensures known { (result ≡ 0) ⊎ ((result ≡ 3) ⊎ (result ≡ 14)) }
+    ensures refused { IfSome engine.old.held.history (λ h. (result ≡ 3) ↔ (is_begun (done h) txn ≡ false)) }
+    ensures same { engine.new.held.history ≡ engine.old.held.history }
+    ensures account { result ≡ 0 → IfSome engine.old.held.history (λ h. IsAccount h txn account.new) }
+    ensures err { result ≢ 0 → account.new ≡ account.old }
+{
+    let Some(inner) = out_of(alloc, engine) else {
+        return Status::Closed.number();
+    };
+    let status = show_account(&inner, txn, account);
+    *engine = open_with(inner);
+    status.number()
 }
 
 /// The committed values of the items, for which there is room in `values`.
@@ -183,19 +280,19 @@ pub extern "C" fn esr_values(
     count: &mut usize,
 ) -> u32
     ensures status { IsValuesStatus result }
-    ensures closed { result ≡ 14 ↔ (engine.old.held.machine ≡ None) }
-    ensures same { engine.new.held.machine ≡ engine.old.held.machine }
-    ensures values { result ≡ 0 → IfSome engine.old.held.machine (λ h. AreValuesIn h count.new values.new) }
+    ensures closed { result ≡ 14 ↔ (engine.old.held.history ≡ None) }
+    ensures same { engine.new.held.history ≡ engine.old.held.history }
+    ensures values { result ≡ 0 → IfSome engine.old.held.history (λ h. AreValuesIn h count.new values.new) }
     ensures small { result ≡ 7 → (length values.old < count.new)
-        × IfSome engine.old.held.machine (λ h. count.new ≡ length h.opening) }
+        × IfSome engine.old.held.history (λ h. count.new ≡ length h.opening) }
     ensures kept { result ≢ 0 → values.new ≡ values.old }
     ensures untold { result ≢ 0 → result ≢ 7 → count.new ≡ count.old }
 {
-    let Some(machine) = out_of(alloc, engine) else {
+    let Some(inner) = out_of(alloc, engine) else {
         return Status::Closed.number();
     };
-    let status = show_values(alloc, &machine, values, count);
-    *engine = opened(machine);
+    let status = show_values(alloc, &inner, values, count);
+    *engine = open_with(inner);
     status.number()
 }
 
@@ -212,20 +309,20 @@ pub extern "C" fn esr_audit(
     finding: &mut EsrFinding,
 ) -> u32
     ensures status { IsAuditStatus result }
-    ensures closed { result ≡ 14 ↔ (engine.old.held.machine ≡ None) }
-    ensures refused { IfSome engine.old.held.machine (λ h. (result ≡ 6) ↔ (is_committed_query h query ≡ false)) }
-    ensures same { engine.new.held.machine ≡ engine.old.held.machine }
-    ensures found { result ≡ 0 → IfSome engine.old.held.machine (λ h. IsFound h query finding.new before.new) }
+    ensures closed { result ≡ 14 ↔ (engine.old.held.history ≡ None) }
+    ensures refused { IfSome engine.old.held.history (λ h. (result ≡ 6) ↔ (is_committed_query h query ≡ false)) }
+    ensures same { engine.new.held.history ≡ engine.old.held.history }
+    ensures found { result ≡ 0 → IfSome engine.old.held.history (λ h. IsFound h query finding.new before.new) }
     ensures small { result ≡ 7 → (length before.old < finding.new.count)
-        × IfSome engine.old.held.machine (λ h. IsCounted h query finding.new) }
+        × IfSome engine.old.held.history (λ h. IsCounted h query finding.new) }
     ensures kept { result ≢ 0 → before.new ≡ before.old }
     ensures untold { result ≢ 0 → result ≢ 7 → finding.new ≡ finding.old }
 {
-    let Some(machine) = out_of(alloc, engine) else {
+    let Some(mut inner) = out_of(alloc, engine) else {
         return Status::Closed.number();
     };
-    let status = show_finding(alloc, &machine, query, before, finding);
-    *engine = opened(machine);
+    let status = show_finding(alloc, &mut inner, query, before, finding);
+    *engine = open_with(inner);
     status.number()
 }
 
@@ -242,21 +339,31 @@ pub extern "C" fn esr_bundle(
     count: &mut usize,
 ) -> u32
     ensures status { IsAuditStatus result }
-    ensures closed { result ≡ 14 ↔ (engine.old.held.machine ≡ None) }
-    ensures refused { IfSome engine.old.held.machine (λ h. (result ≡ 6) ↔ (is_committed_query h query ≡ false)) }
-    ensures same { engine.new.held.machine ≡ engine.old.held.machine }
-    ensures bundle { result ≡ 0 → IfSome engine.old.held.machine (λ h. IsBundleIn h query count.new bytes.new) }
+    ensures closed { result ≡ 14 ↔ (engine.old.held.history ≡ None) }
+    ensures refused { IfSome engine.old.held.history (λ h. (result ≡ 6) ↔ (is_committed_query h query ≡ false)) }
+    ensures same { engine.new.held.history ≡ engine.old.held.history }
+    ensures bundle { result ≡ 0 → IfSome engine.old.held.history (λ h. IsBundleIn h query count.new bytes.new) }
     ensures small { result ≡ 7 → (length bytes.old < count.new)
-        × IfSome engine.old.held.machine (λ h. IsBundleLong h query count.new) }
+        × IfSome engine.old.held.history (λ h. IsBundleLong h query count.new) }
     ensures kept { result ≢ 0 → bytes.new ≡ bytes.old }
     ensures untold { result ≢ 0 → result ≢ 7 → count.new ≡ count.old }
 {
-    let Some(machine) = out_of(alloc, engine) else {
+    let Some(mut inner) = out_of(alloc, engine) else {
         return Status::Closed.number();
     };
-    let status = show_bundle(alloc, &machine, query, bytes, count);
-    *engine = opened(machine);
+    let status = show_bundle(alloc, &mut inner, query, bytes, count);
+    *engine = open_with(inner);
     status.number()
+}
+
+/// The verdict on a bundle, whose it be: 0, or 13 where an allocation failed. It needs no engine.
+#[unsafe(no_mangle)]
+pub extern "C" fn esr_check(alloc: Global, bytes: &[u8], verdict: &mut EsrVerdict) -> u32
+    ensures status { (result ≡ 0) ⊎ (result ≡ 13) }
+    ensures verdict { result ≡ 0 → IsVerdictIn bytes.now verdict.new }
+    ensures err { result ≢ 0 → verdict.new ≡ verdict.old }
+{
+    show_verdict(alloc, bytes, verdict).number()
 }
 
 /// Goes on from the committed values with an empty history, in which transactions are numbered from 1 again.
@@ -266,18 +373,37 @@ pub extern "C" fn esr_bundle(
 #[unsafe(no_mangle)]
 pub extern "C" fn esr_renew(alloc: Global, engine: &mut EsrEngine) -> u32
     ensures status { IsRenewStatus result }
-    ensures closed { result ≡ 14 ↔ (engine.old.held.machine ≡ None) }
-    ensures active { IfSome engine.old.held.machine (λ h. (result ≡ 16) ↔ (has_active h ≡ true)) }
-    ensures renewed { result ≡ 0 → IfSome engine.old.held.machine
-        (λ h. engine.new.held.machine ≡ Some (fresh (committed_values h))) }
-    ensures serializable { result ≡ 0 → IfSome engine.old.held.machine GoesOn }
-    ensures err { result ≢ 0 → engine.new.held.machine ≡ engine.old.held.machine }
+    ensures closed { result ≡ 14 ↔ (engine.old.held.history ≡ None) }
+    ensures active { IfSome engine.old.held.history (λ h. (result ≡ 16) ↔ (has_active h ≡ true)) }
+    ensures renewed { result ≡ 0 → IfSome engine.old.held.history
+        (λ h. engine.new.held.history ≡ Some (renewed h h.weights)) }
+    ensures serializable { result ≡ 0 → IfSome engine.old.held.history GoesOn }
+    ensures err { result ≢ 0 → engine.new.held.history ≡ engine.old.held.history }
 {
-    let Some(mut machine) = out_of(alloc, engine) else {
+    let Some(mut inner) = out_of(alloc, engine) else {
         return Status::Closed.number();
     };
-    let status = go_on(alloc, &mut machine);
-    *engine = opened(machine);
+    let status = go_on(alloc, &mut inner);
+    *engine = open_with(inner);
+    status.number()
+}
+
+/// The same in every state: what is active is aborted, and ends with the history. 0, or 13 where an allocation failed,
+/// 14 where the engine is closed; then nothing has changed.
+#[unsafe(no_mangle)]
+pub extern "C" fn esr_renew_aborting(alloc: Global, engine: &mut EsrEngine) -> u32
+    ensures status { (result ≡ 0) ⊎ ((result ≡ 13) ⊎ (result ≡ 14)) }
+    ensures closed { result ≡ 14 ↔ (engine.old.held.history ≡ None) }
+    ensures renewed { result ≡ 0 → IfSome engine.old.held.history
+        (λ h. engine.new.held.history ≡ Some (renewed h h.weights)) }
+    ensures serializable { result ≡ 0 → IfSome engine.old.held.history GoesOn }
+    ensures err { result ≢ 0 → engine.new.held.history ≡ engine.old.held.history }
+{
+    let Some(mut inner) = out_of(alloc, engine) else {
+        return Status::Closed.number();
+    };
+    let status = go_on_aborting(alloc, &mut inner);
+    *engine = open_with(inner);
     status.number()
 }
 
@@ -286,10 +412,10 @@ pub extern "C" fn esr_renew(alloc: Global, engine: &mut EsrEngine) -> u32
 /// than it imported.
 #[unsafe(no_mangle)]
 pub extern "C" fn esr_close(alloc: Global, engine: &mut EsrEngine)
-    ensures closed { engine.new.held.machine ≡ None }
-    ensures sound { IfSome engine.old.held.machine IsSound }
+    ensures closed { engine.new.held.history ≡ None }
+    ensures sound { IfSome engine.old.held.history IsSound }
 {
-    if let Some(machine) = out_of(alloc, engine) {
-        end(machine);
+    if let Some(inner) = out_of(alloc, engine) {
+        end(inner);
     }
 }

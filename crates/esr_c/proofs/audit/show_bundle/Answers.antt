@@ -5,7 +5,7 @@ use Rattle.esr_c.proofs.audit.show_bundle.Goals as goal
 pub returns-in-Ok-clause-bundle : goal.returns-in-Ok-clause-bundle
 returns-in-Ok-clause-bundle g c =
     let filled = g.hand_out.ensures.filled c in
-    (subst (IsBundleOf g.args.machine.now g.args.query) (sym (filled ∙ g.deref.ensures.value)) g.in-Ok.ensures.ok, g.hand_out.ensures.count ∙ ap length (sym filled))
+    (subst (IsBundleOf g.args.engine.now g.args.query) (sym (filled ∙ g.deref.ensures.value)) g.in-Ok.ensures.ok, g.hand_out.ensures.count ∙ ap length (sym filled))
 
 pub returns-in-Ok-clause-small : goal.returns-in-Ok-clause-small
 returns-in-Ok-clause-small g c =

@@ -10,10 +10,10 @@ many h = length-map-range_with_len (committed_value h.opening (done h)) 0 (lengt
 
 pub returns-in-Ok-clause-values : goal.returns-in-Ok-clause-values
 returns-in-Ok-clause-values g c =
-    let list = g.deref.ensures.value ∙ g.in-Ok.ensures.values in
-    (g.hand_out.ensures.filled c ∙ list, g.hand_out.ensures.count ∙ (ap length list ∙ many g.args.machine.now))
+    let list = g.deref.ensures.value ∙ g.in-Ok.ensures in
+    (g.hand_out.ensures.filled c ∙ list, g.hand_out.ensures.count ∙ (ap length list ∙ many g.args.engine.now))
 
 pub returns-in-Ok-clause-small : goal.returns-in-Ok-clause-small
 returns-in-Ok-clause-small g c =
     let count = g.hand_out.ensures.count in
-    (subst (λ (n : ℕ). length g.args.values.now < n) (sym count) (g.hand_out.ensures.small.0 c), count ∙ (ap length (g.deref.ensures.value ∙ g.in-Ok.ensures.values) ∙ many g.args.machine.now))
+    (subst (λ (n : ℕ). length g.args.values.now < n) (sym count) (g.hand_out.ensures.small.0 c), count ∙ (ap length (g.deref.ensures.value ∙ g.in-Ok.ensures) ∙ many g.args.engine.now))

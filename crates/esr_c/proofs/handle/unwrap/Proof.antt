@@ -25,8 +25,8 @@ use Rattle.core.proofs.alloc.Calls.{Goes-blank}
 use Rattle.std.proofs.raw_atomic.Walks.{proved_at, leaves}
 use Rattle.std_alloc.specs.Box.Ownership.{box_owns}
 use Rattle.std.specs.contracts.impls.GlobalAllocator.TheImpl as Heap
-use Rattle.esr_c.specs.Owned.{machine_row, owned}
-use Rattle.esr_c.proofs.Words.{alone, loose_in, MachineHandle, held_out}
+use Rattle.esr_c.specs.Owned.{engine_row, owned}
+use Rattle.esr_c.proofs.Words.{alone, loose_in, EngineHandle, held_out}
 use Rattle.esr_c.specs.contracts.handle.unwrap.{ended, clauses}
 use Rattle.esr_c.specs.contracts.handle.unwrap.Key.{name as #self}
 use Rattle.esr_c.proofs.handle.unwrap.Statement.{statement}
@@ -40,14 +40,14 @@ pub unwrap_spec : {M : Type 1} → statement M
 unfolding owned
 unwrap_spec 𝓤 𝓛 𝓜 𝓡 wired =
     let H = 𝓛.H in let 𝓣 = tables 𝓤 H 𝓜 𝓡 𝓡.env in let c = clauses 𝓛 𝓜.mem 𝓡.returns in
-    let hs : Stays ended.signature.params ended.kept = (stay_dropped (plain (λ _. MachineHandle)) yes, tt) in
-    proved_at 𝓛 ended hs c 𝓜 𝓡 (Goes-blank 𝓛 0 (plain (λ _. MachineHandle)) yes (λ κs x f. tt), tt) #self code.function (code.unfolded 𝓤 H 𝓜 𝓡 wired) (λ z are.
+    let hs : Stays ended.signature.params ended.kept = (stay_dropped (plain (λ _. EngineHandle)) yes, tt) in
+    proved_at 𝓛 ended hs c 𝓜 𝓡 (Goes-blank 𝓛 0 (plain (λ _. EngineHandle)) yes (λ κs x f. tt), tt) #self code.function (code.unfolded 𝓤 H 𝓜 𝓡 wired) (λ z are.
     let d = z.0.3.0 in let Post : Val → SProp 𝓤 = (walk_of 𝓛 ended hs c).post z in let Run : List Val → SProp 𝓤 = λ ws. WpFn 𝓤 H 𝓣.C 𝓣.Λ code.function ws Post in
-    qed 𝓛 ((‵ ftrue ⊛ ‵ (owns (types_at ended.signature.params z.0.0) z.0.3 z.0.4)) ∷ raw (fact 𝓤 (IsSome d.machine)) ∷ []) ∵
-    move ! (1 ∷ []) $ heard ! (IsSome d.machine) (λ some. let m = (some_of d.machine some).0 in let same = (some_of d.machine some).1 in
+    qed 𝓛 ((‵ ftrue ⊛ ‵ (owns (types_at ended.signature.params z.0.0) z.0.3 z.0.4)) ∷ raw (fact 𝓤 (IsSome d.history)) ∷ []) ∵
+    move ! (1 ∷ []) $ heard ! (IsSome d.history) (λ some. let m = (some_of d.history some).0 in let same = (some_of d.history some).1 in
     split ! $ drop ! $ fsplit ! $ held_out ! d z.0.4.0 (λ ws.
     rewrite ! 0 (λ (x : Option Schedule). ‵ (owned d.at x)) same refl $
-    in_a_block ! d.at (λ p. box_owns (Heap.ghosts.dealloc_token _) machine_row p m) (fst∗ 𝓤 (never 𝓤) (sem 𝓛 (Heap.ghosts.dealloc_token _ (bare (lone machine_row.mir)) null_ptr))) (λ b o e.
+    in_a_block ! d.at (λ p. box_owns (Heap.ghosts.dealloc_token _) engine_row p m) (fst∗ 𝓤 (never 𝓤) (sem 𝓛 (Heap.ghosts.dealloc_token _ (bare (lone engine_row.mir)) null_ptr))) (λ b o e.
     let w : Val = alone (vptr b o) in let ws' : z.0.4.0 ≡ w ∷ [] = subst (λ (p : Ptr). z.0.4.0 ≡ alone (ptr_val p) ∷ []) e ws in
     suffices ! (Run (w ∷ [])) (subst (λ (us : List Val). ent 𝓤 (Run (w ∷ [])) (Run us)) (sym (λ i. ws' i ++ [])) (id⊢ 𝓤 (Run (w ∷ [])))) $
     enter ! 𝓣.C 𝓣.Λ code.function (w ∷ []) Post $ alloc_all ! (λ l. pass_all ! refl ((tt, (tt, tt)), tt) $
@@ -55,6 +55,6 @@ unwrap_spec 𝓤 𝓛 𝓜 𝓡 wired =
     sets ! (of_opd ! (get ! refl)) refl (tt, tt) $
     sets ! (agg ! (and_then ! (get ! refl) (no_more !))) refl (tt, (tt, tt)) $
     returns ! (look_at ! 0 refl) $ free_all ! refl $ keep ! (0 ∷ []) $
-    use0 𝓛 (raw (fact 𝓤 (d.machine ≡ Some m))) (fact_i 𝓤 (d.machine ≡ Some m) (emp 𝓤) same) $ move ! (1 ∷ []) $
-    loose_in machine_row ! (record { at = block_ptr b o; value = m }) $ nothing ! $ nothing ! $ fjoin ! $ nothing ! $
+    use0 𝓛 (raw (fact 𝓤 (d.history ≡ Some m))) (fact_i 𝓤 (d.history ≡ Some m) (emp 𝓤) same) $ move ! (1 ∷ []) $
+    loose_in engine_row ! (record { at = block_ptr b o; value = m }) $ nothing ! $ nothing ! $ fjoin ! $ nothing ! $
     by ! (leaves 𝓛 ended hs c z (alone (vptr b o)) (record { at = block_ptr b o; value = m }) (tt, tt) (tt, tt)))))))

@@ -1,0 +1,5 @@
+use Rattle.std.proofs.Common.{rules}
+use Rattle.esr_c.proofs.esr_read_for_update.Goals as goal
+
+pub returns : goal.returns
+returns c = search rules

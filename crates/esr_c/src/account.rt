@@ -1,0 +1,58 @@
+//! The account of a transaction as C reads it.
+
+ghost use Rattle.std.specs.Prelude.{◌≡◌, ◌≢◌, ◌↔◌, ◌⊎◌, false};
+ghost use Rattle.esr_history.specs.Events.{is_begun};
+ghost use Rattle.esr_history.specs.Machine.{done};
+ghost use Rattle.esr_c.specs.Answers.{IsAccount, account_fields, standing_number};
+
+use crate::engine::Status;
+use esr_engine::{Account, Engine, Kind, Standing};
+use esr_history::TxnId;
+
+/// An account: whether it is a query's, how it stands (0 while active, else 4 committed or 5 aborted), its limit, and
+/// what was charged of it so far.
+#[repr(C)]
+#[derive(Clone, Copy)]
+pub struct EsrAccount {
+    pub query: bool,
+    pub standing: u32,
+    pub limit: u64,
+    pub charged: u64,
+}
+
+fn standing_number(standing: Standing) -> u32
+    ensures { result ≡ standing_number standing }
+{
+    match standing {
+        Standing::Active => 0,
+        Standing::Committed => 4,
+        Standing::Aborted => 5,
+    }
+}
+
+/// An account as C reads it.
+fn fields(account: Account) -> EsrAccount
+    ensures { result ≡ account_fields account }
+{
+    EsrAccount {
+        query: matches!(account.kind, Kind::Query),
+        standing: standing_number(account.standing),
+        limit: account.limit,
+        charged: account.charged,
+    }
+}
+
+pub(crate) fn show_account(engine: &Engine, txn: u32, account: &mut EsrAccount) -> Status
+    ensures known { (result ≡ Status.Done) ⊎ (result ≡ Status.NotBegun) }
+    ensures refused { (result ≡ Status.NotBegun) ↔ (is_begun (done engine.now) txn ≡ false) }
+    ensures account { result ≡ Status.Done → IsAccount engine.now txn account.new }
+    ensures err { result ≢ Status.Done → account.new ≡ account.old }
+{
+    match engine.account(TxnId(txn)) {
+        Some(found) => {
+            *account = fields(found);
+            Status::Done
+        }
+        None => Status::NotBegun,
+    }
+}

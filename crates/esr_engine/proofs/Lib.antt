@@ -1,0 +1,5 @@
+pub mod Active
+pub mod Ends
+pub mod Standings
+pub mod Locking
+pub mod Renewal

@@ -1,0 +1,88 @@
+//! What is known of one transaction, at any time: its kind and limit, what it was charged so far, and how it stands.
+
+ghost use Rattle.std.specs.Prelude.{◌≡◌, is_some};
+ghost use Rattle.esr_items.specs.Weights.{weighted};
+ghost use Rattle.esr_engine.specs.Accounts.{account_of, charged_to, kind_of};
+ghost use Rattle.esr_engine.specs.Standings.{standing_at};
+ghost use Rattle.esr_order.specs.Scans.{commit_in};
+
+use crate::engine::Engine;
+use esr_history::{Entry, Event, Log, TxnId};
+
+#[derive(Clone, Copy, PartialEq, Eq, Debug)]
+pub enum Kind {
+    Update,
+    Query,
+}
+
+/// Whether a transaction is active, and else how it ended.
+#[derive(Clone, Copy, PartialEq, Eq, Debug)]
+pub enum Standing {
+    Active,
+    Committed,
+    Aborted,
+}
+
+/// What a query has imported of its limit so far, or an update exported, and how it stands. A report that is active may
+/// be shown so: it is off by at most what it was charged.
+#[derive(Clone, Copy, PartialEq, Eq, Debug)]
+pub struct Account {
+    pub kind: Kind,
+    pub limit: u64,
+    pub charged: u64,
+    pub standing: Standing,
+}
+
+fn kind_of(query: bool) -> Kind
+    ensures { result ≡ kind_of query }
+{
+    if query { Kind::Query } else { Kind::Update }
+}
+
+/// Whether an entry is an accepted commit.
+fn is_commit(entry: Entry) -> bool
+    ensures { result ≡ is_some (commit_in entry) }
+{
+    !entry.is_refused() && matches!(entry.event, Event::Commit { txn: _ })
+}
+
+/// How a transaction stands whose end is at a place, or none.
+fn standing_at(log: &Log, end: Option<u64>) -> Standing
+    ensures { result ≡ standing_at log.now.entries end }
+{
+    match end {
+        None => Standing::Active,
+        Some(place) if log.get(place as usize).is_some_and(is_commit) => Standing::Committed,
+        Some(_) => Standing::Aborted,
+    }
+}
+
+impl Engine {
+    /// What a query has imported so far, or an update exported.
+    fn charged(&self, query: bool, t: TxnId) -> u64
+        ensures { result ≡ charged_to weighted self.now query t.0 }
+    {
+        if query {
+            self.machine.history().import(t)
+        } else {
+            self.machine.export(t)
+        }
+    }
+
+    /// The account of a transaction, or None where it has not begun.
+    #[tactic(auto, using(crate::proofs::Standings::no_account))]
+    pub fn account(&self, t: TxnId) -> Option<Account>
+        ensures { result ≡ account_of weighted self.now t.0 }
+    {
+        let history = self.machine.history();
+        match history.facts(t) {
+            Some(facts) => Some(Account {
+                kind: kind_of(facts.query),
+                limit: facts.limit,
+                charged: self.charged(facts.query, t),
+                standing: standing_at(history.log(), facts.end),
+            }),
+            None => None,
+        }
+    }
+}

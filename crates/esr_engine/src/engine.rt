@@ -1,0 +1,205 @@
+//! The engine's events and its counts.
+//!
+//! Beside the machine it keeps the weights, since a history owns its metric and a renewal needs it anew; how many
+//! transactions are active; and the index that audits share. The active ones are counted by replies: a `Begun` is one
+//! more, a `Committed` or an `Aborted` one less. Whether an event has room is a sum and a comparison; only an end that
+//! comes where nothing is left is looked up.
+
+ghost use Rattle.std.specs.Prelude.{◌≡◌, ◌+◌, ◌<◌, ◌≤◌, ◌↔◌, true, length, All, IfOk, OnErr, IsErrOf};
+ghost use Rattle.esr_items.specs.declared.TheConstants.{MOST_ITEMS};
+ghost use Rattle.esr_items.specs.Weights.{IsWeight, weighted};
+ghost use Rattle.esr_history.specs.declared.limits.TheConstants.{MOST_ENTRIES, MOST_TRANSACTIONS};
+ghost use Rattle.esr_history.specs.Events.{is_active};
+ghost use Rattle.esr_history.specs.Machine.{IsLegal, Schedule, done, extended, reply_to};
+ghost use Rattle.esr_history.specs.Queries.{ImportBoundsDistance};
+ghost use Rattle.esr_history.specs.Serial.{IsSerializable};
+ghost use Rattle.esr_history.specs.Totals.{IsWithinLimits, all_imports, all_exports};
+ghost use Rattle.esr_order.specs.Index.{IsIndexOf};
+ghost use Rattle.esr_engine.specs.Room.{active_after, active_count, taken, begun, is_end, is_full, NeverStuck, counts_of};
+
+use esr_core::{Machine, StepError, Totals};
+use esr_history::{Event, History, MOST_ENTRIES, MOST_TRANSACTIONS, Reply, TxnId};
+use esr_items::Weighted;
+use esr_order::Index;
+use std::marker::Model;
+use thiserror::Error;
+
+/// Why an event is not answered. No entry was made then, and nothing has changed.
+#[derive(Clone, Copy, PartialEq, Eq, Debug, Error)]
+pub enum Unanswered {
+    /// There is no room for the event beside the ends of what is active, or no number for a begin.
+    #[error("history full")]
+    Full = 12,
+    /// An allocation failed.
+    #[error("out of memory")]
+    NoMemory = 13,
+}
+
+/// What a history has, and how much there may still be of it beside the ends of what is active. C reads it as it is.
+#[repr(C)]
+#[derive(Clone, Copy, PartialEq, Eq, Debug)]
+pub struct Counts {
+    pub entries: u64,
+    pub transactions: u64,
+    pub active: u64,
+    pub entries_left: u64,
+    pub transactions_left: u64,
+}
+
+/// A machine that is never stuck. Contracts see its history.
+#[derive(Drop)]
+pub struct Engine {
+    pub(crate) machine: Machine<Weighted>,
+    pub(crate) weights: Vec<u32>,
+    pub(crate) active: usize,
+    pub(crate) index: Index,
+}
+
+impl Model for Engine {
+    ghost Value = { Schedule };
+
+    ghost view = { λ e. e.machine };
+
+    ghost invariant = { λ e. (e.weights.items ≡ e.machine.weights) × (length e.weights.items ≤ MOST_ITEMS)
+        × All IsWeight e.weights.items × (e.active ≡ active_count (done e.machine))
+        × (length e.machine.entries + e.active ≤ MOST_ENTRIES) × IsIndexOf e.machine.entries e.index };
+}
+
+impl Engine {
+    /// How many entries there are, with one for the end of each active transaction.
+    pub(crate) fn taken(&self) -> usize
+        ensures taken { result ≡ taken self.now }
+        ensures most { result ≤ MOST_ENTRIES }
+    {
+        self.machine.log().len() + self.active
+    }
+
+    /// How many transactions have begun.
+    fn begun(&self) -> usize
+        ensures { result ≡ begun self.now }
+    {
+        self.machine.history().begun_count()
+    }
+
+    /// Whether a transaction is active.
+    #[tactic(auto, using(crate::proofs::Ends::active_is))]
+    fn is_active(&self, t: TxnId) -> bool
+        ensures { result ≡ is_active (done self.now) t.0 }
+    {
+        match self.machine.history().facts(t) {
+            Some(facts) => facts.end.is_none(),
+            None => false,
+        }
+    }
+
+    /// Whether there is no room for an event beside the ends of what is active.
+    fn is_full(&self, event: Event) -> bool
+        ensures { result ≡ is_full self.now event }
+    {
+        let taken = self.taken();
+        match event {
+            Event::BeginUpdate { limit: _ }
+            | Event::BeginQuery {
+                limit: _,
+                strict: _,
+            } => taken + 2 > MOST_ENTRIES || self.begun() >= MOST_TRANSACTIONS,
+            Event::Commit { txn } | Event::Abort { txn } => {
+                taken >= MOST_ENTRIES && !self.is_active(txn)
+            }
+            Event::Read { txn: _, item: _ }
+            | Event::Write {
+                txn: _,
+                item: _,
+                value: _,
+            } => taken >= MOST_ENTRIES,
+        }
+    }
+
+    /// Answers an event as the machine does, and adds both to the history. Every answer adds one entry, refusals too.
+    ///
+    /// # Errors
+    /// `Full` exactly where there is no room for the event beside the ends of what is active, and never for an end of
+    /// an active transaction; `NoMemory` if an allocation failed. Then nothing has changed.
+    pub fn step(&mut self, event: Event) -> Result<Reply, Unanswered>
+        ensures reply { IfOk result (λ reply. reply ≡ reply_to weighted self.old event) }
+        ensures added { IfOk result (λ reply. self.new ≡ extended self.old event reply) }
+        ensures full { IsErrOf result Unanswered.Full ↔ (is_full self.old event ≡ true) }
+        ensures err { OnErr result (self.new ≡ self.old) }
+    {
+        if self.is_full(event) {
+            return Err(Unanswered::Full);
+        }
+        let _legal = self.machine.log(); // brings the invariant into the proof
+        match self.machine.step(event) {
+            Ok(reply) => {
+                self.active = active_after(self.active, reply);
+                Ok(reply)
+            }
+            Err(_) => Err(Unanswered::NoMemory),
+        }
+    }
+
+    /// What the history has, and what is left of it. It is never stuck: whatever is active can be committed or aborted.
+    pub fn counts(&self) -> Counts
+        ensures counts { result ≡ counts_of self.now }
+        ensures never_stuck { NeverStuck weighted self.now }
+    {
+        let begun = self.begun();
+        Counts {
+            entries: self.machine.log().len() as u64,
+            transactions: begun as u64,
+            active: self.active as u64,
+            entries_left: (MOST_ENTRIES - self.taken()) as u64,
+            transactions_left: MOST_TRANSACTIONS.saturating_sub(begun) as u64,
+        }
+    }
+
+    /// What has been imported and exported, and how many entries there are. No limit has been passed.
+    pub fn totals(&self) -> Totals
+        ensures import { result.import ≡ all_imports weighted self.now }
+        ensures export { result.export ≡ all_exports weighted self.now }
+        ensures entries { result.entries ≡ length self.now.entries }
+        ensures limits { IsWithinLimits weighted self.now }
+    {
+        self.machine.totals()
+    }
+
+    /// The history, of which all holds that a machine's history has: it is legal, its committed updates are serializable,
+    /// no limit has been passed, and no query was off by more than it imported.
+    pub fn close(self) -> History<Weighted>
+        ensures schedule { result.schedule ≡ self }
+        ensures legal { IsLegal weighted self }
+        ensures limits { IsWithinLimits weighted self }
+        ensures serializable { IsSerializable self }
+        ensures bound { ImportBoundsDistance weighted self }
+    {
+        let Engine {
+            machine,
+            weights: _,
+            active: _,
+            index: _,
+        } = self;
+        machine.close()
+    }
+
+    /// The history so far.
+    pub fn history(&self) -> &History<Weighted>
+        ensures schedule { result.now.schedule ≡ self.now }
+        ensures legal { IsLegal weighted self.now }
+    {
+        self.machine.history()
+    }
+}
+
+/// How many are active after a reply.
+fn active_after(active: usize, reply: Reply) -> usize
+    requires some { is_end reply ≡ true → 0 < active }
+    requires few { active ≤ MOST_ENTRIES }
+    ensures { result ≡ active_after active reply }
+{
+    match reply {
+        Reply::Begun(_) => active + 1,
+        Reply::Committed | Reply::Aborted => active - 1,
+        _ => active,
+    }
+}

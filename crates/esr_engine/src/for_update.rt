@@ -1,0 +1,70 @@
+//! A read by an update that is going to write what it read.
+//!
+//! Two updates that both read an item and then write it are blocked by each other for good, since a read takes a lock
+//! that a write of the other waits for. So the write lock is taken first, by a write of the value that the item has,
+//! which is charged nothing; then the read tells it. Both are entries, as if they had been given one by one.
+
+ghost use Rattle.std.specs.Prelude.{◌≡◌, ◌↔◌, true, IfOk, IfErr, OnOk, IsErrOf};
+ghost use Rattle.esr_engine.specs.ForUpdate.{reply_for_update, after_for_update, has_lock, locking, IsHeldValue, IsPartlyDone, no_pair};
+
+use crate::engine::{Engine, Unanswered};
+use esr_history::{Event, MOST_ENTRIES, Reply, TxnId};
+use esr_items::ItemId;
+
+impl Engine {
+    /// Whether a transaction holds the write lock on an item.
+    fn has_lock(&self, t: TxnId, x: ItemId) -> bool
+        ensures { result ≡ has_lock self.now t.0 x.0 }
+    {
+        if x.0 >= self.machine.history().items() {
+            return false;
+        }
+        match self.machine.writer(x) {
+            Some(holder) => holder == t,
+            None => false,
+        }
+    }
+
+    /// The write that takes the lock: of the value that committed transactions left, 0 where there is no such item.
+    fn locking(&self, t: TxnId, x: ItemId) -> Event
+        ensures { result ≡ locking self.now t x }
+    {
+        let value = if x.0 < self.machine.history().items() {
+            self.machine.committed(x)
+        } else {
+            0
+        };
+        Event::Write {
+            txn: t,
+            item: x,
+            value,
+        }
+    }
+
+    /// Takes the write lock on an item for an update, where it does not hold it, and reads the item. The reply is that
+    /// of the read; where the lock is refused it is that of the write, and there is no read.
+    ///
+    /// # Errors
+    /// `Full` exactly where there are not two entries left beside the ends, `NoMemory` if an allocation failed: then
+    /// nothing has changed, but that the lock may have been taken, and the call may be given again.
+    pub fn read_for_update(&mut self, t: TxnId, x: ItemId) -> Result<Reply, Unanswered>
+        ensures reply { IfOk result (λ reply. reply ≡ reply_for_update self.old t x) }
+        ensures added { OnOk result (self.new ≡ after_for_update self.old t x) }
+        ensures held { IfOk result (IsHeldValue self.old self.new t x) }
+        ensures full { IsErrOf result Unanswered.Full ↔ (no_pair self.old ≡ true) }
+        ensures err { IfErr result (λ _. IsPartlyDone self.old self.new t x) }
+    {
+        if self.taken() + 2 > MOST_ENTRIES {
+            return Err(Unanswered::Full);
+        }
+        let _legal = self.machine.log(); // brings the invariant into the proof
+        if self.has_lock(t, x) {
+            return self.step(Event::Read { txn: t, item: x });
+        }
+        let lock = self.locking(t, x);
+        match self.step(lock) {
+            Ok(Reply::Wrote) => self.step(Event::Read { txn: t, item: x }),
+            other => other,
+        }
+    }
+}

@@ -1,0 +1,91 @@
+//! Going on from the committed values with an empty history.
+//!
+//! Where nothing is active the machine is renewed, and keeps its memory. Where something is, a new engine takes its
+//! place: what is active ends with the history, and so the call needs no entry, and an error leaves all as it was.
+
+ghost use Rattle.std.specs.Prelude.{◌≡◌, ◌↔◌, true, List, IfOk, OnOk, OnErr, IsErrOf};
+ghost use Rattle.esr_items.specs.Weights.{weighted};
+ghost use Rattle.esr_history.specs.declared.event.Entry.{Entry};
+ghost use Rattle.esr_history.specs.Legal.{along};
+ghost use Rattle.esr_history.specs.Machine.{IsLegal};
+ghost use Rattle.esr_core.specs.Renewed.{AreSerializableAsOne, committed_values, has_active, renewed};
+
+use crate::engine::Engine;
+use crate::opening::{engine_of, metric_of};
+use esr_core::RenewError;
+use esr_history::NoMemory;
+use esr_order::Index;
+use std::alloc::{AllocError, Global};
+
+impl Engine {
+    /// The committed values of the items, in their order.
+    pub fn committed_values(&self, alloc: Global) -> Result<Vec<i64>, AllocError>
+        ensures { IfOk result (λ v. v.items ≡ committed_values self.now) }
+    {
+        self.machine.committed_values(alloc)
+    }
+
+    /// Goes on with an empty history, whose opening values are the committed values of the old one, and the weights
+    /// those of the old one. Transactions are numbered from 1 again. Whatever the new history comes to be, the committed
+    /// updates of the old one and then its own are serializable as one.
+    ///
+    /// # Errors
+    /// `TransactionActive` exactly where a transaction is active, else `NoMemory` if an allocation failed. Then nothing
+    /// has changed.
+    pub fn renew(&mut self, alloc: Global) -> Result<(), RenewError>
+        ensures ok { OnOk result (self.new ≡ renewed self.old self.old.weights) }
+        ensures serializable { OnOk result ((later : List Entry) → IsLegal weighted (along self.new later)
+            → AreSerializableAsOne self.old (along self.new later)) }
+        ensures active { IsErrOf result RenewError.TransactionActive ↔ (has_active self.old ≡ true) }
+        ensures err { OnErr result (self.new ≡ self.old) }
+    {
+        if self.active > 0 {
+            return Err(RenewError::TransactionActive);
+        }
+        let Ok(metric) = metric_of(alloc, &self.weights) else {
+            return Err(RenewError::NoMemory);
+        };
+        self.machine.renew(alloc, metric)?;
+        self.index = Index::new(alloc);
+        Ok(())
+    }
+
+    /// The same in every state: what is active is aborted, and ends with the history.
+    ///
+    /// # Errors
+    /// `NoMemory` if an allocation failed. Then nothing has changed, and what was active still is.
+    pub fn renew_aborting(&mut self, alloc: Global) -> Result<(), NoMemory>
+        ensures ok { OnOk result (self.new ≡ renewed self.old self.old.weights) }
+        ensures serializable { OnOk result ((later : List Entry) → IsLegal weighted (along self.new later)
+            → AreSerializableAsOne self.old (along self.new later)) }
+        ensures err { OnErr result (self.new ≡ self.old) }
+    {
+        if self.active == 0 {
+            return match self.renew(alloc) {
+                Ok(()) => Ok(()),
+                Err(_) => Err(NoMemory),
+            };
+        }
+        self.start_anew(alloc)
+    }
+
+    /// Puts a new engine over the committed values in the place of this one.
+    fn start_anew(&mut self, alloc: Global) -> Result<(), NoMemory>
+        ensures ok { OnOk result (self.new ≡ renewed self.old self.old.weights) }
+        ensures serializable { OnOk result ((later : List Entry) → IsLegal weighted (along self.new later)
+            → AreSerializableAsOne self.old (along self.new later)) }
+        ensures err { OnErr result (self.new ≡ self.old) }
+    {
+        let _legal = self.machine.log(); // brings the invariant into the proof
+        *self = self.successor(alloc)?;
+        Ok(())
+    }
+
+    /// A new engine over the committed values.
+    fn successor(&self, alloc: Global) -> Result<Engine, NoMemory>
+        ensures { IfOk result (λ e. e ≡ renewed self.now self.now.weights) }
+    {
+        let opening = self.machine.committed_values(alloc)?;
+        engine_of(alloc, &opening, &self.weights)
+    }
+}
