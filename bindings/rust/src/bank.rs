@@ -13,10 +13,10 @@
 
 use crate::{
     Engine, Error, Event, Finding, MOST_ENTRIES, MOST_TRANSACTIONS, Patience, Refusal, Reply, Txn,
-    waits::Waits,
+    waits::{Age, Waits},
 };
 use std::{
-    collections::{HashMap, hash_map::RandomState},
+    collections::{HashMap, HashSet, hash_map::RandomState},
     fmt,
     hash::{BuildHasher, Hasher},
     sync::{Condvar, Mutex, MutexGuard, PoisonError},
@@ -38,7 +38,9 @@ struct Shared {
     engine: Engine,
     entries: u64,
     begun: u32,
-    active: u32,
+    active: HashSet<Txn>,
+    /// How many bodies have begun, each counted once however often it is begun anew.
+    bodies: u64,
     renewals: u64,
     waits: Waits,
     due: Vec<Txn>,
@@ -56,7 +58,7 @@ impl Shared {
     }
 
     /// Gives an event of a transaction once. What is blocked is noted as waiting.
-    fn step_of(&mut self, txn: Txn, event: Event) -> Result<Reply, Error> {
+    fn step_of(&mut self, txn: Txn, age: Age, event: Event) -> Result<Reply, Error> {
         if self.waits.has_given_up(txn) {
             return Err(Error::Deadlock);
         }
@@ -66,7 +68,7 @@ impl Shared {
                 Refusal::BlockedByLock(other)
                 | Refusal::BlockedByImport(other)
                 | Refusal::BlockedByExport(other),
-            ) if other != txn => self.waits.begin(txn, other),
+            ) if other != txn => self.waits.begin(txn, age, other),
             _ => self.waits.end(txn),
         }
         if self.waits.has_given_up(txn) {
@@ -75,9 +77,10 @@ impl Shared {
         Ok(reply)
     }
 
-    fn forget(&mut self, txn: Txn) {
-        self.waits.forget(txn);
-        self.active -= 1;
+    /// Forgets a transaction, which has ended. Whom it waited for, where it had been given up.
+    fn forget(&mut self, txn: Txn) -> Option<Txn> {
+        self.active.remove(&txn);
+        self.waits.forget(txn)
     }
 }
 
@@ -176,7 +179,8 @@ impl BankBuilder {
                 engine: Engine::open(&self.opening)?,
                 entries: 0,
                 begun: 0,
-                active: 0,
+                active: HashSet::new(),
+                bodies: 0,
                 renewals: 0,
                 waits: Waits::default(),
                 due: Vec::new(),
@@ -237,7 +241,7 @@ impl Bank {
     fn with_room(&self) -> Result<MutexGuard<'_, Shared>, Error> {
         let mut shared = self.lock();
         while shared.is_nearly_full() {
-            if shared.active == 0 {
+            if shared.active.is_empty() {
                 self.renew_now(&mut shared)?;
             } else {
                 let waited = self.ended.wait(shared);
@@ -264,7 +268,8 @@ impl Bank {
         Ok(())
     }
 
-    fn begin(&self, event: Event) -> Result<Handle<'_>, Error> {
+    /// Begins a transaction, as old as its first attempt where it is begun anew.
+    fn begin(&self, event: Event, age: Option<Age>) -> Result<Handle<'_>, Error> {
         let mut shared = self.with_room()?;
         let txn = match shared.step(event)? {
             Reply::Begun(txn) => txn,
@@ -272,10 +277,15 @@ impl Bank {
             other => unreachable!("{other:?}"),
         };
         shared.begun += 1;
-        shared.active += 1;
+        shared.active.insert(txn);
+        let age = age.unwrap_or_else(|| {
+            shared.bodies += 1;
+            Age(shared.bodies)
+        });
         Ok(Handle {
             bank: self,
             txn,
+            age,
             stop: None,
             is_active: true,
         })
@@ -289,15 +299,17 @@ impl Bank {
         end: impl Fn(Handle<'_>, T) -> Result<R, Error>,
     ) -> Result<R, E> {
         let mut attempt = 0;
+        let mut age = None;
         loop {
-            let mut handle = self.begin(event)?;
+            let mut handle = self.begin(event, age)?;
+            age = Some(handle.age);
             let answer = body(&mut handle);
             attempt += 1;
             match (handle.stop, answer) {
                 (None, Ok(value)) => return end(handle, value).map_err(E::from),
                 (None, Err(error)) => return Err(error),
                 (Some(why), _) if attempt >= self.patience.attempts => return Err(why.into()),
-                (Some(_), _) => drop(handle),
+                (Some(_), _) => self.wait_for_end(handle.give_up()),
             }
             self.pause(attempt);
         }
@@ -433,6 +445,22 @@ impl Bank {
         self.lock().renewals
     }
 
+    /// Waits until a transaction has ended, as long as patience lasts.
+    fn wait_for_end(&self, txn: Option<Txn>) {
+        let Some(txn) = txn else {
+            return;
+        };
+        let renewals = self.lock().renewals;
+        for round in 0..self.patience.tries {
+            let shared = self.lock();
+            if shared.renewals != renewals || !shared.active.contains(&txn) {
+                return;
+            }
+            drop(shared);
+            self.pause(round);
+        }
+    }
+
     /// A little longer each time, up to 64 pauses, and not quite the same for each thread.
     fn pause(&self, round: u32) {
         if round < 4 {
@@ -466,6 +494,7 @@ impl fmt::Debug for Closing<'_> {
 struct Handle<'a> {
     bank: &'a Bank,
     txn: Txn,
+    age: Age,
     /// Why it has to be given up, once it has. Nothing is answered from then on.
     stop: Option<Error>,
     is_active: bool,
@@ -505,8 +534,8 @@ impl<'a> Handle<'a> {
     }
 
     fn read(&mut self, name: &str) -> Result<i64, Error> {
-        let (txn, item) = (self.txn, self.bank.number_of(name)?);
-        match self.step(|shared| shared.step_of(txn, Event::Read { txn, item }))? {
+        let (txn, age, item) = (self.txn, self.age, self.bank.number_of(name)?);
+        match self.step(|shared| shared.step_of(txn, age, Event::Read { txn, item }))? {
             Reply::Value(value) => Ok(value),
             other => unreachable!("{other:?}"),
         }
@@ -520,6 +549,21 @@ impl<'a> Handle<'a> {
         shared.forget(self.txn);
         self.bank.tell_of_the_last(&shared);
         Ok(shared)
+    }
+
+    /// Aborts it. Whom it waited for, where it was the youngest of a ring.
+    fn give_up(mut self) -> Option<Txn> {
+        self.abort()
+    }
+
+    fn abort(&mut self) -> Option<Txn> {
+        let mut shared = self.bank.lock();
+        // an engine keeps room for the end of each active transaction, so this is done
+        let _ = shared.step(Event::Abort { txn: self.txn });
+        self.is_active = false;
+        let waited_for = shared.forget(self.txn);
+        self.bank.tell_of_the_last(&shared);
+        waited_for
     }
 
     fn commit(self) -> Result<(), Error> {
@@ -547,7 +591,7 @@ impl<'a> Handle<'a> {
 impl Bank {
     /// Wakes those who wait to begin, where nothing is active any more.
     fn tell_of_the_last(&self, shared: &Shared) {
-        if shared.active == 0 && shared.is_nearly_full() {
+        if shared.active.is_empty() && shared.is_nearly_full() {
             self.ended.notify_all();
         }
     }
@@ -556,11 +600,7 @@ impl Bank {
 impl Drop for Handle<'_> {
     fn drop(&mut self) {
         if self.is_active {
-            let mut shared = self.bank.lock();
-            // an engine keeps room for the end of each active transaction, so this is done
-            let _ = shared.step(Event::Abort { txn: self.txn });
-            shared.forget(self.txn);
-            self.bank.tell_of_the_last(&shared);
+            self.abort();
         }
     }
 }
@@ -585,8 +625,10 @@ impl BankUpdate<'_, '_> {
     /// # Errors
     /// Those of [`read`](BankUpdate::read), and `Refused` where the value is out of range.
     pub fn write(&mut self, name: &str, value: i64) -> Result<(), Error> {
-        let (txn, item) = (self.handle.txn, self.handle.bank.number_of(name)?);
-        let write = |shared: &mut Shared| shared.step_of(txn, Event::Write { txn, item, value });
+        let (txn, age) = (self.handle.txn, self.handle.age);
+        let item = self.handle.bank.number_of(name)?;
+        let write =
+            |shared: &mut Shared| shared.step_of(txn, age, Event::Write { txn, item, value });
         self.handle.step(write).map(drop)
     }
 
@@ -596,16 +638,18 @@ impl BankUpdate<'_, '_> {
     /// # Errors
     /// Those of [`write`](BankUpdate::write).
     pub fn add(&mut self, name: &str, more: i64) -> Result<i64, Error> {
-        let (txn, item) = (self.handle.txn, self.handle.bank.number_of(name)?);
+        let (txn, age) = (self.handle.txn, self.handle.age);
+        let item = self.handle.bank.number_of(name)?;
         let sum = std::cell::Cell::new(0);
         self.handle.step(|shared| {
-            let reply = shared.step_of(txn, Event::Read { txn, item })?;
+            let reply = shared.step_of(txn, age, Event::Read { txn, item })?;
             let Reply::Value(value) = reply else {
                 return Ok(reply);
             };
             sum.set(value.saturating_add(more));
             shared.step_of(
                 txn,
+                age,
                 Event::Write {
                     txn,
                     item,
