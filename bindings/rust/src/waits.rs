@@ -32,10 +32,9 @@ impl Waits {
     /// Notes that a transaction waits for another. Where a ring closes, its youngest is given up.
     pub(crate) fn begin(&mut self, txn: Txn, age: Age, blocker: Txn) {
         self.waiting.insert(txn, Wait { blocker, age });
-        if let Some(youngest) = self.youngest_of_ring(txn)
-            && let Some(wait) = self.waiting.remove(&youngest)
-        {
-            self.given_up.insert(youngest, wait.blocker);
+        let youngest = self.youngest_of_ring(txn);
+        if let Some((victim, wait)) = youngest.and_then(|txn| self.waiting.remove_entry(&txn)) {
+            self.given_up.insert(victim, wait.blocker);
         }
     }
 
