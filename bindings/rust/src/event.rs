@@ -2,9 +2,23 @@
 
 use std::{error, fmt};
 
-/// The number of a transaction, from 1, in the order of the begins.
+/// The number of a transaction of one history, from 1, in the order of the begins. Only an engine makes one.
+///
+/// ```
+/// let mut engine = esr::Engine::open(&[0])?;
+/// assert_eq!(engine.begin_update(0)?.number(), 1);
+/// # Ok::<(), esr::Error>(())
+/// ```
 #[derive(Clone, Copy, PartialEq, Eq, PartialOrd, Ord, Hash, Debug)]
-pub struct Txn(pub u32);
+pub struct Txn(pub(crate) u32);
+
+impl Txn {
+    /// The number.
+    #[must_use]
+    pub fn number(self) -> u32 {
+        self.0
+    }
+}
 
 impl fmt::Display for Txn {
     fn fmt(&self, f: &mut fmt::Formatter<'_>) -> fmt::Result {
@@ -17,49 +31,76 @@ impl fmt::Display for Txn {
 pub enum Event {
     /// Begins an update that may export up to `limit`.
     BeginUpdate {
+        /// At most 10^18.
         limit: u64,
     },
     /// Begins a query that may import up to `limit`. The audit of a strict one places it behind all that had committed
     /// when it began.
     BeginQuery {
+        /// At most 10^18.
         limit: u64,
+        /// Whether it is placed behind all that had committed.
         strict: bool,
     },
+    /// Reads an item.
     Read {
+        /// Who reads.
         txn: Txn,
+        /// The item's number, from 0.
         item: u32,
     },
+    /// Writes an item.
     Write {
+        /// Who writes: an update.
         txn: Txn,
+        /// The item's number, from 0.
         item: u32,
+        /// From -10^12 to 10^12.
         value: i64,
     },
+    /// Ends a transaction, and keeps what it wrote.
     Commit {
+        /// Which.
         txn: Txn,
     },
+    /// Ends a transaction, and takes back what it wrote.
     Abort {
+        /// Which.
         txn: Txn,
     },
 }
 
 /// What an engine answers.
 #[derive(Clone, Copy, PartialEq, Eq, Debug)]
+#[non_exhaustive]
 pub enum Reply {
+    /// The transaction has begun, and this is its number.
     Begun(Txn),
+    /// The value that was read.
     Value(i64),
+    /// The item was written.
     Wrote,
+    /// The transaction has committed.
     Committed,
+    /// The transaction was aborted.
     Aborted,
+    /// The event is refused.
     Refused(Refusal),
 }
 
 /// Why an event is refused. The refusal stands in the history, and changed nothing else.
 #[derive(Clone, Copy, PartialEq, Eq, Debug)]
+#[non_exhaustive]
 pub enum Refusal {
+    /// No transaction has that number.
     NoSuchTransaction,
+    /// The transaction has committed or was aborted.
     AlreadyEnded,
+    /// No item has that number or name.
     NoSuchItem,
+    /// A query reads only.
     QueryMayNotWrite,
+    /// A written value outside -10^12 to 10^12.
     ValueOutOfRange,
     /// Above 10^18.
     LimitOutOfRange,
@@ -123,9 +164,14 @@ pub enum Error {
     /// There is no room for the event beside the ends of what is active, or no number for a begin: end that, and
     /// [`Engine::renew`](crate::Engine::renew).
     HistoryFull,
+    /// Memory was refused.
     NoMemory,
     /// A transaction is active.
     TransactionActive,
+    /// The update or report was the youngest of a ring in which each waits for the next: it was given up.
+    Deadlock,
+    /// Two items of one name.
+    NameTwice,
     /// The event was refused. [`Engine::step`](crate::Engine::step) answers [`Reply::Refused`] in its place.
     Refused(Refusal),
 }
@@ -139,6 +185,8 @@ impl fmt::Display for Error {
             Error::HistoryFull => "history full",
             Error::NoMemory => "out of memory",
             Error::TransactionActive => "a transaction is active",
+            Error::Deadlock => "deadlock: given up as the youngest of a ring",
+            Error::NameTwice => "two items of one name",
             Error::Refused(_) => "refused",
         })
     }
@@ -155,13 +203,17 @@ impl error::Error for Error {
 
 /// What has been imported and exported, which is the same, and how many entries the history has.
 #[derive(Clone, Copy, PartialEq, Eq, Debug)]
+#[non_exhaustive]
 pub struct Totals {
+    /// What all queries have imported, and all updates exported.
     pub import: u128,
+    /// How many events were answered, refusals among them.
     pub entries: u64,
 }
 
 /// What an audit finds of a committed query.
 #[derive(Clone, PartialEq, Eq, Debug)]
+#[non_exhaustive]
 pub struct Finding {
     /// The least distance of what the query read from any serial placement.
     pub distance: u64,

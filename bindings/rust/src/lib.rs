@@ -38,10 +38,15 @@
 //! let _ = engine.begin_update(0);
 //! ```
 
+#![warn(missing_docs)]
+
+mod bank;
 mod event;
 mod sys;
 mod transact;
+mod waits;
 
+pub use bank::{Bank, BankBuilder, BankQuery, BankUpdate, Closing, Report};
 pub use event::{Error, Event, Finding, Refusal, Reply, Totals, Txn};
 pub use transact::{Patience, Update, transact};
 

@@ -1,0 +1,363 @@
+"""A bank: an engine with named items, shared by threads.
+
+A lock is taken for each call, so other threads go on in between. What is blocked is tried again after a pause, for
+`patience` seconds; a transaction that is the youngest of a ring of waiters is given up at once. When the history is
+nearly full nothing begins until all that is active has ended, and the engine is renewed then.
+"""
+
+import ctypes
+import random
+import threading
+import time
+from dataclasses import dataclass
+from types import TracebackType
+from typing import Callable, Dict, List, Mapping, Optional, Set, Tuple, Type, TypeVar
+
+from . import _library as c
+from ._errors import Blocked, Deadlock, EsrError, HistoryFull, OutOfRange, Refused, UnknownItem
+
+MOST_TRANSACTIONS = 65_535
+MOST_ENTRIES = 1_000_000
+NEARLY_FULL = MOST_ENTRIES - MOST_ENTRIES // 10
+WORDS = {
+    1: "no such transaction",
+    2: "already ended",
+    3: "no such item",
+    4: "a query may not write",
+    5: "value out of range",
+    6: "limit out of range",
+    7: "too many transactions",
+    8: "too many reads",
+    9: "a lock",
+    10: "the import limit",
+    11: "the export limit",
+}
+T = TypeVar("T")
+
+
+@dataclass(frozen=True)
+class Finding:
+    """What an audit finds of a report."""
+
+    distance: int
+    """How far what it read was from the nearest serial placement."""
+    charged: int
+    """What it imported: at least the distance."""
+    before: Tuple[int, ...]
+    """The updates before that placement, in the order of their commits."""
+
+
+class _Waits:
+    """Who waits for whom: each for at most one other, so a ring is found from whoever has just begun to wait.
+
+    Of a ring the youngest is given up. One that is begun anew is as old as its first attempt, and waits for the end of
+    whom it had waited for: otherwise it might be given up for ever.
+    """
+
+    def __init__(self) -> None:
+        self.blockers: Dict[int, int] = {}
+        self.ages: Dict[int, int] = {}
+        self.given_up: Dict[int, int] = {}
+
+    def begin(self, txn: int, age: int, blocker: int) -> None:
+        self.blockers[txn], self.ages[txn] = blocker, age
+        ring, at = [txn], blocker
+        while at != txn:
+            if at not in self.blockers or at in ring:
+                return
+            ring.append(at)
+            at = self.blockers[at]
+        youngest = max(ring, key=self.ages.__getitem__)
+        self.given_up[youngest] = self.blockers.pop(youngest)
+
+    def end(self, txn: int) -> None:
+        self.blockers.pop(txn, None)
+
+    def forget(self, txn: int) -> None:
+        self.end(txn)
+        self.given_up.pop(txn, None)
+
+
+class Bank:
+    """Items with names and opening values, and transactions over them.
+
+    `before_renewal` is called with the bank when a history is about to be gone: `due()` has the reports that were not
+    audited yet. It must begin nothing.
+    """
+
+    def __init__(
+        self,
+        items: Mapping[str, int],
+        *,
+        patience: float = 1.0,
+        before_renewal: Optional[Callable[["Bank"], None]] = None,
+    ) -> None:
+        self._numbers = {name: number for number, name in enumerate(items)}
+        self._engine = c.Engine()
+        self._patience = patience
+        self._before_renewal = before_renewal
+        self._lock = threading.RLock()
+        self._ended = threading.Condition(self._lock)
+        self._waits = _Waits()
+        self._active: Set[int] = set()
+        self._entries = self._begun = self._bodies = self.renewals = 0
+        self._due: List["Query"] = []
+        opening = (ctypes.c_int64 * max(len(items), 1))(*items.values())
+        status = c.library.esr_open(self._engine, opening, len(items))
+        if status != c.DONE:
+            raise MemoryError if status == c.NO_MEMORY else OutOfRange("an opening value, or the count of items")
+
+    def __del__(self) -> None:
+        if hasattr(self, "_engine"):
+            c.library.esr_close(self._engine)
+
+    def update(self, limit: int) -> "Update":
+        """An update that may export up to `limit`, for a `with` statement: it commits at the end, and is aborted by an
+        exception."""
+        return Update(self, limit)
+
+    def report(self, limit: int, *, strict: bool = False) -> "Query":
+        """A query that may import up to `limit`, for a `with` statement: at the end it commits and `finding` is there."""
+        return Query(self, limit, strict)
+
+    def transact(self, limit: int, body: Callable[["Update"], T], *, attempts: int = 64) -> T:
+        """Runs `body` in an update, and anew in another where it was given up."""
+        age = None
+        for attempt in range(attempts):
+            update = Update(self, limit, age)
+            try:
+                with update:
+                    age = update._age
+                    return body(update)
+            except (Blocked, Deadlock, HistoryFull) as why:
+                if attempt + 1 == attempts:
+                    raise
+                if isinstance(why, Deadlock):
+                    self._wait_for_end(why.other)
+                time.sleep(random.random() * min(2**attempt, 64) * 20e-6)
+        raise ValueError("attempts has to be at least 1")
+
+    def _wait_for_end(self, txn: int) -> None:
+        """Waits until a transaction has ended, as long as patience lasts."""
+        until, renewals = time.monotonic() + self._patience, self.renewals
+        while time.monotonic() < until:
+            with self._lock:
+                if txn not in self._active or self.renewals != renewals:
+                    return
+            time.sleep(50e-6)
+
+    def __getitem__(self, name: str) -> int:
+        """The committed value of an item."""
+        number = self._number_of(name)
+        values, count = (ctypes.c_int64 * len(self._numbers))(), ctypes.c_size_t()
+        with self._lock:
+            self._check(c.library.esr_values(self._engine, values, len(values), count))
+        return values[number]
+
+    def due(self) -> List["Query"]:
+        """The reports of this history that have committed and were not audited."""
+        with self._lock:
+            return list(self._due)
+
+    @property
+    def imported(self) -> int:
+        """What all reports of this history have imported."""
+        totals = c.Totals()
+        with self._lock:
+            self._check(c.library.esr_totals_of(self._engine, totals))
+        return totals.high << 64 | totals.low
+
+    def _number_of(self, name: str) -> int:
+        try:
+            return self._numbers[name]
+        except KeyError:
+            raise UnknownItem(name) from None
+
+    @staticmethod
+    def _check(status: int) -> None:
+        if status == c.FULL:
+            raise HistoryFull("the history has no room for this")
+        if status == c.NO_MEMORY:
+            raise MemoryError
+        if status != c.DONE:
+            raise EsrError(f"status {status}")
+
+    def _is_nearly_full(self) -> bool:
+        return self._begun >= MOST_TRANSACTIONS or self._entries >= NEARLY_FULL
+
+    def _make_room(self) -> None:
+        """Waits until the history has room, and renews it where nobody else does. The lock is held."""
+        while self._is_nearly_full():
+            if self._active:
+                self._ended.wait()
+                continue
+            if self._before_renewal:
+                self._before_renewal(self)
+            self._check(c.library.esr_renew(self._engine))
+            self._entries = self._begun = 0
+            self._waits = _Waits()
+            self._due.clear()
+            self.renewals += 1
+            self._ended.notify_all()
+
+    def _answer(self, call: Callable[..., int], *words: int) -> c.Reply:
+        reply = c.Reply()
+        self._check(call(self._engine, *words, reply))
+        self._entries += 1
+        return reply
+
+    def _begin(self, transaction: "_Transaction", call: Callable[..., int], *words: int) -> None:
+        with self._lock:
+            self._make_room()
+            reply = self._answer(call, *words)
+            if reply.kind == c.REFUSED:
+                raise OutOfRange(WORDS[reply.refusal])
+            self._begun += 1
+            self._active.add(reply.txn)
+            transaction.number = reply.txn
+            if transaction._age is None:
+                self._bodies += 1
+                transaction._age = self._bodies
+
+    def _end(self, txn: int, call: Callable[..., int]) -> None:
+        with self._lock:
+            self._answer(call, txn)
+            self._waits.forget(txn)
+            self._active.discard(txn)
+            if not self._active:
+                self._ended.notify_all()
+
+    def _step(self, transaction: "_Transaction", events: Callable[[], c.Reply]) -> c.Reply:
+        """Gives events under one lock until one is refused, and all of them again after a pause where that may pass."""
+        txn = transaction.number
+        until = time.monotonic() + self._patience
+        pause = 20e-6
+        while True:
+            with self._lock:
+                if txn in self._waits.given_up:
+                    raise Deadlock(txn, self._waits.given_up[txn])
+                reply = events()
+                if reply.kind != c.REFUSED:
+                    self._waits.end(txn)
+                    return reply
+                refusal = (reply.refusal, WORDS[reply.refusal], reply.txn)
+                if reply.refusal < 9:
+                    raise Refused(*refusal)
+                if reply.txn != txn:
+                    self._waits.begin(txn, transaction._age or 0, reply.txn)
+            if time.monotonic() > until:
+                raise Blocked(*refusal)
+            time.sleep(pause * (0.5 + random.random()))
+            pause = min(2 * pause, 2e-3)
+
+
+class _Transaction:
+    """What updates and queries have in common: each is ended by the `with` statement that began it."""
+
+    def __init__(self, bank: Bank, age: Optional[int] = None) -> None:
+        self._bank = bank
+        self._age = age
+        self.number = 0
+        """Its number in the history, from 1, once it has begun."""
+
+    def read(self, name: str) -> int:
+        """Reads an item."""
+        bank, item = self._bank, self._bank._number_of(name)
+        return bank._step(self, lambda: bank._answer(c.library.esr_read, self.number, item)).value
+
+
+class Update(_Transaction):
+    """An update: see `Bank.update`."""
+
+    def __init__(self, bank: Bank, limit: int, age: Optional[int] = None) -> None:
+        super().__init__(bank, age)
+        self._limit = limit
+
+    def __enter__(self) -> "Update":
+        self._bank._begin(self, c.library.esr_begin_update, self._limit)
+        return self
+
+    def __exit__(self, kind: Optional[Type[BaseException]], error: object, trace: Optional[TracebackType]) -> None:
+        self._bank._end(self.number, c.library.esr_abort if kind else c.library.esr_commit)
+
+    def write(self, name: str, value: int) -> None:
+        """Writes an item."""
+        bank, item = self._bank, self._bank._number_of(name)
+        if not -(2**63) <= value < 2**63:
+            raise Refused(5, WORDS[5], 0)
+        bank._step(self, lambda: bank._answer(c.library.esr_write, self.number, item, value))
+
+    def add(self, name: str, more: int) -> int:
+        """Adds to an item and answers its new value, under one lock, so that two that add never wait in a ring."""
+        bank, item = self._bank, self._bank._number_of(name)
+        total = 0
+
+        def both() -> c.Reply:
+            nonlocal total
+            reply = bank._answer(c.library.esr_read, self.number, item)
+            if reply.kind == c.REFUSED:
+                return reply
+            total = reply.value + more
+            return bank._answer(c.library.esr_write, self.number, item, max(-(2**62), min(total, 2**62)))
+
+        bank._step(self, both)
+        return total
+
+
+class Query(_Transaction):
+    """A report: see `Bank.report`."""
+
+    def __init__(self, bank: Bank, limit: int, strict: bool) -> None:
+        super().__init__(bank)
+        self._limit, self._strict = limit, strict
+        self._renewals = 0
+        self._finding: Optional[Finding] = None
+
+    def __enter__(self) -> "Query":
+        self._bank._begin(self, c.library.esr_begin_query, self._limit, self._strict)
+        self._renewals = self._bank.renewals
+        return self
+
+    def __exit__(self, kind: Optional[Type[BaseException]], error: object, trace: Optional[TracebackType]) -> None:
+        with self._bank._lock:
+            self._bank._end(self.number, c.library.esr_abort if kind else c.library.esr_commit)
+            if not kind:
+                self._bank._due.append(self)
+
+    @property
+    def finding(self) -> Finding:
+        """Its audit, made when it is first asked for. That has to be before its history is renewed."""
+        bank = self._bank
+        with bank._lock:
+            if self._finding is None:
+                if bank.renewals != self._renewals:
+                    raise EsrError("the history of this report is gone: look at its finding before_renewal")
+                self._finding = self._audit()
+                bank._due.remove(self)
+            return self._finding
+
+    def _audit(self) -> Finding:
+        found, room = c.Finding(), 64
+        while True:
+            before = (ctypes.c_uint32 * room)()
+            status = c.library.esr_audit(self._bank._engine, self.number, before, room, found)
+            if status == c.NOT_A_COMMITTED_QUERY:
+                raise EsrError("only a report that has committed is audited")
+            if status != c.TOO_SMALL:
+                self._bank._check(status)
+                return Finding(found.distance, found.imported, tuple(before[: found.count]))
+            room = found.count
+
+    def bundle(self) -> bytes:
+        """Its audit as JSON, which `esr check` judges without this engine."""
+        count, room = ctypes.c_size_t(), 4096
+        with self._bank._lock:
+            if self._bank.renewals != self._renewals:
+                raise EsrError("the history of this report is gone")
+            while True:
+                text = (ctypes.c_uint8 * room)()
+                status = c.library.esr_bundle(self._bank._engine, self.number, text, room, count)
+                if status != c.TOO_SMALL:
+                    self._bank._check(status)
+                    return bytes(text[: count.value])
+                room = count.value

@@ -1,0 +1,63 @@
+"""The shared library, declared for ctypes. Nothing here decides anything: each function is the C call of its name."""
+
+import ctypes
+import ctypes.util
+import os
+import pathlib
+from ctypes import POINTER, c_bool, c_char_p, c_int64, c_size_t, c_uint8, c_uint32, c_uint64
+
+DONE, NOT_A_COMMITTED_QUERY, TOO_SMALL, FULL, NO_MEMORY = 0, 6, 7, 12, 13
+BEGUN, VALUE, WROTE, COMMITTED, ABORTED, REFUSED = 1, 2, 3, 4, 5, 6
+
+
+class Engine(ctypes.Structure):
+    _fields_ = [("is_open", c_bool), ("machine", ctypes.c_void_p)]
+
+
+class Reply(ctypes.Structure):
+    _fields_ = [("kind", c_uint32), ("refusal", c_uint32), ("txn", c_uint32), ("value", c_int64)]
+
+
+class Totals(ctypes.Structure):
+    _fields_ = [("high", c_uint64), ("low", c_uint64), ("entries", c_uint64)]
+
+
+class Finding(ctypes.Structure):
+    _fields_ = [("distance", c_uint64), ("imported", c_uint64), ("count", c_size_t)]
+
+
+def _path() -> str:
+    """ESR_LIBRARY, the file beside this one, or what the system finds."""
+    named = os.environ.get("ESR_LIBRARY")
+    beside = pathlib.Path(__file__).with_name("libesr.so.0")
+    found = named or (str(beside) if beside.exists() else ctypes.util.find_library("esr"))
+    if not found:
+        raise ImportError("libesr.so.0 is neither beside the package nor installed: set ESR_LIBRARY to its path")
+    return found
+
+
+def _load() -> ctypes.CDLL:
+    library = ctypes.CDLL(_path())
+    engine = POINTER(Engine)
+    declared = {
+        "esr_open": [engine, POINTER(c_int64), c_size_t],
+        "esr_begin_update": [engine, c_uint64, POINTER(Reply)],
+        "esr_begin_query": [engine, c_uint64, c_bool, POINTER(Reply)],
+        "esr_read": [engine, c_uint32, c_uint32, POINTER(Reply)],
+        "esr_write": [engine, c_uint32, c_uint32, c_int64, POINTER(Reply)],
+        "esr_commit": [engine, c_uint32, POINTER(Reply)],
+        "esr_abort": [engine, c_uint32, POINTER(Reply)],
+        "esr_totals_of": [engine, POINTER(Totals)],
+        "esr_values": [engine, POINTER(c_int64), c_size_t, POINTER(c_size_t)],
+        "esr_audit": [engine, c_uint32, POINTER(c_uint32), c_size_t, POINTER(Finding)],
+        "esr_bundle": [engine, c_uint32, POINTER(c_uint8), c_size_t, POINTER(c_size_t)],
+        "esr_renew": [engine],
+    }
+    for name, arguments in declared.items():
+        call = getattr(library, name)
+        call.argtypes, call.restype = arguments, c_uint32
+    library.esr_close.argtypes, library.esr_close.restype = [engine], None
+    return library
+
+
+library = _load()

@@ -1,0 +1,56 @@
+"""A notebook as a script: a shop sells while somebody counts the stock, and looks afterwards how far off the count was.
+
+    $ python3 examples/notebook.py
+"""
+
+import random
+import threading
+
+from esr import Bank
+
+# %% The shop: three articles, and what was sold of each.
+ARTICLES = ["apples", "pears", "plums"]
+bank = Bank({**{article: 100 for article in ARTICLES}, **{f"{article}_sold": 0 for article in ARTICLES}})
+
+
+# %% Four tills sell, each in a thread of its own. Whoever wants more than there is gets nothing.
+def sell(article: str, pieces: int) -> bool:
+    def body(update) -> bool:
+        left = update.add(article, -pieces)
+        if left < 0:
+            raise ValueError(f"only {left + pieces} {article}")
+        update.add(f"{article}_sold", pieces)
+        return True
+
+    try:
+        return bank.transact(1_000, body)
+    except ValueError:
+        return False
+
+
+def till(seed: int) -> None:
+    draw = random.Random(seed)
+    for _ in range(50):
+        sell(draw.choice(ARTICLES), draw.randrange(1, 4))
+
+
+tills = [threading.Thread(target=till, args=[seed]) for seed in range(4)]
+for thread in tills:
+    thread.start()
+
+# %% Meanwhile: how many pieces are there, sold or not? It waits for nobody, and may be off by 30.
+findings = []
+while any(thread.is_alive() for thread in tills):
+    with bank.report(30) as count:
+        pieces = sum(count.read(article) + count.read(f"{article}_sold") for article in ARTICLES)
+    finding = count.finding
+    assert abs(pieces - 300) <= finding.distance <= finding.charged <= 30
+    findings.append(finding)
+for thread in tills:
+    thread.join()
+
+# %% What came of it.
+with bank.report(0) as count:
+    pieces = sum(count.read(article) + count.read(f"{article}_sold") for article in ARTICLES)
+print("pieces in the end:", pieces, "off by", count.finding.distance)
+print("each count was off by no more than its finding says:", all(f.distance <= f.charged for f in findings))

@@ -1,0 +1,150 @@
+"""The Python package as threads use it. ESR_SOAK_SECONDS says how long the soak runs: two seconds where it is not set."""
+
+import doctest
+import json
+import os
+import threading
+import time
+import unittest
+
+import esr
+from esr import Bank, Blocked, Deadlock, EsrError, OutOfRange, Refused, UnknownItem
+
+
+def two_accounts(**words):
+    return Bank({"checking": 500, "savings": 1500}, **words)
+
+
+def together(*bodies):
+    """Runs bodies in threads of their own, and raises the first error of any."""
+    errors = []
+
+    def run(body):
+        try:
+            body()
+        except BaseException as error:
+            errors.append(error)
+
+    threads = [threading.Thread(target=run, args=[body]) for body in bodies]
+    for thread in threads:
+        thread.start()
+    for thread in threads:
+        thread.join()
+    if errors:
+        raise errors[0]
+
+
+def load_tests(loader, tests, pattern):
+    """The examples of the documentation are tests too."""
+    tests.addTests(doctest.DocTestSuite(esr))
+    return tests
+
+
+class Banks(unittest.TestCase):
+    def test_a_report_tells_how_far_it_was(self):
+        """Between the halves of a transfer a report is off by 100, in either of two ways of saying it."""
+        bank = two_accounts()
+        with bank.update(200) as transfer:
+            transfer.write("checking", 400)
+            with bank.report(200) as report:
+                total = report.read("checking") + report.read("savings")
+            finding = report.finding
+            transfer.write("savings", 1600)
+        self.assertEqual((total, finding.distance, finding.charged, finding.before), (1900, 100, 100, ()))
+        self.assertEqual(json.loads(report.bundle())["certificate"]["worth"], 100)
+        self.assertEqual((bank["checking"], bank["savings"], bank.imported), (400, 1600, 100))
+
+    def test_an_exception_takes_back(self):
+        """What an update wrote before an exception is gone, and its locks with it."""
+        bank = two_accounts(patience=0.01)
+        with self.assertRaises(ZeroDivisionError):
+            with bank.update(100) as update:
+                update.write("checking", 1 // 0 if update.add("checking", 5) else 0)
+        self.assertEqual(bank["checking"], 500)
+        with bank.update(0) as update:
+            self.assertEqual(update.add("checking", 1), 501)
+
+    def test_what_is_refused_says_why(self):
+        """Names, values and limits that there are not; a write that stays blocked names who blocks it."""
+        bank = two_accounts(patience=0.01)
+        with self.assertRaisesRegex(UnknownItem, "'pocket'"):
+            with bank.update(0) as update:
+                update.read("pocket")
+        with self.assertRaises(OutOfRange):
+            Bank({"a": 10**13})
+        with self.assertRaises(OutOfRange):
+            with bank.update(10**18 + 1):
+                pass
+        with bank.update(0) as first:
+            first.write("checking", 1)
+            with self.assertRaises(Blocked) as caught:
+                with bank.update(0) as second:
+                    second.write("checking", 2)
+            self.assertEqual((caught.exception.number, caught.exception.other), (9, first.number))
+            with self.assertRaises(Refused):
+                first.write("checking", 10**13)
+
+    def test_a_deadlock_is_given_up_by_the_younger(self):
+        """Two that hold what the other wants: one learns it at once, and both get through by trying anew."""
+        bank, met, runs = two_accounts(patience=10), threading.Barrier(2), []
+
+        def move(first, second):
+            waited = []
+
+            def body(update):
+                runs.append(first)
+                update.add(first, 1)
+                if not waited:
+                    waited.append(met.wait())
+                update.add(second, 1)
+
+            bank.transact(100, body)
+
+        begun = time.monotonic()
+        together(lambda: move("checking", "savings"), lambda: move("savings", "checking"))
+        self.assertLess(time.monotonic() - begun, 5)
+        self.assertEqual((bank["checking"], bank["savings"], len(runs)), (502, 1502, 3))
+
+    def test_a_bank_renews_itself(self):
+        """65,535 transactions and one more: the report that is due is looked at before its history is gone."""
+        seen = []
+        bank = Bank({"hits": 0}, before_renewal=lambda bank: seen.extend(q.finding.distance for q in bank.due()))
+        with bank.report(0) as report:
+            report.read("hits")
+        with bank.report(0) as late:
+            late.read("hits")
+        self.assertEqual(late.finding.distance, 0)
+        for _ in range(65_535):
+            with bank.update(1) as update:
+                update.add("hits", 1)
+        self.assertEqual((bank.renewals, seen, bank["hits"]), (1, [0], 65_535))
+        self.assertEqual(report.finding.distance, 0)
+        with self.assertRaises(EsrError):
+            report.bundle()
+
+    def test_a_soak_loses_nothing(self):
+        """Eight threads move money and read sums: none is off by more than it imported, and nothing is missing."""
+        names = [f"account{n}" for n in range(16)]
+        bank = Bank({name: 1000 for name in names})
+        end = time.monotonic() + float(os.environ.get("ESR_SOAK_SECONDS", "2"))
+
+        def client(seed):
+            while time.monotonic() < end:
+                seed = seed * 1_103_515_245 + 12_345 & 0x7FFFFFFF
+                source, target = names[seed >> 8 & 15], names[seed >> 16 & 15]
+                bank.transact(100_000, lambda update: (update.add(source, -10), update.add(target, 10)))
+
+        def clerk():
+            while time.monotonic() < end:
+                with bank.report(1_000_000) as report:
+                    total = sum(report.read(name) for name in names)
+                finding = report.finding
+                self.assertLessEqual(abs(total - 16_000), finding.distance)
+                self.assertLessEqual(finding.distance, finding.charged)
+
+        together(*[lambda seed=seed: client(seed) for seed in range(1, 8)], clerk)
+        self.assertEqual(sum(bank[name] for name in names), 16_000)
+
+
+if __name__ == "__main__":
+    unittest.main()

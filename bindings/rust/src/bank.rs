@@ -1,0 +1,693 @@
+//! A bank: an engine that threads share, whose items have names, and which begins anew before its history is full.
+//!
+//! One lock is taken for each call of a transaction, and not for the whole of it, so others go on in between. What is
+//! blocked is tried again after a pause; who waits for whom is kept beside the engine, and of a ring of waiters the
+//! youngest is given up at once. Once the history is nearly full nothing begins; when the last active transaction has
+//! ended, whoever wants to begin renews the engine.
+//!
+//! Each transaction is ended by the value that stands for it, also where a body fails or panics, so the count of active
+//! ones comes down to 0 in any case, and a renewal never waits for ever.
+//!
+//! Rejected: to wake who is blocked when the other ends. A counter that eight threads change then pays for a wake-up with
+//! each commit, and they are slower together than one alone; a short sleep costs nobody else anything.
+
+use crate::{
+    Engine, Error, Event, Finding, MOST_ENTRIES, MOST_TRANSACTIONS, Patience, Refusal, Reply, Txn,
+    waits::{Age, Waits},
+};
+use std::{
+    collections::{HashMap, HashSet, hash_map::RandomState},
+    fmt,
+    hash::{BuildHasher, Hasher},
+    sync::{Condvar, Mutex, MutexGuard, PoisonError},
+    thread,
+};
+
+/// From so many entries on nothing begins until the bank has been renewed: what is active has room to end.
+const NEARLY_FULL: u64 = MOST_ENTRIES - MOST_ENTRIES / 10;
+
+/// A committed report, by which it can be audited until the bank is renewed.
+#[derive(Clone, Copy, PartialEq, Eq, Hash, Debug)]
+pub struct Report {
+    renewals: u64,
+    query: Txn,
+}
+
+/// What the lock is round.
+struct Shared {
+    engine: Engine,
+    entries: u64,
+    begun: u32,
+    active: HashSet<Txn>,
+    /// How many bodies have begun, each counted once however often it is begun anew.
+    bodies: u64,
+    renewals: u64,
+    waits: Waits,
+    due: Vec<Txn>,
+}
+
+impl Shared {
+    fn is_nearly_full(&self) -> bool {
+        self.begun >= MOST_TRANSACTIONS || self.entries >= NEARLY_FULL
+    }
+
+    fn step(&mut self, event: Event) -> Result<Reply, Error> {
+        let reply = self.engine.step(event)?;
+        self.entries += 1;
+        Ok(reply)
+    }
+
+    /// Gives an event of a transaction once. What is blocked is noted as waiting.
+    fn step_of(&mut self, txn: Txn, age: Age, event: Event) -> Result<Reply, Error> {
+        if self.waits.has_given_up(txn) {
+            return Err(Error::Deadlock);
+        }
+        let reply = self.step(event)?;
+        match reply {
+            Reply::Refused(
+                Refusal::BlockedByLock(other)
+                | Refusal::BlockedByImport(other)
+                | Refusal::BlockedByExport(other),
+            ) if other != txn => self.waits.begin(txn, age, other),
+            _ => self.waits.end(txn),
+        }
+        if self.waits.has_given_up(txn) {
+            return Err(Error::Deadlock);
+        }
+        Ok(reply)
+    }
+
+    /// Forgets a transaction, which has ended. Whom it waited for, where it had been given up.
+    fn forget(&mut self, txn: Txn) -> Option<Txn> {
+        self.active.remove(&txn);
+        self.waits.forget(txn)
+    }
+}
+
+/// What is done with a history before it is renewed.
+type BeforeRenewal = Box<dyn Fn(&mut Closing<'_>) + Send + Sync>;
+
+/// An engine that threads share, with named items.
+///
+/// ```
+/// use esr::{Bank, Error};
+///
+/// let bank = Bank::builder().item("checking", 500).item("savings", 1500).open()?;
+/// bank.transact(200, |transfer| {
+///     transfer.add("checking", -100)?;
+///     transfer.add("savings", 100)
+/// })?;
+/// let (sum, finding) = bank.report(200, |report| {
+///     Ok::<_, Error>(report.read("checking")? + report.read("savings")?)
+/// })?;
+/// assert_eq!((sum, finding.distance), (2000, 0));
+/// # Ok::<(), Error>(())
+/// ```
+pub struct Bank {
+    names: HashMap<String, u32>,
+    patience: Patience,
+    shared: Mutex<Shared>,
+    ended: Condvar,
+    before_renewal: Option<BeforeRenewal>,
+}
+
+/// The items of a bank that is to be opened, and what it does when it is renewed.
+#[must_use]
+#[derive(Default)]
+pub struct BankBuilder {
+    names: HashMap<String, u32>,
+    opening: Vec<i64>,
+    twice: bool,
+    patience: Option<Patience>,
+    before_renewal: Option<BeforeRenewal>,
+}
+
+impl BankBuilder {
+    /// An item, with its opening value.
+    pub fn item(mut self, name: impl Into<String>, value: i64) -> BankBuilder {
+        let number = self.opening.len() as u32;
+        self.twice |= self.names.insert(name.into(), number).is_some();
+        self.opening.push(value);
+        self
+    }
+
+    /// How often what is blocked is tried again.
+    pub fn patience(mut self, patience: Patience) -> BankBuilder {
+        self.patience = Some(patience);
+        self
+    }
+
+    /// What is done with a history before it is gone: the audits that are due.
+    ///
+    /// ```
+    /// use esr::{Bank, Error};
+    ///
+    /// let bank = Bank::builder()
+    ///     .item("checking", 500)
+    ///     .before_renewal(|closing| {
+    ///         for report in closing.due().to_vec() {
+    ///             println!("{}", closing.audit(report).expect("it has committed"));
+    ///         }
+    ///     })
+    ///     .open()?;
+    /// # Ok::<(), Error>(())
+    /// ```
+    pub fn before_renewal(
+        mut self,
+        work: impl Fn(&mut Closing<'_>) + Send + Sync + 'static,
+    ) -> BankBuilder {
+        self.before_renewal = Some(Box::new(work));
+        self
+    }
+
+    /// Opens the bank.
+    ///
+    /// # Errors
+    /// `NameTwice`, `TooManyItems`, `ValueOutOfRange`, `NoMemory`.
+    pub fn open(self) -> Result<Bank, Error> {
+        if self.twice {
+            return Err(Error::NameTwice);
+        }
+        Ok(Bank {
+            names: self.names,
+            patience: self.patience.unwrap_or(Patience {
+                tries: 1_000,
+                attempts: 64,
+                ..Patience::default()
+            }),
+            shared: Mutex::new(Shared {
+                engine: Engine::open(&self.opening)?,
+                entries: 0,
+                begun: 0,
+                active: HashSet::new(),
+                bodies: 0,
+                renewals: 0,
+                waits: Waits::default(),
+                due: Vec::new(),
+            }),
+            ended: Condvar::new(),
+            before_renewal: self.before_renewal,
+        })
+    }
+}
+
+/// A history that is about to be renewed: nothing is active, and its reports can be audited for the last time.
+pub struct Closing<'a> {
+    engine: &'a mut Engine,
+    due: &'a [Txn],
+}
+
+impl Closing<'_> {
+    /// The committed reports that were not audited when they ended.
+    #[must_use]
+    pub fn due(&self) -> &[Txn] {
+        self.due
+    }
+
+    /// The audit of one of them.
+    ///
+    /// # Errors
+    /// `NotACommittedQuery`, `NoMemory`.
+    pub fn audit(&mut self, report: Txn) -> Result<Finding, Error> {
+        self.engine.audit(report)
+    }
+
+    /// Its bundle, which `esr check` judges.
+    ///
+    /// # Errors
+    /// `NotACommittedQuery`, `NoMemory`.
+    pub fn bundle(&mut self, report: Txn) -> Result<Vec<u8>, Error> {
+        self.engine.bundle(report)
+    }
+}
+
+impl Bank {
+    /// A bank without items, to which they are added.
+    pub fn builder() -> BankBuilder {
+        BankBuilder::default()
+    }
+
+    fn lock(&self) -> MutexGuard<'_, Shared> {
+        // No panic leaves a call half done, so a lock that one has poisoned is taken all the same.
+        self.shared.lock().unwrap_or_else(PoisonError::into_inner)
+    }
+
+    fn number_of(&self, name: &str) -> Result<u32, Error> {
+        let number = self.names.get(name).copied();
+        number.ok_or(Error::Refused(Refusal::NoSuchItem))
+    }
+
+    /// Waits until the history has room, and renews it where nobody else does.
+    fn with_room(&self) -> Result<MutexGuard<'_, Shared>, Error> {
+        let mut shared = self.lock();
+        while shared.is_nearly_full() {
+            if shared.active.is_empty() {
+                self.renew_now(&mut shared)?;
+            } else {
+                let waited = self.ended.wait(shared);
+                shared = waited.unwrap_or_else(PoisonError::into_inner);
+            }
+        }
+        Ok(shared)
+    }
+
+    fn renew_now(&self, shared: &mut Shared) -> Result<(), Error> {
+        if let Some(work) = &self.before_renewal {
+            work(&mut Closing {
+                engine: &mut shared.engine,
+                due: &shared.due,
+            });
+        }
+        shared.engine.renew()?;
+        shared.renewals += 1;
+        shared.entries = 0;
+        shared.begun = 0;
+        shared.waits = Waits::default();
+        shared.due.clear();
+        self.ended.notify_all();
+        Ok(())
+    }
+
+    /// Begins a transaction, as old as its first attempt where it is begun anew.
+    fn begin(&self, event: Event, age: Option<Age>) -> Result<Handle<'_>, Error> {
+        let mut shared = self.with_room()?;
+        let txn = match shared.step(event)? {
+            Reply::Begun(txn) => txn,
+            Reply::Refused(why) => return Err(Error::Refused(why)),
+            other => unreachable!("{other:?}"),
+        };
+        shared.begun += 1;
+        shared.active.insert(txn);
+        let age = age.unwrap_or_else(|| {
+            shared.bodies += 1;
+            Age(shared.bodies)
+        });
+        Ok(Handle {
+            bank: self,
+            txn,
+            age,
+            stop: None,
+            is_active: true,
+        })
+    }
+
+    /// Runs a body in a transaction, and anew in another where it had to be given up.
+    fn run<T, E: From<Error>, R>(
+        &self,
+        event: Event,
+        mut body: impl FnMut(&mut Handle<'_>) -> Result<T, E>,
+        end: impl Fn(Handle<'_>, T) -> Result<R, Error>,
+    ) -> Result<R, E> {
+        let mut attempt = 0;
+        let mut age = None;
+        loop {
+            let mut handle = self.begin(event, age)?;
+            age = Some(handle.age);
+            let answer = body(&mut handle);
+            attempt += 1;
+            match (handle.stop, answer) {
+                (None, Ok(value)) => return end(handle, value).map_err(E::from),
+                (None, Err(error)) => return Err(error),
+                (Some(why), _) if attempt >= self.patience.attempts => return Err(why.into()),
+                (Some(_), _) => self.wait_for_end(handle.give_up()),
+            }
+            self.pause(attempt);
+        }
+    }
+
+    /// Runs an update: begins it, runs the body, and commits. What is blocked is tried again; where the update has to be
+    /// given up, because it is the youngest of a ring or its patience has ended, it is aborted and the body runs anew. An
+    /// error of the body aborts the update and is answered, and so does a panic.
+    ///
+    /// A body calls no method of the bank itself: it would wait for its own end.
+    ///
+    /// ```
+    /// use esr::{Bank, Error};
+    ///
+    /// #[derive(Debug, PartialEq)]
+    /// enum Failed {
+    ///     TooLittle(i64),
+    ///     Engine(Error),
+    /// }
+    ///
+    /// impl From<Error> for Failed {
+    ///     fn from(error: Error) -> Failed {
+    ///         Failed::Engine(error)
+    ///     }
+    /// }
+    ///
+    /// let bank = Bank::builder().item("checking", 50).open()?;
+    /// let answer = bank.transact(100, |update| match update.add("checking", -100)? {
+    ///     left if left < 0 => Err(Failed::TooLittle(left)),
+    ///     left => Ok(left),
+    /// });
+    /// assert_eq!(answer, Err(Failed::TooLittle(-50)));
+    /// assert_eq!(bank.value("checking")?, 50);
+    /// # Ok::<(), Error>(())
+    /// ```
+    ///
+    /// # Errors
+    /// The body's own, and where it was given up too often the last reason: `Deadlock`, `Refused`, `HistoryFull`.
+    pub fn transact<T, E: From<Error>>(
+        &self,
+        limit: u64,
+        mut body: impl FnMut(&mut BankUpdate<'_, '_>) -> Result<T, E>,
+    ) -> Result<T, E> {
+        self.run(
+            Event::BeginUpdate { limit },
+            |handle| body(&mut BankUpdate { handle }),
+            |handle, value| handle.commit().map(|()| value),
+        )
+    }
+
+    /// Runs a report: begins a query, runs the body, commits, and audits it. It is begun anew as an update is.
+    ///
+    /// # Errors
+    /// Those of [`transact`](Bank::transact).
+    pub fn report<T, E: From<Error>>(
+        &self,
+        limit: u64,
+        body: impl FnMut(&mut BankQuery<'_, '_>) -> Result<T, E>,
+    ) -> Result<(T, Finding), E> {
+        self.query(limit, false, body, |handle, value| {
+            Ok((value, handle.commit_and_audit()?))
+        })
+    }
+
+    /// The same for a strict report, whose audit places it behind all that had committed when it began.
+    ///
+    /// # Errors
+    /// Those of [`transact`](Bank::transact).
+    pub fn strict_report<T, E: From<Error>>(
+        &self,
+        limit: u64,
+        body: impl FnMut(&mut BankQuery<'_, '_>) -> Result<T, E>,
+    ) -> Result<(T, Finding), E> {
+        self.query(limit, true, body, |handle, value| {
+            Ok((value, handle.commit_and_audit()?))
+        })
+    }
+
+    /// Runs a report whose audit is due later: by [`audit`](Bank::audit), or before the bank is renewed.
+    ///
+    /// # Errors
+    /// Those of [`transact`](Bank::transact).
+    pub fn report_unaudited<T, E: From<Error>>(
+        &self,
+        limit: u64,
+        body: impl FnMut(&mut BankQuery<'_, '_>) -> Result<T, E>,
+    ) -> Result<(T, Report), E> {
+        self.query(limit, false, body, |handle, value| {
+            Ok((value, handle.commit_as_due()?))
+        })
+    }
+
+    fn query<T, E: From<Error>, R>(
+        &self,
+        limit: u64,
+        strict: bool,
+        mut body: impl FnMut(&mut BankQuery<'_, '_>) -> Result<T, E>,
+        end: impl Fn(Handle<'_>, T) -> Result<R, Error>,
+    ) -> Result<R, E> {
+        self.run(
+            Event::BeginQuery { limit, strict },
+            |handle| body(&mut BankQuery { handle }),
+            end,
+        )
+    }
+
+    /// The audit of a report that ended without one.
+    ///
+    /// # Errors
+    /// `NotACommittedQuery` where the bank has been renewed since. `NoMemory`.
+    pub fn audit(&self, report: Report) -> Result<Finding, Error> {
+        let mut shared = self.lock();
+        if report.renewals != shared.renewals {
+            return Err(Error::NotACommittedQuery);
+        }
+        let finding = shared.engine.audit(report.query)?;
+        shared.due.retain(|due| *due != report.query);
+        Ok(finding)
+    }
+
+    /// The committed value of an item.
+    ///
+    /// # Errors
+    /// `Refused` where no item has that name. `NoMemory`.
+    pub fn value(&self, name: &str) -> Result<i64, Error> {
+        let number = self.number_of(name)?;
+        Ok(self.lock().engine.values()?[number as usize])
+    }
+
+    /// How often the bank has been renewed.
+    #[must_use]
+    pub fn renewals(&self) -> u64 {
+        self.lock().renewals
+    }
+
+    /// Waits until a transaction has ended, as long as patience lasts.
+    fn wait_for_end(&self, txn: Option<Txn>) {
+        let Some(txn) = txn else {
+            return;
+        };
+        let renewals = self.lock().renewals;
+        for round in 0..self.patience.tries {
+            let shared = self.lock();
+            if shared.renewals != renewals || !shared.active.contains(&txn) {
+                return;
+            }
+            drop(shared);
+            self.pause(round);
+        }
+    }
+
+    /// A little longer each time, up to 64 pauses, and not quite the same for each thread.
+    fn pause(&self, round: u32) {
+        if round < 4 {
+            return thread::yield_now();
+        }
+        let most = self.patience.pause.saturating_mul(1 << (round - 4).min(6));
+        let draw = RandomState::new().build_hasher().finish();
+        thread::sleep(most.saturating_mul(8 + (draw % 8) as u32) / 16);
+    }
+}
+
+impl fmt::Debug for Bank {
+    fn fmt(&self, f: &mut fmt::Formatter<'_>) -> fmt::Result {
+        f.debug_struct("Bank").finish_non_exhaustive()
+    }
+}
+
+impl fmt::Debug for BankBuilder {
+    fn fmt(&self, f: &mut fmt::Formatter<'_>) -> fmt::Result {
+        f.debug_struct("BankBuilder").finish_non_exhaustive()
+    }
+}
+
+impl fmt::Debug for Closing<'_> {
+    fn fmt(&self, f: &mut fmt::Formatter<'_>) -> fmt::Result {
+        f.debug_struct("Closing").field("due", &self.due).finish()
+    }
+}
+
+/// An active transaction. It is aborted where it is dropped before it has committed.
+struct Handle<'a> {
+    bank: &'a Bank,
+    txn: Txn,
+    age: Age,
+    /// Why it has to be given up, once it has. Nothing is answered from then on.
+    stop: Option<Error>,
+    is_active: bool,
+}
+
+impl<'a> Handle<'a> {
+    /// Gives events in turn under one lock, until one is refused; that one's try is made again after a pause, and all of
+    /// them with it.
+    fn step(
+        &mut self,
+        events: impl Fn(&mut Shared) -> Result<Reply, Error>,
+    ) -> Result<Reply, Error> {
+        if let Some(why) = self.stop {
+            return Err(why);
+        }
+        let mut round = 0;
+        loop {
+            let answer = events(&mut self.bank.lock());
+            round += 1;
+            match answer {
+                Ok(Reply::Refused(why)) if why.may_pass_later() => {
+                    if round >= self.bank.patience.tries {
+                        return Err(self.stop_for(Error::Refused(why)));
+                    }
+                }
+                Ok(Reply::Refused(why)) => return Err(Error::Refused(why)),
+                Err(why @ (Error::Deadlock | Error::HistoryFull)) => return Err(self.stop_for(why)),
+                answer => return answer,
+            }
+            self.bank.pause(round);
+        }
+    }
+
+    fn stop_for(&mut self, why: Error) -> Error {
+        self.stop = Some(why);
+        why
+    }
+
+    fn read(&mut self, name: &str) -> Result<i64, Error> {
+        let (txn, age, item) = (self.txn, self.age, self.bank.number_of(name)?);
+        match self.step(|shared| shared.step_of(txn, age, Event::Read { txn, item }))? {
+            Reply::Value(value) => Ok(value),
+            other => unreachable!("{other:?}"),
+        }
+    }
+
+    /// Ends it by an event, under a lock that is handed on.
+    fn end(mut self, event: Event) -> Result<MutexGuard<'a, Shared>, Error> {
+        let mut shared = self.bank.lock();
+        shared.step(event)?;
+        self.is_active = false;
+        shared.forget(self.txn);
+        self.bank.tell_of_the_last(&shared);
+        Ok(shared)
+    }
+
+    /// Aborts it. Whom it waited for, where it was the youngest of a ring.
+    fn give_up(mut self) -> Option<Txn> {
+        self.abort()
+    }
+
+    fn abort(&mut self) -> Option<Txn> {
+        let mut shared = self.bank.lock();
+        // an engine keeps room for the end of each active transaction, so this is done
+        let _ = shared.step(Event::Abort { txn: self.txn });
+        self.is_active = false;
+        let waited_for = shared.forget(self.txn);
+        self.bank.tell_of_the_last(&shared);
+        waited_for
+    }
+
+    fn commit(self) -> Result<(), Error> {
+        let txn = self.txn;
+        self.end(Event::Commit { txn }).map(drop)
+    }
+
+    fn commit_and_audit(self) -> Result<Finding, Error> {
+        let txn = self.txn;
+        let mut shared = self.end(Event::Commit { txn })?;
+        shared.engine.audit(txn)
+    }
+
+    fn commit_as_due(self) -> Result<Report, Error> {
+        let txn = self.txn;
+        let mut shared = self.end(Event::Commit { txn })?;
+        shared.due.push(txn);
+        Ok(Report {
+            renewals: shared.renewals,
+            query: txn,
+        })
+    }
+}
+
+impl Bank {
+    /// Wakes those who wait to begin, where nothing is active any more.
+    fn tell_of_the_last(&self, shared: &Shared) {
+        if shared.active.is_empty() && shared.is_nearly_full() {
+            self.ended.notify_all();
+        }
+    }
+}
+
+impl Drop for Handle<'_> {
+    fn drop(&mut self) {
+        if self.is_active {
+            self.abort();
+        }
+    }
+}
+
+/// An update that [`Bank::transact`] has begun.
+pub struct BankUpdate<'h, 'b> {
+    handle: &'h mut Handle<'b>,
+}
+
+impl BankUpdate<'_, '_> {
+    /// Reads an item.
+    ///
+    /// # Errors
+    /// `Refused` where no item has that name. `Deadlock`, `HistoryFull`, and `Refused` where it stayed blocked: then the
+    /// update is given up, and every later call answers the same.
+    pub fn read(&mut self, name: &str) -> Result<i64, Error> {
+        self.handle.read(name)
+    }
+
+    /// Writes an item.
+    ///
+    /// # Errors
+    /// Those of [`read`](BankUpdate::read), and `Refused` where the value is out of range.
+    pub fn write(&mut self, name: &str, value: i64) -> Result<(), Error> {
+        let (txn, age) = (self.handle.txn, self.handle.age);
+        let item = self.handle.bank.number_of(name)?;
+        let write =
+            |shared: &mut Shared| shared.step_of(txn, age, Event::Write { txn, item, value });
+        self.handle.step(write).map(drop)
+    }
+
+    /// Adds to an item, and answers its new value. Both the read and the write are made under one lock, so two updates
+    /// that add to one item never wait for each other in a ring.
+    ///
+    /// # Errors
+    /// Those of [`write`](BankUpdate::write).
+    pub fn add(&mut self, name: &str, more: i64) -> Result<i64, Error> {
+        let (txn, age) = (self.handle.txn, self.handle.age);
+        let item = self.handle.bank.number_of(name)?;
+        let sum = std::cell::Cell::new(0);
+        self.handle.step(|shared| {
+            let reply = shared.step_of(txn, age, Event::Read { txn, item })?;
+            let Reply::Value(value) = reply else {
+                return Ok(reply);
+            };
+            sum.set(value.saturating_add(more));
+            shared.step_of(
+                txn,
+                age,
+                Event::Write {
+                    txn,
+                    item,
+                    value: sum.get(),
+                },
+            )
+        })?;
+        Ok(sum.get())
+    }
+}
+
+impl fmt::Debug for BankUpdate<'_, '_> {
+    fn fmt(&self, f: &mut fmt::Formatter<'_>) -> fmt::Result {
+        f.debug_struct("BankUpdate")
+            .field("txn", &self.handle.txn)
+            .finish()
+    }
+}
+
+/// A query that a report of a [`Bank`] has begun.
+pub struct BankQuery<'h, 'b> {
+    handle: &'h mut Handle<'b>,
+}
+
+impl BankQuery<'_, '_> {
+    /// Reads an item.
+    ///
+    /// # Errors
+    /// Those of [`BankUpdate::read`], and `Refused` at the 1,001st read.
+    pub fn read(&mut self, name: &str) -> Result<i64, Error> {
+        self.handle.read(name)
+    }
+}
+
+impl fmt::Debug for BankQuery<'_, '_> {
+    fn fmt(&self, f: &mut fmt::Formatter<'_>) -> fmt::Result {
+        f.debug_struct("BankQuery")
+            .field("txn", &self.handle.txn)
+            .finish()
+    }
+}

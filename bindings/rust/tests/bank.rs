@@ -1,0 +1,224 @@
+//! The bank as threads use it: nothing is lost, nothing stays active, and reports are off by no more than they import.
+//! `ESR_SOAK_SECONDS` says how long the soak runs: two seconds where it is not set.
+
+use esr::{Bank, Error, MOST_TRANSACTIONS, Refusal};
+use std::{
+    env, panic,
+    sync::{
+        Arc,
+        atomic::{AtomicU64, Ordering},
+    },
+    thread,
+    time::{Duration, Instant},
+};
+
+fn two_accounts() -> Bank {
+    let builder = Bank::builder().item("checking", 500).item("savings", 1500);
+    builder.open().expect("two accounts are within the limits")
+}
+
+/// A name that there is not is refused, and makes no entry that anybody sees.
+#[test]
+fn unknown_names_are_refused() {
+    let bank = two_accounts();
+    let answer = bank.transact(0, |update| update.read("pocket"));
+    assert_eq!(answer, Err(Error::Refused(Refusal::NoSuchItem)));
+    assert_eq!(
+        bank.value("pocket"),
+        Err(Error::Refused(Refusal::NoSuchItem))
+    );
+    let twice = Bank::builder().item("a", 1).item("a", 2).open();
+    assert_eq!(twice.err(), Some(Error::NameTwice));
+}
+
+/// An error of the body takes back what the update wrote, and is answered as it is.
+#[test]
+fn an_error_rolls_back() {
+    let bank = two_accounts();
+    let answer: Result<(), Error> = bank.transact(100, |update| {
+        update.write("checking", 1)?;
+        Err(Error::NotACommittedQuery)
+    });
+    assert_eq!(answer, Err(Error::NotACommittedQuery));
+    assert_eq!(bank.value("checking"), Ok(500));
+    assert_eq!(
+        bank.transact(0, |update| update.add("checking", 1)),
+        Ok(501)
+    );
+}
+
+/// So does a panic: the next update of the same item is not blocked.
+#[test]
+fn a_panic_rolls_back() {
+    let bank = two_accounts();
+    let quiet = panic::take_hook();
+    panic::set_hook(Box::new(|_| {}));
+    let caught = panic::catch_unwind(panic::AssertUnwindSafe(|| {
+        bank.transact(100, |update| {
+            update.write("checking", 1)?;
+            panic!("as a body may");
+            #[allow(unreachable_code)]
+            Ok::<(), Error>(())
+        })
+    }));
+    panic::set_hook(quiet);
+    assert!(caught.is_err());
+    assert_eq!(
+        bank.transact(0, |update| update.add("checking", 1)),
+        Ok(501)
+    );
+}
+
+/// A report between the halves of a transfer is off by what its audit says, and no more than it imported.
+#[test]
+fn a_report_tells_how_far_it_was() {
+    let bank = two_accounts();
+    bank.transact(200, |transfer| {
+        transfer.write("checking", 400)?;
+        let (sum, finding) = thread::scope(|threads| {
+            let report = || {
+                bank.report(200, |report| {
+                    Ok::<_, Error>(report.read("checking")? + report.read("savings")?)
+                })
+            };
+            threads.spawn(report).join().expect("it does not panic")
+        })?;
+        assert_eq!((sum, finding.distance, finding.import), (1900, 100, 100));
+        transfer.write("savings", 1600)
+    })
+    .expect("nothing is in its way");
+    let (sum, finding) = bank
+        .strict_report(0, |report| {
+            Ok::<_, Error>(report.read("checking")? + report.read("savings")?)
+        })
+        .expect("nothing is in its way");
+    assert_eq!((sum, finding.distance), (2000, 0));
+}
+
+/// Two updates that wait for each other: the younger is given up and begun anew, and both get through.
+#[test]
+fn a_deadlock_is_given_up_by_the_younger() {
+    let bank = two_accounts();
+    let begun = Arc::new(std::sync::Barrier::new(2));
+    let runs = AtomicU64::new(0);
+    thread::scope(|threads| {
+        for (first, second) in [("checking", "savings"), ("savings", "checking")] {
+            let (bank, begun, runs) = (&bank, begun.clone(), &runs);
+            threads.spawn(move || {
+                let mut met = false;
+                bank.transact(100, |update| {
+                    runs.fetch_add(1, Ordering::Relaxed);
+                    update.add(first, 1)?;
+                    if !met {
+                        met = true;
+                        begun.wait();
+                    }
+                    update.add(second, 1)
+                })
+                .expect("both get through");
+            });
+        }
+    });
+    assert_eq!(
+        (bank.value("checking"), bank.value("savings")),
+        (Ok(502), Ok(1502))
+    );
+    assert_eq!(runs.load(Ordering::Relaxed), 3);
+}
+
+/// A bank goes on through the end of a history: the reports that are due are audited before it is gone.
+#[test]
+fn a_bank_renews_itself() {
+    let audits = Arc::new(AtomicU64::new(0));
+    let counted = audits.clone();
+    let bank = Bank::builder()
+        .item("hits", 0)
+        .before_renewal(move |closing| {
+            for report in closing.due().to_vec() {
+                assert_eq!(closing.audit(report).expect("it has committed").distance, 0);
+                counted.fetch_add(1, Ordering::Relaxed);
+            }
+        })
+        .open()
+        .expect("one item is within the limits");
+    let (value, report) = bank
+        .report_unaudited(0, |report| report.read("hits"))
+        .expect("nothing is in its way");
+    assert_eq!(
+        (value, bank.audit(report).map(|finding| finding.distance)),
+        (0, Ok(0))
+    );
+    let (_, due) = bank
+        .report_unaudited(0, |report| report.read("hits"))
+        .expect("nothing is in its way");
+    for _ in 0..MOST_TRANSACTIONS {
+        bank.transact(1, |update| update.add("hits", 1))
+            .expect("nothing is in its way");
+    }
+    assert_eq!((bank.renewals(), audits.load(Ordering::Relaxed)), (1, 1));
+    assert_eq!(bank.audit(due), Err(Error::NotACommittedQuery));
+    assert_eq!(bank.value("hits"), Ok(i64::from(MOST_TRANSACTIONS)));
+}
+
+/// Eight threads move money and read sums through renewals: each sum is off by at most what its report imported, and in
+/// the end nothing is missing.
+#[test]
+fn a_soak_loses_nothing() {
+    const ACCOUNTS: usize = 16;
+    let names: Vec<String> = (0..ACCOUNTS).map(|n| format!("account{n}")).collect();
+    let builder = names
+        .iter()
+        .fold(Bank::builder(), |builder, name| builder.item(name, 1000));
+    let bank = builder.open().expect("sixteen items are within the limits");
+    let seconds =
+        env::var("ESR_SOAK_SECONDS").map_or(2, |text| text.parse().expect("a number of seconds"));
+    let end = Instant::now() + Duration::from_secs(seconds);
+    let moved = AtomicU64::new(0);
+    thread::scope(|threads| {
+        for seed in 1..=8u64 {
+            let (bank, names, moved) = (&bank, &names, &moved);
+            threads.spawn(move || {
+                let mut random = seed;
+                let mut draw = |most: usize| {
+                    random = random
+                        .wrapping_mul(6_364_136_223_846_793_005)
+                        .wrapping_add(1_442_695_040_888_963_407);
+                    (random >> 33) as usize % most
+                };
+                while Instant::now() < end {
+                    if seed == 8 {
+                        let (sum, finding) = bank
+                            .report(5_000, |report| {
+                                names
+                                    .iter()
+                                    .map(|name| report.read(name))
+                                    .sum::<Result<i64, Error>>()
+                            })
+                            .expect("its limit is never met");
+                        assert!(sum.abs_diff(1000 * ACCOUNTS as i64) <= finding.distance);
+                        assert!(finding.distance <= finding.import);
+                        thread::sleep(Duration::from_millis(1));
+                        continue;
+                    }
+                    let (from, to) = (draw(ACCOUNTS), draw(ACCOUNTS));
+                    bank.transact(100_000, |update| {
+                        update.add(&names[from], -10)?;
+                        update.add(&names[to], 10)
+                    })
+                    .expect("it gets through");
+                    moved.fetch_add(1, Ordering::Relaxed);
+                }
+            });
+        }
+    });
+    let total: i64 = names
+        .iter()
+        .map(|name| bank.value(name).expect("it is an item"))
+        .sum();
+    assert_eq!(total, 1000 * ACCOUNTS as i64);
+    println!(
+        "{} transfers, {} renewals",
+        moved.load(Ordering::Relaxed),
+        bank.renewals()
+    );
+}
