@@ -351,6 +351,29 @@ def audit(text):
     return [f"order {order or '-'}", *audits, machine.totals()], None
 
 
+# ---- what is told on standard error
+
+FAULT = re.compile(
+    r"esr: (?:line \d+: )?(read failed|write failed|line too long|out of memory|history full|too many lines|input too long"
+    r"|not a committed query)(?:: .*)?|esr: (line \d+: error \d): .*"
+)
+AT_FAULT = re.compile(r"esr: (\d+) lines? (?:is|are) at fault.*")
+
+
+def told(error):
+    """The fault that was told last, without its line and its limit, or None; and how many lines were told to be at
+    fault."""
+    lines = error.decode().splitlines()
+    fault = FAULT.fullmatch(lines[-1]) if lines else None
+    counts = [int(found[1]) for found in map(AT_FAULT.fullmatch, lines) if found]
+    return (fault[1] or fault[2]) if fault else None, sum(counts)
+
+
+def at_fault(output):
+    """How many lines of a script were answered by an error."""
+    return sum(line.startswith("error ") for line in output)
+
+
 # ---- drive files
 
 

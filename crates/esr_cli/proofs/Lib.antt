@@ -1,4 +1,5 @@
 mod Faultless
 mod Readings
 mod Rows
+mod Spelled
 mod Stops

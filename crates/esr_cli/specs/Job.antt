@@ -1,33 +1,46 @@
 -- The jobs that words ask for.
-use Rattle.std.specs.Prelude.{◌≡◌, ◌≤◌, ◌⊎◌, ⊤, ℕ, Bool, true, false, List, [], ◌∷◌, Option, Some, None, codes, if◌then◌else◌, option_and_then, option_map, bytes_eq}
+use Rattle.std.specs.Prelude.{◌≡◌, ◌≤◌, ◌⊎◌, ⊤, ℕ, Bool, true, false, List, [], ◌∷◌, ◌++◌, Option, Some, None, codes, if◌then◌else◌, option_and_then, option_map, unwrap_or, bytes_eq}
 use Rattle.std.specs.Str.Parse.{digits_value, without_leading_plus}
 use Rattle.clap.specs.Lexer.{strip_byte}
 use Rattle.clap.specs.Words.{Row, Text, first_of, one_of}
 use Rattle.clap.specs.ValueTests.{is_unsigned_in}
 use Rattle.esr_cli.specs.declared.Job.{Job}
-use Rattle.esr_cli.specs.declared.Job.TheVariants as job
+use Rattle.esr_cli.specs.declared.Task.{Task}
+use Rattle.esr_cli.specs.declared.Task.TheVariants as task
 
--- what the program is asked for
-pub data Request : Type 0 where
-  run : Request
-  certify : Text → Bool → Request
-  check : Request
-  explain : Text → Request
-  picture : Text → Request
-  audit : ℕ → Request
-  drive : ℕ → Request
+-- what is done with the input
+pub data Work : Type 0 where
+  run : Work
+  certify : Text → Bool → Work
+  check : Work
+  explain : Text → Work
+  picture : Text → Work
+  audit : ℕ → Work
+  drive : ℕ → Work
+  lint : Work
+
+-- what the program is asked for: the work, the file that is read, if one is named, and whether a line at fault is to
+-- show in the status
+pub record Request : Type 0 where
+  pub work : Work
+  pub file : Option Text
+  pub bail : Bool
+
+abbrev pub work_of : Task → Work
+work_of task.Run = run
+work_of (task.Certify name steps) = certify name.now steps
+work_of task.Check = check
+work_of (task.Explain name) = explain name.now
+work_of (task.Picture name) = picture name.now
+work_of (task.Audit workers) = audit workers
+work_of (task.Drive workers) = drive workers
+work_of task.Lint = lint
 
 abbrev pub request_of : Job → Request
-request_of job.Run = run
-request_of (job.Certify name steps) = certify name.now steps
-request_of job.Check = check
-request_of (job.Explain name) = explain name.now
-request_of (job.Picture name) = picture name.now
-request_of (job.Audit workers) = audit workers
-request_of (job.Drive workers) = drive workers
+request_of job = record { work = work_of job.task; file = option_map (λ name. name.now) job.file; bail = job.bail }
 
 -- 1 to 64 workers, where any work
-abbrev pub HasWorkers : Request → Type 0
+abbrev pub HasWorkers : Work → Type 0
 HasWorkers (audit workers) = (1 ≤ workers) × (workers ≤ 64)
 HasWorkers (drive workers) = (1 ≤ workers) × (workers ≤ 64)
 HasWorkers _ = ⊤
@@ -40,19 +53,21 @@ abbrev pub number_in : Text → Option ℕ
 number_in text = if is_unsigned_in 0 18446744073709551615 text
     then Some (digits_value 10 (without_leading_plus text)) else None
 
--- what the matches of a subcommand ask for
-abbrev pub steps_in : List Row → Option Bool
-steps_in rows = option_and_then bool_of (one_of (codes "steps") rows)
+-- ---- what the matches of a subcommand ask for
 
-abbrev pub certify_in : List Row → Option Request
-certify_in rows = option_and_then (λ name. option_map (certify name) (steps_in rows)) (first_of (codes "NAME") rows)
+-- whether a flag is given
+abbrev pub flag_in : Text → List Row → Bool
+flag_in flag rows = unwrap_or (option_and_then bool_of (one_of flag rows)) false
+
+abbrev pub certify_in : List Row → Option Work
+certify_in rows = option_map (λ name. certify name (flag_in (codes "steps") rows)) (first_of (codes "NAME") rows)
 
 abbrev pub workers_in : List Row → Option ℕ
 workers_in rows = option_and_then number_in (one_of (codes "workers") rows)
 
 -- what a subcommand and its matches ask for
-abbrev pub request_in_one : Text → List Row → Option Request
-request_in_one name rows =
+abbrev pub work_in : Text → List Row → Option Work
+work_in name rows =
     if bytes_eq name (codes "run") then Some run
     else (if bytes_eq name (codes "certify") then certify_in rows
     else (if bytes_eq name (codes "check") then Some check
@@ -60,11 +75,25 @@ request_in_one name rows =
     else (if bytes_eq name (codes "picture") then option_map picture (first_of (codes "NAME") rows)
     else (if bytes_eq name (codes "audit") then option_map audit (workers_in rows)
     else (if bytes_eq name (codes "drive") then option_map drive (workers_in rows)
-    else None))))))
+    else (if bytes_eq name (codes "lint") then Some lint
+    else None)))))))
+
+-- the work, with what else is asked for
+abbrev pub requested : List Row → Work → Request
+requested rows work = record {
+  work = work;
+  file = first_of (codes "FILE") rows;
+  bail = flag_in (codes "bail") rows;
+}
+
+abbrev pub request_in_one : Text → List Row → Option Request
+request_in_one name rows = option_map (requested rows) (work_in name rows)
 
 abbrev pub request_in : Option (Text × List Row) → Option Request
 request_in None = None
 request_in (Some p) = request_in_one p.0 p.1
+
+-- ---- the words for it
 
 -- the word is no option, since it does not begin with `-`
 abbrev pub IsPlainWord : Text → Type 0
@@ -74,19 +103,51 @@ IsPlainWord word = strip_byte 45 word ≡ None
 abbrev pub IsCall : List Text → List Text → Type 0
 IsCall words rest = (name : Text) × (words ≡ name ∷ rest)
 
--- a program's name and the subcommand's, and then this number of workers or, where they are 4, none
-abbrev pub SpellsWorkers : Text → ℕ → List Text → Type 0
-SpellsWorkers name workers words = ((workers ≡ 4) × IsCall words (name ∷ []))
+-- the flag, where it is given
+abbrev pub flag_words : Bool → Text → List Text
+flag_words true flag = flag ∷ []
+flag_words false flag = []
+
+-- the file, where one is named
+abbrev pub file_words : Option Text → List Text
+file_words None = []
+file_words (Some file) = file ∷ []
+
+-- what a file that is named may be called: `-`, which is standard input, or a plain word
+abbrev pub IsFile : Option Text → Type 0
+IsFile None = ⊤
+IsFile (Some file) = (file ≡ codes "-") ⊎ IsPlainWord file
+
+-- a subcommand that takes a file, with its own options
+abbrev pub SpellsReader : Text → List Text → Request → List Text → Type 0
+SpellsReader name options r words =
+    IsFile r.file × (r.bail ≡ false) × IsCall words (name ∷ (options ++ file_words r.file))
+
+-- one that takes `--bail` too, and operands before the file
+abbrev pub SpellsScript : Text → List Text → List Text → Request → List Text → Type 0
+SpellsScript name options operands r words =
+    IsFile r.file
+    × IsCall words (name ∷ (options ++ (flag_words r.bail (codes "--bail") ++ (operands ++ file_words r.file))))
+
+-- a number of workers, or, where they are 4, none
+abbrev pub IsWorkers : ℕ → List Text → Type 0
+IsWorkers workers options = ((workers ≡ 4) × (options ≡ []))
     ⊎ ((text : Text) × (is_unsigned_in 1 64 text ≡ true) × (workers ≡ digits_value 10 (without_leading_plus text))
-    × IsCall words (name ∷ codes "--workers" ∷ text ∷ []))
+    × (options ≡ codes "--workers" ∷ text ∷ []))
 
 -- a program's name, and then just the words for the request
+abbrev pub SpellsWork : Work → Request → List Text → Type 0
+SpellsWork run r words = SpellsScript (codes "run") [] [] r words
+SpellsWork (certify name steps) r words =
+    IsPlainWord name × SpellsScript (codes "certify") (flag_words steps (codes "--steps")) (name ∷ []) r words
+SpellsWork check r words = SpellsReader (codes "check") [] r words
+SpellsWork (explain name) r words = IsPlainWord name × SpellsScript (codes "explain") [] (name ∷ []) r words
+SpellsWork (picture name) r words = IsPlainWord name × SpellsScript (codes "picture") [] (name ∷ []) r words
+SpellsWork (audit workers) r words =
+    (options : List Text) × IsWorkers workers options × SpellsScript (codes "audit") options [] r words
+SpellsWork (drive workers) r words =
+    (options : List Text) × IsWorkers workers options × SpellsReader (codes "drive") options r words
+SpellsWork lint r words = SpellsReader (codes "lint") [] r words
+
 abbrev pub Spells : List Text → Request → Type 0
-Spells words run = IsCall words (codes "run" ∷ [])
-Spells words (certify name false) = IsPlainWord name × IsCall words (codes "certify" ∷ name ∷ [])
-Spells words (certify name true) = IsPlainWord name × IsCall words (codes "certify" ∷ codes "--steps" ∷ name ∷ [])
-Spells words check = IsCall words (codes "check" ∷ [])
-Spells words (explain name) = IsPlainWord name × IsCall words (codes "explain" ∷ name ∷ [])
-Spells words (picture name) = IsPlainWord name × IsCall words (codes "picture" ∷ name ∷ [])
-Spells words (audit workers) = SpellsWorkers (codes "audit") workers words
-Spells words (drive workers) = SpellsWorkers (codes "drive") workers words
+Spells words r = SpellsWork r.work r words

@@ -25,23 +25,42 @@ workers_rule = record (new_rule (codes "workers")) {
   defaults = codes "4" ∷ [];
 }
 
--- a subcommand of one query
+abbrev pub bail_rule : Rule
+bail_rule = record (new_rule (codes "bail")) { long = Some (codes "bail"); action = Some SetTrue }
+
+abbrev pub file_rule : Rule
+file_rule = new_rule (codes "FILE")
+
+-- a subcommand that reads a file
+abbrev pub reading : App → App
+reading a = with_rule a file_rule
+
+-- one that reads a script
+abbrev pub scripted : App → App
+scripted a = with_rule (reading a) bail_rule
+
+-- one that tells of one query of a script
 abbrev pub named : Text → App
-named name = with_rule (new_app name) name_rule
+named name = scripted (with_rule (new_app name) name_rule)
 
 abbrev pub certify : App
 certify = with_rule (named (codes "certify")) steps_rule
 
-abbrev pub parallel : Text → App
-parallel name = with_rule (new_app name) workers_rule
+abbrev pub audit : App
+audit = with_rule (scripted (new_app (codes "audit"))) workers_rule
+
+abbrev pub drive : App
+drive = with_rule (reading (new_app (codes "drive"))) workers_rule
 
 abbrev pub scripts : App
 scripts =
-    with_subcommand (with_subcommand (with_subcommand esr (new_app (codes "run")).top) certify.top)
-    (new_app (codes "check")).top
+    with_subcommand (with_subcommand (with_subcommand esr (scripted (new_app (codes "run"))).top) certify.top)
+    (reading (new_app (codes "check"))).top
 
 abbrev pub queries : App
 queries = with_subcommand (with_subcommand scripts (named (codes "explain")).top) (named (codes "picture")).top
 
 abbrev pub program : App
-program = with_subcommand (with_subcommand queries (parallel (codes "audit")).top) (parallel (codes "drive")).top
+program =
+    with_subcommand (with_subcommand (with_subcommand queries audit.top) drive.top)
+    (reading (new_app (codes "lint"))).top

@@ -4,57 +4,67 @@
 //! program by a function that takes both, and each is made with one `?`: where two commands are in hand at once, each
 //! `?` may drop both, and a proof takes three times as long.
 
-ghost use Rattle.std.specs.Prelude.{◌≡◌, IfOk, false};
-ghost use Rattle.clap.specs.Words.{App, app_of, new_app, with_subcommand, rule_of};
+ghost use Rattle.std.specs.Prelude.{◌≡◌, IfOk, codes, false};
+ghost use Rattle.clap.specs.Words.{App, app_of, new_app, with_rule, with_subcommand, rule_of};
 ghost use Rattle.clap.specs.declared.builder.command.Command.TheViews.{out-Command};
-ghost use Rattle.esr_cli.specs.Program.{certify, esr, named, parallel, program, queries, scripts, steps_rule, workers_rule};
+ghost use Rattle.esr_cli.specs.Program.{audit, bail_rule, certify, drive, esr, file_rule, name_rule, named, program, queries, reading, scripted, scripts, steps_rule, workers_rule};
 
+use crate::help;
 use clap::{Arg, ArgAction, Command, value_parser};
 use std::alloc::{AllocError, Global};
 
-const SCRIPTS: &str = "A script is a list of lines, each answered by one line:
-
-  item NAME VALUE             declares an item (before all other lines)
-  item NAME VALUE weight W    the same; distances count W times, 1 to 1000
-  begin NAME update LIMIT     begins an update, which may export at most LIMIT
-  begin NAME query LIMIT      begins a query, which may import at most LIMIT
-  begin NAME query LIMIT strict   the same, audited behind all that had committed
-  read TRANSACTION ITEM
-  write TRANSACTION ITEM VALUE
-  commit TRANSACTION
-  abort TRANSACTION
-  audit QUERY                 how far a committed query is from a serial order
-  totals                      what was imported and exported, and the entries
-  # a comment                 skipped, as an empty line is
-
-For example:
-
-  item a 100
-  begin u update 50
-  begin q query 10
-  write u a 107
-  read q a
-  commit u
-  commit q
-  audit q
-
-docs/FORMATS.md has every rule.";
-
 /// `name`
-fn plain<'a>(alloc: Global, name: &'a str, about: &'a str) -> Command<'a>
-    ensures app { app_of result ≡ new_app name.entry.now }
-    ensures local { (out-Command result).has_globals ≡ false }
-{
-    Command::new(alloc, name).about(about)
-}
-
-/// `name NAME`
-fn named<'a>(alloc: Global, name: &'a str, about: &'a str) -> Result<Command<'a>, AllocError>
-    ensures app { IfOk result (λ c. app_of c ≡ named name.entry.now) }
+fn plain<'a>(
+    alloc: Global,
+    name: &'a str,
+    about: &'a str,
+    after: &'a str,
+) -> Result<Command<'a>, AllocError>
+    ensures app { IfOk result (λ c. app_of c ≡ new_app name.entry.now) }
     ensures local { IfOk result (λ c. (out-Command c).has_globals ≡ false) }
 {
-    let query = Arg::new(alloc, "NAME").required(true).help("The query");
-    plain(alloc, name, about).arg(query)
+    Ok(Command::new(alloc, name).about(about).after_help(after))
+}
+
+/// Adds an argument to a command, where there was memory for it.
+fn taking<'a>(
+    command: Result<Command<'a>, AllocError>,
+    arg: Arg<'a>,
+) -> Result<Command<'a>, AllocError>
+    requires command { IfOk command (λ c. (out-Command c).has_globals ≡ false) }
+    requires arg { arg.global ≡ false }
+    ensures app { (whole : App) → IfOk command.entry (λ c. app_of c ≡ whole)
+        → IfOk result (λ c. app_of c ≡ with_rule whole (rule_of arg.entry)) }
+    ensures local { IfOk result (λ c. (out-Command c).has_globals ≡ false) }
+{
+    command?.arg(arg)
+}
+
+/// `NAME`
+fn name<'a>(alloc: Global) -> Arg<'a>
+    ensures rule { rule_of result ≡ name_rule }
+    ensures local { result.global ≡ false }
+{
+    Arg::new(alloc, "NAME").required(true).help("The query")
+}
+
+/// `FILE`
+fn file<'a>(alloc: Global) -> Arg<'a>
+    ensures rule { rule_of result ≡ file_rule }
+    ensures local { result.global ≡ false }
+{
+    Arg::new(alloc, "FILE").help("What is read; standard input where it is - or none is named")
+}
+
+/// `--bail`
+fn bail<'a>(alloc: Global) -> Arg<'a>
+    ensures rule { rule_of result ≡ bail_rule }
+    ensures local { result.global ≡ false }
+{
+    Arg::new(alloc, "bail")
+        .long("bail")
+        .action(ArgAction::SetTrue)
+        .help("Ends with status 1 where a line is at fault; all but run then write nothing")
 }
 
 /// `--steps`
@@ -66,15 +76,6 @@ fn steps<'a>(alloc: Global) -> Arg<'a>
         .long("steps")
         .action(ArgAction::SetTrue)
         .help("Tells how many augmentations led to the flow")
-}
-
-/// `certify [--steps] NAME`
-fn certify<'a>(alloc: Global) -> Result<Command<'a>, AllocError>
-    ensures app { IfOk result (λ c. app_of c ≡ certify) }
-    ensures local { IfOk result (λ c. (out-Command c).has_globals ≡ false) }
-{
-    let about = "Runs a script from standard input and writes the bundle of a query";
-    named(alloc, "certify", about)?.arg(steps(alloc))
 }
 
 /// `--workers W`
@@ -90,12 +91,104 @@ fn workers<'a>(alloc: Global) -> Arg<'a>
         .help("How many threads audit, 1 to 64")
 }
 
-/// `name [--workers W]`
-fn parallel<'a>(alloc: Global, name: &'a str, about: &'a str) -> Result<Command<'a>, AllocError>
-    ensures app { IfOk result (λ c. app_of c ≡ parallel name.entry.now) }
+/// A command that reads a file.
+fn reading<'a>(
+    alloc: Global,
+    command: Result<Command<'a>, AllocError>,
+) -> Result<Command<'a>, AllocError>
+    requires { IfOk command (λ c. (out-Command c).has_globals ≡ false) }
+    ensures app { (whole : App) → IfOk command.entry (λ c. app_of c ≡ whole)
+        → IfOk result (λ c. app_of c ≡ reading whole) }
     ensures local { IfOk result (λ c. (out-Command c).has_globals ≡ false) }
 {
-    plain(alloc, name, about).arg(workers(alloc))
+    taking(command, file(alloc))
+}
+
+/// A command that reads a script.
+fn scripted<'a>(
+    alloc: Global,
+    command: Result<Command<'a>, AllocError>,
+) -> Result<Command<'a>, AllocError>
+    requires { IfOk command (λ c. (out-Command c).has_globals ≡ false) }
+    ensures app { (whole : App) → IfOk command.entry (λ c. app_of c ≡ whole)
+        → IfOk result (λ c. app_of c ≡ scripted whole) }
+    ensures local { IfOk result (λ c. (out-Command c).has_globals ≡ false) }
+{
+    taking(reading(alloc, command), bail(alloc))
+}
+
+/// A command that tells of one query of a script.
+fn named<'a>(
+    alloc: Global,
+    name_of_it: &'a str,
+    about: &'a str,
+    after: &'a str,
+) -> Result<Command<'a>, AllocError>
+    ensures app { IfOk result (λ c. app_of c ≡ named name_of_it.entry.now) }
+    ensures local { IfOk result (λ c. (out-Command c).has_globals ≡ false) }
+{
+    let command = plain(alloc, name_of_it, about, after);
+    scripted(alloc, taking(command, name(alloc)))
+}
+
+/// `run [--bail] [FILE]`
+fn run<'a>(alloc: Global) -> Result<Command<'a>, AllocError>
+    ensures app { IfOk result (λ c. app_of c ≡ scripted (new_app (codes "run"))) }
+    ensures local { IfOk result (λ c. (out-Command c).has_globals ≡ false) }
+{
+    let about = "Runs a script and writes its answers";
+    scripted(alloc, plain(alloc, "run", about, help::SCRIPT))
+}
+
+/// `certify [--bail] [--steps] NAME [FILE]`
+fn certify<'a>(alloc: Global) -> Result<Command<'a>, AllocError>
+    ensures app { IfOk result (λ c. app_of c ≡ certify) }
+    ensures local { IfOk result (λ c. (out-Command c).has_globals ≡ false) }
+{
+    let about = "Runs a script and writes the bundle of a query";
+    taking(named(alloc, "certify", about, help::CERTIFY), steps(alloc))
+}
+
+/// `check [FILE]`
+fn check<'a>(alloc: Global) -> Result<Command<'a>, AllocError>
+    ensures app { IfOk result (λ c. app_of c ≡ reading (new_app (codes "check"))) }
+    ensures local { IfOk result (λ c. (out-Command c).has_globals ≡ false) }
+{
+    let about = "Judges a bundle: valid, invalid or bad";
+    reading(alloc, plain(alloc, "check", about, help::CHECK))
+}
+
+/// `audit [--bail] [--workers W] [FILE]`
+fn audit<'a>(alloc: Global) -> Result<Command<'a>, AllocError>
+    ensures app { IfOk result (λ c. app_of c ≡ audit) }
+    ensures local { IfOk result (λ c. (out-Command c).has_globals ≡ false) }
+{
+    let about = "Runs a script and audits each committed query";
+    taking(
+        scripted(alloc, plain(alloc, "audit", about, help::AUDIT)),
+        workers(alloc),
+    )
+}
+
+/// `drive [--workers W] [FILE]`
+fn drive<'a>(alloc: Global) -> Result<Command<'a>, AllocError>
+    ensures app { IfOk result (λ c. app_of c ≡ drive) }
+    ensures local { IfOk result (λ c. (out-Command c).has_globals ≡ false) }
+{
+    let about = "Runs the sessions of a drive file, each on a thread";
+    taking(
+        reading(alloc, plain(alloc, "drive", about, help::DRIVE)),
+        workers(alloc),
+    )
+}
+
+/// `lint [FILE]`
+fn lint<'a>(alloc: Global) -> Result<Command<'a>, AllocError>
+    ensures app { IfOk result (λ c. app_of c ≡ reading (new_app (codes "lint"))) }
+    ensures local { IfOk result (λ c. (out-Command c).has_globals ≡ false) }
+{
+    let about = "Lists what is wrong in a script, line by line";
+    reading(alloc, plain(alloc, "lint", about, help::LINT))
 }
 
 /// Adds a command to a program, where there was memory for it.
@@ -116,7 +209,7 @@ fn shell<'a>(alloc: Global) -> Command<'a>
 {
     Command::new(alloc, "esr")
         .about("Epsilon-serializable transactions over whole-number items")
-        .after_help(SCRIPTS)
+        .after_help(help::SCRIPT)
         .version("0.1.0")
         .subcommand_required(true)
 }
@@ -125,30 +218,29 @@ fn shell<'a>(alloc: Global) -> Command<'a>
 fn scripts<'a>(alloc: Global) -> Result<Command<'a>, AllocError>
     ensures { IfOk result (λ c. app_of c ≡ scripts) }
 {
-    let run = "Runs a script from standard input to standard output";
-    let check = "Judges the bundle on standard input: valid, invalid or bad";
-    let run = plain(alloc, "run", run).after_help(SCRIPTS);
-    let commands = with(shell(alloc), Ok(run))?;
+    let commands = with(shell(alloc), run(alloc))?;
     let commands = with(commands, certify(alloc))?;
-    with(commands, Ok(plain(alloc, "check", check)))
+    with(commands, check(alloc))
 }
 
 /// The same with the jobs that show one query to a person.
 fn queries<'a>(alloc: Global) -> Result<Command<'a>, AllocError>
     ensures { IfOk result (λ c. app_of c ≡ queries) }
 {
-    let explain = "Runs a script from standard input and tells what a query read and was charged";
-    let picture = "Runs a script from standard input and writes a picture of a query, an SVG";
-    let commands = with(scripts(alloc)?, named(alloc, "explain", explain))?;
-    with(commands, named(alloc, "picture", picture))
+    let explain = "Runs a script and tells what a query read and was charged";
+    let picture = "Runs a script and writes a picture of a query, an SVG";
+    let commands = with(
+        scripts(alloc)?,
+        named(alloc, "explain", explain, help::EXPLAIN),
+    )?;
+    with(commands, named(alloc, "picture", picture, help::PICTURE))
 }
 
 /// The program `esr` with all its commands, as `clap` is told of them.
 pub fn program<'a>(alloc: Global) -> Result<Command<'a>, AllocError>
     ensures { IfOk result (λ c. app_of c ≡ program) }
 {
-    let audit = "Runs a script from standard input and audits each committed query";
-    let drive = "Runs the sessions of a drive file from standard input, each on a thread";
-    let commands = with(queries(alloc)?, parallel(alloc, "audit", audit))?;
-    with(commands, parallel(alloc, "drive", drive))
+    let commands = with(queries(alloc)?, audit(alloc))?;
+    let commands = with(commands, drive(alloc))?;
+    with(commands, lint(alloc))
 }

@@ -1,8 +1,9 @@
 //! The command line of the program `esr`: the job that its words ask for.
 //!
-//! What is promised is proved over the whole program that `clap` reads, so each further subcommand touches every proof
-//! here. A name after `certify` may be any word that `clap` takes for one; one that begins with `-` needs `--` before
-//! it.
+//! A job is the work and what any work may be asked for besides: the file that is read, and whether a line at fault is
+//! to show in the status. So a further subcommand is a variant of `Task`, and a further flag a field of `Job`; the
+//! proofs that words of no fault ask for something are said once for each kind of subcommand. A name after `certify`
+//! may be any word that `clap` takes for one; one that begins with `-` needs `--` before it.
 #![tactic(auto)]
 
 ghost use Rattle.std.specs.Prelude.{◌≡◌, IfOk, MatchResult, Some, codes, option_map};
@@ -11,18 +12,18 @@ ghost use Rattle.clap.specs.Words.{subcommand_of, subcommand_rows_of, FailsBy};
 ghost use Rattle.clap.specs.Walk.{texts};
 ghost use Rattle.clap.specs.declared.error.kind.ErrorKind.TheVariants.{OutOfMemory};
 ghost use Rattle.esr_cli.specs.Program.{program};
-ghost use Rattle.esr_cli.specs.Job.{certify_in, request_in, request_of, steps_in, workers_in, HasWorkers, Spells};
+ghost use Rattle.esr_cli.specs.Job.{certify_in, flag_in, request_in, request_of, work_in, work_of, workers_in, HasWorkers, Spells};
 
 mod commands;
+mod help;
 
 use crate::commands::program;
 use clap::{ArgMatches, Error};
 use std::alloc::Global;
 
-/// What the words of a command line ask for. Each job reads standard input and
-/// writes standard output.
+/// What is done with the input.
 #[derive(Clone, Copy, Debug, PartialEq, Eq)]
-pub enum Job<'a> {
+pub enum Task<'a> {
     /// Runs a script.
     Run,
     /// Runs a script without writing its lines, and writes the bundle of the
@@ -40,18 +41,32 @@ pub enum Job<'a> {
     /// Runs the sessions of a drive file, and audits with so many workers, 1 to
     /// 64.
     Drive { workers: u64 },
+    /// Runs a script without writing its lines, and lists the lines at fault.
+    Lint,
 }
 
-fn query<'a>(given: &ArgMatches<'a>) -> Option<&'a str>
-    ensures { option_map (λ s. s.now) result ≡ first_of (codes "NAME") (rows_of (found_of given.now)) }
-{
-    given.get_str("NAME")
+/// What the words of a command line ask for.
+#[derive(Clone, Copy, Debug, PartialEq, Eq)]
+pub struct Job<'a> {
+    pub task: Task<'a>,
+    /// The file that is read: standard input where none is named, and where `-` is.
+    pub file: Option<&'a str>,
+    /// Whether a line at fault makes the status 1.
+    pub bail: bool,
 }
 
-fn steps(given: &ArgMatches<'_>) -> Option<bool>
-    ensures { result ≡ steps_in (rows_of (found_of given.now)) }
+/// The first value of an argument.
+fn text<'a>(given: &ArgMatches<'a>, id: &str) -> Option<&'a str>
+    ensures { option_map (λ s. s.now) result ≡ first_of id.now (rows_of (found_of given.now)) }
 {
-    given.get_one::<bool>("steps")
+    given.get_str(id)
+}
+
+/// Whether a flag is given.
+fn flag(given: &ArgMatches<'_>, id: &str) -> bool
+    ensures { result ≡ flag_in id.now (rows_of (found_of given.now)) }
+{
+    given.get_one::<bool>(id).unwrap_or(false)
 }
 
 fn workers(given: &ArgMatches<'_>) -> Option<u64>
@@ -60,11 +75,36 @@ fn workers(given: &ArgMatches<'_>) -> Option<u64>
     given.get_one::<u64>("workers")
 }
 
-fn certify_job<'a>(given: &ArgMatches<'a>) -> Option<Job<'a>>
-    ensures { option_map request_of result ≡ certify_in (rows_of (found_of given.now)) }
+fn certify_task<'a>(given: &ArgMatches<'a>) -> Option<Task<'a>>
+    ensures { option_map work_of result ≡ certify_in (rows_of (found_of given.now)) }
 {
-    match (query(given), steps(given)) {
-        (Some(name), Some(steps)) => Some(Job::Certify { name, steps }),
+    let name = text(given, "NAME")?;
+    Some(Task::Certify {
+        name,
+        steps: flag(given, "steps"),
+    })
+}
+
+fn task_of<'a>(name: &str, given: &ArgMatches<'a>) -> Option<Task<'a>>
+    ensures { option_map work_of result ≡ work_in name.now (rows_of (found_of given.now)) }
+{
+    match name {
+        "run" => Some(Task::Run),
+        "certify" => certify_task(given),
+        "check" => Some(Task::Check),
+        "explain" => Some(Task::Explain {
+            name: text(given, "NAME")?,
+        }),
+        "picture" => Some(Task::Picture {
+            name: text(given, "NAME")?,
+        }),
+        "audit" => Some(Task::Audit {
+            workers: workers(given)?,
+        }),
+        "drive" => Some(Task::Drive {
+            workers: workers(given)?,
+        }),
+        "lint" => Some(Task::Lint),
         _ => None,
     }
 }
@@ -73,24 +113,12 @@ fn job_of<'a>(matches: &ArgMatches<'a>) -> Option<Job<'a>>
     ensures { option_map request_of result ≡ request_in (subcommand_rows_of matches.now) }
 {
     let (name, given) = matches.subcommand()?;
-    match name {
-        "run" => Some(Job::Run),
-        "certify" => certify_job(given),
-        "check" => Some(Job::Check),
-        "explain" => Some(Job::Explain {
-            name: query(given)?,
-        }),
-        "picture" => Some(Job::Picture {
-            name: query(given)?,
-        }),
-        "audit" => Some(Job::Audit {
-            workers: workers(given)?,
-        }),
-        "drive" => Some(Job::Drive {
-            workers: workers(given)?,
-        }),
-        _ => None,
-    }
+    let task = task_of(name, given)?;
+    Some(Job {
+        task,
+        file: text(given, "FILE"),
+        bail: flag(given, "bail"),
+    })
 }
 
 /// The job that the words ask for, from the program's name on.
@@ -101,7 +129,7 @@ fn job_of<'a>(matches: &ArgMatches<'a>) -> Option<Job<'a>>
 pub fn command<'a>(alloc: Global, words: &'a [&'a str]) -> Result<Job<'a>, Error>
     ensures job { IfOk result (λ job.
         request_in (subcommand_of program (texts words.entry.now)) ≡ Some (request_of job)) }
-    ensures workers { IfOk result (λ job. HasWorkers (request_of job)) }
+    ensures workers { IfOk result (λ job. HasWorkers (work_of job.task)) }
     ensures errors { FailsBy (fault_of program (texts words.entry.now)) result }
     ensures asked { (request : _) → Spells (texts words.entry.now) request
         → MatchResult result (λ job. request_of job ≡ request) (λ e. kind_of e ≡ OutOfMemory) }

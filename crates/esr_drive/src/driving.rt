@@ -20,6 +20,7 @@ use crate::findings::push_findings;
 use esr_board::Gate;
 use esr_history::Watched;
 use esr_items::Store;
+use esr_lint::Observer;
 use esr_plan::{
     DriveFault, Sheet, begun_names, metric_of, push_blocks, push_items, read_all, sheet_of,
 };
@@ -33,14 +34,15 @@ use std::sync::ledger::Blank;
 use std::thread::Threads;
 
 /// Reads a drive file to its end, runs each of its blocks by a session on a thread of its own, and
-/// writes what came of them.
-pub fn drive<R: Threads + Wait + Sync, I: Read, O: Write, G: Gate + Sync>(
+/// writes what came of them. The observer sees the line at fault, if there is one.
+pub fn drive<R: Threads + Wait + Sync, I: Read, O: Write, G: Gate + Sync, V: Observer>(
     rt: &R,
     alloc: Global,
     reader: &mut Watched<I>,
     writer: &mut Watched<O>,
     workers: u64,
     gate: &G,
+    observer: &mut V,
 ) -> Result<(), DriveFault>
     requires reader { failed reader.old ≡ false }
     requires writer { failed writer.old ≡ false }
@@ -54,17 +56,18 @@ pub fn drive<R: Threads + Wait + Sync, I: Read, O: Write, G: Gate + Sync>(
     ensures writer { IsTrue (failed writer.new) ↔ IsErrOf result DriveFault.Write }
 {
     let bytes = read_all(alloc, reader)?;
-    let out = text_in(rt, alloc, &bytes, workers, gate)?;
+    let out = text_in(rt, alloc, &bytes, workers, gate, observer)?;
     writer.send_all(&out).map_err(|_| DriveFault::Write)
 }
 
 /// The text of the file.
-fn text_in<R: Threads + Wait + Sync, G: Gate + Sync>(
+fn text_in<R: Threads + Wait + Sync, G: Gate + Sync, V: Observer>(
     rt: &R,
     alloc: Global,
     bytes: &[u8],
     workers: u64,
     gate: &G,
+    observer: &mut V,
 ) -> Result<Vec<u8>, DriveFault>
     requires read { cut_fault 0 (lines bytes.now) ≡ None }
     requires workers { (1 ≤ workers) × (workers ≤ MOST_SEATS) }
@@ -73,7 +76,10 @@ fn text_in<R: Threads + Wait + Sync, G: Gate + Sync>(
 {
     let sheet = match sheet_of(alloc, bytes) {
         Ok(sheet) => sheet,
-        Err(fault) => return Err(fault),
+        Err(fault) => {
+            show_line(bytes, fault, observer);
+            return Err(fault);
+        }
     };
     let driven = match run_sheet(rt, alloc, &sheet, gate) {
         Ok(driven) => driven,
@@ -82,6 +88,20 @@ fn text_in<R: Threads + Wait + Sync, G: Gate + Sync>(
     match text_from(rt, alloc, workers, &sheet, &driven) {
         Ok(out) => Ok(out),
         Err(_) => Err(DriveFault::NoMemory),
+    }
+}
+
+/// Lets the observer see the line at fault.
+fn show_line<V: Observer>(bytes: &[u8], fault: DriveFault, observer: &mut V) {
+    let DriveFault::BadScript { line: number, .. } = fault else {
+        return;
+    };
+    let mut count = 0u64;
+    for line in bytes.split(|b| *b == b'\n') {
+        count = count.saturating_add(1);
+        if count == number {
+            return observer.see_line(number, line, b"error");
+        }
     }
 }
 

@@ -1,17 +1,19 @@
 //! Answers the lines in the bytes ahead, whether their text is to be written or dropped. A line is looked at where it
-//! lies in the input buffer; none is copied.
+//! lies in the input buffer; none is copied. Who looks on sees each with its answer, and changes nothing.
 
 ghost use Rattle.esr_line.specs.declared.limits.TheConstants.{MAX_LINES, MAX_LINE_BYTES};
 ghost use Rattle.std.specs.Prelude.{◌≡◌, ◌≢◌, ℕ, List, ◌+◌, ◌++◌, ◌≤◌, ◌⊎◌, Option, Err, OnOk, IfOk, IfErr, IsErrOf, false, length};
 ghost use Rattle.std.specs.Io.KnownBytes.{IsAtEnd};
 ghost use Rattle.esr_script.specs.Replays.{IsReplay};
 ghost use Rattle.esr_line.specs.Lines.{line_len, IsNext};
+ghost use Rattle.esr_script.specs.Text.{Obeys, answer};
 ghost use Rattle.esr_script.specs.Parts.{Standing, IsHeldRun, is_read_fault, is_write_fault};
 
 use crate::fault::RunFault;
 use crate::pending::Pending;
 use crate::script::Script;
 use esr_line::{MAX_LINES, Next};
+use esr_lint::Observer;
 
 /// The count of bytes of the line that is next, where it may be answered.
 fn next_length(next: Next, count: u64) -> Result<usize, RunFault>
@@ -31,16 +33,37 @@ fn next_length(next: Next, count: u64) -> Result<usize, RunFault>
     }
 }
 
+/// Answers a line that has so many before it, and lets the observer see it with its answer.
+fn answer<O: Observer>(
+    line: &[u8],
+    count: u64,
+    script: &mut Script,
+    out: &mut Vec<u8>,
+    observer: &mut O,
+) -> Result<(), RunFault>
+    requires { count ≤ MAX_LINES }
+    ensures { Obeys (answer script.old line.now) script.new out.old.items out.new.items result }
+{
+    let before = out.len();
+    if let Err(fault) = script.answer(line, out) {
+        return Err(fault);
+    }
+    observer.see_line(count + 1, line, out.get(before..).unwrap_or(&[]));
+    Ok(())
+}
+
 /// Answers the next line, and goes on after its line feed.
-pub fn answer_next(
+pub fn answer_next<O: Observer>(
     next: Next,
     pending: &mut Pending,
     count: u64,
     script: &mut Script,
     out: &mut Vec<u8>,
+    observer: &mut O,
 ) -> Result<(), RunFault>
     requires next { IsNext next pending.old }
     requires there { next ≢ Next.More }
+    requires count { count ≤ MAX_LINES }
     ensures few { OnOk result (count ≢ MAX_LINES) }
     ensures text { OnOk result ((text : List ℕ) × (out.new.items ≡ out.old.items ++ text)
         × ((input written : List ℕ) (left : Option (List ℕ)) → Standing input left pending.old count script.old written
@@ -57,7 +80,7 @@ pub fn answer_next(
         Ok(length) => length,
         Err(fault) => return Err(fault),
     };
-    if let Err(fault) = script.answer(&pending.bytes()[..length], out) {
+    if let Err(fault) = answer(&pending.bytes()[..length], count, script, out, observer) {
         return Err(fault);
     }
     pending.skip(length + 1);
@@ -65,13 +88,15 @@ pub fn answer_next(
 }
 
 /// Answers the line that has no line feed, where there is one.
-pub fn answer_last(
+pub fn answer_last<O: Observer>(
     pending: &Pending,
     count: u64,
     script: &mut Script,
     out: &mut Vec<u8>,
+    observer: &mut O,
 ) -> Result<(), RunFault>
     requires short { length pending.now ≤ MAX_LINE_BYTES }
+    requires count { count ≤ MAX_LINES }
     ensures held { (input sent : List ℕ) (left : Option (List ℕ))
         → Standing input left pending.now count script.old (sent ++ out.old.items)
         → IsAtEnd left → line_len pending.now ≡ length pending.now → IsHeldRun input left out.new.items result sent }
@@ -88,5 +113,5 @@ pub fn answer_last(
     if count == MAX_LINES {
         return Err(RunFault::TooManyLines);
     }
-    script.answer(line, out)
+    answer(line, count, script, out, observer)
 }

@@ -10,6 +10,7 @@ ghost use Rattle.esr_script.specs.Parts.{is_read_fault, is_write_fault};
 use crate::fault::RunFault;
 use crate::replaying::replay;
 use esr_history::Watched;
+use esr_lint::Observer;
 use esr_telling::Asked;
 use std::alloc::Global;
 use std::io::Read;
@@ -19,15 +20,20 @@ use std::io::Read;
 /// # Errors
 /// `NotACommittedQuery` exactly where the run has no fault and the name is that of no committed query. `LineTooLong`,
 /// `HistoryFull` and `TooManyLines` where `run` would end so. `Write` never comes.
-pub fn ask<R: Read>(alloc: Global, reader: &mut Watched<R>, name: &str) -> Result<Asked, RunFault>
+pub fn ask<R: Read, O: Observer>(
+    alloc: Global,
+    reader: &mut Watched<R>,
+    name: &str,
+    observer: &mut O,
+) -> Result<Asked, RunFault>
     requires reader { failed reader.old ≡ false }
     ensures asked { (input : List ℕ) → R.remaining (inner reader.old) ≡ Some input
         → IsAsked input name.now (R.remaining (inner reader.new)) result }
     ensures reader { failed reader.new ≡ is_read_fault result }
     ensures write { is_write_fault result ≡ false }
 {
-    match replay(alloc, reader) {
-        Ok(script) => script.asked(name),
+    match replay(alloc, reader, observer) {
+        Ok(script) => script.asked(name, observer),
         Err(fault) => Err(fault),
     }
 }

@@ -14,16 +14,18 @@ use crate::fault::RunFault;
 use crate::replaying::replay;
 use crate::sending::send_all;
 use esr_history::Watched;
+use esr_lint::Observer;
 use std::alloc::Global;
 use std::io::{Read, Write};
 use std::thread::Threads;
 
 /// The output.
-fn prepare<T: Threads + Sync, R: Read>(
+fn prepare<T: Threads + Sync, R: Read, O: Observer>(
     rt: &T,
     alloc: Global,
     reader: &mut Watched<R>,
     workers: u64,
+    observer: &mut O,
 ) -> Result<Vec<u8>, RunFault>
     requires reader { failed reader.old ≡ false }
     requires workers { (1 ≤ workers) × (workers ≤ MOST_SEATS) }
@@ -32,7 +34,7 @@ fn prepare<T: Threads + Sync, R: Read>(
     ensures reader { failed reader.new ≡ is_read_fault result }
     ensures write { is_write_fault result ≡ false }
 {
-    match replay(alloc, reader) {
+    match replay(alloc, reader, observer) {
         Ok(mut script) => script.audit_all(rt, workers),
         Err(fault) => Err(fault),
     }
@@ -44,12 +46,13 @@ fn prepare<T: Threads + Sync, R: Read>(
 /// # Errors
 /// `LineTooLong`, `HistoryFull` and `TooManyLines` where `run` would end so. After a fault other than `Write` nothing
 /// was written, after `Write` a prefix of the output. `NotACommittedQuery` never comes.
-pub fn audit<T: Threads + Sync, R: Read, W: Write>(
+pub fn audit<T: Threads + Sync, R: Read, W: Write, O: Observer>(
     rt: &T,
     alloc: Global,
     reader: &mut Watched<R>,
     writer: &mut Watched<W>,
     workers: u64,
+    observer: &mut O,
 ) -> Result<(), RunFault>
     requires reader { failed reader.old ≡ false }
     requires writer { failed writer.old ≡ false }
@@ -57,7 +60,7 @@ pub fn audit<T: Threads + Sync, R: Read, W: Write>(
     ensures { ReadsAndWrites R.remaining W.contents reader.old reader.new writer.old writer.new
         IsAuditedBy result }
 {
-    let mut out = match prepare(rt, alloc, reader, workers) {
+    let mut out = match prepare(rt, alloc, reader, workers, observer) {
         Ok(out) => out,
         Err(fault) => return Err(fault),
     };

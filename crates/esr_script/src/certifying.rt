@@ -19,6 +19,7 @@ use esr_audit::{Finding, certify_with_steps};
 use esr_bundle::to_json;
 use esr_cert::{Certificate, Problem};
 use esr_history::Watched;
+use esr_lint::Observer;
 use esr_telling::{Asked, Telling};
 use std::alloc::{AllocError, Global};
 use std::io::{Read, Write};
@@ -70,31 +71,47 @@ impl Telling for Bundling {
 ///
 /// `NotACommittedQuery` exactly where the run has no fault and the name is that of no committed query. After a fault
 /// other than `Write` nothing was written, after `Write` a prefix of the bundle and its line feed.
-pub fn certify<R: Read, W: Write>(
+pub fn certify<R: Read, W: Write, O: Observer>(
     alloc: Global,
     reader: &mut Watched<R>,
     writer: &mut Watched<W>,
     name: &str,
+    observer: &mut O,
 ) -> Result<(), RunFault>
     requires reader { failed reader.old ≡ false }
     requires writer { failed writer.old ≡ false }
     ensures { ReadsAndWrites R.remaining W.contents reader.old reader.new writer.old writer.new
         (λ input. IsCertifiedBy false input name.now) result }
 {
-    tell(alloc, reader, writer, name, &Bundling { steps: false })
+    tell(
+        alloc,
+        reader,
+        writer,
+        name,
+        &Bundling { steps: false },
+        observer,
+    )
 }
 
 /// The same with the count of augmentations.
-pub fn certify_steps<R: Read, W: Write>(
+pub fn certify_steps<R: Read, W: Write, O: Observer>(
     alloc: Global,
     reader: &mut Watched<R>,
     writer: &mut Watched<W>,
     name: &str,
+    observer: &mut O,
 ) -> Result<(), RunFault>
     requires reader { failed reader.old ≡ false }
     requires writer { failed writer.old ≡ false }
     ensures { ReadsAndWrites R.remaining W.contents reader.old reader.new writer.old writer.new
         (λ input. IsCertifiedBy true input name.now) result }
 {
-    tell(alloc, reader, writer, name, &Bundling { steps: true })
+    tell(
+        alloc,
+        reader,
+        writer,
+        name,
+        &Bundling { steps: true },
+        observer,
+    )
 }

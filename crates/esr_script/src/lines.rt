@@ -20,17 +20,19 @@ use crate::script::Script;
 use crate::sink::Sink;
 use esr_history::Watched;
 use esr_line::{Next, next_line};
+use esr_lint::Observer;
 use std::io::Read;
 
 const OUTPUT_FULL: usize = 32768;
 
 /// Answers line after line. What is answered and not taken yet is in `out`.
-pub fn answer_lines<R: Read, S: Sink>(
+pub fn answer_lines<R: Read, S: Sink, O: Observer>(
     reader: &mut Watched<R>,
     sink: &mut S,
     pending: &mut Pending,
     script: &mut Script,
     out: &mut Vec<u8>,
+    observer: &mut O,
 ) -> Result<(), RunFault>
     requires pending { pending.old ≡ [] }
     requires script { script.old ≡ start }
@@ -52,11 +54,11 @@ pub fn answer_lines<R: Read, S: Sink>(
         if let Next::More = next {
             match read_on(reader, sink, pending, out) {
                 Err(fault) => return Err(fault),
-                Ok(0) => return answer_last(pending, count, script, out),
+                Ok(0) => return answer_last(pending, count, script, out, observer),
                 Ok(_) => continue 'lines,
             }
         }
-        if let Err(fault) = answer_next(next, pending, count, script, out) {
+        if let Err(fault) = answer_next(next, pending, count, script, out, observer) {
             return Err(fault);
         }
         if out.len() >= OUTPUT_FULL {

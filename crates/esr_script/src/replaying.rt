@@ -13,11 +13,16 @@ use crate::pending::Pending;
 use crate::script::Script;
 use crate::sink::Dropped;
 use esr_history::Watched;
+use esr_lint::Observer;
 use std::alloc::Global;
 use std::io::Read;
 
 /// What a run keeps after all lines of the input. Their output is dropped.
-pub fn replay<R: Read>(alloc: Global, reader: &mut Watched<R>) -> Result<Script, RunFault>
+pub fn replay<R: Read, O: Observer>(
+    alloc: Global,
+    reader: &mut Watched<R>,
+    observer: &mut O,
+) -> Result<Script, RunFault>
     requires reader { failed reader.old ≡ false }
     ensures replay { (input : List ℕ) → R.remaining (inner reader.old) ≡ Some input
         → IsReachedBy (λ script. final input ≡ script) ⊥ input (R.remaining (inner reader.new)) result }
@@ -29,6 +34,17 @@ pub fn replay<R: Read>(alloc: Global, reader: &mut Watched<R>) -> Result<Script,
     };
     let mut script = Script::new(alloc);
     let mut out = Vec::new(alloc);
-    answer_lines(reader, &mut Dropped, &mut pending, &mut script, &mut out)?;
-    Ok(script)
+    let ended = answer_lines(
+        reader,
+        &mut Dropped,
+        &mut pending,
+        &mut script,
+        &mut out,
+        observer,
+    );
+    observer.see_end();
+    match ended {
+        Ok(()) => Ok(script),
+        Err(fault) => Err(fault),
+    }
 }

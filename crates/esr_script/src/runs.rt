@@ -16,6 +16,7 @@ use crate::pending::Pending;
 use crate::script::Script;
 use crate::sending::{OUTPUT_ROOM, send_all};
 use esr_history::Watched;
+use esr_lint::Observer;
 use std::alloc::Global;
 use std::io::{Read, Write};
 
@@ -24,10 +25,11 @@ use std::io::{Read, Write};
 /// What is answered is written before the run waits for more of the input. After
 /// a fault other than `Write` the text of the lines before it was written, and
 /// nothing else; after `Write` a prefix of the output was.
-pub fn run<R: Read, W: Write>(
+pub fn run<R: Read, W: Write, O: Observer>(
     alloc: Global,
     reader: &mut Watched<R>,
     writer: &mut Watched<W>,
+    observer: &mut O,
 ) -> Result<(), RunFault>
     requires reader { failed reader.old ≡ false }
     requires writer { failed writer.old ≡ false }
@@ -41,8 +43,17 @@ pub fn run<R: Read, W: Write>(
         return Err(RunFault::NoMemory);
     };
     let mut script = Script::new(alloc);
-    let ended = answer_lines(reader, writer, &mut pending, &mut script, &mut out);
-    send_rest(ended, &mut out, writer)
+    let ended = answer_lines(
+        reader,
+        writer,
+        &mut pending,
+        &mut script,
+        &mut out,
+        observer,
+    );
+    let ended = send_rest(ended, &mut out, writer);
+    observer.see_end();
+    ended
 }
 
 /// Whether the reader or the writer has failed.

@@ -24,6 +24,7 @@ use esr_audit::{AuditError, Finding};
 use esr_history::{Event, Reply, TxnId};
 use esr_items::{ItemId, LARGEST_VALUE, LARGEST_WEIGHT, MOST_ITEMS};
 use esr_line::{Line, Parsed, parse_line};
+use esr_lint::{Observer, Standing};
 use esr_report::{
     LineError, Names, Subject, audit_line, error_line, item_line, reply_line, totals_line,
     weighted_item_line,
@@ -292,7 +293,7 @@ impl Script {
     }
 
     /// Ends the run, and tells of the query of that name.
-    pub fn asked(mut self, name: &str) -> Result<Asked, RunFault>
+    pub fn asked<O: Observer>(mut self, name: &str, observer: &mut O) -> Result<Asked, RunFault>
         ensures answered { IfOk result (IsAnswered self name.now) }
         ensures refused { IsErrOf result RunFault.NotACommittedQuery
             → is_committed_query self.history (transaction_called self name.now).0 ≡ false }
@@ -300,8 +301,28 @@ impl Script {
     {
         match self.find(name) {
             Ok(finding) => Ok(self.with(finding)),
-            Err(fault) => Err(fault),
+            Err(fault) => {
+                self.show_transactions(observer);
+                Err(fault)
+            }
         }
+    }
+
+    /// Lets the observer see each transaction, and what became of it.
+    pub fn show_transactions<O: Observer>(&self, observer: &mut O) {
+        for position in 0..self.transactions.len() {
+            if let Some((name, standing)) = self.transaction_at(position) {
+                observer.see_transaction(name, standing);
+            }
+        }
+    }
+
+    /// The name of a transaction, and what became of it.
+    fn transaction_at(&self, position: usize) -> Option<(&str, Standing)> {
+        let position = u32::try_from(position).ok()?;
+        let name = self.transactions.name_of(position)?;
+        let standing = self.stage.standing_of(TxnId(position.checked_add(1)?))?;
+        Some((name, standing))
     }
 
     /// What it tells, and what was found of a query.

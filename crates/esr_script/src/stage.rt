@@ -20,6 +20,7 @@ use esr_board::{NoGate, summarize_parallel};
 use esr_core::{Machine, StepError, Totals};
 use esr_history::{Event, History, Reply, TxnId};
 use esr_items::{Store, Weighted};
+use esr_lint::{End, Standing};
 use std::alloc::Global;
 use std::mem;
 use std::thread::Threads;
@@ -95,6 +96,27 @@ impl Stage {
                 entries: 0,
             },
         }
+    }
+
+    /// What became of a transaction, if it has begun.
+    pub fn standing_of(&self, t: TxnId) -> Option<Standing> {
+        let Stage::Running(engine) = self else {
+            return None;
+        };
+        let history = engine.history();
+        let facts = history.facts(t)?;
+        let entry = facts
+            .end
+            .and_then(|place| history.log().get(place as usize));
+        let end = match entry.map(|entry| entry.event) {
+            None => End::Active,
+            Some(Event::Abort { .. }) => End::Aborted,
+            Some(_) => End::Committed,
+        };
+        Some(Standing {
+            is_query: facts.query,
+            end,
+        })
     }
 
     /// The history of the machine.

@@ -12,6 +12,7 @@ use crate::asked::ask;
 use crate::fault::RunFault;
 use crate::sending::send_all;
 use esr_history::Watched;
+use esr_lint::Observer;
 use esr_telling::Telling;
 use std::alloc::{AllocError, Global};
 use std::io::{Read, Write};
@@ -30,11 +31,12 @@ fn made(text: Result<Vec<u8>, AllocError>) -> Result<Vec<u8>, RunFault>
 }
 
 /// The text of what a script tells of its query of that name.
-fn told<R: Read, T: Telling>(
+fn told<R: Read, T: Telling, O: Observer>(
     alloc: Global,
     reader: &mut Watched<R>,
     name: &str,
     telling: &T,
+    observer: &mut O,
 ) -> Result<Vec<u8>, RunFault>
     requires reader { failed reader.old ≡ false }
     ensures told { (input : List ℕ) → R.remaining (inner reader.old) ≡ Some input
@@ -44,7 +46,7 @@ fn told<R: Read, T: Telling>(
     ensures reader { failed reader.new ≡ is_read_fault result }
     ensures write { is_write_fault result ≡ false }
 {
-    match ask(alloc, reader, name) {
+    match ask(alloc, reader, name, observer) {
         Ok(mut asked) => made(telling.text_of(alloc, &mut asked)),
         Err(fault) => Err(fault),
     }
@@ -55,19 +57,20 @@ fn told<R: Read, T: Telling>(
 /// # Errors
 /// As `ask` has them; `NoMemory` also where no text is made. After a fault other than `Write` nothing was written,
 /// after `Write` a prefix of the text.
-pub fn tell<R: Read, W: Write, T: Telling>(
+pub fn tell<R: Read, W: Write, T: Telling, O: Observer>(
     alloc: Global,
     reader: &mut Watched<R>,
     writer: &mut Watched<W>,
     name: &str,
     telling: &T,
+    observer: &mut O,
 ) -> Result<(), RunFault>
     requires reader { failed reader.old ≡ false }
     requires writer { failed writer.old ≡ false }
     ensures { ReadsAndWrites R.remaining W.contents reader.old reader.new writer.old writer.new
         (λ input. IsToldBy (T.IsTextOf telling.now (final input) name.now) input name.now) result }
 {
-    let mut text = match told(alloc, reader, name, telling) {
+    let mut text = match told(alloc, reader, name, telling, observer) {
         Ok(text) => text,
         Err(fault) => return Err(fault),
     };

@@ -10,6 +10,7 @@ mod locks;
 mod machine;
 mod meeting;
 mod parallel;
+mod reasons;
 mod sessions;
 mod solver;
 mod words;

@@ -4,7 +4,8 @@ use Rattle.clap.specs.Walk.{texts}
 use Rattle.clap.proofs.FaultLemmas.{failed_up}
 use Rattle.clap.specs.declared.error.Error.{Error}
 use Rattle.esr_cli.specs.declared.Job.{Job}
-use Rattle.esr_cli.proofs.Faultless.{found_by_program, job_found, no_ok, of_program, spelled}
+use Rattle.esr_cli.proofs.Faultless.{found_by_program, job_found, of_program}
+use Rattle.esr_cli.proofs.Spelled.{no_ok, spelled}
 use Rattle.esr_cli.proofs.command.Goals as goal
 
 pub returns-in_err-matches-clause-errors : goal.returns-in_err-matches-clause-errors

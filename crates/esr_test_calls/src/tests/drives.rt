@@ -3,6 +3,7 @@
 use crate::tests::meeting::Meeting;
 use esr_drive::drive;
 use esr_history::Watched;
+use esr_lint::Unobserved;
 
 /// No clause says that blocks run at once: a drive of one after another would leave the first waiting in the gate.
 #[test]
@@ -11,7 +12,15 @@ fn two_blocks_are_in_the_gate_at_once(rt: HostRuntime) {
     let file = "session\nbegin u update 0\nsession\nbegin v update 0\n";
     let mut reader = Watched::new(file.as_bytes());
     let mut writer = Watched::new(Vec::new(rt.alloc()));
-    let ended = drive(&rt, rt.alloc(), &mut reader, &mut writer, 1, &gate);
+    let ended = drive(
+        &rt,
+        rt.alloc(),
+        &mut reader,
+        &mut writer,
+        1,
+        &gate,
+        &mut Unobserved,
+    );
     assert!(rt; ended == Ok(()));
     gate.check(&rt);
 }

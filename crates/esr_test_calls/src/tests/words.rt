@@ -2,22 +2,22 @@
 //! That these are the ones of the pages, that a job is got if there is memory, and what help says, no clause can say.
 
 use clap::error::ErrorKind;
-use esr_cli::{Job, command};
+use esr_cli::{Task, command};
 use std::alloc::Global;
 use std::process::Abort;
 
 type Words = &'static [&'static str];
 
-/// Words of the command line, and the job that each line asks for.
-static JOBS: [(Words, Job<'static>); 14] = [
+/// Words of the command line, and the work that each line asks for.
+static TASKS: [(Words, Task<'static>); 15] = [
     // `run` takes no name: it answers every line.
-    (&["esr", "run"], Job::Run),
+    (&["esr", "run"], Task::Run),
     // `check` takes no name: a bundle is of one query.
-    (&["esr", "check"], Job::Check),
+    (&["esr", "check"], Task::Check),
     // A name is enough, and steps are not told unless they are asked for.
     (
         &["esr", "certify", "q"],
-        Job::Certify {
+        Task::Certify {
             name: "q",
             steps: false,
         },
@@ -25,7 +25,7 @@ static JOBS: [(Words, Job<'static>); 14] = [
     // The option may stand before the name.
     (
         &["esr", "certify", "--steps", "q"],
-        Job::Certify {
+        Task::Certify {
             name: "q",
             steps: true,
         },
@@ -33,7 +33,7 @@ static JOBS: [(Words, Job<'static>); 14] = [
     // It may stand behind the name as well.
     (
         &["esr", "certify", "q", "--steps"],
-        Job::Certify {
+        Task::Certify {
             name: "q",
             steps: true,
         },
@@ -41,48 +41,101 @@ static JOBS: [(Words, Job<'static>); 14] = [
     // Behind `--` the same word is a name.
     (
         &["esr", "certify", "--", "--steps"],
-        Job::Certify {
+        Task::Certify {
             name: "--steps",
             steps: false,
         },
     ),
-    // The name is all that `explain` takes.
-    (&["esr", "explain", "q"], Job::Explain { name: "q" }),
+    // The name is all that `explain` needs.
+    (&["esr", "explain", "q"], Task::Explain { name: "q" }),
     // A name that begins with `-` needs `--` before it.
-    (&["esr", "explain", "--", "-q"], Job::Explain { name: "-q" }),
+    (
+        &["esr", "explain", "--", "-q"],
+        Task::Explain { name: "-q" },
+    ),
     // A picture is of one query too.
-    (&["esr", "picture", "q"], Job::Picture { name: "q" }),
+    (&["esr", "picture", "q"], Task::Picture { name: "q" }),
     // Where no workers are asked for, there are four.
-    (&["esr", "audit"], Job::Audit { workers: 4 }),
+    (&["esr", "audit"], Task::Audit { workers: 4 }),
     // The fewest workers.
     (
         &["esr", "audit", "--workers", "1"],
-        Job::Audit { workers: 1 },
+        Task::Audit { workers: 1 },
     ),
     // The most workers, and the other spelling of an option with its value.
     (
         &["esr", "audit", "--workers=64"],
-        Job::Audit { workers: 64 },
+        Task::Audit { workers: 64 },
     ),
     // Where a drive asks for no workers, there are four as well.
-    (&["esr", "drive"], Job::Drive { workers: 4 }),
+    (&["esr", "drive"], Task::Drive { workers: 4 }),
     // A drive takes workers between the bounds, like an audit.
     (
         &["esr", "drive", "--workers", "7"],
-        Job::Drive { workers: 7 },
+        Task::Drive { workers: 7 },
     ),
+    // A script is looked at without a name.
+    (&["esr", "lint"], Task::Lint),
 ];
 
-fn jobs() -> &'static [(Words, Job<'static>)] {
-    &JOBS
+fn tasks() -> &'static [(Words, Task<'static>)] {
+    &TASKS
+}
+
+/// The work that the words ask for.
+fn task_of(alloc: Global, words: Words) -> Option<Task<'static>> {
+    match command(alloc, words) {
+        Ok(job) => Some(job.task),
+        Err(_) => None,
+    }
 }
 
 /// By its contract each command line may be out of memory, and then no words would get their job.
 #[test]
-fn words_ask_for_their_jobs(rt: HostRuntime) {
-    for (words, wanted) in jobs() {
-        let job = command(rt.alloc(), words).ok();
-        assert!(rt; job == Some(*wanted), "{:?} is asked for", wanted);
+fn words_ask_for_their_work(rt: HostRuntime) {
+    for (words, wanted) in tasks() {
+        let task = task_of(rt.alloc(), words);
+        assert!(rt; task == Some(*wanted), "{:?} is asked for", wanted);
+    }
+}
+
+/// Words, the file that they name, and whether they ask for `--bail`.
+static FILES: [(Words, Option<&str>, bool); 6] = [
+    // Standard input where no file is named.
+    (&["esr", "run"], None, false),
+    // The file is the last word.
+    (&["esr", "run", "a.esr"], Some("a.esr"), false),
+    // It stands behind the name.
+    (&["esr", "certify", "q", "a.esr"], Some("a.esr"), false),
+    // `-` is a file, and no option.
+    (&["esr", "audit", "--workers", "2", "-"], Some("-"), false),
+    // The flag may stand behind the file.
+    (&["esr", "audit", "a.esr", "--bail"], Some("a.esr"), true),
+    // Behind `--` a file may have any name.
+    (
+        &["esr", "explain", "--bail", "q", "--", "-a"],
+        Some("-a"),
+        true,
+    ),
+];
+
+fn files() -> &'static [(Words, Option<&'static str>, bool)] {
+    &FILES
+}
+
+/// Whether the words name this file, and ask so for `--bail`.
+fn names_file(alloc: Global, words: Words, file: Option<&str>, bail: bool) -> bool {
+    match command(alloc, words) {
+        Ok(job) => job.file == file && job.bail == bail,
+        Err(_) => false,
+    }
+}
+
+/// The same of the file and the flag.
+#[test]
+fn words_name_their_file(rt: HostRuntime) {
+    for (words, file, bail) in files() {
+        assert!(rt; names_file(rt.alloc(), words, *file, *bail), "{:?}", words);
     }
 }
 
@@ -92,20 +145,28 @@ static OTHERS: [(Words, ErrorKind, i32); 18] = [
     (&["esr"], ErrorKind::MissingSubcommand, 2),
     // No job has this name.
     (&["esr", "walk"], ErrorKind::InvalidSubcommand, 2),
-    // `run` takes no word.
-    (&["esr", "run", "now"], ErrorKind::UnknownArgument, 2),
+    // `run` takes one file.
+    (&["esr", "run", "a", "b"], ErrorKind::UnknownArgument, 2),
     // `run` has no such option.
     (&["esr", "run", "--fast"], ErrorKind::UnknownArgument, 2),
     // A query has to be named.
     (&["esr", "certify"], ErrorKind::MissingRequiredArgument, 2),
-    // A bundle is of one query, not of two.
-    (&["esr", "certify", "q", "r"], ErrorKind::UnknownArgument, 2),
-    // `check` takes no name, since a bundle is of one query.
-    (&["esr", "check", "q"], ErrorKind::UnknownArgument, 2),
+    // A bundle is of one query of one file.
+    (
+        &["esr", "certify", "q", "a", "b"],
+        ErrorKind::UnknownArgument,
+        2,
+    ),
+    // `check` has no `--bail`: its status says what is judged.
+    (&["esr", "check", "--bail"], ErrorKind::UnknownArgument, 2),
     // An explanation needs a name too.
     (&["esr", "explain"], ErrorKind::MissingRequiredArgument, 2),
-    // An explanation is of one query, not of two.
-    (&["esr", "explain", "q", "r"], ErrorKind::UnknownArgument, 2),
+    // An explanation is of one query of one file.
+    (
+        &["esr", "explain", "q", "a", "b"],
+        ErrorKind::UnknownArgument,
+        2,
+    ),
     // A picture needs a name too.
     (&["esr", "picture"], ErrorKind::MissingRequiredArgument, 2),
     // One worker fewer than there may be.

@@ -6,6 +6,7 @@ mod failing;
 use crate::tests::devices::check_written;
 use esr_drive::{DriveFault, NoGate, drive};
 use esr_history::Watched;
+use esr_lint::Unobserved;
 
 /// A drive file, how its drive ends, and what is written.
 struct Row {
@@ -258,7 +259,15 @@ fn files_give_their_texts(rt: HostRuntime) {
     for row in table() {
         let mut reader = Watched::new(row.file.as_bytes());
         let mut writer = Watched::new(Vec::new(rt.alloc()));
-        let ended = drive(&rt, rt.alloc(), &mut reader, &mut writer, 1, &NoGate);
+        let ended = drive(
+            &rt,
+            rt.alloc(),
+            &mut reader,
+            &mut writer,
+            1,
+            &NoGate,
+            &mut Unobserved,
+        );
         assert!(rt; ended == row.ended, "{} ends so", row.name);
         check_written(&rt, &writer, row.text, row.name);
     }
@@ -283,7 +292,15 @@ fn two_blocks_begin_in_one_of_two_orders(rt: HostRuntime) {
     for workers in 1..4 {
         let mut reader = Watched::new(TWO_BLOCKS.as_bytes());
         let mut writer = Watched::new(Vec::new(rt.alloc()));
-        let ended = drive(&rt, rt.alloc(), &mut reader, &mut writer, workers, &NoGate);
+        let ended = drive(
+            &rt,
+            rt.alloc(),
+            &mut reader,
+            &mut writer,
+            workers,
+            &NoGate,
+            &mut Unobserved,
+        );
         assert!(rt; ended == Ok(()));
         let text = writer.inner().as_slice();
         assert!(rt; text == TWO_TEXTS[0].as_bytes() || text == TWO_TEXTS[1].as_bytes());

@@ -2,6 +2,7 @@
 
 use crate::tests::devices::{Way, check_cut, cut_after, narrow_until};
 use esr_history::Watched;
+use esr_lint::Unobserved;
 use esr_picture::Drawing;
 use esr_script::{RunFault, tell};
 use std::alloc::{AllocError, Global};
@@ -62,7 +63,14 @@ const TWICE: &str = "item a 7 weight 3\n\
 fn has(rt: &impl Abort, alloc: Global, script: &str, name: &str, texts: &[&str]) {
     let mut reader = Watched::new(script.as_bytes());
     let mut writer = Watched::new(Vec::new(alloc));
-    let ended = tell(alloc, &mut reader, &mut writer, name, &Drawing);
+    let ended = tell(
+        alloc,
+        &mut reader,
+        &mut writer,
+        name,
+        &Drawing,
+        &mut Unobserved,
+    );
     assert!(rt; ended == Ok(()));
     let written = from_utf8(writer.inner().as_slice()).unwrap_or("");
     assert!(rt; written.starts_with("<svg ") && written.ends_with("</svg>\n"));
@@ -146,7 +154,14 @@ fn add_update(script: &mut String, i: u32) -> Result<(), AllocError> {
 fn count(alloc: Global, script: &str, text: &str) -> usize {
     let mut reader = Watched::new(script.as_bytes());
     let mut writer = Watched::new(Vec::new(alloc));
-    let _ = tell(alloc, &mut reader, &mut writer, "q", &Drawing);
+    let _ = tell(
+        alloc,
+        &mut reader,
+        &mut writer,
+        "q",
+        &Drawing,
+        &mut Unobserved,
+    );
     let written = from_utf8(writer.inner().as_slice()).unwrap_or("");
     written.matches(text).count()
 }
@@ -192,7 +207,14 @@ fn what_is_no_committed_query_is_not_drawn(rt: HostRuntime) {
     for name in ["transfer", "checking", "nobody", "<"] {
         let mut reader = Watched::new(BANK.as_bytes());
         let mut writer = Watched::new(Vec::new(alloc));
-        let ended = tell(alloc, &mut reader, &mut writer, name, &Drawing);
+        let ended = tell(
+            alloc,
+            &mut reader,
+            &mut writer,
+            name,
+            &Drawing,
+            &mut Unobserved,
+        );
         assert!(rt; ended == Err(RunFault::NotACommittedQuery));
         assert!(rt; writer.inner().is_empty());
     }
@@ -205,7 +227,14 @@ fn each_read_fails_in_turn(rt: HostRuntime) {
     for left in 0..BANK.len() + 1 {
         let mut reader = cut_after(BANK, 1, left);
         let mut writer = Watched::new(Vec::new(alloc));
-        let ended = tell(alloc, &mut reader, &mut writer, "report", &Drawing);
+        let ended = tell(
+            alloc,
+            &mut reader,
+            &mut writer,
+            "report",
+            &Drawing,
+            &mut Unobserved,
+        );
         assert!(rt; ended == Err(RunFault::Read));
         check_cut(&rt, &reader, &writer);
     }
@@ -217,7 +246,14 @@ fn writes_fail(rt: HostRuntime) {
     let alloc = rt.alloc();
     let mut reader = Watched::new(BANK.as_bytes());
     let mut whole = Watched::new(Vec::new(alloc));
-    let ended = tell(alloc, &mut reader, &mut whole, "report", &Drawing);
+    let ended = tell(
+        alloc,
+        &mut reader,
+        &mut whole,
+        "report",
+        &Drawing,
+        &mut Unobserved,
+    );
     assert!(rt; ended == Ok(()));
     for left in 0..20 {
         fails_after(&rt, alloc, left, whole.inner().as_slice());
@@ -228,7 +264,14 @@ fn writes_fail(rt: HostRuntime) {
 fn fails_after(rt: &impl Abort, alloc: Global, left: usize, whole: &[u8]) {
     let mut reader = Watched::new(BANK.as_bytes());
     let mut writer = narrow_until(alloc, 3, left, Way::Errs);
-    let ended = tell(alloc, &mut reader, &mut writer, "report", &Drawing);
+    let ended = tell(
+        alloc,
+        &mut reader,
+        &mut writer,
+        "report",
+        &Drawing,
+        &mut Unobserved,
+    );
     assert!(rt; ended == Err(RunFault::Write) && writer.failed() && !reader.failed());
     let taken = writer.inner().taken.as_slice();
     assert!(rt; taken.len() == left.saturating_mul(3) && whole.starts_with(taken));

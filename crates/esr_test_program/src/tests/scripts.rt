@@ -10,6 +10,7 @@ pub mod rows;
 
 use crate::tests::devices::check_written;
 use esr_history::Watched;
+use esr_lint::Unobserved;
 use esr_script::{RunFault, run};
 use rows::table;
 use std::alloc::Global;
@@ -26,7 +27,7 @@ fn answers(
 ) {
     let mut reader = Watched::new(script);
     let mut writer = Watched::new(Vec::new(alloc));
-    let ended = run(alloc, &mut reader, &mut writer);
+    let ended = run(alloc, &mut reader, &mut writer, &mut Unobserved);
     assert!(rt; ended == ends, "{} ends so", name);
     check_written(rt, &writer, text, name);
 }

@@ -2,6 +2,7 @@
 
 use super::scripts::rows::table;
 use esr_history::Watched;
+use esr_lint::Unobserved;
 use esr_script::run;
 use std::io;
 use std::io::{Read, Write};
@@ -81,7 +82,7 @@ fn a_run_hands_its_whole_output_on(rt: HostRuntime) {
             held: Vec::new(alloc),
             given: Vec::new(alloc),
         });
-        let ended = run(alloc, &mut reader, &mut writer);
+        let ended = run(alloc, &mut reader, &mut writer, &mut Unobserved);
         assert!(rt; ended == row.ended);
         let given = writer.inner().given.as_slice();
         assert!(rt; given == row.text.as_bytes(), "{} is handed on", row.name);

@@ -3,19 +3,19 @@ use Rattle.esr_script.proofs.Replays.{replay_many, replay_ended}
 use Rattle.esr_script.proofs.ahead.answer_last.Goals as goal
 
 pub returns-then-count-eq-MAX_LINES-clause-held : goal.returns-then-count-eq-MAX_LINES-clause-held
-returns-then-count-eq-MAX_LINES-clause-held c input sent left here end plain =
+returns-then-count-eq-MAX_LINES-clause-held g c input sent left here end plain =
     held_many input left _ _ _ sent _ here c.if-count-eq-MAX_LINES.true (is_some _ _ _ c.is_empty.ensures c.if-is_empty.false c.bytes-line.ensures)
 
 pub returns-clause-held : goal.returns-clause-held
-returns-clause-held c input sent left here end plain =
+returns-clause-held g c input sent left here end plain =
     held_last input left _ _ _ sent _ here end plain c.requires.short (is_some _ _ _ c.is_empty.ensures c.if-is_empty.false c.bytes-line.ensures) c.if-count-eq-MAX_LINES.false
-    c.answer.result c.answer.new.self _ (rw c.bytes-line.ensures at c.answer.ensures.ok) c.answer.ensures.err (rw c.bytes-line.ensures at c.answer.ensures.faults)
+    c.answer.result c.answer.new.script _ (rw c.bytes-line.ensures at c.answer.ensures.ok) c.answer.ensures.err (rw c.bytes-line.ensures at c.answer.ensures.faults)
 
 pub returns-then-count-eq-MAX_LINES-clause-replay : goal.returns-then-count-eq-MAX_LINES-clause-replay
-returns-then-count-eq-MAX_LINES-clause-replay c input written left here end plain =
+returns-then-count-eq-MAX_LINES-clause-replay g c input written left here end plain =
     replay_many input left _ _ _ written here c.if-count-eq-MAX_LINES.true (is_some _ _ _ c.is_empty.ensures c.if-is_empty.false c.bytes-line.ensures)
 
 pub returns-clause-replay : goal.returns-clause-replay
-returns-clause-replay c input written left here end plain =
+returns-clause-replay g c input written left here end plain =
     replay_ended input left _ _ _ written here end plain c.requires.short (is_some _ _ _ c.is_empty.ensures c.if-is_empty.false c.bytes-line.ensures) c.if-count-eq-MAX_LINES.false
-    c.answer.result c.answer.new.self c.args.out.now.items c.answer.new.out.items (rw c.bytes-line.ensures at c.answer.ensures.ok) (rw c.bytes-line.ensures at c.answer.ensures.faults)
+    c.answer.result c.answer.new.script c.args.out.now.items c.answer.new.out.items (rw c.bytes-line.ensures at c.answer.ensures.ok) (rw c.bytes-line.ensures at c.answer.ensures.faults)

@@ -4,19 +4,19 @@ use Rattle.esr_script.proofs.Replays.{replay_many, replay_long, replay_full, rep
 use Rattle.esr_script.proofs.ahead.answer_next.Goals as goal
 
 pub returns-in-Err-clause-held : goal.returns-in-Err-clause-held
-returns-in-Err-clause-held c input sent left here = elim c.in-Err.ensures.faults [
+returns-in-Err-clause-held g c input sent left here = elim c.in-Err.ensures.faults [
   | inl e ↦ rw e (held_many input left _ _ _ sent _ here (c.in-Err.ensures.many (ap (λ f. Err f) e)) (has_bytes _ _ c.requires.next c.requires.there))
   | inr e ↦ let is = c.in-Err.ensures.long (ap (λ f. Err f) e) in rw e (held_long input left _ _ _ sent _ here is.1 (rw is.0 at c.requires.next))
 ]
 
 pub returns-in-Err-clause-replay : goal.returns-in-Err-clause-replay
-returns-in-Err-clause-replay c input written left here = elim c.in-Err.ensures.faults [
+returns-in-Err-clause-replay g c input written left here = elim c.in-Err.ensures.faults [
   | inl e ↦ rw e (replay_many input left _ _ _ written here (c.in-Err.ensures.many (ap (λ f. Err f) e)) (has_bytes _ _ c.requires.next c.requires.there))
   | inr e ↦ let is = c.in-Err.ensures.long (ap (λ f. Err f) e) in rw e (replay_long input left _ _ _ written here is.1 (rw is.0 at c.requires.next))
 ]
 
 pub returns-in-Err-answer : goal.returns-in-Err-answer
-returns-in-Err-answer c =
+returns-in-Err-answer g c =
     let found = rw c.in-Ok.ensures.ok.0 at c.requires.next in
     let few = c.in-Ok.ensures.ok.1 in
     let kept = c.in-Err-answer.ensures.err in
@@ -37,7 +37,7 @@ returns-in-Err-answer c =
     }
 
 pub returns-clause-text : goal.returns-clause-text
-returns-clause-text c =
+returns-clause-text g c =
     let found = rw c.in-Ok.ensures.ok.0 at c.requires.next in
     let answered = rw c.bytes.ensures at c.in_default.ensures.ok in (
       answered.0,

@@ -2,6 +2,7 @@
 
 use crate::tests::devices::check_written;
 use esr_history::Watched;
+use esr_lint::Unobserved;
 use esr_script::{RunFault, audit};
 use std::alloc::Global;
 use std::process::Abort;
@@ -99,7 +100,14 @@ fn audits<R: Abort + Threads + Sync>(
     if workers < 1 || workers > 64 {
         panic!(rt; "1 to 64 workers")
     }
-    let ended = audit(rt, alloc, &mut reader, &mut writer, workers);
+    let ended = audit(
+        rt,
+        alloc,
+        &mut reader,
+        &mut writer,
+        workers,
+        &mut Unobserved,
+    );
     assert!(rt; ended == ends, "the audit ends so");
     check_written(rt, &writer, output, script);
 }

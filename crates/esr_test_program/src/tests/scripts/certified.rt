@@ -2,6 +2,7 @@
 
 use crate::tests::devices::{Way, check_cut, check_narrow, check_written, cut_after, narrow_until};
 use esr_history::Watched;
+use esr_lint::Unobserved;
 use esr_script::{RunFault, certify, certify_steps};
 use std::alloc::Global;
 use std::process::Abort;
@@ -65,9 +66,9 @@ fn certified(
     let mut reader = Watched::new(script.as_bytes());
     let mut writer = Watched::new(Vec::new(alloc));
     let ended = if steps {
-        certify_steps(alloc, &mut reader, &mut writer, name)
+        certify_steps(alloc, &mut reader, &mut writer, name, &mut Unobserved)
     } else {
-        certify(alloc, &mut reader, &mut writer, name)
+        certify(alloc, &mut reader, &mut writer, name, &mut Unobserved)
     };
     assert!(rt; ended == ends, "{} ends so", name);
     check_written(rt, &writer, text, name);
@@ -185,7 +186,7 @@ fn each_read_fails_in_turn(rt: HostRuntime) {
     for left in 0..THIRD_ITEM.len() + 1 {
         let mut reader = cut_after(THIRD_ITEM, 1, left);
         let mut writer = Watched::new(Vec::new(alloc));
-        let ended = certify(alloc, &mut reader, &mut writer, "q");
+        let ended = certify(alloc, &mut reader, &mut writer, "q", &mut Unobserved);
         assert!(rt; ended == Err(RunFault::Read));
         check_cut(&rt, &reader, &writer);
     }
@@ -195,7 +196,7 @@ fn each_read_fails_in_turn(rt: HostRuntime) {
 fn is_written(rt: &impl Abort, alloc: Global, left: usize, way: Way) -> bool {
     let mut reader = Watched::new(THIRD_ITEM.as_bytes());
     let mut writer = narrow_until(alloc, 3, left, way);
-    let ended = certify(alloc, &mut reader, &mut writer, "q");
+    let ended = certify(alloc, &mut reader, &mut writer, "q", &mut Unobserved);
     let written = ended == Ok(());
     assert!(rt; written || ended == Err(RunFault::Write));
     assert!(rt; !reader.failed());

@@ -3,6 +3,7 @@
 use crate::tests::devices::check_written;
 use esr_explain::Explaining;
 use esr_history::Watched;
+use esr_lint::Unobserved;
 use esr_script::{RunFault, tell};
 use std::alloc::Global;
 use std::process::Abort;
@@ -113,7 +114,14 @@ fn explained(
 ) {
     let mut reader = Watched::new(script.as_bytes());
     let mut writer = Watched::new(Vec::new(alloc));
-    let ended = tell(alloc, &mut reader, &mut writer, name, &Explaining);
+    let ended = tell(
+        alloc,
+        &mut reader,
+        &mut writer,
+        name,
+        &Explaining,
+        &mut Unobserved,
+    );
     assert!(rt; ended == ends, "{} ends so", name);
     check_written(rt, &writer, text, name);
 }

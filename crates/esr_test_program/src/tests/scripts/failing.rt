@@ -2,6 +2,7 @@
 
 use crate::tests::devices::{Way, check_cut, check_narrow, cut_after, narrow_until};
 use esr_history::Watched;
+use esr_lint::Unobserved;
 use esr_script::{RunFault, audit, run};
 use std::alloc::Global;
 use std::process::Abort;
@@ -42,7 +43,7 @@ fn each_read_fails_in_turn(rt: HostRuntime) {
     for left in 0..SCRIPT.len() + 1 {
         let mut reader = cut_after(SCRIPT, 1, left);
         let mut writer = Watched::new(Vec::new(alloc));
-        let ended = run(alloc, &mut reader, &mut writer);
+        let ended = run(alloc, &mut reader, &mut writer, &mut Unobserved);
         assert!(rt; ended == Err(RunFault::Read) && reader.failed() && !writer.failed());
         let written = writer.inner().as_slice();
         assert!(rt; TEXT.as_bytes().starts_with(written) && written.len() == count_written(left));
@@ -53,7 +54,7 @@ fn each_read_fails_in_turn(rt: HostRuntime) {
 fn is_written(rt: &impl Abort, alloc: Global, left: usize, way: Way) -> bool {
     let mut reader = Watched::new(SCRIPT.as_bytes());
     let mut writer = narrow_until(alloc, 3, left, way);
-    let ended = run(alloc, &mut reader, &mut writer);
+    let ended = run(alloc, &mut reader, &mut writer, &mut Unobserved);
     let written = ended == Ok(());
     assert!(rt; written || ended == Err(RunFault::Write));
     assert!(rt; !reader.failed());
@@ -83,7 +84,7 @@ fn each_read_of_an_audit_fails_in_turn(rt: HostRuntime) {
     for left in 0..SCRIPT.len() + 1 {
         let mut reader = cut_after(SCRIPT, 1, left);
         let mut writer = Watched::new(Vec::new(alloc));
-        let ended = audit(&rt, alloc, &mut reader, &mut writer, 2);
+        let ended = audit(&rt, alloc, &mut reader, &mut writer, 2, &mut Unobserved);
         assert!(rt; ended == Err(RunFault::Read));
         check_cut(&rt, &reader, &writer);
     }
@@ -98,7 +99,7 @@ fn audit_is_written<R: Abort + Threads + Sync>(
 ) -> bool {
     let mut reader = Watched::new(SCRIPT.as_bytes());
     let mut writer = narrow_until(alloc, 3, left, way);
-    let ended = audit(rt, alloc, &mut reader, &mut writer, 2);
+    let ended = audit(rt, alloc, &mut reader, &mut writer, 2, &mut Unobserved);
     let written = ended == Ok(());
     assert!(rt; written || ended == Err(RunFault::Write));
     assert!(rt; !reader.failed());

@@ -2,6 +2,7 @@
 
 use super::answers;
 use esr_history::Watched;
+use esr_lint::Unobserved;
 use esr_script::{RunFault, run};
 use std::alloc::{AllocError, Global};
 use std::process::Abort;
@@ -219,7 +220,7 @@ fn numbered(
 fn ends_with(rt: &impl Abort, alloc: Global, script: &str, last: &str) {
     let mut reader = Watched::new(script.as_bytes());
     let mut writer = Watched::new(Vec::new(alloc));
-    let ended = run(alloc, &mut reader, &mut writer);
+    let ended = run(alloc, &mut reader, &mut writer, &mut Unobserved);
     assert!(rt; ended == Ok(()));
     assert!(rt; writer.inner().as_slice().ends_with(last.as_bytes()));
 }

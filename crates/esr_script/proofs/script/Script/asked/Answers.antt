@@ -4,7 +4,7 @@ use Rattle.esr_script.specs.Text.{ScriptState}
 use Rattle.esr_script.proofs.script.Script.asked.Goals as goal
 
 pub returns-in-Ok-clause-answered : goal.returns-in-Ok-clause-answered
-returns-in-Ok-clause-answered c = let same = c.in-Ok.ensures.ok in record {
+returns-in-Ok-clause-answered g c = let same = c.in-Ok.ensures.ok in record {
   items = c.with.ensures.items ∙ ap (λ (z : ScriptState). z.items) same;
   transactions = c.with.ensures.transactions ∙ ap (λ (z : ScriptState). z.transactions) same;
   history = c.with.ensures.history ∙ ap (λ (z : ScriptState). z.history) same;

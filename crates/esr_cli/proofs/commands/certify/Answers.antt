@@ -1,0 +1,6 @@
+use Rattle.std.proofs.Common.{codes}
+use Rattle.esr_cli.specs.Program as spec
+use Rattle.esr_cli.proofs.commands.certify.Goals as goal
+
+pub returns-clause-app : goal.returns-clause-app
+returns-clause-app c = rw c.steps.ensures.rule at (c.taking.ensures.app (spec.named (codes "certify")) c.named.ensures.app)

@@ -1,9 +1,0 @@
-use Rattle.std.proofs.Common.{◌∙◌, ap, codes, option_and_then}
-use Rattle.clap.specs.Words.{found_of}
-use Rattle.clap.proofs.WalkLemmas.{one_text-rows}
-use Rattle.esr_cli.specs.Job.{bool_of}
-use Rattle.esr_cli.proofs.Readings.{bool_read}
-use Rattle.esr_cli.proofs.steps.Goals as goal
-
-pub returns : goal.returns
-returns c = bool_read _ _ c.get_one.result c.get_one.ensures.none c.get_one.ensures.value ∙ ap (option_and_then bool_of) (one_text-rows (found_of c.args.given.now) (codes "steps"))

@@ -1,0 +1,84 @@
+//! What is wrong with a line, by what a script answered to it.
+
+use crate::reason::{Finding, Shown, find_reason};
+use std::fmt;
+
+/// A line at fault.
+#[derive(Clone, Copy)]
+pub enum Fault<'a> {
+    /// It spells no command.
+    NoCommand(Finding<'a>),
+    /// It was answered by an error or a refusal, in these words.
+    Answered { line: &'a [u8], answer: &'a [u8] },
+}
+
+impl Fault<'_> {
+    /// The column that it is about, from 1.
+    pub fn column(&self) -> usize {
+        match self {
+            Fault::NoCommand(finding) => finding.column,
+            Fault::Answered { .. } => 1,
+        }
+    }
+}
+
+/// The fault of a line that was answered by an error.
+pub fn fault_of<'a>(line: &'a [u8], answer: &'a [u8]) -> Option<Fault<'a>> {
+    if !answer.starts_with(b"error ") {
+        return None;
+    }
+    if answer.starts_with(b"error 1 ") {
+        return Some(Fault::NoCommand(find_reason(line)));
+    }
+    Some(Fault::Answered { line, answer })
+}
+
+/// The same, or that of a line that was refused whatever else comes: by 1 to 8, which are mistakes, and not by a lock
+/// or a limit, which may let it pass later.
+pub fn mistake_of<'a>(line: &'a [u8], answer: &'a [u8]) -> Option<Fault<'a>> {
+    if answer.starts_with(b"refused ") {
+        return Some(Fault::Answered { line, answer });
+    }
+    fault_of(line, answer)
+}
+
+/// What is meant by the number of an error or a refusal, where its words leave something open.
+fn hint_of(answer: &[u8]) -> &'static str {
+    if answer.starts_with(b"error 2 ") {
+        ": items stand before all other lines"
+    } else if answer.starts_with(b"error 3 ") {
+        ": each name is bound once"
+    } else if answer.starts_with(b"error 4 ") || answer.starts_with(b"refused 5 ") {
+        ": 1,000,000,000,000 is the most"
+    } else if answer.starts_with(b"error 5 ") {
+        ": 4,096 is the most"
+    } else if answer.starts_with(b"error 7 ") {
+        ": 1 to 1,000"
+    } else if answer.starts_with(b"refused 6 ") {
+        ": 1,000,000,000,000,000,000 is the most"
+    } else if answer.starts_with(b"refused 7 ") {
+        ": 65,535 is the most"
+    } else if answer.starts_with(b"refused 8 ") {
+        ": 1,000 is the most"
+    } else {
+        ""
+    }
+}
+
+impl fmt::Display for Fault<'_> {
+    fn fmt<W: fmt::Write>(&self, f: &mut fmt::Formatter<W>) -> fmt::Result {
+        match self {
+            Fault::NoCommand(finding) => write!(f, "{}", finding.reason),
+            Fault::Answered { line, answer } => {
+                let words = answer.strip_suffix(b"\n").unwrap_or(answer);
+                write!(
+                    f,
+                    "\"{}\": {}{}",
+                    Shown(line),
+                    Shown(words),
+                    hint_of(answer)
+                )
+            }
+        }
+    }
+}

@@ -1,0 +1,85 @@
+//! The forms of a script's lines, as a table: what each has to have, word for word.
+
+/// What one word of a line has to be.
+#[derive(Clone, Copy)]
+pub enum Slot {
+    Name,
+    Value,
+    Limit,
+    /// `update` or `query`
+    Kind,
+    /// `weight`, which may be left out with what is behind it.
+    Weight,
+    /// `strict`, which may be left out.
+    Strict,
+}
+
+/// A command's first word, the words that follow, and how it is written.
+#[derive(Clone, Copy)]
+pub struct Form {
+    pub word: &'static str,
+    pub slots: &'static [Slot],
+    pub text: &'static str,
+}
+
+static FORMS: [Form; 8] = [
+    Form {
+        word: "item",
+        slots: &[Slot::Name, Slot::Value, Slot::Weight, Slot::Limit],
+        text: "item NAME VALUE, with or without weight W behind it",
+    },
+    Form {
+        word: "begin",
+        slots: &[Slot::Name, Slot::Kind, Slot::Limit, Slot::Strict],
+        text: "begin NAME update LIMIT, or begin NAME query LIMIT, with or without strict behind it",
+    },
+    Form {
+        word: "read",
+        slots: &[Slot::Name, Slot::Name],
+        text: "read TRANSACTION ITEM",
+    },
+    Form {
+        word: "write",
+        slots: &[Slot::Name, Slot::Name, Slot::Value],
+        text: "write TRANSACTION ITEM VALUE",
+    },
+    Form {
+        word: "commit",
+        slots: &[Slot::Name],
+        text: "commit TRANSACTION",
+    },
+    Form {
+        word: "abort",
+        slots: &[Slot::Name],
+        text: "abort TRANSACTION",
+    },
+    Form {
+        word: "audit",
+        slots: &[Slot::Name],
+        text: "audit QUERY",
+    },
+    Form {
+        word: "totals",
+        slots: &[],
+        text: "totals",
+    },
+];
+
+static WORDS: [&str; 8] = [
+    "item", "begin", "read", "write", "commit", "abort", "audit", "totals",
+];
+
+/// The form of the command that begins with the word.
+pub fn form_of(word: &[u8]) -> Option<Form> {
+    for form in &FORMS {
+        if form.word.as_bytes() == word {
+            return Some(*form);
+        }
+    }
+    None
+}
+
+/// The first words of all commands.
+pub fn first_words() -> &'static [&'static str] {
+    &WORDS
+}

@@ -1,0 +1,34 @@
+//! Keeps the line that it was shown last.
+
+use crate::observer::{Observer, Standing};
+use std::alloc::Global;
+
+/// Keeps the line that it was shown last, for whom shows one line alone.
+#[derive(Drop)]
+pub struct KeptLine {
+    line: Vec<u8>,
+}
+
+impl KeptLine {
+    pub fn new(alloc: Global) -> KeptLine {
+        KeptLine {
+            line: Vec::new(alloc),
+        }
+    }
+
+    /// The line: empty where none was shown, or there was no memory for it.
+    pub fn line(&self) -> &[u8] {
+        &self.line
+    }
+}
+
+impl Observer for KeptLine {
+    fn see_line(&mut self, _number: u64, line: &[u8], _answer: &[u8]) {
+        self.line.clear();
+        let _ = self.line.extend_from_slice(line);
+    }
+
+    fn see_transaction(&mut self, _name: &str, _standing: Standing) {}
+
+    fn see_end(&mut self) {}
+}

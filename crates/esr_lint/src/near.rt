@@ -1,0 +1,53 @@
+//! Which word may have been meant: one that is the same but for its case, or for one letter that is missing, too many,
+//! or another, or for two that changed places.
+
+/// How many bytes both begin with.
+fn common_front(left: &[u8], right: &[u8]) -> usize {
+    left.iter()
+        .zip(right.iter())
+        .take_while(|(a, b)| a == b)
+        .count()
+}
+
+/// How many bytes both end with.
+fn common_back(left: &[u8], right: &[u8]) -> usize {
+    left.iter()
+        .rev()
+        .zip(right.iter().rev())
+        .take_while(|(a, b)| a == b)
+        .count()
+}
+
+/// What is between the bytes that both begin and both end with.
+fn middle(text: &[u8], front: usize, back: usize) -> &[u8] {
+    let behind = text.get(front..).unwrap_or(&[]);
+    let length = behind.len().saturating_sub(back);
+    behind.get(..length).unwrap_or(&[])
+}
+
+/// Whether one may stand for the other by a slip of the hand.
+fn is_near(word: &[u8], meant: &[u8]) -> bool {
+    if word.eq_ignore_ascii_case(meant) {
+        return true;
+    }
+    let front = common_front(word, meant);
+    let back = common_back(
+        word.get(front..).unwrap_or(&[]),
+        meant.get(front..).unwrap_or(&[]),
+    );
+    match (middle(word, front, back), middle(meant, front, back)) {
+        ([] | [_], [] | [_]) => true,
+        ([a, b], [c, d]) => a == d && b == c,
+        _ => false,
+    }
+}
+
+/// The first of the words that may have been meant.
+pub fn nearest(word: &[u8], words: &[&'static str]) -> Option<&'static str> {
+    for meant in words {
+        if is_near(word, meant.as_bytes()) {
+            return Some(meant);
+        }
+    }
+    None
+}

@@ -1,0 +1,41 @@
+//! Who looks on while the lines of a script are answered.
+
+/// How a transaction ended, or that it has not.
+#[derive(Clone, Copy, PartialEq, Eq)]
+pub enum End {
+    Active,
+    Committed,
+    Aborted,
+}
+
+/// What became of a transaction.
+#[derive(Clone, Copy)]
+pub struct Standing {
+    pub is_query: bool,
+    pub end: End,
+}
+
+/// Looks on while the lines of a script are answered. Nothing is promised of it but that it returns.
+pub trait Observer {
+    /// A line by its number, from 1, without its line feed, and what is answered: nothing to a line that is skipped.
+    fn see_line(&mut self, number: u64, line: &[u8], answer: &[u8]);
+
+    /// A transaction after the last line, in the order of the begins. They are shown where a query that was asked for
+    /// is no committed one, and at the end of a listing.
+    fn see_transaction(&mut self, name: &str, standing: Standing);
+
+    /// No more lines come. What the script leads to is not written yet.
+    fn see_end(&mut self);
+}
+
+/// Sees nothing.
+#[derive(Drop)]
+pub struct Unobserved;
+
+impl Observer for Unobserved {
+    fn see_line(&mut self, _number: u64, _line: &[u8], _answer: &[u8]) {}
+
+    fn see_transaction(&mut self, _name: &str, _standing: Standing) {}
+
+    fn see_end(&mut self) {}
+}

@@ -1,0 +1,445 @@
+//! Why a line is no command, as far as that can be guessed from its bytes.
+//!
+//! First what is wrong with the bytes, wherever it is: line ends, marks and blanks of other programs, which make every
+//! line of a file a faulty one; then the words, from left to right, beside the form that the first one asks for. The
+//! reading of lines itself knows no reasons: it has one spelling for each command, and says no more than that a line
+//! has another.
+
+use crate::forms::{Form, Slot, first_words, form_of};
+use crate::near::nearest;
+use std::fmt;
+
+/// What is wrong with a number.
+#[derive(Clone, Copy)]
+pub enum NumberFault {
+    Plus,
+    Minus,
+    MinusZero,
+    LeadingZero,
+    Fraction,
+    Separator,
+    TooLong(usize),
+    NoNumber,
+}
+
+/// Why a line is no command.
+#[derive(Clone, Copy)]
+pub enum Reason<'a> {
+    ByteOrderMark,
+    Utf16,
+    CarriageReturn,
+    Tab,
+    BlankInFront,
+    BlankBehind,
+    TwoBlanks,
+    NotAscii(u8),
+    Session,
+    UnknownCommand(&'a [u8]),
+    Comment,
+    Missing { slot: Slot, text: &'static str },
+    Extra { word: &'a [u8], text: &'static str },
+    LongName(&'a [u8]),
+    FirstOfName(&'a [u8]),
+    ByteOfName { word: &'a [u8], byte: u8 },
+    Keyword { word: &'a [u8], slot: Slot },
+    Number { word: &'a [u8], fault: NumberFault },
+    StrictUpdate,
+}
+
+/// A reason, and the column of the first byte that it is about, from 1.
+#[derive(Clone, Copy)]
+pub struct Finding<'a> {
+    pub column: usize,
+    pub reason: Reason<'a>,
+}
+
+/// What is wrong with the encoding, whatever the words say.
+fn encoding_fault(line: &[u8]) -> Option<Reason<'_>> {
+    if line.starts_with(b"\xEF\xBB\xBF") {
+        Some(Reason::ByteOrderMark)
+    } else if line.starts_with(b"\xFF\xFE") || line.starts_with(b"\xFE\xFF") || line.contains(&0) {
+        Some(Reason::Utf16)
+    } else {
+        None
+    }
+}
+
+/// What is wrong with the blanks between words.
+fn blank_fault(line: &[u8]) -> Option<Finding<'_>> {
+    let mut before = b' ';
+    let mut column = 1usize;
+    for byte in line {
+        if *byte == b' ' && before == b' ' {
+            let reason = if column == 1 {
+                Reason::BlankInFront
+            } else {
+                Reason::TwoBlanks
+            };
+            return Some(Finding { column, reason });
+        }
+        before = *byte;
+        column = column.saturating_add(1);
+    }
+    if before == b' ' {
+        let reason = Reason::BlankBehind;
+        return Some(Finding {
+            column: line.len(),
+            reason,
+        });
+    }
+    None
+}
+
+/// What is wrong with the bytes of a line, whatever its words are.
+fn byte_fault(line: &[u8]) -> Option<Finding<'_>> {
+    if let Some(reason) = encoding_fault(line) {
+        return Some(Finding { column: 1, reason });
+    }
+    if line.ends_with(b"\r") {
+        let reason = Reason::CarriageReturn;
+        return Some(Finding {
+            column: line.len(),
+            reason,
+        });
+    }
+    odd_byte(line)
+}
+
+/// The first byte that no command has.
+fn odd_byte(line: &[u8]) -> Option<Finding<'_>> {
+    let mut column = 1usize;
+    for byte in line {
+        match *byte {
+            b'\t' => return Some(Finding {
+                column,
+                reason: Reason::Tab,
+            }),
+            b' '..=b'~' => {}
+            other => return Some(Finding {
+                column,
+                reason: Reason::NotAscii(other),
+            }),
+        }
+        column = column.saturating_add(1);
+    }
+    None
+}
+
+/// What is wrong with a name.
+fn name_fault(word: &[u8]) -> Option<Reason<'_>> {
+    let first = *word.first()?;
+    if !first.is_ascii_alphabetic() {
+        return Some(Reason::FirstOfName(word));
+    }
+    for byte in word {
+        if !byte.is_ascii_alphanumeric() && *byte != b'_' {
+            return Some(Reason::ByteOfName { word, byte: *byte });
+        }
+    }
+    if word.len() > 16 {
+        Some(Reason::LongName(word))
+    } else {
+        None
+    }
+}
+
+/// What is wrong with digits, of which there may be so many.
+fn digits_fault(digits: &[u8], most: usize) -> Option<NumberFault> {
+    if digits.is_empty() {
+        return Some(NumberFault::NoNumber);
+    }
+    for byte in digits {
+        match *byte {
+            b'0'..=b'9' => {}
+            b'.' => return Some(NumberFault::Fraction),
+            b',' | b'_' | b'\'' => return Some(NumberFault::Separator),
+            _ => return Some(NumberFault::NoNumber),
+        }
+    }
+    if digits.len() > 1 && digits.starts_with(b"0") {
+        Some(NumberFault::LeadingZero)
+    } else if digits.len() > most {
+        Some(NumberFault::TooLong(most))
+    } else {
+        None
+    }
+}
+
+/// What is wrong with a value.
+fn value_fault(word: &[u8]) -> Option<NumberFault> {
+    match word {
+        [b'+', ..] => Some(NumberFault::Plus),
+        b"-0" => Some(NumberFault::MinusZero),
+        [b'-', digits @ ..] => digits_fault(digits, 18),
+        digits => digits_fault(digits, 18),
+    }
+}
+
+/// What is wrong with a limit.
+fn limit_fault(word: &[u8]) -> Option<NumberFault> {
+    match word {
+        [b'+', ..] => Some(NumberFault::Plus),
+        [b'-', ..] => Some(NumberFault::Minus),
+        digits => digits_fault(digits, 19),
+    }
+}
+
+/// The words that may stand in a slot, where it is for words of its own.
+fn keywords(slot: Slot) -> &'static [&'static str] {
+    match slot {
+        Slot::Kind => &["update", "query"],
+        Slot::Weight => &["weight"],
+        Slot::Strict => &["strict"],
+        Slot::Name | Slot::Value | Slot::Limit => &[],
+    }
+}
+
+/// What is wrong with a word that has to be one of those of the slot.
+fn keyword_fault<'a>(slot: Slot, word: &'a [u8]) -> Option<Reason<'a>> {
+    for meant in keywords(slot) {
+        if word == meant.as_bytes() {
+            return None;
+        }
+    }
+    Some(Reason::Keyword { word, slot })
+}
+
+/// What is wrong with the word that stands in the slot.
+fn slot_fault<'a>(slot: Slot, word: &'a [u8]) -> Option<Reason<'a>> {
+    match slot {
+        Slot::Name => name_fault(word),
+        Slot::Kind | Slot::Weight | Slot::Strict => keyword_fault(slot, word),
+        Slot::Value => Some(Reason::Number {
+            word,
+            fault: value_fault(word)?,
+        }),
+        Slot::Limit => Some(Reason::Number {
+            word,
+            fault: limit_fault(word)?,
+        }),
+    }
+}
+
+/// What is wrong with the words behind the first one.
+fn words_fault<'a>(words: &'a [u8], form: Form) -> Finding<'a> {
+    let mut column = form.word.len().saturating_add(2);
+    let mut last = column;
+    let mut slots = form.slots.iter();
+    for word in words.split(|b| *b == b' ') {
+        if word.starts_with(b"#") {
+            return Finding {
+                column,
+                reason: Reason::Comment,
+            };
+        }
+        let Some(slot) = slots.next() else {
+            return Finding {
+                column,
+                reason: Reason::Extra {
+                    word,
+                    text: form.text,
+                },
+            };
+        };
+        if let Some(reason) = slot_fault(*slot, word) {
+            return Finding { column, reason };
+        }
+        last = column;
+        column = column.saturating_add(word.len()).saturating_add(1);
+    }
+    match slots.next() {
+        None | Some(Slot::Weight | Slot::Strict) => Finding {
+            column: last,
+            reason: Reason::StrictUpdate,
+        },
+        Some(slot) => Finding {
+            column,
+            reason: Reason::Missing {
+                slot: *slot,
+                text: form.text,
+            },
+        },
+    }
+}
+
+/// What is wrong with the words of a line.
+fn line_fault(line: &[u8]) -> Finding<'_> {
+    let end = line.iter().position(|b| *b == b' ').unwrap_or(line.len());
+    let word = line.get(..end).unwrap_or(line);
+    if word == b"session".as_slice() {
+        return Finding {
+            column: 1,
+            reason: Reason::Session,
+        };
+    }
+    let Some(form) = form_of(word) else {
+        return Finding {
+            column: 1,
+            reason: Reason::UnknownCommand(word),
+        };
+    };
+    match line.get(end.saturating_add(1)..) {
+        Some(words) => words_fault(words, form),
+        None => match form.slots.first() {
+            Some(slot) => {
+                let reason = Reason::Missing {
+                    slot: *slot,
+                    text: form.text,
+                };
+                Finding {
+                    column: end.saturating_add(1),
+                    reason,
+                }
+            }
+            None => Finding {
+                column: 1,
+                reason: Reason::UnknownCommand(word),
+            },
+        },
+    }
+}
+
+/// Why a line that is no command is none.
+pub fn find_reason(line: &[u8]) -> Finding<'_> {
+    if let Some(finding) = byte_fault(line) {
+        return finding;
+    }
+    match blank_fault(line) {
+        Some(finding) => finding,
+        None => line_fault(line),
+    }
+}
+
+/// The most bytes that are shown.
+const SHOWN: usize = 40;
+
+/// Bytes of an input, so that whatever they are the text stays one line of plain letters.
+#[derive(Clone, Copy)]
+pub struct Shown<'a>(pub &'a [u8]);
+
+impl fmt::Display for Shown<'_> {
+    fn fmt<W: fmt::Write>(&self, f: &mut fmt::Formatter<W>) -> fmt::Result {
+        for byte in self.0.iter().take(SHOWN) {
+            match *byte {
+                b' '..=b'~' => write!(f, "{}", *byte as char)?,
+                other => write!(f, "\\x{other:02x}")?,
+            }
+        }
+        if self.0.len() > SHOWN {
+            f.write_str("..")?;
+        }
+        Ok(())
+    }
+}
+
+impl fmt::Display for Slot {
+    fn fmt<W: fmt::Write>(&self, f: &mut fmt::Formatter<W>) -> fmt::Result {
+        let text = match self {
+            Slot::Name => "a name",
+            Slot::Value => "a value",
+            Slot::Limit => "a limit",
+            Slot::Kind => "update or query",
+            Slot::Weight => "weight",
+            Slot::Strict => "strict",
+        };
+        f.write_str(text)
+    }
+}
+
+impl fmt::Display for NumberFault {
+    fn fmt<W: fmt::Write>(&self, f: &mut fmt::Formatter<W>) -> fmt::Result {
+        match self {
+            NumberFault::Plus => f.write_str("has a plus sign; write it without"),
+            NumberFault::Minus => f.write_str("is negative; limits and weights are not"),
+            NumberFault::MinusZero => f.write_str("is written 0"),
+            NumberFault::LeadingZero => f.write_str("has zeros in front; write it without"),
+            NumberFault::Fraction => f.write_str(
+                "has a fraction; numbers are whole (take a smaller unit, as cents)",
+            ),
+            NumberFault::Separator => f.write_str("has a separator; write its digits alone"),
+            NumberFault::TooLong(most) => write!(f, "has too many digits; {most} is the most"),
+            NumberFault::NoNumber => f.write_str("is no whole number"),
+        }
+    }
+}
+
+/// Appends what may have been meant.
+fn push_hint<W: fmt::Write>(
+    f: &mut fmt::Formatter<W>,
+    word: &[u8],
+    words: &[&'static str],
+) -> fmt::Result {
+    match nearest(word, words) {
+        Some(meant) => write!(f, "; {meant}?"),
+        None => Ok(()),
+    }
+}
+
+/// What is wrong with a name, or with a word that has to be one of some.
+fn push_word<W: fmt::Write>(f: &mut fmt::Formatter<W>, reason: Reason<'_>) -> fmt::Result {
+    match reason {
+        Reason::UnknownCommand(word) => {
+            write!(f, "\"{}\" is no command", Shown(word))?;
+            push_hint(f, word, first_words())
+        }
+        Reason::Keyword { word, slot } => {
+            write!(f, "\"{}\" stands in place of {slot}", Shown(word))?;
+            push_hint(f, word, keywords(slot))
+        }
+        Reason::LongName(word) => write!(
+            f,
+            "the name \"{}\" has {} letters; 16 is the most",
+            Shown(word),
+            word.len()
+        ),
+        Reason::FirstOfName(word) => write!(
+            f,
+            "the name \"{}\" does not begin with a letter",
+            Shown(word)
+        ),
+        Reason::ByteOfName { word, byte } => {
+            write!(
+                f,
+                "the name \"{}\" has a \"{}\"; names are letters, digits and _",
+                Shown(word),
+                Shown(&[byte])
+            )
+        }
+        Reason::Number { word, fault } => write!(f, "\"{}\" {fault}", Shown(word)),
+        Reason::Extra { word, text } => write!(
+            f,
+            "\"{}\" is too much; the form is: {text}",
+            Shown(word)
+        ),
+        _ => f.write_str("no command"),
+    }
+}
+
+impl fmt::Display for Reason<'_> {
+    fn fmt<W: fmt::Write>(&self, f: &mut fmt::Formatter<W>) -> fmt::Result {
+        match *self {
+            Reason::ByteOrderMark => f.write_str(
+                "a byte order mark is in front; save the file as UTF-8 without one",
+            ),
+            Reason::Utf16 => f.write_str("this is UTF-16; save the file as UTF-8"),
+            Reason::CarriageReturn => f.write_str(
+                "the line ends with a carriage return (CR LF); lines end with LF alone",
+            ),
+            Reason::Tab => f.write_str("a tab; one blank separates words"),
+            Reason::BlankInFront => f.write_str("a blank in front"),
+            Reason::BlankBehind => f.write_str("a blank at the end"),
+            Reason::TwoBlanks => f.write_str("two blanks; one separates words"),
+            Reason::NotAscii(byte) => write!(
+                f,
+                "the byte \\x{byte:02x} is no ASCII character; names are letters, digits and _"
+            ),
+            Reason::Session => f.write_str("\"session\" is of a drive file; esr drive runs one"),
+            Reason::Comment => f.write_str(
+                "a comment behind a command; a comment is a line of its own",
+            ),
+            Reason::Missing { slot, text } => write!(f, "{slot} is missing; the form is: {text}"),
+            Reason::StrictUpdate => f.write_str("only a query can be strict"),
+            other => push_word(f, other),
+        }
+    }
+}
