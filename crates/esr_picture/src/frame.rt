@@ -4,9 +4,9 @@
 ghost use Rattle.std.specs.Prelude.{◌≤◌};
 
 use crate::choice::{MOST_LANES, MOST_UPDATES};
-use crate::elements::{letters_of, number_letters};
 use crate::keys::keys_width;
 use crate::scene::{Lane, Scene};
+use esr_prose::{letters_of, number_letters};
 
 /// No picture is wider, as long as what it has to show can be folded.
 const WIDEST: u32 = 1100;
@@ -123,7 +123,7 @@ fn labels_width(scene: &Scene<'_>) -> u16
     ensures { result ≤ 320 }
 {
     let widest = scene.lanes.iter().map(label_width).max();
-    widest.unwrap_or(0).min(320)
+    widest.unwrap_or(0).max(96).min(320)
 }
 
 /// The width of the widest value.

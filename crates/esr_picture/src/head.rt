@@ -2,9 +2,10 @@
 //! `prefers-color-scheme`, and the picture brings its own background, so that it can be read wherever it is put. What
 //! is green is also thick, and what is off has a circle and words, for those who do not see colours.
 
-use crate::elements::{open_text, push_number, push_text, push_value};
+use crate::elements::{open_text, push_text};
 use crate::frame::Frame;
 use crate::scene::{Lane, Scene, Update};
+use esr_prose::{push_number, push_value};
 use std::alloc::AllocError;
 
 const STYLE: &str = "<style>\n\

@@ -3,12 +3,13 @@
 ghost use Rattle.std.specs.Prelude.{◌≤◌};
 
 use crate::elements::{
-    close_text, open_before, open_centred, open_text, push_horizontal, push_number, push_straight,
-    push_text, push_value, push_vertical,
+    close_text, open_before, open_centred, open_text, push_horizontal, push_straight, push_text,
+    push_vertical,
 };
 use crate::frame::Frame;
 use crate::scene::{Lane, Scene, Stretch};
 use crate::sights::{LaneReads, Strays};
+use esr_prose::{push_count, push_number, push_value};
 use std::alloc::AllocError;
 
 /// What else was read of an item, without the start of the text: how often the value was read, or the second value, or
@@ -266,16 +267,10 @@ fn push_axis(out: &mut String, query: &str, frame: &Frame) -> Result<(), AllocEr
 /// The lanes and the line.
 pub fn push_audit(out: &mut String, scene: &Scene<'_>, frame: &Frame) -> Result<(), AllocError> {
     push_lanes(out, &scene.lanes, frame)?;
-    push_all_strays(out, &scene.lanes, frame)?;
     push_axis(out, scene.query, frame)?;
     push_line(out, scene.query, scene.line, frame)?;
+    push_all_strays(out, &scene.lanes, frame)?;
     push_crossings(out, scene, frame)
-}
-
-/// So many of something.
-fn push_count(out: &mut String, count: u64, one: &str, many: &str) -> Result<(), AllocError> {
-    push_number(out, count)?;
-    out.push_str(if count == 1 { one } else { many })
 }
 
 /// How many items are not drawn, and how many of them are off.

@@ -18,11 +18,9 @@ mod keys;
 mod lanes;
 mod order;
 mod scene;
-mod sentences;
 mod sights;
-mod story;
 mod svg;
 mod weighing;
 mod written;
 
-pub use drawing::Drawing;
+pub use drawing::{Drawing, picture};

@@ -6,14 +6,12 @@
 use crate::choice::{Choice, MOST_LANES, MOST_UPDATES, choose};
 use crate::frame::Frame;
 use crate::order::{Arrow, Slots, arrows};
-use crate::sentences::sentences;
 use crate::sights::{LaneReads, Strays, count_of, reads_of, strays_of};
-use crate::story::{Story, story_of};
 use crate::written::{Written, written_by};
 use esr_cert::Chain;
 use esr_items::{ItemId, Metric};
+use esr_prose::{Audited, Story, sentences_of, story_of};
 use esr_report::name_of_transaction;
-use esr_telling::Asked;
 use std::alloc::{AllocError, Global};
 
 /// How often a scene that is too wide is made with fewer updates.
@@ -108,7 +106,7 @@ fn values_of(alloc: Global, stretches: &[Stretch]) -> Result<Vec<i64>, AllocErro
 /// What a scene is made from.
 #[derive(Drop)]
 struct SceneParts<'a> {
-    asked: &'a Asked,
+    asked: &'a Audited<'a>,
     story: &'a Story,
     choice: Choice,
     /// The updates that are drawn, by their positions, in the order of their slots.
@@ -122,11 +120,11 @@ struct SceneParts<'a> {
 impl<'a> SceneParts<'a> {
     fn new(
         alloc: Global,
-        asked: &'a Asked,
+        asked: &'a Audited<'a>,
         story: &'a Story,
         most: usize,
     ) -> Result<SceneParts<'a>, AllocError> {
-        let finding = &asked.finding;
+        let finding = asked.finding;
         let problem = &finding.problem;
         let choice = choose(alloc, problem, &finding.certificate.set, most)?;
         let drawn = drawn_in_order(alloc, &choice)?;
@@ -253,7 +251,7 @@ impl<'a> SceneParts<'a> {
             if let Some(txn) = problem.updates().get(*update as usize) {
                 let slot = self.slots.of(*update);
                 updates.push(Update {
-                    name: name_of_transaction(&self.asked.transactions, *txn),
+                    name: name_of_transaction(self.asked.transactions, *txn),
                     slot,
                     reach: self.reach(slot),
                     must: problem.must().contains(update),
@@ -265,13 +263,13 @@ impl<'a> SceneParts<'a> {
 
     /// What is drawn.
     fn scene(&self, alloc: Global) -> Result<Scene<'a>, AllocError> {
-        let finding = &self.asked.finding;
+        let finding = self.asked.finding;
         let arrows = arrows(alloc, &finding.problem, &self.drawn, &self.slots)?;
-        let sentences = sentences(alloc, self.asked, self.story)?;
+        let sentences = sentences_of(alloc, self.asked, self.story)?;
         let updates = self.updates(alloc)?;
         let lanes = self.lanes(alloc)?;
         Ok(Scene {
-            query: name_of_transaction(&self.asked.transactions, finding.query),
+            query: name_of_transaction(self.asked.transactions, finding.query),
             distance: finding.distance,
             import: finding.import,
             sentences,
@@ -290,7 +288,7 @@ impl<'a> SceneParts<'a> {
 /// The scene with at most so many updates.
 fn scene_with<'a>(
     alloc: Global,
-    asked: &'a Asked,
+    asked: &'a Audited<'a>,
     story: &'a Story,
     most: usize,
 ) -> Result<Scene<'a>, AllocError> {
@@ -298,7 +296,11 @@ fn scene_with<'a>(
 }
 
 /// How many updates a scene may have, so that it is not too wide.
-fn fitting_updates(alloc: Global, asked: &Asked, story: &Story) -> Result<usize, AllocError> {
+fn fitting_updates<'a>(
+    alloc: Global,
+    asked: &'a Audited<'a>,
+    story: &'a Story,
+) -> Result<usize, AllocError> {
     let mut most = MOST_UPDATES;
     for _ in 0..MOST_TRIES {
         let scene = scene_with(alloc, asked, story, most)?;
@@ -312,14 +314,14 @@ fn fitting_updates(alloc: Global, asked: &Asked, story: &Story) -> Result<usize,
 }
 
 /// What the history tells of the query of what a script tells.
-pub fn story_in(alloc: Global, asked: &Asked) -> Result<Story, AllocError> {
-    story_of(alloc, &asked.history, &asked.finding)
+pub fn story_in(alloc: Global, asked: &Audited<'_>) -> Result<Story, AllocError> {
+    story_of(alloc, asked.history, asked.finding.query)
 }
 
 /// What is drawn of what a script tells of a query.
 pub fn scene_of<'a>(
     alloc: Global,
-    asked: &'a Asked,
+    asked: &'a Audited<'a>,
     story: &'a Story,
 ) -> Result<Scene<'a>, AllocError> {
     let most = fitting_updates(alloc, asked, story)?;

@@ -1,10 +1,9 @@
 //! What was read in a lane: the values that it was read with, and those that are nowhere in the order, since their
 //! writer aborted, came later, or wrote over them.
 
-use crate::story::{End, Sight, Story};
 use esr_items::ItemId;
+use esr_prose::{Audited, End, Sight, Story};
 use esr_report::name_of_transaction;
-use esr_telling::Asked;
 use std::alloc::{AllocError, Global};
 
 /// What was read of an item: the values without repetitions, and how many reads there were.
@@ -55,10 +54,16 @@ pub fn count_of(story: &Story, item: ItemId, value: i64) -> u64 {
 }
 
 /// What became of a value that was read, if it is no version of its item.
-fn fate_of(story: &Story, sight: &Sight) -> Option<&'static str> {
-    match story.end(sight.writer?) {
+fn fate_of(asked: &Audited<'_>, story: &Story, sight: &Sight) -> Option<&'static str> {
+    let writer = sight.writer?;
+    let has_ended = asked
+        .history
+        .facts(writer)
+        .is_some_and(|facts| facts.end.is_some());
+    match story.end(writer) {
         End::Aborted => Some("aborted"),
-        End::Later => Some("committed only later, or not at all"),
+        End::Later if has_ended => Some("committed only later"),
+        End::Later => Some("never ended"),
         End::Committed if sight.overwritten => Some("wrote over it"),
         End::Committed => None,
     }
@@ -66,7 +71,7 @@ fn fate_of(story: &Story, sight: &Sight) -> Option<&'static str> {
 
 /// The strays of an item, but for values that a piece of the lane has.
 pub fn strays_of<'a>(
-    asked: &'a Asked,
+    asked: &Audited<'a>,
     story: &Story,
     item: ItemId,
     has_piece: &[i64],
@@ -76,7 +81,7 @@ pub fn strays_of<'a>(
         more: 0,
     };
     for sight in story.sights.iter().filter(|sight| sight.item == item) {
-        let (Some(fate), Some(writer)) = (fate_of(story, sight), sight.writer) else {
+        let (Some(fate), Some(writer)) = (fate_of(asked, story, sight), sight.writer) else {
             continue;
         };
         if has_piece.contains(&sight.value) {
@@ -87,7 +92,7 @@ pub fn strays_of<'a>(
         } else {
             strays.first = Some(Stray {
                 value: sight.value,
-                writer: name_of_transaction(&asked.transactions, writer),
+                writer: name_of_transaction(asked.transactions, writer),
                 fate,
             });
         }

@@ -9,7 +9,7 @@ use crate::head::{push_head, push_heading};
 use crate::keys::push_keys;
 use crate::lanes::{push_audit, push_others};
 use crate::scene::{Scene, scene_of, story_in};
-use esr_telling::Asked;
+use esr_prose::Audited;
 use std::alloc::{AllocError, Global};
 
 /// The text of a scene, without the ends of its element.
@@ -24,7 +24,7 @@ fn push_body(out: &mut String, scene: &Scene<'_>) -> Result<(), AllocError> {
 }
 
 /// The text of the picture of what a script tells of one of its queries, without the ends of its element.
-pub fn body_of(alloc: Global, asked: &Asked) -> Result<String, AllocError> {
+pub fn body_of<'a>(alloc: Global, asked: &'a Audited<'a>) -> Result<String, AllocError> {
     let story = story_in(alloc, asked)?;
     let scene = scene_of(alloc, asked, &story)?;
     let mut body = String::new(alloc);

@@ -3,7 +3,7 @@
 use crate::choice::Choice;
 use crate::order::Slots;
 use esr_order::accesses_of;
-use esr_telling::Asked;
+use esr_prose::Audited;
 use std::alloc::{AllocError, Global};
 
 /// The most slots: one for each update that is drawn, one for the line, and the one before them.
@@ -23,7 +23,7 @@ fn cell(lane: usize, slot: u8) -> usize {
 
 impl Written {
     /// Nothing yet, with the lane of each item.
-    fn new(alloc: Global, asked: &Asked, choice: &Choice) -> Result<Written, AllocError> {
+    fn new(alloc: Global, asked: &Audited<'_>, choice: &Choice) -> Result<Written, AllocError> {
         let mut lane_of_item = vec![in alloc; None; asked.history.items() as usize]?;
         for (lane, chain) in choice.lanes.iter().enumerate() {
             if let Some(chain) = asked.finding.problem.chains().get(*chain) {
@@ -42,14 +42,14 @@ impl Written {
     fn note(
         &mut self,
         alloc: Global,
-        asked: &Asked,
+        asked: &Audited<'_>,
         update: u32,
         slot: u8,
     ) -> Result<(), AllocError> {
         let Some(txn) = asked.finding.problem.updates().get(update as usize) else {
             return Ok(());
         };
-        for access in &accesses_of(alloc, &asked.history, *txn)? {
+        for access in &accesses_of(alloc, asked.history, *txn)? {
             let lane = self
                 .lane_of_item
                 .get(access.item.0 as usize)
@@ -73,7 +73,7 @@ impl Written {
 /// What the updates that are drawn wrote in the lanes.
 pub fn written_by(
     alloc: Global,
-    asked: &Asked,
+    asked: &Audited<'_>,
     choice: &Choice,
     drawn: &[u32],
     slots: &Slots,

@@ -35,6 +35,15 @@ module _ (input : List ℕ) (left : Option (List ℕ)) where
   reached_made P Q N made (Ok value) read whole holds more ok err = (read, whole, more value (rw ok at holds))
   reached_made P Q N made (Err f) read whole holds more ok err = rw err tt
 
+  -- the same where there may be nothing to tell
+  pub reached_or_none : {T : Type 0} (P : T → Type 0) (r : Result T RunFault) → Consumes (Some input) left input → IsWhole input
+      → IfOk r P → IfErr r (λ f. (f ≡ fault.NoMemory) ⊎ (f ≡ fault.NotACommittedQuery)) → IsReachedBy P (IsWhole input) input left r
+  reached_or_none P (Ok value) read whole ok err = (read, whole, ok)
+  reached_or_none P (Err f) read whole ok err = elim err [
+    | inl m ↦ rw m tt
+    | inr q ↦ rw q whole
+  ]
+
   -- nothing was written
   pub written_fault : {T : Type 0} (P : T → Type 0) (Q : List ℕ → Type 0) (N : Type 0) (f : RunFault)
       → IsReachedBy P N input left (Err f) → IsWrittenBy Q N input left (Err f) []

@@ -6,6 +6,7 @@ pub mod Ends
 pub mod Certify
 pub mod Ask
 pub mod Audit
+pub mod Survey
 pub mod Replays
 pub mod Stages
 pub mod Parts

@@ -9,7 +9,7 @@ ghost use Rattle.esr_report.specs.Names.{position_of};
 ghost use Rattle.esr_report.specs.Subjects.{named_by};
 ghost use Rattle.esr_script.specs.Text.{Obeys, start, closed, transaction_called, item_called, item_error, with_item, begin, ask, obey, answer, ScriptState};
 ghost use Rattle.esr_script.specs.Stages.{IsBegin, is_running, history_of};
-ghost use Rattle.esr_telling.specs.Ask.{IsAnswered, IsFoundOf};
+ghost use Rattle.esr_telling.specs.Ask.{IsAnswered, IsFoundOf, IsRecorded};
 ghost use Rattle.esr_script.specs.Audit.{audit_output};
 ghost use Rattle.esr_history.specs.Queries.{is_committed_query};
 ghost use Rattle.esr_line.specs.Command.{view};
@@ -29,7 +29,7 @@ use esr_report::{
     LineError, Names, Subject, audit_line, error_line, item_line, reply_line, totals_line,
     weighted_item_line,
 };
-use esr_telling::Asked;
+use esr_telling::{Asked, Chronicle};
 use std::alloc::{AllocError, Global};
 use std::marker::Model;
 use std::thread::Threads;
@@ -345,6 +345,26 @@ impl Script {
             history: stage.into_history(),
             finding,
         }
+    }
+
+    /// Ends the run, and gives what it leads to, with the bytes of the script.
+    pub fn chronicle(mut self, script: &[u8]) -> Result<Chronicle<'_>, RunFault>
+        ensures recorded { IfOk result (IsRecorded self) }
+        ensures faults { IfErr result (λ e. e ≡ RunFault.NoMemory) }
+    {
+        self.stage.close(self.alloc)?;
+        let Script {
+            alloc: _,
+            items,
+            transactions,
+            stage,
+        } = self;
+        Ok(Chronicle {
+            items,
+            transactions,
+            history: stage.into_history(),
+            script,
+        })
     }
 
     /// The audit of the whole history, by so many workers.

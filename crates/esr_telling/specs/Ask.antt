@@ -12,6 +12,7 @@ use Rattle.esr_audit.specs.declared.finding.Finding.{Finding}
 use Rattle.esr_audit.specs.Findings.{summary, summary_of}
 use Rattle.esr_audit.specs.Problems.{StandsFor}
 use Rattle.esr_telling.specs.declared.asked.Asked.{Asked}
+use Rattle.esr_telling.specs.declared.chronicle.Chronicle.{Chronicle}
 use Rattle.esr_telling.specs.State.{ScriptState, transaction_called}
 
 -- The problem stands for the query of the history, and is one of just its near updates; the certificate certifies it,
@@ -37,3 +38,9 @@ pub record IsAnswered (s : ScriptState) (name : List ℕ) (a : Asked) : Type 0 w
   pub transactions : a.transactions ≡ s.transactions
   pub history : a.history.schedule ≡ s.history
   pub finding : IsFoundOf s name a.finding
+
+-- The names that are bound, and the history.
+pub record IsRecorded (s : ScriptState) (c : Chronicle) : Type 0 where
+  pub items : c.items ≡ s.items
+  pub transactions : c.transactions ≡ s.transactions
+  pub history : c.history.schedule ≡ s.history

@@ -6,4 +6,5 @@ mod devices;
 mod drives;
 mod pictures;
 mod scripts;
+mod surveys;
 mod watched;

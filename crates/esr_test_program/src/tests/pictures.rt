@@ -10,7 +10,7 @@ use std::process::Abort;
 use std::str::from_utf8;
 
 /// A report that reads one account before a transfer and the other after it.
-const BANK: &str = "item checking 500\n\
+pub const BANK: &str = "item checking 500\n\
         item savings 1500\n\
         begin report query 200\n\
         read report checking\n\

@@ -1,0 +1,135 @@
+//! The chart: a column for each committed query, in the order of their commits, with what it was charged, how far off it
+//! was, and its limit where that is not above the chart. Columns are elements of the page and not a picture, so that
+//! they are as wide as there is room, and each is a link with words of its own.
+
+use crate::rows::{Row, Rows};
+use esr_audit::Summary;
+use esr_prose::push_number;
+use std::alloc::AllocError;
+
+/// So many queries have names below their columns.
+const MOST_NAMED: usize = 12;
+
+/// So many columns there are at most.
+const MOST_COLUMNS: usize = 1000;
+
+/// The height of an amount, in thousandths of the chart's.
+fn height(amount: u64, top: u64) -> u64 {
+    let share = if top < 1_000_000_000_000_000 {
+        amount.min(top).saturating_mul(1000).checked_div(top)
+    } else {
+        amount.min(top).checked_div(top / 1000)
+    };
+    share.unwrap_or(0).min(1000)
+}
+
+/// A bar of such a class.
+fn push_bar(out: &mut String, class: &str, amount: u64, top: u64) -> Result<(), AllocError> {
+    let height = height(amount, top);
+    let (whole, part) = (height / 10, height % 10);
+    write!(
+        out,
+        "<i class='{class}' style='bottom:0;height:{whole}.{part}%'></i>"
+    )
+}
+
+/// The mark of a limit, where it is not above the chart.
+fn push_limit(out: &mut String, limit: u64, top: u64) -> Result<(), AllocError> {
+    if limit > top {
+        return Ok(());
+    }
+    let height = height(limit, top);
+    let (whole, part) = (height / 10, height % 10);
+    write!(out, "<i class='lim' style='bottom:{whole}.{part}%'></i>")
+}
+
+/// What a column says in words.
+fn push_words(out: &mut String, row: &Row<'_>) -> Result<(), AllocError> {
+    out.push_str(row.name)?;
+    out.push_str(": limit ")?;
+    push_number(out, row.limit)?;
+    out.push_str(", charged ")?;
+    push_number(out, row.charged)?;
+    out.push_str(", off by ")?;
+    push_number(out, row.distance().unwrap_or(0))
+}
+
+/// A column.
+fn push_column(out: &mut String, row: &Row<'_>, top: u64) -> Result<(), AllocError> {
+    let name = row.name;
+    let target = if row.is_told { "q" } else { "r" };
+    write!(out, "<li><a href='#{target}-{name}' title='")?;
+    push_words(out, row)?;
+    out.push_str("'><span class='col' aria-hidden='true'>")?;
+    push_bar(out, "chg", row.charged, top)?;
+    push_bar(out, "dis", row.distance().unwrap_or(0), top)?;
+    push_limit(out, row.limit, top)?;
+    write!(out, "</span><span class='nam'>{name}</span></a></li>\n")
+}
+
+/// The columns of these queries.
+fn push_columns(
+    out: &mut String,
+    all: &mut Rows<'_>,
+    summaries: &[Summary],
+    top: u64,
+) -> Result<(), AllocError> {
+    for summary in summaries.iter().take(MOST_COLUMNS) {
+        if let Some(row) = all.of(summary.query) {
+            push_column(out, row, top)?;
+        }
+    }
+    Ok(())
+}
+
+/// What the height of the chart stands for: the most that a query was charged, or where none was charged anything, the
+/// highest limit.
+fn top_of(rows: &[Row<'_>]) -> u64 {
+    let charged = rows.iter().map(|row| row.charged).max().unwrap_or(0);
+    if charged > 0 {
+        return charged;
+    }
+    rows.iter().map(|row| row.limit).max().unwrap_or(0).max(1)
+}
+
+/// What the colours mean, and how high the chart is.
+fn push_legend(out: &mut String, top: u64, count: usize) -> Result<(), AllocError> {
+    out.push_str(
+        "<p class='key'><span><i class='chg'></i> charged</span> <span><i class='dis'></i> off by</span> <span><i class='lim'></i> limit, where it is not above the chart</span></p>\n<p>The top of the chart stands for ",
+    )?;
+    push_number(out, top)?;
+    out.push('.')?;
+    if count > MOST_COLUMNS {
+        out.push_str(" It has the first ")?;
+        push_number(out, MOST_COLUMNS as u64)?;
+        out.push_str(" of ")?;
+        push_number(out, count as u64)?;
+        out.push_str(" queries.")?;
+    }
+    out.push_str("</p>\n")
+}
+
+/// The chart of the committed queries.
+pub fn push_chart(
+    out: &mut String,
+    all: &mut Rows<'_>,
+    summaries: &[Summary],
+) -> Result<(), AllocError> {
+    if summaries.is_empty() {
+        return out.push_str("<p>No query has committed.</p>\n");
+    }
+    let top = top_of(&all.rows);
+    out.push_str("<h2>Committed queries, in the order of their commits</h2>\n")?;
+    let class = if summaries.len() > MOST_NAMED {
+        "chart many"
+    } else {
+        "chart few"
+    };
+    write!(
+        out,
+        "<div class='wide' tabindex='0' role='group' aria-label='Chart'><ol class='{class}'>\n"
+    )?;
+    push_columns(out, all, summaries, top)?;
+    out.push_str("</ol></div>\n")?;
+    push_legend(out, top, summaries.len())
+}

@@ -1,0 +1,142 @@
+//! Picture and prose of the queries that were farthest off. Each is audited again, one after another, so that no more
+//! than one problem is in memory.
+
+use crate::rows::{End, Row, Rows};
+use esr_audit::{AuditError, Finding, audit_query};
+use esr_history::TxnId;
+use esr_picture::picture;
+use esr_prose::{Audited, Block, Kind, Tale, lines_of_entries, prose_of, push_number};
+use esr_report::name_of_transaction;
+use esr_telling::Chronicle;
+use std::alloc::{AllocError, Global};
+
+/// Marks so many queries that were farthest off, and gives them, the farthest first. Of two that were off alike the one
+/// that was charged more comes first.
+pub fn tell_farthest(
+    alloc: Global,
+    all: &mut Rows<'_>,
+    count: u64,
+) -> Result<Vec<TxnId>, AllocError> {
+    let mut ranks = Vec::new(alloc);
+    for row in &all.rows {
+        if let Some(distance) = row.distance() {
+            let far = u64::MAX.saturating_sub(distance);
+            let dear = u64::MAX.saturating_sub(row.charged);
+            ranks.push((far, dear, row.query.0))?;
+        }
+    }
+    ranks.sort_unstable();
+    let mut told = Vec::new(alloc);
+    for (_, _, number) in ranks.iter().take(usize::try_from(count).unwrap_or(0)) {
+        let query = TxnId(*number);
+        if let Some(row) = all.of(query) {
+            row.is_told = true;
+            told.push(query)?;
+        }
+    }
+    Ok(told)
+}
+
+/// Blocks of prose.
+fn push_blocks(out: &mut String, blocks: &[Block]) -> Result<(), AllocError> {
+    let mut is_in_list = false;
+    for block in blocks {
+        let is_point = block.kind == Kind::Point;
+        if is_point != is_in_list {
+            out.push_str(if is_point { "<ul>\n" } else { "</ul>\n" })?;
+            is_in_list = is_point;
+        }
+        out.push_str(if is_point { "<li>" } else { "<p>" })?;
+        out.push_str(&block.words)?;
+        out.push_str(if is_point { "</li>\n" } else { "</p>\n" })?;
+    }
+    out.push_str(if is_in_list { "</ul>\n" } else { "" })
+}
+
+/// The heading of a query.
+fn push_heading(out: &mut String, name: &str, distance: u64) -> Result<(), AllocError> {
+    write!(out, "<section id='q-{name}'><h3>{name}: ")?;
+    if distance == 0 {
+        out.push_str("exact")?;
+    } else {
+        out.push_str("off by ")?;
+        push_number(out, distance)?;
+    }
+    out.push_str("</h3>\n")
+}
+
+/// A query with picture and prose.
+fn push_told(
+    alloc: Global,
+    out: &mut String,
+    chronicle: &Chronicle<'_>,
+    lines: &[u32],
+    finding: &Finding,
+) -> Result<(), AllocError> {
+    let audited = Audited {
+        items: &chronicle.items,
+        transactions: &chronicle.transactions,
+        history: &chronicle.history,
+        finding,
+    };
+    let found = Some(finding);
+    let tale = Tale {
+        items: &chronicle.items,
+        transactions: &chronicle.transactions,
+        history: &chronicle.history,
+        lines,
+        query: finding.query,
+        finding: found,
+    };
+    let name = name_of_transaction(&chronicle.transactions, finding.query);
+    push_heading(out, name, finding.distance)?;
+    write!(
+        out,
+        "<div class='wide' tabindex='0' role='group' aria-label='Picture of {name}'>\n"
+    )?;
+    out.push_str(&picture(alloc, &audited)?)?;
+    out.push_str("</div>\n")?;
+    push_blocks(out, &prose_of(alloc, &tale)?)?;
+    write!(
+        out,
+        "<p><a href='#r-{name}'>{name} in the table</a></p></section>\n"
+    )
+}
+
+/// A query with picture and prose, after an audit of its own.
+fn push_query(
+    alloc: Global,
+    out: &mut String,
+    chronicle: &Chronicle<'_>,
+    lines: &[u32],
+    query: TxnId,
+) -> Result<(), AllocError> {
+    match audit_query(alloc, &chronicle.history, query) {
+        Ok(finding) => push_told(alloc, out, chronicle, lines, &finding),
+        Err(AuditError::NoMemory) => Err(AllocError),
+        Err(_) => Ok(()),
+    }
+}
+
+/// Picture and prose of these queries.
+pub fn push_details(
+    alloc: Global,
+    out: &mut String,
+    chronicle: &Chronicle<'_>,
+    told: &[TxnId],
+) -> Result<(), AllocError> {
+    if told.is_empty() {
+        return Ok(());
+    }
+    let lines = lines_of_entries(
+        alloc,
+        chronicle.script,
+        &chronicle.transactions,
+        &chronicle.history,
+    )?;
+    out.push_str("<h2>The farthest off</h2>\n")?;
+    for query in told {
+        push_query(alloc, out, chronicle, &lines, *query)?;
+    }
+    Ok(())
+}

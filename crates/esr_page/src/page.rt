@@ -1,0 +1,196 @@
+//! The page, in its order.
+
+ghost use Rattle.std.specs.Prelude.{IfOk};
+ghost use Rattle.esr_page.specs.Page.{IsPage};
+
+use crate::chart::push_chart;
+use crate::details::{push_details, tell_farthest};
+use crate::rows::{Row, rows_of};
+use crate::style::{HEAD, SCRIPT};
+use crate::table::push_table;
+use esr_audit::{CommitLists, Summaries, Summary, audit_query, commit_lists};
+use esr_history::{History, TxnId};
+use esr_items::Weighted;
+use esr_prose::{push_count, push_number};
+use esr_report::{Names, name_of_transaction};
+use esr_telling::{Chronicle, Survey};
+use std::alloc::{AllocError, Global};
+
+/// Of so many queries at most picture and prose are told.
+pub const MOST_TOLD: u64 = 1000;
+
+/// The page about a script.
+#[derive(Drop)]
+pub struct Page {
+    /// Of how many queries picture and prose are told, those that were farthest off.
+    pub worst: u64,
+}
+
+/// What the queries were off and charged together, of those that committed.
+#[derive(Clone, Copy)]
+struct Totals<'a> {
+    queries: u64,
+    exact: u64,
+    distance: u64,
+    charged: u64,
+    farthest: Option<(&'a str, u64)>,
+}
+
+/// The sums over the queries that committed.
+fn totals_of<'a>(rows: &[Row<'a>]) -> Totals<'a> {
+    let mut totals = Totals {
+        queries: 0,
+        exact: 0,
+        distance: 0,
+        charged: 0,
+        farthest: None,
+    };
+    for row in rows {
+        let Some(distance) = row.distance() else {
+            continue;
+        };
+        totals.queries = totals.queries.saturating_add(1);
+        totals.exact = totals.exact.saturating_add(u64::from(distance == 0));
+        totals.distance = totals.distance.saturating_add(distance);
+        totals.charged = totals.charged.saturating_add(row.charged);
+        if distance > 0 && totals.farthest.is_none_or(|(_, most)| distance > most) {
+            totals.farthest = Some((row.name, distance));
+        }
+    }
+    totals
+}
+
+/// How many queries and updates there were, and how far the farthest was off.
+fn push_sums(out: &mut String, totals: Totals<'_>, updates: u64) -> Result<(), AllocError> {
+    out.push_str("<p>")?;
+    push_count(
+        out,
+        totals.queries,
+        " committed query",
+        " committed queries",
+    )?;
+    out.push_str(" among ")?;
+    push_count(out, updates, " committed update", " committed updates")?;
+    out.push_str(".</p>\n<dl>\n<div><dt>Exact</dt><dd>")?;
+    push_number(out, totals.exact)?;
+    out.push_str(" of ")?;
+    push_number(out, totals.queries)?;
+    out.push_str("</dd></div>\n<div><dt>Off, all together</dt><dd>")?;
+    push_number(out, totals.distance)?;
+    out.push_str("</dd></div>\n<div><dt>Charged, all together</dt><dd>")?;
+    push_number(out, totals.charged)?;
+    out.push_str("</dd></div>\n")?;
+    if let Some((name, distance)) = totals.farthest {
+        write!(out, "<div><dt>Farthest off</dt><dd>{name}, by ")?;
+        push_number(out, distance)?;
+        out.push_str("</dd></div>\n")?;
+    }
+    out.push_str("</dl>\n")
+}
+
+/// The committed updates in a serial order, folded away.
+fn push_order(out: &mut String, names: &Names, order: &[TxnId]) -> Result<(), AllocError> {
+    out.push_str(
+        "<h2>Serial order</h2>\n<p>Run one after another in this order, the updates would have left the same values.</p>\n<details><summary>",
+    )?;
+    push_count(out, order.len() as u64, " update", " updates")?;
+    out.push_str("</summary>\n<p class='order'>")?;
+    for (place, update) in order.iter().enumerate() {
+        if place > 0 {
+            out.push_str(", ")?;
+        }
+        out.push_str(name_of_transaction(names, *update))?;
+    }
+    out.push_str("</p></details>\n")
+}
+
+/// The document without its first words and its last.
+fn body_of(
+    alloc: Global,
+    chronicle: &Chronicle<'_>,
+    found: &Summaries,
+    worst: u64,
+) -> Result<String, AllocError> {
+    let mut all = rows_of(alloc, chronicle, &found.summaries)?;
+    let told = tell_farthest(alloc, &mut all, worst)?;
+    let mut out = String::new(alloc);
+    out.push_str(HEAD)?;
+    push_sums(&mut out, totals_of(&all.rows), found.order.len() as u64)?;
+    push_chart(&mut out, &mut all, &found.summaries)?;
+    push_table(&mut out, &all.rows)?;
+    push_details(alloc, &mut out, chronicle, &told)?;
+    push_order(&mut out, &chronicle.transactions, &found.order)?;
+    out.push_str(SCRIPT)?;
+    Ok(out)
+}
+
+/// The page about a script of which this was found.
+fn page_of(
+    alloc: Global,
+    chronicle: &Chronicle<'_>,
+    found: &Summaries,
+    worst: u64,
+) -> Result<Vec<u8>, AllocError>
+    ensures { IfOk result (λ text. IsPage text.items) }
+{
+    let body = body_of(alloc, chronicle, found, worst)?;
+    let text = format!(in alloc; "<!DOCTYPE html>{body}</html>\n")?;
+    Ok(text.into_bytes())
+}
+
+/// What the audit finds of a committed query, in a summary.
+fn summary_of(
+    alloc: Global,
+    history: &History<Weighted>,
+    query: TxnId,
+) -> Result<Summary, AllocError> {
+    match audit_query(alloc, history, query) {
+        Ok(finding) => Ok(Summary::from(finding)),
+        Err(_) => Err(AllocError),
+    }
+}
+
+/// The committed updates, and what audits find of the committed queries, one after another.
+fn summarize(alloc: Global, history: &History<Weighted>) -> Result<Summaries, AllocError> {
+    let Ok(
+        CommitLists {
+            all: _,
+            updates,
+            queries,
+        },
+    ) = commit_lists(alloc, history)
+    else {
+        return Err(AllocError);
+    };
+    let mut summaries = Vec::new(alloc);
+    for query in &queries {
+        summaries.push(summary_of(alloc, history, *query)?)?;
+    }
+    Ok(Summaries {
+        order: updates,
+        summaries,
+    })
+}
+
+/// The page about a script.
+fn page_about(alloc: Global, chronicle: &Chronicle<'_>, worst: u64) -> Result<Vec<u8>, AllocError>
+    ensures { IfOk result (λ text. IsPage text.items) }
+{
+    let found = summarize(alloc, &chronicle.history)?;
+    page_of(alloc, chronicle, &found, worst)
+}
+
+impl Survey for Page {
+    ghost IsTextOf = { λ _ _ text. IsPage text };
+
+    fn text_of(
+        &self,
+        alloc: Global,
+        chronicle: &Chronicle<'_>,
+    ) -> Result<Option<Vec<u8>>, AllocError> {
+        match page_about(alloc, chronicle, self.worst) {
+            Ok(text) => Ok(Some(text)),
+            Err(error) => Err(error),
+        }
+    }
+}

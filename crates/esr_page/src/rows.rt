@@ -1,0 +1,137 @@
+//! What is told of each query in the table and in the chart. One pass over the log counts reads and finds who is strict;
+//! what audits find is put beside it.
+
+use esr_audit::Summary;
+use esr_history::{Entry, Event, History, Reply, TxnId};
+use esr_items::Weighted;
+use esr_report::name_of_transaction;
+use esr_telling::Chronicle;
+use std::alloc::{AllocError, Global};
+
+/// How a query ended.
+#[derive(Clone, Copy, PartialEq, Eq)]
+pub enum End {
+    /// It committed, and this far its audit finds it from a serial placement.
+    Committed { distance: u64 },
+    Aborted,
+    Active,
+}
+
+/// What is told of a query.
+#[derive(Clone, Copy)]
+pub struct Row<'a> {
+    pub query: TxnId,
+    pub name: &'a str,
+    pub is_strict: bool,
+    pub limit: u64,
+    pub charged: u64,
+    pub reads: u64,
+    pub end: End,
+    /// Whether picture and prose follow.
+    pub is_told: bool,
+}
+
+impl Row<'_> {
+    /// The distance, if it has one.
+    pub fn distance(&self) -> Option<u64> {
+        match self.end {
+            End::Committed { distance } => Some(distance),
+            End::Aborted | End::Active => None,
+        }
+    }
+}
+
+/// How a transaction ended, before what its audit finds is known.
+fn end_of(history: &History<Weighted>, end: Option<u64>) -> End {
+    let Some(entry) = end.and_then(|place| history.log().get(place as usize)) else {
+        return End::Active;
+    };
+    match entry.event {
+        Event::Commit { .. } => End::Committed { distance: 0 },
+        _ => End::Aborted,
+    }
+}
+
+/// The queries of a history, in the order of their numbers, and the place of each transaction among them.
+#[derive(Drop)]
+pub struct Rows<'a> {
+    pub rows: Vec<Row<'a>>,
+    place_of: Vec<Option<usize>>,
+}
+
+/// The queries, as they began and ended.
+fn queries_of<'a>(alloc: Global, chronicle: &'a Chronicle<'_>) -> Result<Rows<'a>, AllocError> {
+    let history = &chronicle.history;
+    let count = history.begun_count();
+    let mut rows = Vec::new(alloc);
+    let mut place_of = vec![in alloc; None; count.saturating_add(1)]?;
+    for (number, place) in (0u32..65_536).zip(place_of.iter_mut()) {
+        let query = TxnId(number);
+        let Some(facts) = history.facts(query) else {
+            continue;
+        };
+        if !facts.query {
+            continue;
+        }
+        *place = Some(rows.len());
+        rows.push(Row {
+            query,
+            name: name_of_transaction(&chronicle.transactions, query),
+            is_strict: false,
+            limit: facts.limit,
+            charged: history.import(query),
+            reads: 0,
+            end: end_of(history, facts.end),
+            is_told: false,
+        })?;
+    }
+    Ok(Rows { rows, place_of })
+}
+
+impl<'a> Rows<'a> {
+    /// Notes what an entry tells of a query.
+    fn note(&mut self, entry: Entry) {
+        let (txn, is_read) = match (entry.event, entry.reply) {
+            (Event::Read { txn, .. }, Reply::Value(_)) => (txn, true),
+            (Event::BeginQuery { strict: true, .. }, Reply::Begun(txn)) => (txn, false),
+            _ => return,
+        };
+        let Some(row) = self.of(txn) else {
+            return;
+        };
+        if is_read {
+            row.reads = row.reads.saturating_add(1);
+        } else {
+            row.is_strict = true;
+        }
+    }
+
+    /// The row of a query.
+    pub fn of(&mut self, query: TxnId) -> Option<&mut Row<'a>> {
+        let place = self.place_of.get(query.0 as usize).copied().flatten()?;
+        self.rows.get_mut(place)
+    }
+}
+
+/// The queries of a script, with what their audits find.
+pub fn rows_of<'a>(
+    alloc: Global,
+    chronicle: &'a Chronicle<'_>,
+    summaries: &[Summary],
+) -> Result<Rows<'a>, AllocError> {
+    let mut all = queries_of(alloc, chronicle)?;
+    let log = chronicle.history.log();
+    for place in 0..log.len() {
+        if let Some(entry) = log.get(place) {
+            all.note(entry);
+        }
+    }
+    for summary in summaries {
+        if let Some(row) = all.of(summary.query) {
+            row.end = End::Committed {
+                distance: summary.distance,
+            };
+        }
+    }
+    Ok(all)
+}

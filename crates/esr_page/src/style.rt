@@ -1,0 +1,81 @@
+//! The fixed parts of the page: its head with the style, and the script that sorts the table.
+
+/// The head, and the start of the body. Classes have three letters or more, since pictures bring some of one letter.
+pub const HEAD: &str = "
+<html lang='en'>
+<head>
+<meta charset='utf-8'>
+<meta name='viewport' content='width=device-width, initial-scale=1'>
+<meta name='color-scheme' content='light dark'>
+<title>How far the reports were off</title>
+<style>
+:root{--ink:#1f2328;--dim:#59636e;--paper:#fff;--rule:#d1d9e0;--link:#0a56a8;--charged:#9ec5e8;--off:#c4302b}
+@media (prefers-color-scheme:dark){:root{--ink:#e6edf3;--dim:#9aa4af;--paper:#0d1117;--rule:#3d444d;--link:#78b6f5;--charged:#2f5f8a;--off:#ff7b72}}
+body{margin:0;background:var(--paper);color:var(--ink);font:16px/1.5 sans-serif}
+main{max-width:1120px;margin:0 auto;padding:16px}
+h1{font-size:1.6em;line-height:1.2}
+h2{margin-top:2em;border-bottom:1px solid var(--rule)}
+h3{margin-top:2em}
+p,li{max-width:46em;overflow-wrap:anywhere}
+a{color:var(--link)}
+dl{display:flex;flex-wrap:wrap;gap:8px 32px;margin:1em 0}
+dt{color:var(--dim)}
+dd{margin:0;font-size:1.4em;overflow-wrap:anywhere}
+.wide{overflow-x:auto;max-width:100%}
+.wide svg{display:block}
+ol.chart{display:flex;align-items:flex-end;list-style:none;margin:0;padding:0 0 4px}
+.chart li{max-width:none}
+.many li{flex:1 0 4px}
+.many .lim{border-top-width:1px}
+.few li{flex:0 0 9.5em}
+.chart a{display:block;text-align:center;text-decoration:none}
+.col{display:block;position:relative;height:200px;margin:0 1px;border-bottom:1px solid var(--ink)}
+.few .col{margin:0 25%}
+.chart i{position:absolute;left:0;right:0}
+.chg{background:var(--charged)}
+.dis{background:var(--off)}
+.few .dis{left:25%;right:25%}
+.lim{border-top:2px solid var(--ink)}
+.few .nam{font:12px monospace;text-decoration:underline}
+.many .nam{position:absolute;width:1px;height:1px;overflow:hidden;clip-path:inset(50%);white-space:nowrap}
+.many li{position:relative}
+.key span{margin-right:1.5em}
+.key i{display:inline-block;width:16px;height:12px}
+.key .lim{height:0;margin-bottom:4px}
+table{border-collapse:collapse;font-size:.9em}
+th,td{padding:4px 10px;border-bottom:1px solid var(--rule);text-align:left;white-space:nowrap}
+td.num{text-align:right;font-variant-numeric:tabular-nums}
+thead th{position:sticky;top:0;background:var(--paper)}
+th button{font:inherit;color:var(--link);background:none;border:0;padding:0;cursor:pointer;text-decoration:underline}
+tr:target,section:target h3{outline:2px solid var(--link)}
+.order{color:var(--dim);max-width:none}
+@media print{*{-webkit-print-color-adjust:exact;print-color-adjust:exact}.wide{overflow:visible}.wide svg{max-width:100%;height:auto}.many li{flex-basis:0}table{font-size:.7em}th,td{padding:2px 5px}h3{break-after:avoid}.wide{break-inside:avoid-page}}
+</style>
+</head>
+<body>
+<main>
+<h1>How far the reports were off</h1>
+";
+
+/// The script that lets a press on a heading of the table sort by its column, and the end of the body.
+pub const SCRIPT: &str = "</main>
+<script>
+for(const [at,head] of document.querySelectorAll('thead th').entries()){
+const button=document.createElement('button');
+button.textContent=head.textContent;
+head.replaceChildren(button);
+button.onclick=()=>{
+const body=head.closest('table').tBodies[0];
+const up=head.getAttribute('aria-sort')==='descending';
+const key=row=>row.cells[at].textContent;
+const number=text=>Number(text.replaceAll(',',''));
+const compare=(a,b)=>isNaN(number(a))||isNaN(number(b))?a.localeCompare(b):number(a)-number(b);
+const rows=[...body.rows].sort((a,b)=>up?compare(key(a),key(b)):compare(key(b),key(a)));
+for(const other of head.parentElement.children)other.removeAttribute('aria-sort');
+head.setAttribute('aria-sort',up?'ascending':'descending');
+body.append(...rows);
+};
+}
+</script>
+</body>
+";

@@ -1,0 +1,19 @@
+//! A query that was audited, with what its script leads to. All of it is lent: a page tells of many queries of one
+//! history.
+
+use esr_audit::Finding;
+use esr_history::History;
+use esr_items::Weighted;
+use esr_report::Names;
+
+/// A query that was audited.
+#[derive(Clone, Copy)]
+pub struct Audited<'a> {
+    /// The names of the items, in the order of their numbers, from 0.
+    pub items: &'a Names,
+    /// The names of the transactions, in the order of their numbers, from 1.
+    pub transactions: &'a Names,
+    pub history: &'a History<Weighted>,
+    /// What the audit finds of it.
+    pub finding: &'a Finding,
+}

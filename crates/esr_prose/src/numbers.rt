@@ -1,0 +1,54 @@
+//! Numbers in groups of three digits, and how many letters they take.
+
+ghost use Rattle.std.specs.Prelude.{◌≤◌};
+
+use std::alloc::AllocError;
+
+/// Digits in groups of three.
+fn push_digits(out: &mut String, digits: &str) -> Result<(), AllocError> {
+    let count = digits.len();
+    for (place, digit) in digits.chars().enumerate() {
+        if place > 0 && count.saturating_sub(place) % 3 == 0 {
+            out.push(',')?;
+        }
+        out.push(digit)?;
+    }
+    Ok(())
+}
+
+/// A number in groups of three digits: `1,000,000`.
+pub fn push_number(out: &mut String, number: u64) -> Result<(), AllocError> {
+    let mut digits = itoa::Buffer::new();
+    push_digits(out, digits.format(number))
+}
+
+/// A value in groups of three digits.
+pub fn push_value(out: &mut String, value: i64) -> Result<(), AllocError> {
+    if value < 0 {
+        out.push('-')?;
+    }
+    push_number(out, value.unsigned_abs())
+}
+
+/// So many of something: `1 update`, `2 updates`.
+pub fn push_count(out: &mut String, count: u64, one: &str, many: &str) -> Result<(), AllocError> {
+    push_number(out, count)?;
+    out.push_str(if count == 1 { one } else { many })
+}
+
+/// How many letters a number has, at most.
+pub fn number_letters(number: u64) -> usize
+    ensures { result ≤ 26 }
+{
+    let mut digits = itoa::Buffer::new();
+    let count = digits.format(number).len().min(20);
+    count + count / 3
+}
+
+/// How many letters a value has, at most.
+pub fn letters_of(value: i64) -> usize
+    ensures { result ≤ 30 }
+{
+    let sign = if value < 0 { 1 } else { 0 };
+    number_letters(value.unsigned_abs()) + sign
+}

@@ -1,0 +1,128 @@
+//! What a picture says in words above its lanes, and prose too: whether what the query read was ever true at one moment, where the
+//! nearest is, what it was charged and by whom, and which updates it had to be behind.
+
+use crate::audited::Audited;
+use crate::numbers::push_number;
+use crate::story::{Story, Sum};
+use crate::text::{MOST_NAMES, push_names, push_rest, wrap};
+use esr_history::TxnId;
+use esr_report::name_of_transaction;
+use std::alloc::{AllocError, Global};
+
+/// So many letters are on a line of a picture at most.
+const LINE: usize = 120;
+
+/// The name of a transaction.
+fn name<'a>(asked: &Audited<'a>, txn: TxnId) -> &'a str {
+    name_of_transaction(asked.transactions, txn)
+}
+
+/// Where the line is.
+pub fn push_moment(out: &mut String, asked: &Audited<'_>) -> Result<(), AllocError> {
+    let before = &asked.finding.before;
+    if before.is_empty() {
+        return out.push_str("before all updates");
+    }
+    out.push_str("after ")?;
+    push_names(out, asked.transactions, before)
+}
+
+/// Whether what it read was ever true at one moment.
+pub fn verdict(alloc: Global, asked: &Audited<'_>, story: &Story) -> Result<String, AllocError> {
+    let query = name(asked, asked.finding.query);
+    let mut out = String::new(alloc);
+    if story.sights.is_empty() {
+        out.push_str(query)?;
+        out.push_str(" read nothing.")?;
+        return Ok(out);
+    }
+    out.push_str("What ")?;
+    out.push_str(query)?;
+    if asked.finding.distance > 0 {
+        out.push_str(" read was never true at one moment.")?;
+        return Ok(out);
+    }
+    out.push_str(" read was true at one moment, ")?;
+    push_moment(&mut out, asked)?;
+    out.push('.')?;
+    Ok(out)
+}
+
+/// The nearest moment, where none has all that was read.
+pub fn nearest(alloc: Global, asked: &Audited<'_>) -> Result<String, AllocError> {
+    let mut out = String::new(alloc);
+    out.push_str(if asked.finding.problem.must().is_empty() {
+        "The nearest moment, "
+    } else {
+        "The nearest moment that a strict report may have, "
+    })?;
+    push_moment(&mut out, asked)?;
+    out.push_str(", differs by ")?;
+    push_number(&mut out, asked.finding.distance)?;
+    out.push('.')?;
+    Ok(out)
+}
+
+/// The updates that were charged most, with their amounts.
+fn push_charges(out: &mut String, asked: &Audited<'_>, charges: &[Sum]) -> Result<(), AllocError> {
+    for (place, charge) in charges.iter().take(MOST_NAMES).enumerate() {
+        out.push_str(if place == 0 { ": " } else { ", " })?;
+        out.push_str(name(asked, TxnId(charge.number)))?;
+        out.push(' ')?;
+        push_number(out, charge.amount)?;
+    }
+    push_rest(out, charges.len())
+}
+
+/// What the query was charged of its limit, and by whom. Nobody is named where the sums do not agree.
+fn charged(alloc: Global, asked: &Audited<'_>, story: &Story) -> Result<String, AllocError> {
+    let import = asked.finding.import;
+    let limit = asked
+        .history
+        .facts(asked.finding.query)
+        .map_or(0, |facts| facts.limit);
+    let mut out = String::new(alloc);
+    out.push_str("Charged ")?;
+    push_number(&mut out, import)?;
+    out.push_str(" of ")?;
+    push_number(&mut out, limit)?;
+    if story.charged() == import {
+        push_charges(&mut out, asked, &story.sums_by_update(alloc)?)?;
+    }
+    out.push('.')?;
+    Ok(out)
+}
+
+/// The updates that a strict query had to be behind.
+pub fn strict(alloc: Global, asked: &Audited<'_>) -> Result<String, AllocError> {
+    let problem = &asked.finding.problem;
+    let mut seen = Vec::new(alloc);
+    for position in problem.must() {
+        if let Some(update) = problem.updates().get(*position as usize) {
+            seen.push(*update)?;
+        }
+    }
+    let mut out = String::new(alloc);
+    out.push_str("It is strict, and had to be behind ")?;
+    push_names(&mut out, asked.transactions, &seen)?;
+    out.push_str(", which had committed when it began.")?;
+    Ok(out)
+}
+
+/// The sentences above the lanes.
+pub fn sentences_of(
+    alloc: Global,
+    asked: &Audited<'_>,
+    story: &Story,
+) -> Result<Vec<String>, AllocError> {
+    let mut lines = Vec::new(alloc);
+    wrap(alloc, &mut lines, LINE, &verdict(alloc, asked, story)?)?;
+    if asked.finding.distance > 0 {
+        wrap(alloc, &mut lines, LINE, &nearest(alloc, asked)?)?;
+    }
+    wrap(alloc, &mut lines, LINE, &charged(alloc, asked, story)?)?;
+    if !asked.finding.problem.must().is_empty() {
+        wrap(alloc, &mut lines, LINE, &strict(alloc, asked)?)?;
+    }
+    Ok(lines)
+}

@@ -1,0 +1,128 @@
+//! Prose about one query of a script, however it ended, as lines of a width at which no terminal wraps them.
+
+use crate::lines::lines_of_entries;
+use crate::prose::{Block, Kind, prose_of};
+use crate::tale::Tale;
+use crate::text::wrap;
+use esr_audit::{AuditError, Finding, audit_query};
+use esr_history::TxnId;
+use esr_telling::{Chronicle, Survey};
+use std::alloc::{AllocError, Global};
+
+/// A line has fewer letters than this.
+const WIDTH: usize = 80;
+
+/// Appends a block, with a blank line before it where it is a paragraph and not the first.
+fn push_block(alloc: Global, out: &mut String, block: &Block) -> Result<(), AllocError> {
+    let (first, others) = match block.kind {
+        Kind::Paragraph => ("", ""),
+        Kind::Point => ("  - ", "    "),
+    };
+    if block.kind == Kind::Paragraph && !out.is_empty() {
+        out.push('\n')?;
+    }
+    let mut lines = Vec::new(alloc);
+    wrap(
+        alloc,
+        &mut lines,
+        WIDTH.saturating_sub(first.len()),
+        &block.words,
+    )?;
+    for (place, line) in lines.iter().enumerate() {
+        out.push_str(if place == 0 { first } else { others })?;
+        out.push_str(line)?;
+        out.push('\n')?;
+    }
+    Ok(())
+}
+
+/// The lines of some blocks.
+fn text_of(alloc: Global, blocks: &[Block]) -> Result<String, AllocError> {
+    let mut out = String::new(alloc);
+    for block in blocks {
+        push_block(alloc, &mut out, block)?;
+    }
+    Ok(out)
+}
+
+/// What the audit finds of a query, if it has committed.
+fn finding_of(
+    alloc: Global,
+    chronicle: &Chronicle<'_>,
+    query: TxnId,
+) -> Result<Option<Finding>, AllocError> {
+    match audit_query(alloc, &chronicle.history, query) {
+        Ok(finding) => Ok(Some(finding)),
+        Err(AuditError::NoMemory) => Err(AllocError),
+        Err(_) => Ok(None),
+    }
+}
+
+/// The number of the query of that name, if there is one.
+fn query_called(chronicle: &Chronicle<'_>, name: &str) -> Option<TxnId> {
+    let position = chronicle.transactions.number_of(name)?;
+    let query = TxnId(position.saturating_add(1));
+    let facts = chronicle.history.facts(query)?;
+    facts.query.then_some(query)
+}
+
+/// The prose about a query of which this was found, if it has committed.
+fn prose_with(
+    alloc: Global,
+    chronicle: &Chronicle<'_>,
+    query: TxnId,
+    finding: Option<&Finding>,
+) -> Result<String, AllocError> {
+    let lines = lines_of_entries(
+        alloc,
+        chronicle.script,
+        &chronicle.transactions,
+        &chronicle.history,
+    )?;
+    let tale = Tale {
+        items: &chronicle.items,
+        transactions: &chronicle.transactions,
+        history: &chronicle.history,
+        lines: &lines,
+        query,
+        finding,
+    };
+    let blocks = prose_of(alloc, &tale)?;
+    text_of(alloc, &blocks)
+}
+
+/// The prose about a query.
+fn prose_about(
+    alloc: Global,
+    chronicle: &Chronicle<'_>,
+    query: TxnId,
+) -> Result<Vec<u8>, AllocError> {
+    let finding = finding_of(alloc, chronicle, query)?;
+    let text = prose_with(alloc, chronicle, query, finding.as_ref())?;
+    Ok(text.into_bytes())
+}
+
+/// The prose about a query of a script.
+#[derive(Drop)]
+pub struct Prose<'a> {
+    /// The name of the query.
+    pub name: &'a str,
+}
+
+impl Survey for Prose<'_> {
+    ghost IsTextOf = { λ _ _ _. Unit {0} };
+
+    fn text_of(
+        &self,
+        alloc: Global,
+        chronicle: &Chronicle<'_>,
+    ) -> Result<Option<Vec<u8>>, AllocError> {
+        match query_called(chronicle, self.name) {
+            Some(query) => match prose_about(alloc, chronicle, query) {
+                Ok(text) => Ok(Some(text)),
+                Err(error) => Err(error),
+            },
+            None => Ok(None),
+        }
+    }
+}

@@ -1,0 +1,61 @@
+//! A reader that keeps a copy of what passes. A history knows no lines, so who tells of a line of the script has to read
+//! the script once more.
+
+ghost use Rattle.std.specs.Prelude.{◌≡◌};
+ghost use Rattle.std.specs.Io.{ReadsAtMost};
+ghost use Rattle.std.specs.Io.KnownBytes.{ReadConsumes};
+ghost use Rattle.esr_script.specs.Survey.{lower};
+
+use std::alloc::Global;
+use std::io;
+use std::io::Read;
+
+/// A reader with a copy of what was read from it.
+#[derive(Drop)]
+pub struct Copied<R> {
+    lower: R,
+    copy: Vec<u8>,
+    is_whole: bool,
+}
+
+impl<R> Copied<R> {
+    pub fn new(alloc: Global, reader: R) -> Copied<R>
+        ensures { lower result ≡ reader }
+    {
+        Copied {
+            lower: reader,
+            copy: Vec::new(alloc),
+            is_whole: true,
+        }
+    }
+
+    /// What was read, unless memory was refused for it.
+    pub fn copy(&self) -> Option<&[u8]> {
+        if self.is_whole {
+            Some(&self.copy)
+        } else {
+            None
+        }
+    }
+
+    /// Keeps what was read.
+    fn keep(&mut self, bytes: &[u8])
+        ensures { lower self.new ≡ lower self.old }
+    {
+        if self.copy.extend_from_slice(bytes).is_err() {
+            self.is_whole = false;
+        }
+    }
+}
+
+impl<R: Read> Read for Copied<R> {
+    ghost remaining = { λ c. R.remaining (lower c) };
+
+    fn read(&mut self, buf: &mut [u8]) -> io::Result<usize> {
+        let result = self.lower.read(buf);
+        if let Ok(count) = &result {
+            self.keep(&buf[..*count]);
+        }
+        result
+    }
+}
