@@ -2,11 +2,13 @@
 _esr() {
     local word=${COMP_WORDS[COMP_CWORD]} command=${COMP_WORDS[1]-} options=
     if [ "$COMP_CWORD" -eq 1 ]; then
-        mapfile -t COMPREPLY < <(compgen -W "run audit explain picture certify check lint drive help --help --version" -- "$word")
+        mapfile -t COMPREPLY < <(compgen -W "run audit explain picture page certify check lint drive help --help --version" -- "$word")
         return
     fi
     case $command in
-        run | explain | picture) options="--bail --help" ;;
+        run | picture) options="--bail --help" ;;
+        explain) options="--bail --prose --help" ;;
+        page) options="--bail --worst --help" ;;
         certify) options="--bail --steps --help" ;;
         audit) options="--bail --workers --help" ;;
         drive) options="--workers --help" ;;

@@ -16,9 +16,8 @@ from typing import Callable, Dict, List, Mapping, Optional, Set, Tuple, Type, Ty
 from . import _library as c
 from ._errors import Blocked, Deadlock, EsrError, HistoryFull, OutOfRange, Refused, UnknownItem
 
-MOST_TRANSACTIONS = 65_535
-MOST_ENTRIES = 1_000_000
-NEARLY_FULL = MOST_ENTRIES - MOST_ENTRIES // 10
+NEARLY_FULL = 100_000
+"""Where no more entries are left nothing begins until the engine is renewed: what is active has room to go on."""
 WORDS = {
     1: "no such transaction",
     2: "already ended",
@@ -79,7 +78,8 @@ class _Waits:
 
 
 class Bank:
-    """Items with names and opening values, and transactions over them.
+    """Items with names and opening values, and transactions over them. A difference of an item counts as often as its
+    weight says, 1 to 1,000; once where none is given.
 
     `before_renewal` is called with the bank when a history is about to be gone: `due()` has the reports that were not
     audited yet. It must begin nothing.
@@ -89,6 +89,7 @@ class Bank:
         self,
         items: Mapping[str, int],
         *,
+        weights: Mapping[str, int] = {},
         patience: float = 1.0,
         before_renewal: Optional[Callable[["Bank"], None]] = None,
     ) -> None:
@@ -100,12 +101,16 @@ class Bank:
         self._ended = threading.Condition(self._lock)
         self._waits = _Waits()
         self._active: Set[int] = set()
-        self._entries = self._begun = self._bodies = self.renewals = 0
+        self._bodies = self.renewals = 0
         self._due: List["Query"] = []
-        opening = (ctypes.c_int64 * max(len(items), 1))(*items.values())
-        status = c.library.esr_open(self._engine, opening, len(items))
+        if not weights.keys() <= items.keys():
+            raise UnknownItem(min(weights.keys() - items.keys()))
+        count = len(items)
+        opening = (ctypes.c_int64 * max(count, 1))(*items.values())
+        counted = (ctypes.c_uint32 * max(count, 1))(*(weights.get(name, 1) for name in items))
+        status = c.library.esr_open_weighted(self._engine, opening, count, counted, count)
         if status != c.DONE:
-            raise MemoryError if status == c.NO_MEMORY else OutOfRange("an opening value, or the count of items")
+            raise MemoryError if status == c.NO_MEMORY else OutOfRange("an opening value, a weight, or the count of items")
 
     def __del__(self) -> None:
         if hasattr(self, "_engine"):
@@ -183,7 +188,9 @@ class Bank:
             raise EsrError(f"status {status}")
 
     def _is_nearly_full(self) -> bool:
-        return self._begun >= MOST_TRANSACTIONS or self._entries >= NEARLY_FULL
+        counts = c.Counts()
+        self._check(c.library.esr_counts_of(self._engine, counts))
+        return not counts.transactions_left or counts.entries_left <= NEARLY_FULL
 
     def _make_room(self) -> None:
         """Waits until the history has room, and renews it where nobody else does. The lock is held."""
@@ -194,7 +201,6 @@ class Bank:
             if self._before_renewal:
                 self._before_renewal(self)
             self._check(c.library.esr_renew(self._engine))
-            self._entries = self._begun = 0
             self._waits = _Waits()
             self._due.clear()
             self.renewals += 1
@@ -203,7 +209,6 @@ class Bank:
     def _answer(self, call: Callable[..., int], *words: int) -> c.Reply:
         reply = c.Reply()
         self._check(call(self._engine, *words, reply))
-        self._entries += 1
         return reply
 
     def _begin(self, transaction: "_Transaction", call: Callable[..., int], *words: int) -> None:
@@ -212,7 +217,6 @@ class Bank:
             reply = self._answer(call, *words)
             if reply.kind == c.REFUSED:
                 raise OutOfRange(WORDS[reply.refusal])
-            self._begun += 1
             self._active.add(reply.txn)
             transaction.number = reply.txn
             if transaction._age is None:
@@ -266,6 +270,15 @@ class _Transaction:
         return bank._step(self, lambda: bank._answer(c.library.esr_read, self.number, item)).value
 
 
+    @property
+    def charged(self) -> int:
+        """What it was charged so far: what a report has read is off by at most that."""
+        account = c.Account()
+        with self._bank._lock:
+            self._bank._check(c.library.esr_account_of(self._bank._engine, self.number, account))
+        return account.charged
+
+
 class Update(_Transaction):
     """An update: see `Bank.update`."""
 
@@ -288,13 +301,14 @@ class Update(_Transaction):
         bank._step(self, lambda: bank._answer(c.library.esr_write, self.number, item, value))
 
     def add(self, name: str, more: int) -> int:
-        """Adds to an item and answers its new value, under one lock, so that two that add never wait in a ring."""
+        """Adds to an item and answers its new value. It takes the write lock before it reads, so that two that add to one
+        item never wait in a ring."""
         bank, item = self._bank, self._bank._number_of(name)
         total = 0
 
         def both() -> c.Reply:
             nonlocal total
-            reply = bank._answer(c.library.esr_read, self.number, item)
+            reply = bank._answer(c.library.esr_read_for_update, self.number, item)
             if reply.kind == c.REFUSED:
                 return reply
             total = reply.value + more

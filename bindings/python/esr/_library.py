@@ -4,7 +4,7 @@ import ctypes
 import ctypes.util
 import os
 import pathlib
-from ctypes import POINTER, c_bool, c_char_p, c_int64, c_size_t, c_uint8, c_uint32, c_uint64
+from ctypes import POINTER, c_bool, c_int64, c_size_t, c_uint8, c_uint32, c_uint64
 
 DONE, NOT_A_COMMITTED_QUERY, TOO_SMALL, FULL, NO_MEMORY = 0, 6, 7, 12, 13
 BEGUN, VALUE, WROTE, COMMITTED, ABORTED, REFUSED = 1, 2, 3, 4, 5, 6
@@ -20,6 +20,14 @@ class Reply(ctypes.Structure):
 
 class Totals(ctypes.Structure):
     _fields_ = [("high", c_uint64), ("low", c_uint64), ("entries", c_uint64)]
+
+
+class Counts(ctypes.Structure):
+    _fields_ = [(name, c_uint64) for name in ("entries", "transactions", "active", "entries_left", "transactions_left")]
+
+
+class Account(ctypes.Structure):
+    _fields_ = [("query", c_bool), ("standing", c_uint32), ("limit", c_uint64), ("charged", c_uint64)]
 
 
 class Finding(ctypes.Structure):
@@ -40,14 +48,17 @@ def _load() -> ctypes.CDLL:
     library = ctypes.CDLL(_path())
     engine = POINTER(Engine)
     declared = {
-        "esr_open": [engine, POINTER(c_int64), c_size_t],
+        "esr_open_weighted": [engine, POINTER(c_int64), c_size_t, POINTER(c_uint32), c_size_t],
         "esr_begin_update": [engine, c_uint64, POINTER(Reply)],
         "esr_begin_query": [engine, c_uint64, c_bool, POINTER(Reply)],
         "esr_read": [engine, c_uint32, c_uint32, POINTER(Reply)],
         "esr_write": [engine, c_uint32, c_uint32, c_int64, POINTER(Reply)],
+        "esr_read_for_update": [engine, c_uint32, c_uint32, POINTER(Reply)],
         "esr_commit": [engine, c_uint32, POINTER(Reply)],
         "esr_abort": [engine, c_uint32, POINTER(Reply)],
         "esr_totals_of": [engine, POINTER(Totals)],
+        "esr_counts_of": [engine, POINTER(Counts)],
+        "esr_account_of": [engine, c_uint32, POINTER(Account)],
         "esr_values": [engine, POINTER(c_int64), c_size_t, POINTER(c_size_t)],
         "esr_audit": [engine, c_uint32, POINTER(c_uint32), c_size_t, POINTER(Finding)],
         "esr_bundle": [engine, c_uint32, POINTER(c_uint8), c_size_t, POINTER(c_size_t)],

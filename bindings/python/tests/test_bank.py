@@ -84,6 +84,18 @@ class Banks(unittest.TestCase):
             with self.assertRaises(Refused):
                 first.write("checking", 10**13)
 
+    def test_weights_and_charges(self):
+        """A weighted item's differences count as money, and what was charged can be asked while a report goes on."""
+        bank = Bank({"phones": 15, "money": 0}, weights={"phones": 900})
+        with bank.update(900) as sale:
+            sale.add("phones", -1)
+            with bank.report(900) as report:
+                self.assertEqual((report.read("phones"), report.charged, sale.charged), (14, 900, 900))
+            self.assertEqual(report.finding.distance, 900)
+            sale.add("money", 900)
+        with self.assertRaises(UnknownItem):
+            Bank({"a": 1}, weights={"b": 1})
+
     def test_a_deadlock_is_given_up_by_the_younger(self):
         """Two that hold what the other wants: one learns it at once, and both get through by trying anew."""
         bank, met, runs = two_accounts(patience=10), threading.Barrier(2), []

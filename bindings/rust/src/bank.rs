@@ -12,10 +12,11 @@
 //! each commit, and they are slower together than one alone; a short sleep costs nobody else anything.
 
 use crate::{
-    Engine, Error, Event, Finding, MOST_ENTRIES, MOST_TRANSACTIONS, Patience, Refusal, Reply, Txn,
+    Engine, Error, Event, Finding, MOST_ENTRIES, Patience, Refusal, Reply, Txn,
     waits::{Age, Waits},
 };
 use std::{
+    cell::Cell,
     collections::{HashMap, HashSet, hash_map::RandomState},
     fmt,
     hash::{BuildHasher, Hasher},
@@ -23,8 +24,8 @@ use std::{
     thread,
 };
 
-/// From so many entries on nothing begins until the bank has been renewed: what is active has room to end.
-const NEARLY_FULL: u64 = MOST_ENTRIES - MOST_ENTRIES / 10;
+/// Where no more entries are left nothing begins until the bank has been renewed: what is active has room to go on.
+const NEARLY_FULL: u64 = MOST_ENTRIES / 10;
 
 /// A committed report, by which it can be audited until the bank is renewed.
 #[derive(Clone, Copy, PartialEq, Eq, Hash, Debug)]
@@ -36,8 +37,6 @@ pub struct Report {
 /// What the lock is round.
 struct Shared {
     engine: Engine,
-    entries: u64,
-    begun: u32,
     active: HashSet<Txn>,
     /// How many bodies have begun, each counted once however often it is begun anew.
     bodies: u64,
@@ -47,22 +46,22 @@ struct Shared {
 }
 
 impl Shared {
-    fn is_nearly_full(&self) -> bool {
-        self.begun >= MOST_TRANSACTIONS || self.entries >= NEARLY_FULL
-    }
-
-    fn step(&mut self, event: Event) -> Result<Reply, Error> {
-        let reply = self.engine.step(event)?;
-        self.entries += 1;
-        Ok(reply)
+    fn is_nearly_full(&mut self) -> bool {
+        let counts = self.engine.counts();
+        counts.transactions_left == 0 || counts.entries_left <= NEARLY_FULL
     }
 
     /// Gives an event of a transaction once. What is blocked is noted as waiting.
-    fn step_of(&mut self, txn: Txn, age: Age, event: Event) -> Result<Reply, Error> {
+    fn step_of(
+        &mut self,
+        txn: Txn,
+        age: Age,
+        event: impl FnOnce(&mut Engine) -> Result<Reply, Error>,
+    ) -> Result<Reply, Error> {
         if self.waits.has_given_up(txn) {
             return Err(Error::Deadlock);
         }
-        let reply = self.step(event)?;
+        let reply = event(&mut self.engine)?;
         match reply {
             Reply::Refused(
                 Refusal::BlockedByLock(other)
@@ -117,6 +116,7 @@ pub struct Bank {
 pub struct BankBuilder {
     names: HashMap<String, u32>,
     opening: Vec<i64>,
+    weights: Vec<u32>,
     twice: bool,
     patience: Option<Patience>,
     before_renewal: Option<BeforeRenewal>,
@@ -124,10 +124,22 @@ pub struct BankBuilder {
 
 impl BankBuilder {
     /// An item, with its opening value.
-    pub fn item(mut self, name: impl Into<String>, value: i64) -> BankBuilder {
+    pub fn item(self, name: impl Into<String>, value: i64) -> BankBuilder {
+        self.weighted_item(name, value, 1)
+    }
+
+    /// An item of which each difference counts as often as its weight says, 1 to 1,000: so limits can be amounts of
+    /// money where items are pieces.
+    pub fn weighted_item(
+        mut self,
+        name: impl Into<String>,
+        value: i64,
+        weight: u32,
+    ) -> BankBuilder {
         let number = self.opening.len() as u32;
         self.twice |= self.names.insert(name.into(), number).is_some();
         self.opening.push(value);
+        self.weights.push(weight);
         self
     }
 
@@ -163,7 +175,7 @@ impl BankBuilder {
     /// Opens the bank.
     ///
     /// # Errors
-    /// `NameTwice`, `TooManyItems`, `ValueOutOfRange`, `NoMemory`.
+    /// `NameTwice`, `TooManyItems`, `ValueOutOfRange`, `WeightOutOfRange`, `NoMemory`.
     pub fn open(self) -> Result<Bank, Error> {
         if self.twice {
             return Err(Error::NameTwice);
@@ -176,9 +188,7 @@ impl BankBuilder {
                 ..Patience::default()
             }),
             shared: Mutex::new(Shared {
-                engine: Engine::open(&self.opening)?,
-                entries: 0,
-                begun: 0,
+                engine: Engine::open_weighted(&self.opening, &self.weights)?,
                 active: HashSet::new(),
                 bodies: 0,
                 renewals: 0,
@@ -260,8 +270,6 @@ impl Bank {
         }
         shared.engine.renew()?;
         shared.renewals += 1;
-        shared.entries = 0;
-        shared.begun = 0;
         shared.waits = Waits::default();
         shared.due.clear();
         self.ended.notify_all();
@@ -271,12 +279,11 @@ impl Bank {
     /// Begins a transaction, as old as its first attempt where it is begun anew.
     fn begin(&self, event: Event, age: Option<Age>) -> Result<Handle<'_>, Error> {
         let mut shared = self.with_room()?;
-        let txn = match shared.step(event)? {
+        let txn = match shared.engine.step(event)? {
             Reply::Begun(txn) => txn,
             Reply::Refused(why) => return Err(Error::Refused(why)),
             other => unreachable!("{other:?}"),
         };
-        shared.begun += 1;
         shared.active.insert(txn);
         let age = age.unwrap_or_else(|| {
             shared.bodies += 1;
@@ -535,19 +542,26 @@ impl<'a> Handle<'a> {
 
     fn read(&mut self, name: &str) -> Result<i64, Error> {
         let (txn, age, item) = (self.txn, self.age, self.bank.number_of(name)?);
-        match self.step(|shared| shared.step_of(txn, age, Event::Read { txn, item }))? {
+        match self.step(|shared| {
+            shared.step_of(txn, age, |engine| engine.step(Event::Read { txn, item }))
+        })? {
             Reply::Value(value) => Ok(value),
             other => unreachable!("{other:?}"),
         }
     }
 
+    fn charged(&self) -> u64 {
+        let account = self.bank.lock().engine.account(self.txn);
+        account.map_or(0, |account| account.charged)
+    }
+
     /// Ends it by an event, under a lock that is handed on.
     fn end(mut self, event: Event) -> Result<MutexGuard<'a, Shared>, Error> {
         let mut shared = self.bank.lock();
-        shared.step(event)?;
+        shared.engine.step(event)?;
         self.is_active = false;
         shared.forget(self.txn);
-        self.bank.tell_of_the_last(&shared);
+        self.bank.tell_of_the_last(&mut shared);
         Ok(shared)
     }
 
@@ -559,10 +573,10 @@ impl<'a> Handle<'a> {
     fn abort(&mut self) -> Option<Txn> {
         let mut shared = self.bank.lock();
         // an engine keeps room for the end of each active transaction, so this is done
-        let _ = shared.step(Event::Abort { txn: self.txn });
+        let _ = shared.engine.abort(self.txn);
         self.is_active = false;
         let waited_for = shared.forget(self.txn);
-        self.bank.tell_of_the_last(&shared);
+        self.bank.tell_of_the_last(&mut shared);
         waited_for
     }
 
@@ -590,7 +604,7 @@ impl<'a> Handle<'a> {
 
 impl Bank {
     /// Wakes those who wait to begin, where nothing is active any more.
-    fn tell_of_the_last(&self, shared: &Shared) {
+    fn tell_of_the_last(&self, shared: &mut Shared) {
         if shared.active.is_empty() && shared.is_nearly_full() {
             self.ended.notify_all();
         }
@@ -627,37 +641,39 @@ impl BankUpdate<'_, '_> {
     pub fn write(&mut self, name: &str, value: i64) -> Result<(), Error> {
         let (txn, age) = (self.handle.txn, self.handle.age);
         let item = self.handle.bank.number_of(name)?;
-        let write =
-            |shared: &mut Shared| shared.step_of(txn, age, Event::Write { txn, item, value });
-        self.handle.step(write).map(drop)
+        let write = Event::Write { txn, item, value };
+        self.handle
+            .step(|shared| shared.step_of(txn, age, |engine| engine.step(write)))
+            .map(drop)
     }
 
-    /// Adds to an item, and answers its new value. Both the read and the write are made under one lock, so two updates
-    /// that add to one item never wait for each other in a ring.
+    /// Adds to an item, and answers its new value. It takes the write lock before it reads, so two updates that add to
+    /// one item never wait for each other in a ring.
     ///
     /// # Errors
     /// Those of [`write`](BankUpdate::write).
     pub fn add(&mut self, name: &str, more: i64) -> Result<i64, Error> {
         let (txn, age) = (self.handle.txn, self.handle.age);
         let item = self.handle.bank.number_of(name)?;
-        let sum = std::cell::Cell::new(0);
+        let sum = Cell::new(0);
         self.handle.step(|shared| {
-            let reply = shared.step_of(txn, age, Event::Read { txn, item })?;
+            let reply = shared.step_of(txn, age, |engine| engine.step_for_update(txn, item))?;
             let Reply::Value(value) = reply else {
                 return Ok(reply);
             };
             sum.set(value.saturating_add(more));
-            shared.step_of(
-                txn,
-                age,
-                Event::Write {
-                    txn,
-                    item,
-                    value: sum.get(),
-                },
-            )
+            let value = sum.get();
+            shared.step_of(txn, age, |engine| {
+                engine.step(Event::Write { txn, item, value })
+            })
         })?;
         Ok(sum.get())
+    }
+
+    /// What the update has exported so far.
+    #[must_use]
+    pub fn charged(&self) -> u64 {
+        self.handle.charged()
     }
 }
 
@@ -681,6 +697,12 @@ impl BankQuery<'_, '_> {
     /// Those of [`BankUpdate::read`], and `Refused` at the 1,001st read.
     pub fn read(&mut self, name: &str) -> Result<i64, Error> {
         self.handle.read(name)
+    }
+
+    /// What the report has imported so far: what it has read is off by at most that.
+    #[must_use]
+    pub fn charged(&self) -> u64 {
+        self.handle.charged()
     }
 }
 

@@ -159,6 +159,10 @@ pub enum Error {
     TooManyItems,
     /// An opening value outside -10^12 to 10^12.
     ValueOutOfRange,
+    /// A weight of 0, or above 1,000.
+    WeightOutOfRange,
+    /// No transaction has that number.
+    NotBegun,
     /// The transaction is no query, or has not committed.
     NotACommittedQuery,
     /// There is no room for the event beside the ends of what is active, or no number for a begin: end that, and
@@ -181,6 +185,8 @@ impl fmt::Display for Error {
         f.write_str(match self {
             Error::TooManyItems => "too many items",
             Error::ValueOutOfRange => "value out of range",
+            Error::WeightOutOfRange => "weight out of range",
+            Error::NotBegun => "no such transaction",
             Error::NotACommittedQuery => "not a committed query",
             Error::HistoryFull => "history full",
             Error::NoMemory => "out of memory",
@@ -209,6 +215,48 @@ pub struct Totals {
     pub import: u128,
     /// How many events were answered, refusals among them.
     pub entries: u64,
+}
+
+/// What a history has, and what is left of it beside the ends of what is active.
+#[derive(Clone, Copy, PartialEq, Eq, Debug)]
+#[non_exhaustive]
+pub struct Counts {
+    /// How many events were answered, refusals among them.
+    pub entries: u64,
+    /// How many transactions have begun.
+    pub transactions: u64,
+    /// How many of them are active.
+    pub active: u64,
+    /// How many more events may be answered.
+    pub entries_left: u64,
+    /// How many more transactions may begin.
+    pub transactions_left: u64,
+}
+
+/// How a transaction stands.
+#[derive(Clone, Copy, PartialEq, Eq, Debug)]
+#[non_exhaustive]
+pub enum Standing {
+    /// It has not ended.
+    Active,
+    /// It has committed.
+    Committed,
+    /// It was aborted.
+    Aborted,
+}
+
+/// What is known of a transaction at any time. What a query has read so far is off by at most what it was charged.
+#[derive(Clone, Copy, PartialEq, Eq, Debug)]
+#[non_exhaustive]
+pub struct Account {
+    /// Whether it is a query, and else an update.
+    pub is_query: bool,
+    /// Whether it is active, and how it ended.
+    pub standing: Standing,
+    /// The most that it may be charged.
+    pub limit: u64,
+    /// What it was charged so far: what a query has imported, or an update exported.
+    pub charged: u64,
 }
 
 /// What an audit finds of a committed query.

@@ -47,7 +47,7 @@ mod transact;
 mod waits;
 
 pub use bank::{Bank, BankBuilder, BankQuery, BankUpdate, Closing, Report};
-pub use event::{Error, Event, Finding, Refusal, Reply, Totals, Txn};
+pub use event::{Account, Counts, Error, Event, Finding, Refusal, Reply, Standing, Totals, Txn};
 pub use transact::{Patience, Update, transact};
 
 use std::fmt;
@@ -75,6 +75,8 @@ fn done(status: u32) -> Result<(), Error> {
         0 => Ok(()),
         1 => Err(Error::TooManyItems),
         2 => Err(Error::ValueOutOfRange),
+        3 => Err(Error::NotBegun),
+        4 => Err(Error::WeightOutOfRange),
         6 => Err(Error::NotACommittedQuery),
         12 => Err(Error::HistoryFull),
         13 => Err(Error::NoMemory),
@@ -141,6 +143,38 @@ impl Engine {
         let mut engine = Engine { raw: sys::CLOSED };
         // SAFETY: the pointer and the length are those of one slice, which is borrowed for the call.
         done(unsafe { sys::esr_open(&mut engine.raw, opening.as_ptr(), opening.len()) })?;
+        Ok(engine)
+    }
+
+    /// The same, where a difference of an item counts as often as its weight says, 1 to 1,000. An item past the weights
+    /// counts once.
+    ///
+    /// ```
+    /// // 15 phones at 900, and money: a limit is an amount of money.
+    /// let mut engine = esr::Engine::open_weighted(&[15, 0], &[900])?;
+    /// let sale = engine.begin_update(900)?;
+    /// engine.write(sale, 0, 14)?;
+    /// let count = engine.begin_query(1_000)?;
+    /// engine.read(count, 0)?;
+    /// assert_eq!(engine.account(count)?.charged, 900);
+    /// # Ok::<(), esr::Error>(())
+    /// ```
+    ///
+    /// # Errors
+    /// `TooManyItems`, `ValueOutOfRange`, `WeightOutOfRange`, `NoMemory`.
+    pub fn open_weighted(opening: &[i64], weights: &[u32]) -> Result<Engine, Error> {
+        let mut engine = Engine { raw: sys::CLOSED };
+        let (values, items) = (opening.as_ptr(), opening.len());
+        // SAFETY: the pointers and the lengths are those of two slices, which are borrowed for the call.
+        done(unsafe {
+            sys::esr_open_weighted(
+                &mut engine.raw,
+                values,
+                items,
+                weights.as_ptr(),
+                weights.len(),
+            )
+        })?;
         Ok(engine)
     }
 
@@ -222,6 +256,63 @@ impl Engine {
         self.accepted(Event::Abort { txn }).map(drop)
     }
 
+    /// Reads an item that the update is going to write: it takes the write lock first, so that nobody comes between this
+    /// read and the write, and two updates that do so never wait for each other in a ring.
+    ///
+    /// # Errors
+    /// Those of [`step`](Engine::step), and `Refused`. With `NoMemory` the lock may have been taken.
+    pub fn read_for_update(&mut self, txn: Txn, item: u32) -> Result<i64, Error> {
+        match self.step_for_update(txn, item)? {
+            Reply::Value(value) => Ok(value),
+            Reply::Refused(why) => Err(Error::Refused(why)),
+            other => unreachable!("{other:?}"),
+        }
+    }
+
+    pub(crate) fn step_for_update(&mut self, txn: Txn, item: u32) -> Result<Reply, Error> {
+        let mut reply = sys::Reply::default();
+        done(sys::esr_read_for_update(
+            &mut self.raw,
+            txn.0,
+            item,
+            &mut reply,
+        ))?;
+        Ok(reply_of(reply))
+    }
+
+    /// What the history has, and what is left of it.
+    pub fn counts(&mut self) -> Counts {
+        let mut counts = sys::Counts::default();
+        done(sys::esr_counts_of(&mut self.raw, &mut counts)).expect("an open engine has counts");
+        Counts {
+            entries: counts.entries,
+            transactions: counts.transactions,
+            active: counts.active,
+            entries_left: counts.entries_left,
+            transactions_left: counts.transactions_left,
+        }
+    }
+
+    /// What is known of a transaction, at any time.
+    ///
+    /// # Errors
+    /// `NotBegun`.
+    pub fn account(&mut self, txn: Txn) -> Result<Account, Error> {
+        let mut account = sys::Account::default();
+        done(sys::esr_account_of(&mut self.raw, txn.0, &mut account))?;
+        Ok(Account {
+            is_query: account.query,
+            standing: match account.standing {
+                0 => Standing::Active,
+                4 => Standing::Committed,
+                5 => Standing::Aborted,
+                other => unreachable!("standing {other}"),
+            },
+            limit: account.limit,
+            charged: account.charged,
+        })
+    }
+
     /// What has been imported, and how many entries the history has.
     pub fn totals(&mut self) -> Totals {
         let mut totals = sys::Totals::default();
@@ -282,6 +373,14 @@ impl Engine {
     /// `TransactionActive`, `NoMemory`: then nothing has changed.
     pub fn renew(&mut self) -> Result<(), Error> {
         done(sys::esr_renew(&mut self.raw))
+    }
+
+    /// The same from every state: what is active is aborted.
+    ///
+    /// # Errors
+    /// `NoMemory`: then nothing has changed but that some may have been aborted.
+    pub fn renew_aborting(&mut self) -> Result<(), Error> {
+        done(sys::esr_renew_aborting(&mut self.raw))
     }
 }
 

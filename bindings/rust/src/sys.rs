@@ -36,10 +36,36 @@ pub(crate) struct Finding {
     pub count: usize,
 }
 
+#[repr(C)]
+#[derive(Clone, Copy, Default)]
+pub(crate) struct Counts {
+    pub entries: u64,
+    pub transactions: u64,
+    pub active: u64,
+    pub entries_left: u64,
+    pub transactions_left: u64,
+}
+
+#[repr(C)]
+#[derive(Clone, Copy, Default)]
+pub(crate) struct Account {
+    pub query: bool,
+    pub standing: u32,
+    pub limit: u64,
+    pub charged: u64,
+}
+
 // A call without lists is safe: references promise what `esr.h` asks, and no call has a further condition. A list
 // crosses as a pointer and a length.
 unsafe extern "C" {
     pub(crate) fn esr_open(engine: &mut Engine, opening: *const i64, items: usize) -> u32;
+    pub(crate) fn esr_open_weighted(
+        engine: &mut Engine,
+        opening: *const i64,
+        items: usize,
+        weights: *const u32,
+        weighted: usize,
+    ) -> u32;
     pub(crate) safe fn esr_close(engine: &mut Engine);
     pub(crate) safe fn esr_begin_update(engine: &mut Engine, limit: u64, reply: &mut Reply) -> u32;
     pub(crate) safe fn esr_begin_query(
@@ -59,6 +85,14 @@ unsafe extern "C" {
     ) -> u32;
     pub(crate) safe fn esr_commit(engine: &mut Engine, txn: u32, reply: &mut Reply) -> u32;
     pub(crate) safe fn esr_abort(engine: &mut Engine, txn: u32, reply: &mut Reply) -> u32;
+    pub(crate) safe fn esr_read_for_update(
+        engine: &mut Engine,
+        txn: u32,
+        item: u32,
+        reply: &mut Reply,
+    ) -> u32;
+    pub(crate) safe fn esr_counts_of(engine: &mut Engine, counts: &mut Counts) -> u32;
+    pub(crate) safe fn esr_account_of(engine: &mut Engine, txn: u32, account: &mut Account) -> u32;
     pub(crate) safe fn esr_totals_of(engine: &mut Engine, totals: &mut Totals) -> u32;
     pub(crate) fn esr_values(
         engine: &mut Engine,
@@ -81,4 +115,5 @@ unsafe extern "C" {
         count: &mut usize,
     ) -> u32;
     pub(crate) safe fn esr_renew(engine: &mut Engine) -> u32;
+    pub(crate) safe fn esr_renew_aborting(engine: &mut Engine) -> u32;
 }

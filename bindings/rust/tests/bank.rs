@@ -160,6 +160,33 @@ fn a_bank_renews_itself() {
     assert_eq!(bank.value("hits"), Ok(i64::from(MOST_TRANSACTIONS)));
 }
 
+/// A weighted item's differences count as money, and what was charged can be asked while a report goes on.
+#[test]
+fn weights_and_charges() {
+    let bank = Bank::builder()
+        .weighted_item("phones", 15, 900)
+        .item("money", 0)
+        .open()
+        .expect("they are within the limits");
+    bank.transact(900, |sale| {
+        sale.add("phones", -1)?;
+        let report = || {
+            bank.report(900, |report| {
+                let phones = report.read("phones")?;
+                Ok::<_, Error>((phones, report.charged()))
+            })
+        };
+        let answer =
+            thread::scope(|threads| threads.spawn(report).join().expect("it does not panic"))?;
+        assert_eq!((answer.0, answer.1.distance), ((14, 900), 900));
+        assert_eq!(sale.charged(), 900);
+        sale.add("money", 900)
+    })
+    .expect("nothing is in its way");
+    let bad = Bank::builder().weighted_item("phones", 15, 1_001).open();
+    assert_eq!(bad.err(), Some(Error::WeightOutOfRange));
+}
+
 /// Eight threads move money and read sums through renewals: each sum is off by at most what its report imported, and in
 /// the end nothing is missing.
 #[test]

@@ -1,6 +1,6 @@
 //! Errors and refusals, a full history, renewal, and updates of several threads.
 
-use esr::{Engine, Error, Event, MOST_ENTRIES, Patience, Refusal, Reply, Txn, transact};
+use esr::{Engine, Error, Event, MOST_ENTRIES, Patience, Refusal, Reply, Standing, Txn, transact};
 use std::{error, panic, sync::Mutex, thread, time::Duration};
 
 #[test]
@@ -146,4 +146,35 @@ fn four_threads_count_together() {
         }
     });
     assert_eq!(bank.into_inner().unwrap().values(), Ok(vec![400, 400]));
+}
+
+/// Read for update takes the lock, so whoever does the same is told so and has no lock of his own that is in the way.
+#[test]
+fn read_for_update_excludes_others() {
+    let mut engine = Engine::open(&[3]).unwrap();
+    let (first, second) = (
+        engine.begin_update(0).unwrap(),
+        engine.begin_update(0).unwrap(),
+    );
+    assert_eq!(engine.read_for_update(first, 0), Ok(3));
+    assert_eq!(
+        engine.read_for_update(second, 0),
+        Err(Error::Refused(Refusal::BlockedByLock(first)))
+    );
+    engine.write(first, 0, 4).unwrap();
+    engine.commit(first).unwrap();
+    assert_eq!(engine.read_for_update(second, 0), Ok(4));
+    let account = engine.account(first).unwrap();
+    assert_eq!(
+        (account.is_query, account.standing, account.charged),
+        (false, Standing::Committed, 0)
+    );
+    assert_eq!(
+        (engine.counts().transactions, engine.counts().active),
+        (2, 1)
+    );
+    assert_eq!(engine.renew(), Err(Error::TransactionActive));
+    engine.renew_aborting().unwrap();
+    assert_eq!(engine.account(second).unwrap_err(), Error::NotBegun);
+    assert_eq!(engine.values(), Ok(vec![4]));
 }

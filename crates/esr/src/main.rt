@@ -24,8 +24,11 @@ use esr_drive::{NoGate, drive};
 use esr_explain::Explaining;
 use esr_history::Watched;
 use esr_lint::{KeptLine, Listing, Source, Teller, When};
+use esr_page::Page;
 use esr_picture::Drawing;
-use esr_script::{audit, certify, certify_steps, lint, run, tell};
+use esr_prose::Prose;
+use esr_script::{Copied, RunFault, audit, certify, certify_steps, lint, run, survey, tell};
+use esr_telling::Survey;
 use std::alloc::AllocError;
 use std::fmt::Display;
 use std::io;
@@ -87,6 +90,57 @@ fn do_task<'a, R: Print + Eprint + AllocGlobal + Threads + Wait + Sync, I: Read 
 ) -> ExitCode
     requires { HasWorkers (work_of job.task) }
 {
+    match job.task {
+        Task::Explain { name, prose: true } => {
+            survey_input(rt, job, source, input, &Prose { name })
+        }
+        Task::Page { worst } => survey_input(rt, job, source, input, &Page { worst }),
+        _ => do_script(rt, job, source, input),
+    }
+}
+
+/// Surveys a script.
+fn survey_input<R: Print + Eprint + AllocGlobal, I: Read + Drop, S: Survey>(
+    rt: &R,
+    job: Job<'_>,
+    source: Source<'_>,
+    input: I,
+    survey_of: &S,
+) -> ExitCode {
+    let alloc = rt.alloc();
+    let mut reader = Watched::new(Copied::new(alloc, input));
+    let mut teller = Teller::new(rt, alloc, source, When::AtOnce, "");
+    let mut writer = Watched::new(Output::new(alloc, io::writer(rt), holds_back(job)));
+    match survey(alloc, &mut reader, &mut writer, survey_of, &mut teller) {
+        Ok(()) if job.bail && teller.faults() > 0 => ExitCode::from(1),
+        Ok(()) => release(rt, writer.inner()),
+        Err(RunFault::NotACommittedQuery) => fail(rt, &"not a query", 1),
+        Err(fault) => {
+            let line = teller.next_line();
+            let query = None;
+            fail(
+                rt,
+                &RunText {
+                    source,
+                    fault,
+                    line,
+                    query,
+                },
+                1,
+            )
+        }
+    }
+}
+
+/// Does the work of a job that is no survey, from this input.
+fn do_script<'a, R: Print + Eprint + AllocGlobal + Threads + Wait + Sync, I: Read + Drop>(
+    rt: &'a R,
+    job: Job<'a>,
+    source: Source<'a>,
+    input: I,
+) -> ExitCode
+    requires { HasWorkers (work_of job.task) }
+{
     let alloc = rt.alloc();
     let mut reader = Watched::new(input);
     let mut teller = Teller::new(rt, alloc, source, when_of(job.task), sought_by(job.task));
@@ -99,7 +153,7 @@ fn do_task<'a, R: Print + Eprint + AllocGlobal + Threads + Wait + Sync, I: Read 
         Task::Certify { name, steps: true } => {
             certify_steps(alloc, &mut reader, &mut writer, name, &mut teller)
         }
-        Task::Explain { name } => {
+        Task::Explain { name, .. } => {
             tell(
                 alloc,
                 &mut reader,
@@ -112,6 +166,7 @@ fn do_task<'a, R: Print + Eprint + AllocGlobal + Threads + Wait + Sync, I: Read 
         Task::Picture { name } => {
             tell(alloc, &mut reader, &mut writer, name, &Drawing, &mut teller)
         }
+        Task::Page { .. } => Ok(()),
         Task::Audit { workers } => {
             audit(rt, alloc, &mut reader, &mut writer, workers, &mut teller)
         }
@@ -150,7 +205,7 @@ fn when_of(task: Task<'_>) -> When {
 /// The query that is asked for, if one is.
 fn sought_by(task: Task<'_>) -> &str {
     match task {
-        Task::Certify { name, .. } | Task::Explain { name } | Task::Picture { name } => name,
+        Task::Certify { name, .. } | Task::Explain { name, .. } | Task::Picture { name } => name,
         _ => "",
     }
 }

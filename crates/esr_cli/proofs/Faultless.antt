@@ -14,8 +14,8 @@ use Rattle.clap.specs.Takes.{is_given}
 use Rattle.clap.specs.Faults.{check_fault, defaults_fault, entered_fault, fault_of, is_simple_and_free, level_fault, settle_fault, values_fault, walk_fault}
 use Rattle.clap.proofs.OnLiterals.{clap_on_literals}
 use Rattle.esr_cli.specs.Job as asked
-use Rattle.esr_cli.specs.Program.{audit, bail_rule, certify, drive, file_rule, name_rule, named, program, workers_rule}
-use Rattle.esr_cli.specs.Job.{HasWorkers, Request, Work, flag_in, number_in, request_in, request_of, requested, work_in, work_of, workers_in}
+use Rattle.esr_cli.specs.Program.{audit, bail_rule, certify, drive, explain, file_rule, name_rule, named, page, program, workers_rule, worst_rule}
+use Rattle.esr_cli.specs.Job.{HasWorkers, Request, Work, flag_in, number_in, request_in, request_of, requested, count_in, work_in, work_of}
 use Rattle.esr_cli.specs.declared.Job.{Job}
 use Rattle.esr_cli.proofs.Rows.{HasFirst, IsFit, default_there, first_passes, given_there, has_text, level_good}
 use Rattle.esr_cli.proofs.Stops.{StopsElsewhere, first_none, help, then_none, walk_elsewhere}
@@ -51,6 +51,9 @@ bail = filled bail_rule
 abbrev workers : Rule
 workers = filled workers_rule
 
+abbrev worst : Rule
+worst = filled worst_rule
+
 abbrev help_flag : Rule
 help_flag = filled help_rule
 
@@ -79,6 +82,19 @@ workers_fit = record {
   default = λ same v vs none. first_passes workers v vs none;
 }
 
+worst_given : (values : List Text) → range_kinds 1 1 (length values) ≡ [] → values_fault worst (values_or_missing worst values) ≡ []
+    → HasFirst (is_unsigned_in 1 64) (values_or_missing worst values)
+worst_given [] range none = absurd (cc)
+worst_given (v ∷ vs) range none = first_passes worst v vs none
+
+worst_fit : IsFit (codes "worst") (is_unsigned_in 1 64) worst
+worst_fit = record {
+  reading = λ same. refl;
+  uncounted = λ same is. absurd (cc);
+  given = λ same values range none. worst_given values range none;
+  default = λ same v vs none. first_passes worst v vs none;
+}
+
 -- ---- the subcommands
 
 -- what is asked for has workers, where any work
@@ -101,6 +117,12 @@ audit_shape = built_leaf audit.top
 
 abbrev drive_shape : Shape
 drive_shape = built_leaf drive.top
+
+abbrev explain_shape : Shape
+explain_shape = built_leaf explain.top
+
+abbrev page_shape : Shape
+page_shape = built_leaf page.top
 
 -- the rows at the end of a level, and that its last check passed
 check_none : (s : Shape) (words : List Text) → level_fault s [] nothing_held words false [] ≡ [] → check_fault s (rows_after s.rules [] words) false ≡ []
@@ -145,7 +167,16 @@ certify_served words none =
     (given_there (codes "NAME") rows (query_is_given rows (check_none certify_shape words none))) in
     one_named (λ name. asked.certify name (flag_in (codes "steps") rows)) rows given.text (λ t. tt) given.first
 
--- a number of workers that is read as it stands
+explain_served : IsServed explain_shape
+explain_served words none =
+    let rows = rows_after explain_shape.rules [] words in
+    let given = has_text (codes "NAME") (λ _. true) rows
+    (level_good (codes "NAME") (λ _. true) explain_shape words
+    (query_fit, (other_fit _ _ _ refl, (other_fit _ _ _ refl, (other_fit _ _ _ refl, (other_fit _ _ _ refl, tt))))) none)
+    (given_there (codes "NAME") rows (must_be_given (is_given (codes "NAME") rows) (check_none explain_shape words none))) in
+    one_named (λ name. asked.explain name (flag_in (codes "prose") rows)) rows given.text (λ t. tt) given.first
+
+-- a number that is read as it stands
 pub number : (text : Text) → is_unsigned_in 1 64 text ≡ true
     → (number_in text ≡ Some (digits_value 10 (without_leading_plus text))) × (1 ≤ digits_value 10 (without_leading_plus text)) × (digits_value 10 (without_leading_plus text) ≤ 64)
 number text passes =
@@ -153,11 +184,11 @@ number text passes =
     let wide : is_unsigned_in 0 18446744073709551615 text ≡ true = Accepts-accepts false (Unsigned 0 18446744073709551615) text (fits.0, fits.1, omega arith, omega arith) in
     (rw wide refl, fits.2, fits.3)
 
-workers_served : (ask : ℕ → Work) (rows : List Row) (text : Text) → ((n : ℕ) → 1 ≤ n → n ≤ 64 → HasWorkers (ask n)) → one_of (codes "workers") rows ≡ Some text → is_unsigned_in 1 64 text ≡ true
-    → IsSomeAnd (option_map (requested rows) (option_map ask (workers_in rows))) HasItsWorkers
-workers_served ask rows text within one passes =
+count_served : (option : Text) (ask : ℕ → Work) (rows : List Row) (text : Text) → ((n : ℕ) → 1 ≤ n → n ≤ 64 → HasWorkers (ask n)) → one_of option rows ≡ Some text → is_unsigned_in 1 64 text ≡ true
+    → IsSomeAnd (option_map (requested rows) (option_map ask (count_in option rows))) HasItsWorkers
+count_served option ask rows text within one passes =
     let read = number text passes in
-    let counted : workers_in rows ≡ Some (digits_value 10 (without_leading_plus text)) = rw one read.0 in
+    let counted : count_in option rows ≡ Some (digits_value 10 (without_leading_plus text)) = rw one read.0 in
     rw counted (within _ read.1 read.2)
 
 audit_served : IsServed audit_shape
@@ -168,7 +199,17 @@ audit_served words none =
     (level_good (codes "workers") (is_unsigned_in 1 64) audit_shape words
     (other_fit _ _ _ refl, (other_fit _ _ _ refl, (workers_fit, (other_fit _ _ _ refl, tt)))) none)
     (default_there workers (codes "4") [] (help_flag ∷ []) (with_default (with_default (settled audit_shape.rules held).rows file) bail) refl) in
-    workers_served asked.audit rows given.text (λ n low high. (low, high)) given.one given.passes
+    count_served (codes "workers") asked.audit rows given.text (λ n low high. (low, high)) given.one given.passes
+
+page_served : IsServed page_shape
+page_served words none =
+    let rows = rows_after page_shape.rules [] words in
+    let held = (walk page_shape.rules [] nothing_held words).held in
+    let given = has_text (codes "worst") (is_unsigned_in 1 64) rows
+    (level_good (codes "worst") (is_unsigned_in 1 64) page_shape words
+    (other_fit _ _ _ refl, (other_fit _ _ _ refl, (worst_fit, (other_fit _ _ _ refl, tt)))) none)
+    (default_there worst (codes "10") [] (help_flag ∷ []) (with_default (with_default (settled page_shape.rules held).rows file) bail) refl) in
+    count_served (codes "worst") asked.page rows given.text (λ n low high. tt) given.one given.passes
 
 drive_served : IsServed drive_shape
 drive_served words none =
@@ -178,7 +219,7 @@ drive_served words none =
     (level_good (codes "workers") (is_unsigned_in 1 64) drive_shape words
     (other_fit _ _ _ refl, (workers_fit, (other_fit _ _ _ refl, tt))) none)
     (default_there workers (codes "4") [] (help_flag ∷ []) (with_default (settled drive_shape.rules held).rows file) refl) in
-    workers_served asked.drive rows given.text (λ n low high. (low, high)) given.one given.passes
+    count_served (codes "workers") asked.drive rows given.text (λ n low high. (low, high)) given.one given.passes
 
 -- the program and its commands as they are built
 abbrev shell : App
@@ -196,10 +237,10 @@ served = (
     (
       inr (λ words none. tt),
       (
-        inr (named_served (codes "explain") asked.explain (λ t. tt) (λ rows. refl)),
+        inr explain_served,
         (
           inr (named_served (codes "picture") asked.picture (λ t. tt) (λ rows. refl)),
-          (inr audit_served, (inr drive_served, (inr (λ words none. tt), (inl refl, tt)))),
+          (inr page_served, (inr audit_served, (inr drive_served, (inr (λ words none. tt), (inl refl, tt))))),
         ),
       ),
     ),

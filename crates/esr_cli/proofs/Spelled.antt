@@ -17,7 +17,7 @@ use Rattle.clap.specs.declared.error.Error.{Error}
 use Rattle.clap.specs.declared.error.kind.ErrorKind.TheVariants as kind
 use Rattle.esr_cli.specs.Job as asked
 use Rattle.esr_cli.specs.Program.{program}
-use Rattle.esr_cli.specs.Job.{IsCall, IsFile, IsPlainWord, IsWorkers, Request, Spells, Work, file_words, flag_words, number_in, request_in, request_of}
+use Rattle.esr_cli.specs.Job.{IsCall, IsCount, IsFile, IsPlainWord, Request, Spells, Work, file_words, flag_words, number_in, request_in, request_of}
 use Rattle.esr_cli.specs.declared.Job.{Job}
 use Rattle.esr_cli.proofs.Faultless.{number}
 
@@ -78,12 +78,19 @@ unfolding clap_on_literals
 check None plain name = (refl, refl)
 check (Some file) plain name = let to = file_operand file plain in rw (to.no_dashes, to.no_long, to.no_short) (refl, refl)
 
-explain : (query : Text) (bail : Bool) (file : Option Text) → IsOperand query → IsFile file → AreTaken (codes "explain" ∷ flag_words bail (codes "--bail") ++ (query ∷ [] ++ file_words file)) (record { work = asked.explain query; file = file; bail = bail })
+explain : (query : Text) (bail : Bool) (file : Option Text) → IsOperand query → IsFile file → AreTaken (codes "explain" ∷ flag_words bail (codes "--bail") ++ (query ∷ [] ++ file_words file)) (record { work = asked.explain query false; file = file; bail = bail })
 unfolding clap_on_literals
 explain query false None is plain name = rw (is.no_dashes, is.no_long, is.no_short) (refl, refl)
 explain query false (Some file) is plain name = let to = file_operand file plain in rw (is.no_dashes, is.no_long, is.no_short, to.no_dashes, to.no_long, to.no_short) (refl, refl)
 explain query true None is plain name = rw (is.no_dashes, is.no_long, is.no_short) (refl, refl)
 explain query true (Some file) is plain name = let to = file_operand file plain in rw (is.no_dashes, is.no_long, is.no_short, to.no_dashes, to.no_long, to.no_short) (refl, refl)
+
+explain_prose : (query : Text) (bail : Bool) (file : Option Text) → IsOperand query → IsFile file → AreTaken (codes "explain" ∷ codes "--prose" ∷ (flag_words bail (codes "--bail") ++ (query ∷ [] ++ file_words file))) (record { work = asked.explain query true; file = file; bail = bail })
+unfolding clap_on_literals
+explain_prose query false None is plain name = rw (is.no_dashes, is.no_long, is.no_short) (refl, refl)
+explain_prose query false (Some file) is plain name = let to = file_operand file plain in rw (is.no_dashes, is.no_long, is.no_short, to.no_dashes, to.no_long, to.no_short) (refl, refl)
+explain_prose query true None is plain name = rw (is.no_dashes, is.no_long, is.no_short) (refl, refl)
+explain_prose query true (Some file) is plain name = let to = file_operand file plain in rw (is.no_dashes, is.no_long, is.no_short, to.no_dashes, to.no_long, to.no_short) (refl, refl)
 
 picture : (query : Text) (bail : Bool) (file : Option Text) → IsOperand query → IsFile file → AreTaken (codes "picture" ∷ flag_words bail (codes "--bail") ++ (query ∷ [] ++ file_words file)) (record { work = asked.picture query; file = file; bail = bail })
 unfolding clap_on_literals
@@ -99,11 +106,11 @@ audit false (Some file) plain name = let to = file_operand file plain in rw (to.
 audit true None plain name = (refl, refl)
 audit true (Some file) plain name = let to = file_operand file plain in rw (to.no_dashes, to.no_long, to.no_short) (refl, refl)
 
--- an audit by a number of workers that is read as it stands
-counted : (text : Text) (file : Option Text) (bail : Bool) → is_unsigned_in 1 64 text ≡ true
-    → option_map {U = Request} (λ work. record { work = work; file = file; bail = bail }) (option_map asked.audit (number_in text))
-    ≡ Some (record { work = asked.audit (digits_value 10 (without_leading_plus text)); file = file; bail = bail })
-counted text file bail passes = rw (number text passes).0 refl
+-- work of a number that is read as it stands
+counted : (ask : ℕ → Work) (text : Text) (file : Option Text) (bail : Bool) → is_unsigned_in 1 64 text ≡ true
+    → option_map {U = Request} (λ work. record { work = work; file = file; bail = bail }) (option_map ask (number_in text))
+    ≡ Some (record { work = ask (digits_value 10 (without_leading_plus text)); file = file; bail = bail })
+counted ask text file bail passes = rw (number text passes).0 refl
 
 audit_counted : (text : Text) (bail : Bool) (file : Option Text) → IsOperand text → is_unsigned_in 1 64 text ≡ true → IsFile file → AreTaken (codes "audit" ∷ codes "--workers" ∷ text ∷ (flag_words bail (codes "--bail") ++ file_words file)) (record { work = asked.audit (digits_value 10 (without_leading_plus text)); file = file; bail = bail })
 unfolding clap_on_literals
@@ -113,7 +120,25 @@ audit_counted text true None is passes plain name = (rw (is.no_dashes, is.no_lon
 audit_counted text true (Some file) is passes plain name =
     let to = file_operand file plain in (
       rw (is.no_dashes, is.no_long, is.no_short, passes, to.no_dashes, to.no_long, to.no_short) refl,
-      rw (is.no_dashes, is.no_long, is.no_short, to.no_dashes, to.no_long, to.no_short) (counted text (Some file) true passes),
+      rw (is.no_dashes, is.no_long, is.no_short, to.no_dashes, to.no_long, to.no_short) (counted asked.audit text (Some file) true passes),
+    )
+
+page : (bail : Bool) (file : Option Text) → IsFile file → AreTaken (codes "page" ∷ flag_words bail (codes "--bail") ++ file_words file) (record { work = asked.page 10; file = file; bail = bail })
+unfolding clap_on_literals
+page false None plain name = (refl, refl)
+page false (Some file) plain name = let to = file_operand file plain in rw (to.no_dashes, to.no_long, to.no_short) (refl, refl)
+page true None plain name = (refl, refl)
+page true (Some file) plain name = let to = file_operand file plain in rw (to.no_dashes, to.no_long, to.no_short) (refl, refl)
+
+page_counted : (text : Text) (bail : Bool) (file : Option Text) → IsOperand text → is_unsigned_in 1 64 text ≡ true → IsFile file → AreTaken (codes "page" ∷ codes "--worst" ∷ text ∷ (flag_words bail (codes "--bail") ++ file_words file)) (record { work = asked.page (digits_value 10 (without_leading_plus text)); file = file; bail = bail })
+unfolding clap_on_literals
+page_counted text false None is passes plain name = (rw (is.no_dashes, is.no_long, is.no_short, passes) refl, rw (is.no_dashes, is.no_long, is.no_short, (number text passes).0) refl)
+page_counted text false (Some file) is passes plain name = let to = file_operand file plain in (rw (is.no_dashes, is.no_long, is.no_short, to.no_dashes, to.no_long, to.no_short, passes) refl, rw (is.no_dashes, is.no_long, is.no_short, to.no_dashes, to.no_long, to.no_short, (number text passes).0) refl)
+page_counted text true None is passes plain name = (rw (is.no_dashes, is.no_long, is.no_short, passes) refl, rw (is.no_dashes, is.no_long, is.no_short, (number text passes).0) refl)
+page_counted text true (Some file) is passes plain name =
+    let to = file_operand file plain in (
+      rw (is.no_dashes, is.no_long, is.no_short, passes, to.no_dashes, to.no_long, to.no_short) refl,
+      rw (is.no_dashes, is.no_long, is.no_short, to.no_dashes, to.no_long, to.no_short) (counted asked.page text (Some file) true passes),
     )
 
 drive : (file : Option Text) → IsFile file → AreTaken (codes "drive" ∷ file_words file) (record { work = asked.drive 4; file = file; bail = false })
@@ -146,11 +171,11 @@ plain_number (x ∷ xs) passes = go (x == 45) refl
     go true is = let same : x ≡ 45 = grind (arith, nat_tests) in absurd (no_minus xs (subst (λ y. is_unsigned_in 1 64 (y ∷ xs) ≡ true) same passes))
     go false is = refl
 
--- the words with these own ones, for so many workers
-with_workers : (n : ℕ) (own : List Text) (Taken : List Text → ℕ → Type 0) → IsWorkers n own → Taken [] 4
-    → ((text : Text) → is_unsigned_in 1 64 text ≡ true → Taken (codes "--workers" ∷ text ∷ []) (digits_value 10 (without_leading_plus text))) → Taken own n
-with_workers n own Taken (inl (four, none)) plain counted = rw (four, none) plain
-with_workers n own Taken (inr (text, passes, is, words)) plain counted = rw (is, words) (counted text passes)
+-- the words with these own ones, for so many
+with_count : (option : Text) (usual n : ℕ) (own : List Text) (Taken : List Text → ℕ → Type 0) → IsCount option usual n own → Taken [] usual
+    → ((text : Text) → is_unsigned_in 1 64 text ≡ true → Taken (option ∷ text ∷ []) (digits_value 10 (without_leading_plus text))) → Taken own n
+with_count option usual n own Taken (inl (is, none)) plain counted = rw (is, none) plain
+with_count option usual n own Taken (inr (text, passes, is, words)) plain counted = rw (is, words) (counted text passes)
 
 taken : (words : List Text) (work : Work) (file : Option Text) (bail : Bool) → Spells words (record { work = work; file = file; bail = bail })
     → IsTaken words (record { work = work; file = file; bail = bail })
@@ -160,19 +185,28 @@ taken words (asked.certify query false) file bail (plain, (named, call)) =
 taken words (asked.certify query true) file bail (plain, (named, call)) =
     called words _ _ call (certify_steps query bail file (plain_operand query plain) named)
 taken words asked.check file bail (named, none, call) = rw none (called words _ _ call (check file named))
-taken words (asked.explain query) file bail (plain, (named, call)) =
+taken words (asked.explain query false) file bail (plain, (named, call)) =
     called words _ _ call (explain query bail file (plain_operand query plain) named)
+taken words (asked.explain query true) file bail (plain, (named, call)) =
+    called words _ _ call (explain_prose query bail file (plain_operand query plain) named)
 taken words (asked.picture query) file bail (plain, (named, call)) =
     called words _ _ call (picture query bail file (plain_operand query plain) named)
+taken words (asked.page n) file bail (own, count, (named, call)) =
+    called words _ _ call (with_count (codes "--worst") 10 n own (λ own n. AreTaken (codes "page" ∷ (own ++ (flag_words bail (codes "--bail") ++ file_words file))) (record {
+      work = asked.page n;
+      file = file;
+      bail = bail;
+    })) count (page bail file named)
+    (λ text passes. page_counted text bail file (plain_operand text (plain_number text passes)) passes named))
 taken words (asked.audit n) file bail (own, workers, (named, call)) =
-    called words _ _ call (with_workers n own (λ own n. AreTaken (codes "audit" ∷ (own ++ (flag_words bail (codes "--bail") ++ file_words file))) (record {
+    called words _ _ call (with_count (codes "--workers") 4 n own (λ own n. AreTaken (codes "audit" ∷ (own ++ (flag_words bail (codes "--bail") ++ file_words file))) (record {
       work = asked.audit n;
       file = file;
       bail = bail;
     })) workers (audit bail file named)
     (λ text passes. audit_counted text bail file (plain_operand text (plain_number text passes)) passes named))
 taken words (asked.drive n) file bail (own, workers, (named, none, call)) =
-    rw none (called words _ _ call (with_workers n own (λ own n. AreTaken (codes "drive" ∷ (own ++ file_words file)) (record {
+    rw none (called words _ _ call (with_count (codes "--workers") 4 n own (λ own n. AreTaken (codes "drive" ∷ (own ++ file_words file)) (record {
       work = asked.drive n;
       file = file;
       bail = false;

@@ -13,8 +13,9 @@ pub data Work : Type 0 where
   run : Work
   certify : Text → Bool → Work
   check : Work
-  explain : Text → Work
+  explain : Text → Bool → Work
   picture : Text → Work
+  page : ℕ → Work
   audit : ℕ → Work
   drive : ℕ → Work
   lint : Work
@@ -30,8 +31,9 @@ abbrev pub work_of : Task → Work
 work_of task.Run = run
 work_of (task.Certify name steps) = certify name.now steps
 work_of task.Check = check
-work_of (task.Explain name) = explain name.now
+work_of (task.Explain name prose) = explain name.now prose
 work_of (task.Picture name) = picture name.now
+work_of (task.Page worst) = page worst
 work_of (task.Audit workers) = audit workers
 work_of (task.Drive workers) = drive workers
 work_of task.Lint = lint
@@ -62,8 +64,15 @@ flag_in flag rows = unwrap_or (option_and_then bool_of (one_of flag rows)) false
 abbrev pub certify_in : List Row → Option Work
 certify_in rows = option_map (λ name. certify name (flag_in (codes "steps") rows)) (first_of (codes "NAME") rows)
 
+abbrev pub explain_in : List Row → Option Work
+explain_in rows = option_map (λ name. explain name (flag_in (codes "prose") rows)) (first_of (codes "NAME") rows)
+
+-- the number that an option is given
+abbrev pub count_in : Text → List Row → Option ℕ
+count_in option rows = option_and_then number_in (one_of option rows)
+
 abbrev pub workers_in : List Row → Option ℕ
-workers_in rows = option_and_then number_in (one_of (codes "workers") rows)
+workers_in = count_in (codes "workers")
 
 -- what a subcommand and its matches ask for
 abbrev pub work_in : Text → List Row → Option Work
@@ -71,12 +80,13 @@ work_in name rows =
     if bytes_eq name (codes "run") then Some run
     else (if bytes_eq name (codes "certify") then certify_in rows
     else (if bytes_eq name (codes "check") then Some check
-    else (if bytes_eq name (codes "explain") then option_map explain (first_of (codes "NAME") rows)
+    else (if bytes_eq name (codes "explain") then explain_in rows
     else (if bytes_eq name (codes "picture") then option_map picture (first_of (codes "NAME") rows)
+    else (if bytes_eq name (codes "page") then option_map page (count_in (codes "worst") rows)
     else (if bytes_eq name (codes "audit") then option_map audit (workers_in rows)
     else (if bytes_eq name (codes "drive") then option_map drive (workers_in rows)
     else (if bytes_eq name (codes "lint") then Some lint
-    else None)))))))
+    else None))))))))
 
 -- the work, with what else is asked for
 abbrev pub requested : List Row → Work → Request
@@ -129,11 +139,15 @@ SpellsScript name options operands r words =
     IsFile r.file
     × IsCall words (name ∷ (options ++ (flag_words r.bail (codes "--bail") ++ (operands ++ file_words r.file))))
 
+-- an option with a number, or, where that is what is meant without one, none
+abbrev pub IsCount : Text → ℕ → ℕ → List Text → Type 0
+IsCount option usual count options = ((count ≡ usual) × (options ≡ []))
+    ⊎ ((text : Text) × (is_unsigned_in 1 64 text ≡ true) × (count ≡ digits_value 10 (without_leading_plus text))
+    × (options ≡ option ∷ text ∷ []))
+
 -- a number of workers, or, where they are 4, none
 abbrev pub IsWorkers : ℕ → List Text → Type 0
-IsWorkers workers options = ((workers ≡ 4) × (options ≡ []))
-    ⊎ ((text : Text) × (is_unsigned_in 1 64 text ≡ true) × (workers ≡ digits_value 10 (without_leading_plus text))
-    × (options ≡ codes "--workers" ∷ text ∷ []))
+IsWorkers = IsCount (codes "--workers") 4
 
 -- a program's name, and then just the words for the request
 abbrev pub SpellsWork : Work → Request → List Text → Type 0
@@ -141,8 +155,12 @@ SpellsWork run r words = SpellsScript (codes "run") [] [] r words
 SpellsWork (certify name steps) r words =
     IsPlainWord name × SpellsScript (codes "certify") (flag_words steps (codes "--steps")) (name ∷ []) r words
 SpellsWork check r words = SpellsReader (codes "check") [] r words
-SpellsWork (explain name) r words = IsPlainWord name × SpellsScript (codes "explain") [] (name ∷ []) r words
+SpellsWork (explain name prose) r words =
+    IsPlainWord name × SpellsScript (codes "explain") (flag_words prose (codes "--prose")) (name ∷ []) r words
 SpellsWork (picture name) r words = IsPlainWord name × SpellsScript (codes "picture") [] (name ∷ []) r words
+SpellsWork (page worst) r words =
+    (options : List Text) × IsCount (codes "--worst") 10 worst options
+    × SpellsScript (codes "page") options [] r words
 SpellsWork (audit workers) r words =
     (options : List Text) × IsWorkers workers options × SpellsScript (codes "audit") options [] r words
 SpellsWork (drive workers) r words =

@@ -13,6 +13,9 @@ esr =
 abbrev pub steps_rule : Rule
 steps_rule = record (new_rule (codes "steps")) { long = Some (codes "steps"); action = Some SetTrue }
 
+abbrev pub prose_rule : Rule
+prose_rule = record (new_rule (codes "prose")) { long = Some (codes "prose"); action = Some SetTrue }
+
 abbrev pub name_rule : Rule
 name_rule = record (new_rule (codes "NAME")) { required = true }
 
@@ -23,6 +26,15 @@ workers_rule = record (new_rule (codes "workers")) {
   value_names = 1;
   parser = Some (Unsigned 1 64);
   defaults = codes "4" ∷ [];
+}
+
+-- 1 to 64 queries told in full, and 10 where no number is given
+abbrev pub worst_rule : Rule
+worst_rule = record (new_rule (codes "worst")) {
+  long = Some (codes "worst");
+  value_names = 1;
+  parser = Some (Unsigned 1 64);
+  defaults = codes "10" ∷ [];
 }
 
 abbrev pub bail_rule : Rule
@@ -46,6 +58,12 @@ named name = scripted (with_rule (new_app name) name_rule)
 abbrev pub certify : App
 certify = with_rule (named (codes "certify")) steps_rule
 
+abbrev pub explain : App
+explain = with_rule (named (codes "explain")) prose_rule
+
+abbrev pub page : App
+page = with_rule (scripted (new_app (codes "page"))) worst_rule
+
 abbrev pub audit : App
 audit = with_rule (scripted (new_app (codes "audit"))) workers_rule
 
@@ -58,7 +76,8 @@ scripts =
     (reading (new_app (codes "check"))).top
 
 abbrev pub queries : App
-queries = with_subcommand (with_subcommand scripts (named (codes "explain")).top) (named (codes "picture")).top
+queries =
+    with_subcommand (with_subcommand (with_subcommand scripts explain.top) (named (codes "picture")).top) page.top
 
 abbrev pub program : App
 program =

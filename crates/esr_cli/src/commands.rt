@@ -7,7 +7,7 @@
 ghost use Rattle.std.specs.Prelude.{◌≡◌, IfOk, codes, false};
 ghost use Rattle.clap.specs.Words.{App, app_of, new_app, with_rule, with_subcommand, rule_of};
 ghost use Rattle.clap.specs.declared.builder.command.Command.TheViews.{out-Command};
-ghost use Rattle.esr_cli.specs.Program.{audit, bail_rule, certify, drive, esr, file_rule, name_rule, named, program, queries, reading, scripted, scripts, steps_rule, workers_rule};
+ghost use Rattle.esr_cli.specs.Program.{audit, bail_rule, certify, drive, esr, explain, file_rule, name_rule, named, page, program, prose_rule, queries, reading, scripted, scripts, steps_rule, workers_rule, worst_rule};
 
 use crate::help;
 use clap::{Arg, ArgAction, Command, value_parser};
@@ -76,6 +76,30 @@ fn steps<'a>(alloc: Global) -> Arg<'a>
         .long("steps")
         .action(ArgAction::SetTrue)
         .help("Tells how many augmentations led to the flow")
+}
+
+/// `--prose`
+fn prose<'a>(alloc: Global) -> Arg<'a>
+    ensures rule { rule_of result ≡ prose_rule }
+    ensures local { result.global ≡ false }
+{
+    Arg::new(alloc, "prose")
+        .long("prose")
+        .action(ArgAction::SetTrue)
+        .help("Tells it in sentences, also of a query that has not committed")
+}
+
+/// `--worst N`
+fn worst<'a>(alloc: Global) -> Arg<'a>
+    ensures rule { rule_of result ≡ worst_rule }
+    ensures local { result.global ≡ false }
+{
+    Arg::new(alloc, "worst")
+        .long("worst")
+        .value_name("N")
+        .value_parser(value_parser!(u64).range(1..=64))
+        .default_value("10")
+        .help("How many queries are told in full, those farthest off, 1 to 64")
 }
 
 /// `--workers W`
@@ -147,6 +171,27 @@ fn certify<'a>(alloc: Global) -> Result<Command<'a>, AllocError>
 {
     let about = "Runs a script and writes the bundle of a query";
     taking(named(alloc, "certify", about, help::CERTIFY), steps(alloc))
+}
+
+/// `explain [--bail] [--prose] NAME [FILE]`
+fn explain<'a>(alloc: Global) -> Result<Command<'a>, AllocError>
+    ensures app { IfOk result (λ c. app_of c ≡ explain) }
+    ensures local { IfOk result (λ c. (out-Command c).has_globals ≡ false) }
+{
+    let about = "Runs a script and tells what a query read and was charged";
+    taking(named(alloc, "explain", about, help::EXPLAIN), prose(alloc))
+}
+
+/// `page [--bail] [--worst N] [FILE]`
+fn page<'a>(alloc: Global) -> Result<Command<'a>, AllocError>
+    ensures app { IfOk result (λ c. app_of c ≡ page) }
+    ensures local { IfOk result (λ c. (out-Command c).has_globals ≡ false) }
+{
+    let about = "Runs a script and writes an HTML page about its queries";
+    taking(
+        scripted(alloc, plain(alloc, "page", about, help::PAGE)),
+        worst(alloc),
+    )
 }
 
 /// `check [FILE]`
@@ -227,13 +272,10 @@ fn scripts<'a>(alloc: Global) -> Result<Command<'a>, AllocError>
 fn queries<'a>(alloc: Global) -> Result<Command<'a>, AllocError>
     ensures { IfOk result (λ c. app_of c ≡ queries) }
 {
-    let explain = "Runs a script and tells what a query read and was charged";
     let picture = "Runs a script and writes a picture of a query, an SVG";
-    let commands = with(
-        scripts(alloc)?,
-        named(alloc, "explain", explain, help::EXPLAIN),
-    )?;
-    with(commands, named(alloc, "picture", picture, help::PICTURE))
+    let commands = with(scripts(alloc)?, explain(alloc))?;
+    let commands = with(commands, named(alloc, "picture", picture, help::PICTURE))?;
+    with(commands, page(alloc))
 }
 
 /// The program `esr` with all its commands, as `clap` is told of them.

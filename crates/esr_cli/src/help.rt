@@ -36,7 +36,8 @@ For example:
 
 The manual has every rule: esr(1), esr(5).";
 
-pub const CERTIFY: &str = "The bundle is JSON: a query's audit as a problem, with a certificate of its least
+pub const CERTIFY: &str =
+    "The bundle is JSON: a query's audit as a problem, with a certificate of its least
 cost. esr check judges it without the script, for one who trusts neither.
 
 For example:
@@ -60,7 +61,8 @@ For example:
   $ printf '{' | esr check
   bad 1";
 
-pub const EXPLAIN: &str = "It tells of a committed query what it read beside the value of the nearest
+pub const EXPLAIN: &str =
+    "It tells of a committed query what it read beside the value of the nearest
 placement, each charge to it, and the updates before and after that placement.
 
 For example:
@@ -71,7 +73,8 @@ For example:
   after -
   distance 0 import 0";
 
-pub const PICTURE: &str = "The picture has a lane for each item that the query read, green where the item
+pub const PICTURE: &str =
+    "The picture has a lane for each item that the query read, green where the item
 has the value that was read, and a line for the placement of least distance.
 
 For example:
@@ -79,7 +82,8 @@ For example:
   $ printf 'item a 1\\nbegin q query 0\\nread q a\\ncommit q\\n' | esr picture q | grep -c '<svg'
   1";
 
-pub const AUDIT: &str = "It writes the committed updates in a serial order, a line for each committed
+pub const AUDIT: &str =
+    "It writes the committed updates in a serial order, a line for each committed
 query, and the totals. Lines at fault are told on standard error first.
 
 For example:
@@ -89,7 +93,8 @@ For example:
   audit q distance 0 import 0 before -
   totals import 0 export 0 entries 3";
 
-pub const DRIVE: &str = "A drive file has item lines, and then blocks: a line session, and behind it the
+pub const DRIVE: &str =
+    "A drive file has item lines, and then blocks: a line session, and behind it the
 lines begin, read, write, commit and abort of one thread. A blocked line is given
 again, up to 100 times. The first line at fault ends it, before any block runs.
 
@@ -103,7 +108,8 @@ For example:
   committed u
   totals import 0 export 0 entries 3";
 
-pub const LINT: &str = "It lists lines that are no commands, lines that are answered by an error or by a
+pub const LINT: &str =
+    "It lists lines that are no commands, lines that are answered by an error or by a
 refusal 1 to 8, and transactions that are still active at the end, each as
 FILE:LINE:COLUMN: REASON. The status is 1 where there is one.
 
@@ -111,3 +117,11 @@ For example:
 
   $ printf 'item a 1\\nwirte u a 2\\n' | esr lint
   line 2:1: \"wirte\" is no command; write?";
+
+pub const PAGE: &str =
+    "The page is one HTML file with nothing outside it: the sums, a chart and a table
+of all queries, picture and sentences of those farthest off, the serial order.
+
+For example:
+
+  $ esr page examples/audit.esr > page.html";

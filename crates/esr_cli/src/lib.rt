@@ -12,7 +12,7 @@ ghost use Rattle.clap.specs.Words.{subcommand_of, subcommand_rows_of, FailsBy};
 ghost use Rattle.clap.specs.Walk.{texts};
 ghost use Rattle.clap.specs.declared.error.kind.ErrorKind.TheVariants.{OutOfMemory};
 ghost use Rattle.esr_cli.specs.Program.{program};
-ghost use Rattle.esr_cli.specs.Job.{certify_in, flag_in, request_in, request_of, work_in, work_of, workers_in, HasWorkers, Spells};
+ghost use Rattle.esr_cli.specs.Job.{certify_in, count_in, explain_in, flag_in, request_in, request_of, work_in, work_of, HasWorkers, Spells};
 
 mod commands;
 mod help;
@@ -31,10 +31,14 @@ pub enum Task<'a> {
     Certify { name: &'a str, steps: bool },
     /// Judges a bundle.
     Check,
-    /// Runs a script without writing its lines, and explains the query `name`.
-    Explain { name: &'a str },
+    /// Runs a script without writing its lines, and explains the query `name`,
+    /// in sentences if `prose`.
+    Explain { name: &'a str, prose: bool },
     /// Runs a script without writing its lines, and draws the query `name`.
     Picture { name: &'a str },
+    /// Runs a script without writing its lines, and writes a page about its
+    /// queries, of which so many are told in full, 1 to 64.
+    Page { worst: u64 },
     /// Runs a script without writing its lines, and audits each committed query
     /// with so many workers, 1 to 64.
     Audit { workers: u64 },
@@ -69,10 +73,11 @@ fn flag(given: &ArgMatches<'_>, id: &str) -> bool
     given.get_one::<bool>(id).unwrap_or(false)
 }
 
-fn workers(given: &ArgMatches<'_>) -> Option<u64>
-    ensures { result ≡ workers_in (rows_of (found_of given.now)) }
+/// The number that an option is given.
+fn count(given: &ArgMatches<'_>, id: &str) -> Option<u64>
+    ensures { result ≡ count_in id.now (rows_of (found_of given.now)) }
 {
-    given.get_one::<u64>("workers")
+    given.get_one::<u64>(id)
 }
 
 fn certify_task<'a>(given: &ArgMatches<'a>) -> Option<Task<'a>>
@@ -85,6 +90,16 @@ fn certify_task<'a>(given: &ArgMatches<'a>) -> Option<Task<'a>>
     })
 }
 
+fn explain_task<'a>(given: &ArgMatches<'a>) -> Option<Task<'a>>
+    ensures { option_map work_of result ≡ explain_in (rows_of (found_of given.now)) }
+{
+    let name = text(given, "NAME")?;
+    Some(Task::Explain {
+        name,
+        prose: flag(given, "prose"),
+    })
+}
+
 fn task_of<'a>(name: &str, given: &ArgMatches<'a>) -> Option<Task<'a>>
     ensures { option_map work_of result ≡ work_in name.now (rows_of (found_of given.now)) }
 {
@@ -92,17 +107,18 @@ fn task_of<'a>(name: &str, given: &ArgMatches<'a>) -> Option<Task<'a>>
         "run" => Some(Task::Run),
         "certify" => certify_task(given),
         "check" => Some(Task::Check),
-        "explain" => Some(Task::Explain {
-            name: text(given, "NAME")?,
-        }),
+        "explain" => explain_task(given),
         "picture" => Some(Task::Picture {
             name: text(given, "NAME")?,
         }),
+        "page" => Some(Task::Page {
+            worst: count(given, "worst")?,
+        }),
         "audit" => Some(Task::Audit {
-            workers: workers(given)?,
+            workers: count(given, "workers")?,
         }),
         "drive" => Some(Task::Drive {
-            workers: workers(given)?,
+            workers: count(given, "workers")?,
         }),
         "lint" => Some(Task::Lint),
         _ => None,

@@ -16,6 +16,7 @@ use crate::replaying::replay;
 use crate::script::Script;
 use crate::sending::send_all;
 use esr_history::Watched;
+use esr_lint::Observer;
 use esr_telling::{Chronicle, Survey};
 use std::alloc::Global;
 use std::io::{Read, Write};
@@ -61,10 +62,11 @@ fn text_of<S: Survey>(
 }
 
 /// The text of a survey of a script.
-fn survey_text<R: Read, S: Survey>(
+fn survey_text<R: Read, S: Survey, O: Observer>(
     alloc: Global,
     reader: &mut Watched<Copied<R>>,
     survey: &S,
+    observer: &mut O,
 ) -> Result<Vec<u8>, RunFault>
     requires reader { failed reader.old ≡ false }
     ensures text { (input : List ℕ) → R.remaining (lower (inner reader.old)) ≡ Some input
@@ -73,7 +75,7 @@ fn survey_text<R: Read, S: Survey>(
     ensures reader { failed reader.new ≡ is_read_fault result }
     ensures write { is_write_fault result ≡ false }
 {
-    match replay(alloc, reader) {
+    match replay(alloc, reader, observer) {
         Ok(script) => text_of(alloc, script, reader.inner().copy(), survey),
         Err(fault) => Err(fault),
     }
@@ -85,18 +87,19 @@ fn survey_text<R: Read, S: Survey>(
 /// `LineTooLong`, `HistoryFull` and `TooManyLines` where `run` would end so; `NotACommittedQuery` where the survey has
 /// nothing to tell; `NoMemory` also where no text is made. After a fault other than `Write` nothing was written, after
 /// `Write` a prefix of the text.
-pub fn survey<R: Read, W: Write, S: Survey>(
+pub fn survey<R: Read, W: Write, S: Survey, O: Observer>(
     alloc: Global,
     reader: &mut Watched<Copied<R>>,
     writer: &mut Watched<W>,
     survey: &S,
+    observer: &mut O,
 ) -> Result<(), RunFault>
     requires reader { failed reader.old ≡ false }
     requires writer { failed writer.old ≡ false }
     ensures { ReadsAndWrites (λ c. R.remaining (lower c)) W.contents reader.old reader.new writer.old writer.new
         (λ input. IsSurveyedBy (S.IsTextOf survey.now (final input)) input) result }
 {
-    let mut text = match survey_text(alloc, reader, survey) {
+    let mut text = match survey_text(alloc, reader, survey, observer) {
         Ok(text) => text,
         Err(fault) => return Err(fault),
     };

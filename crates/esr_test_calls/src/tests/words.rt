@@ -9,7 +9,7 @@ use std::process::Abort;
 type Words = &'static [&'static str];
 
 /// Words of the command line, and the work that each line asks for.
-static TASKS: [(Words, Task<'static>); 15] = [
+static TASKS: [(Words, Task<'static>); 18] = [
     // `run` takes no name: it answers every line.
     (&["esr", "run"], Task::Run),
     // `check` takes no name: a bundle is of one query.
@@ -47,11 +47,28 @@ static TASKS: [(Words, Task<'static>); 15] = [
         },
     ),
     // The name is all that `explain` needs.
-    (&["esr", "explain", "q"], Task::Explain { name: "q" }),
+    (
+        &["esr", "explain", "q"],
+        Task::Explain {
+            name: "q",
+            prose: false,
+        },
+    ),
     // A name that begins with `-` needs `--` before it.
     (
         &["esr", "explain", "--", "-q"],
-        Task::Explain { name: "-q" },
+        Task::Explain {
+            name: "-q",
+            prose: false,
+        },
+    ),
+    // Sentences are asked for behind the name too.
+    (
+        &["esr", "explain", "q", "--prose"],
+        Task::Explain {
+            name: "q",
+            prose: true,
+        },
     ),
     // A picture is of one query too.
     (&["esr", "picture", "q"], Task::Picture { name: "q" }),
@@ -76,6 +93,10 @@ static TASKS: [(Words, Task<'static>); 15] = [
     ),
     // A script is looked at without a name.
     (&["esr", "lint"], Task::Lint),
+    // A page tells ten queries in full where no number is given.
+    (&["esr", "page"], Task::Page { worst: 10 }),
+    // The most that it tells.
+    (&["esr", "page", "--worst=64"], Task::Page { worst: 64 }),
 ];
 
 fn tasks() -> &'static [(Words, Task<'static>)] {

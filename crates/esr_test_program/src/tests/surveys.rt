@@ -2,6 +2,7 @@
 
 use crate::tests::pictures::BANK;
 use esr_history::Watched;
+use esr_lint::Unobserved;
 use esr_page::Page;
 use esr_prose::Prose;
 use esr_script::{Copied, RunFault, survey};
@@ -65,7 +66,7 @@ const DAY: &str = "# a day\n\
 fn has<S: Survey>(rt: &impl Abort, alloc: Global, script: &str, survey_of: &S, texts: &[&str]) {
     let mut reader = Watched::new(Copied::new(alloc, script.as_bytes()));
     let mut writer = Watched::new(Vec::new(alloc));
-    let ended = survey(alloc, &mut reader, &mut writer, survey_of);
+    let ended = survey(alloc, &mut reader, &mut writer, survey_of, &mut Unobserved);
     assert!(rt; ended == Ok(()));
     let written = from_utf8(writer.inner().as_slice()).unwrap_or("");
     for text in texts {
@@ -108,7 +109,13 @@ fn what_is_no_query_is_not_told(rt: HostRuntime) {
     for name in ["transfer", "checking", "<"] {
         let mut reader = Watched::new(Copied::new(alloc, BANK.as_bytes()));
         let mut writer = Watched::new(Vec::new(alloc));
-        let ended = survey(alloc, &mut reader, &mut writer, &Prose { name });
+        let ended = survey(
+            alloc,
+            &mut reader,
+            &mut writer,
+            &Prose { name },
+            &mut Unobserved,
+        );
         assert!(rt; ended == Err(RunFault::NotACommittedQuery));
         assert!(rt; writer.inner().is_empty());
     }

@@ -4,6 +4,7 @@ use Rattle.esr_cli.proofs.commands.queries.Goals as goal
 
 pub returns : goal.returns
 returns c =
-    c.with-2.ensures _ (spec.named (codes "picture"))
-    (c.in_ok-commands.ensures spec.scripts (spec.named (codes "explain")) c.in_ok-scripts.ensures c.named.ensures.app)
-    c.named-2.ensures.app
+    c.with-3.ensures _ spec.page
+    (c.in_ok-commands-2.ensures _ (spec.named (codes "picture"))
+    (c.in_ok-commands.ensures spec.scripts spec.explain c.in_ok-scripts.ensures c.explain.ensures.app) c.named.ensures.app)
+    c.page.ensures.app

@@ -1,0 +1,9 @@
+use Rattle.std.proofs.Common.{codes}
+use Rattle.clap.specs.Words.{new_app}
+use Rattle.esr_cli.specs.Program as spec
+use Rattle.esr_cli.proofs.commands.page.Goals as goal
+
+pub returns-clause-app : goal.returns-clause-app
+returns-clause-app c =
+    let scripted = c.scripted.ensures.app (new_app (codes "page")) c.plain.ensures.app in
+    rw c.worst.ensures.rule at (c.taking.ensures.app (spec.scripted (new_app (codes "page"))) scripted)
