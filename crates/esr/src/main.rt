@@ -29,7 +29,7 @@ use esr_lint::{KeptLine, Listing, Source};
 use esr_page::Page;
 use esr_picture::Drawing;
 use esr_prose::Prose;
-use esr_script::lint;
+use esr_script::{Copied, lint};
 use std::alloc::AllocError;
 use std::fmt::Display;
 use std::io;
@@ -114,12 +114,12 @@ fn do_task<'a, R: Print + Eprint + AllocGlobal + Clock + Threads + Wait + Sync, 
             survey_script(rt, meter, job, source, input, &Prose { name })
         }
         Task::Explain { name, prose: false } => {
-            let telling = Explaining;
+            let telling = &Explaining;
             let work = TellingOf { name, telling };
             work_on(rt, meter, job, source, input, &work)
         }
         Task::Picture { name } => {
-            let telling = Drawing;
+            let telling = &Drawing;
             let work = TellingOf { name, telling };
             work_on(rt, meter, job, source, input, &work)
         }
@@ -138,7 +138,7 @@ fn do_task<'a, R: Print + Eprint + AllocGlobal + Clock + Threads + Wait + Sync, 
 }
 
 /// Judges a bundle.
-fn check<I: Read>(
+fn check<I: Read + Drop>(
     rt: &(impl Print + Eprint + AllocGlobal),
     source: Source<'_>,
     input: I,
@@ -153,7 +153,7 @@ fn check<I: Read>(
 }
 
 /// Runs a drive file.
-fn drive_file<R: Print + Eprint + AllocGlobal + Threads + Wait + Sync, I: Read>(
+fn drive_file<R: Print + Eprint + AllocGlobal + Threads + Wait + Sync, I: Read + Drop>(
     rt: &R,
     source: Source<'_>,
     input: I,
@@ -162,7 +162,8 @@ fn drive_file<R: Print + Eprint + AllocGlobal + Threads + Wait + Sync, I: Read>(
     requires { (1 ≤ workers) × (workers ≤ 64) }
 {
     let alloc = rt.alloc();
-    let mut reader = Watched::new(input);
+    // A copy tells on which line a drive file stopped that has not been read whole.
+    let mut reader = Watched::new(Copied::new(alloc, input));
     let mut writer = Watched::new(io::writer(rt));
     let mut kept = KeptLine::new(alloc);
     match drive(
@@ -181,6 +182,7 @@ fn drive_file<R: Print + Eprint + AllocGlobal + Threads + Wait + Sync, I: Read>(
                 source,
                 fault,
                 line: kept.line(),
+                read: reader.inner().copy().unwrap_or_default(),
             },
             1,
         ),
@@ -212,7 +214,7 @@ fn do_each<'a, R: Input + Print + Eprint + Files + AllocGlobal + Clock + Threads
 }
 
 /// Lists what is wrong in a script.
-fn list_faults<I: Read>(
+fn list_faults<I: Read + Drop>(
     rt: &(impl Print + Eprint + AllocGlobal),
     source: Source<'_>,
     input: I,

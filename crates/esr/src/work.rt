@@ -37,6 +37,7 @@ pub trait Work {
 }
 
 /// Writes the answers.
+#[derive(Drop)]
 pub struct Running;
 
 impl Work for Running {
@@ -52,6 +53,7 @@ impl Work for Running {
 }
 
 /// Writes the bundle of a query, with the count of augmentations if `steps`.
+#[derive(Drop)]
 pub struct Certifying<'a> {
     pub name: &'a str,
     pub steps: bool,
@@ -74,9 +76,10 @@ impl Work for Certifying<'_> {
 }
 
 /// Tells of a committed query.
+#[derive(Drop)]
 pub struct TellingOf<'a, T> {
     pub name: &'a str,
-    pub telling: T,
+    pub telling: &'a T,
 }
 
 impl<T: Telling> Work for TellingOf<'_, T> {
@@ -92,7 +95,7 @@ impl<T: Telling> Work for TellingOf<'_, T> {
             reader,
             writer,
             self.name,
-            &self.telling,
+            self.telling,
             observer,
         )
     }
