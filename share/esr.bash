@@ -13,7 +13,7 @@ _esr() {
         certify) options="$script --steps" ;;
         audit) options="$script --workers --format" ;;
         ledger) options="$script --format" ;;
-        drive) options="--workers --as-script --help" ;;
+        drive) options="--workers --help" ;;
         check) options="--script --query --verbose --help" ;;
         lint) options="--help" ;;
     esac

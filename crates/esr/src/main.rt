@@ -131,8 +131,7 @@ fn do_task<'a, R: Print + Eprint + AllocGlobal + Clock + Threads + Wait + Sync, 
         Task::Why { name: _ } => fail(rt, &"not yet", 1),
         // not yet: script, query, verbose
         Task::Check { .. } => check(rt, source, input),
-        // not yet: as_script
-        Task::Drive { workers, .. } => drive_file(rt, source, input, workers),
+        Task::Drive { workers } => drive_file(rt, source, input, workers),
         Task::Lint => list_faults(rt, source, input),
     }
 }

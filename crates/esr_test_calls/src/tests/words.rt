@@ -9,7 +9,7 @@ use std::process::Abort;
 type Words = &'static [&'static str];
 
 /// Words of the command line, and the work that each line asks for.
-static TASKS: [(Words, Task<'static>); 23] = [
+static TASKS: [(Words, Task<'static>); 22] = [
     // `run` takes no name: it answers every line.
     (&["esr", "run"], Task::Run),
     // `check` takes no name: a bundle is of one query.
@@ -105,7 +105,6 @@ static TASKS: [(Words, Task<'static>); 23] = [
         &["esr", "drive"],
         Task::Drive {
             workers: 4,
-            as_script: false,
         },
     ),
     // A drive takes workers between the bounds, like an audit.
@@ -113,15 +112,6 @@ static TASKS: [(Words, Task<'static>); 23] = [
         &["esr", "drive", "--workers", "7"],
         Task::Drive {
             workers: 7,
-            as_script: false,
-        },
-    ),
-    // The history that came may be asked for in place of the answers.
-    (
-        &["esr", "drive", "--as-script"],
-        Task::Drive {
-            workers: 4,
-            as_script: true,
         },
     ),
     // A ledger is of a whole script.
