@@ -18,8 +18,8 @@ distance_found h q f same found committed =
     at (is_committed_query h q.0) committed (least ∙ ap (λ (t : TxnId). least_cost weighted h t.0) same)
   where
     at : (b : Bool) → (b ≡ false → ⊥) → f.distance ≡ least_cost weighted h q.0 → Some f.distance ≡ (if b then Some (least_cost weighted h q.0) else None)
-    at true no is = ap Some is
-    at false no is = absurd (no (λ i. false))
+    at true isnt is = ap Some is
+    at false isnt is = absurd (isnt (λ i. false))
 
 pub distance_missing : (h : Schedule) (q : TxnId) → is_committed_query h q.0 ≡ false → None ≡ distance_of weighted h q.0
 distance_missing h q is = sym (ap (λ (b : Bool). if b then Some (least_cost weighted h q.0) else None) is)

@@ -24,3 +24,9 @@ ledger_told s c recorded first last text is = (
 pub whatever : {T E : Type 0} (r : Result T E) → IfOk r (λ _. ⊤)
 whatever (Ok x) = tt
 whatever (Err e) = tt
+
+-- the same of a text that is made, if it is
+pub csv_told : {T E : Type 0} (items : T → List ℕ) (s : ScriptState) (c : Chronicle) → IsRecorded s c → (first last : ℕ → ℕ) (r : Result T E)
+    → IfOk r (λ v. items v ≡ ledger_csv weighted c.history.schedule c.transactions first last) → IfOk r (λ v. IsLedger Csv s (items v))
+csv_told items s c recorded first last (Ok v) is = ledger_told s c recorded first last (items v) is
+csv_told items s c recorded first last (Err e) is = tt

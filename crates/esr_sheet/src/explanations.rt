@@ -150,26 +150,26 @@ fn push_members(out: &mut String, line: &str) -> Result<(), AllocError> {
 
 /// Appends the lines that have this first word, an object each, in brackets.
 fn push_objects(out: &mut String, text: &str, first: &str) -> Result<(), AllocError> {
-    let mut before = "[{";
+    let mut is_empty = true;
     for line in text.lines() {
         if word_at(line, 0) == first {
-            out.push_str(before)?;
+            out.push_str(if is_empty { "[{" } else { "},{" })?;
             push_members(out, line)?;
-            before = "},{";
+            is_empty = false;
         }
     }
-    out.push_str(if before == "[{" { "[]" } else { "}]" })
+    out.push_str(if is_empty { "[]" } else { "}]" })
 }
 
 /// Appends the names that a line lists, in brackets.
 fn push_list(out: &mut String, line: &str) -> Result<(), AllocError> {
-    let mut before = "[";
+    let mut is_empty = true;
     for name in names_in(line).split(',').filter(|name| !name.is_empty()) {
-        out.push_str(before)?;
+        out.push_str(if is_empty { "[" } else { "," })?;
         push_word(out, name)?;
-        before = ",";
+        is_empty = false;
     }
-    out.push_str(if before == "[" { "[]" } else { "]" })
+    out.push_str(if is_empty { "[]" } else { "]" })
 }
 
 /// The line that has this first word.

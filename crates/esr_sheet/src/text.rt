@@ -109,11 +109,11 @@ fn push_heads(out: &mut String, widths: &Widths) -> Result<(), AllocError> {
         }
         before = before.saturating_add(*width).saturating_add(2);
     }
-    let mut between = "";
     for (width, (cell, head)) in widths.0.iter().zip(COLUMNS.iter()) {
-        out.push_str(between)?;
+        if *cell != Cell::Number {
+            out.push_str("  ")?;
+        }
         push_cell(out, *cell, Content::Word(head), *width)?;
-        between = "  ";
     }
     out.push_str("\n")
 }
@@ -126,11 +126,11 @@ fn push_row(
     row: &Row,
     span: Span,
 ) -> Result<(), AllocError> {
-    let mut between = "";
     for (width, (cell, _)) in widths.0.iter().zip(COLUMNS.iter()) {
-        out.push_str(between)?;
+        if *cell != Cell::Number {
+            out.push_str("  ")?;
+        }
         push_cell(out, *cell, content_of(*cell, name, row, span), *width)?;
-        between = "  ";
     }
     out.push_str("\n")
 }
