@@ -30,6 +30,7 @@ use esr_page::Page;
 use esr_picture::Drawing;
 use esr_prose::Prose;
 use esr_script::{Copied, lint};
+use esr_sheet::{AuditSheet, Data, ExplanationSheet, Ledger};
 use std::alloc::AllocError;
 use std::fmt::Display;
 use std::io;
@@ -113,26 +114,56 @@ fn do_task<'a, R: Print + Eprint + AllocGlobal + Clock + Threads + Wait + Sync, 
         Task::Explain { name, prose: true } => {
             survey_script(rt, meter, job, source, input, &Prose { name })
         }
-        Task::Explain { name, prose: false } => {
-            let telling = &Explaining;
-            let work = TellingOf { name, telling };
-            work_on(rt, meter, job, source, input, &work)
-        }
+        Task::Explain { name, prose: false } => match data_of(job.format) {
+            Some(data) => {
+                let telling = &ExplanationSheet { data };
+                let work = TellingOf { name, telling };
+                work_on(rt, meter, job, source, input, &work)
+            }
+            None => {
+                let telling = &Explaining;
+                let work = TellingOf { name, telling };
+                work_on(rt, meter, job, source, input, &work)
+            }
+        },
         Task::Picture { name } => {
             let telling = &Drawing;
             let work = TellingOf { name, telling };
             work_on(rt, meter, job, source, input, &work)
         }
         Task::Page { worst } => survey_script(rt, meter, job, source, input, &Page { worst }),
-        Task::Audit { workers } => audit_script(rt, meter, job, source, input, workers),
-        // not yet
-        Task::Ledger => fail(rt, &"not yet", 1),
+        Task::Audit { workers } => match data_of(job.format) {
+            Some(data) => survey_script(rt, meter, job, source, input, &AuditSheet { data }),
+            None => audit_script(rt, meter, job, source, input, workers),
+        },
+        Task::Ledger => {
+            let format = sheet_format(job.format);
+            survey_script(rt, meter, job, source, input, &Ledger { format })
+        }
         // not yet
         Task::Why { name: _ } => fail(rt, &"not yet", 1),
         // not yet: script, query, verbose
         Task::Check { .. } => check(rt, source, input),
         Task::Drive { workers } => drive_file(rt, source, input, workers),
         Task::Lint => list_faults(rt, source, input),
+    }
+}
+
+/// How audits and explanations are written for programs, or none for their own text.
+fn data_of(format: Option<Format>) -> Option<Data> {
+    match format {
+        Some(Format::Csv) => Some(Data::Csv),
+        Some(Format::Json) => Some(Data::Json),
+        Some(Format::Text) | None => None,
+    }
+}
+
+/// How a ledger is written.
+fn sheet_format(format: Option<Format>) -> esr_sheet::Format {
+    match format {
+        Some(Format::Csv) => esr_sheet::Format::Csv,
+        Some(Format::Json) => esr_sheet::Format::Json,
+        Some(Format::Text) | None => esr_sheet::Format::Text,
     }
 }
 

@@ -6,5 +6,6 @@ mod devices;
 mod drives;
 mod pictures;
 mod scripts;
+mod sheets;
 mod surveys;
 mod watched;

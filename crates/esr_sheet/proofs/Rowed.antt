@@ -1,0 +1,65 @@
+-- The parts of a row, by what is found of all transactions at once.
+use Rattle.std.proofs.Common.{◌≡◌, ◌≢◌, ℕ, zero, suc, ◌+◌, ◌-◌, ◌<◌, ◌≤◌, Bool, true, false, List, [], ◌∷◌, length, refl, sym, ◌∙◌, ap, ap₂, arith, subst, Option, Some, None, map, is_some, slice_get, option_map, unwrap_or, if◌then◌else◌}
+use Rattle.std.proofs.lemmas.Bool.{true≢false}
+use Rattle.std.proofs.lemmas.Option.{same_Some, slice_get-map}
+use Rattle.esr_history.specs.declared.event.Entry.{Entry}
+use Rattle.esr_history.specs.declared.event.TxnId.{TxnId}
+use Rattle.esr_history.specs.Events.{Beginning, accepted, beginning, beginnings, is_committed, is_query, limit_of}
+use Rattle.esr_history.specs.Machine.{Distance, Schedule, charges_in, done, export_in, import_in, IsLegal}
+use Rattle.esr_history.specs.declared.back_links.Facts.{Facts}
+use Rattle.esr_history.specs.BackLinks.{accepted_end, begun_count, facts_of, last_place}
+use Rattle.esr_order.specs.Scans.{commits_in, is_commit_at}
+use Rattle.esr_order.proofs.Commits.{commit_at_end, end_some, facts_none}
+use Rattle.esr_sheet.specs.declared.kinds.Kind.{Kind}
+use Rattle.esr_sheet.specs.declared.kinds.Kind.TheVariants.{Update}
+use Rattle.esr_sheet.specs.declared.rows.End.{End}
+use Rattle.esr_sheet.specs.declared.rows.End.TheVariants.{Committed, Aborted, Active}
+use Rattle.esr_sheet.specs.declared.rows.Row.{Row}
+use Rattle.esr_sheet.specs.declared.tallies.Tally.{Tally}
+use Rattle.esr_items.specs.Weights.{weighted}
+use Rattle.esr_sheet.specs.Rows.{charged_of, distance_of, end_of, kind_at, kind_of, row_of, tally_of}
+use Rattle.esr_sheet.specs.Entries.{end_at}
+
+inside : {X : Type 0} (xs : List X) (k : ℕ) → k < length xs → (x : X) × (slice_get xs k ≡ Some x)
+inside [] k l = absurd (omega arith)
+inside (x ∷ xs) zero l = (x, refl)
+inside (x ∷ xs) (suc k) l = inside xs k (omega arith)
+
+-- a transaction that has begun has facts
+pub has_facts : (es : List Entry) (t : ℕ) → 1 ≤ t → t ≤ begun_count es → None ≡ facts_of es t → ⊥
+has_facts es t low high none = at t low high (facts_none es t none)
+  where
+    at : (k : ℕ) → 1 ≤ k → k ≤ begun_count es → beginning (accepted es) k ≡ None → ⊥
+    at zero low high is = omega arith
+    at (suc k) low high is =
+        let b = inside (beginnings (accepted es)) k (omega arith) in
+        let bad : None ≡ Some b.0 = sym is ∙ b.1 in
+        cc
+
+-- its kind
+pub kind_there : (h : Schedule) (kinds : List Kind) (t : ℕ) → 1 ≤ t → kinds ≡ map kind_of (beginnings (done h)) → unwrap_or (slice_get kinds (t - 1)) Update ≡ kind_at h t
+kind_there h kinds zero low is = absurd (omega arith)
+kind_there h kinds (suc k) low is =
+    let same : suc k - 1 ≡ k = omega arith in
+    ap (λ i. unwrap_or (slice_get kinds i) Update) same
+    ∙ (ap (λ (l : List Kind). unwrap_or (slice_get l k) Update) is
+    ∙ ap (λ o. unwrap_or o Update) (slice_get-map kind_of (beginnings (done h)) k))
+
+-- how it ended
+pub end_there : (d : Distance) (h : Schedule) → IsLegal d h → (t : ℕ) (f : Facts) → Some f ≡ facts_of h.entries t → end_at h.entries f.end ≡ end_of h t
+end_there d h legal t f some =
+    let is : f.end ≡ last_place accepted_end t h.entries = end_some h.entries t f some in
+    ap (end_at h.entries) is
+    ∙ ap (λ (b : Bool). if b then Committed else (if is_some (last_place accepted_end t h.entries) then Aborted else Active)) (commit_at_end d h legal t)
+
+-- what it was charged as an update
+pub charged_there : (h : Schedule) (t x : ℕ) → is_query (done h) t ≡ false → x ≡ export_in (charges_in weighted h) t → x ≡ charged_of weighted h t
+charged_there h t x is same = same ∙ sym (ap (λ (b : Bool). if b then import_in (charges_in weighted h) t else export_in (charges_in weighted h) t) is)
+
+-- the row, by its parts
+pub row_there : (h : Schedule) (t : TxnId) (k : Kind) (l c f : ℕ) (y : Tally) (e : End) (g : Option ℕ) → k ≡ kind_at h t.0 → l ≡ limit_of (done h) t.0 → c ≡ charged_of weighted h t.0
+    → f ≡ l - c → y ≡ tally_of h.entries t.0 → e ≡ end_of h t.0 → g ≡ distance_of weighted h t.0
+    → ◌≡◌ {A = Row} record { number = t; kind = k; limit = l; charged = c; left = f; tally = y; end = e; distance = g } (row_of weighted h t.0)
+row_there h t k l c f y e g kind limit charged left counts end far =
+    let rest : f ≡ limit_of (done h) t.0 - charged_of weighted h t.0 = left ∙ ap₂ (λ a b. a - b) limit charged in
+    λ i. record { number = t; kind = kind i; limit = limit i; charged = charged i; left = rest i; tally = counts i; end = end i; distance = far i }

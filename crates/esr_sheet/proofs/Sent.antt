@@ -1,0 +1,32 @@
+-- The ledger of what a script leads to.
+use Rattle.std.specs.Prelude.{⊤}
+use Rattle.std.proofs.Common.{◌≡◌, ◌∙◌, ℕ, List, ap, IfOk, Result, Ok, Err}
+use Rattle.esr_items.specs.Weights.{weighted}
+use Rattle.esr_history.specs.Machine.{Schedule}
+use Rattle.esr_telling.specs.declared.chronicle.Chronicle.{Chronicle}
+use Rattle.esr_telling.specs.Ask.{IsRecorded}
+use Rattle.esr_telling.specs.State.{ScriptState}
+use Rattle.esr_sheet.specs.declared.format.Format.TheVariants.{Csv}
+use Rattle.esr_sheet.specs.Csv.{ledger_csv}
+use Rattle.esr_sheet.specs.Written.{IsLedger}
+
+pub ledger_told : (s : ScriptState) (c : Chronicle) → IsRecorded s c → (first last : ℕ → ℕ) (text : List ℕ)
+    → text ≡ ledger_csv weighted c.history.schedule c.transactions first last → IsLedger Csv s text
+ledger_told s c recorded first last text is = (
+  first,
+  last,
+  is
+      ∙ (ap (λ (h : Schedule). ledger_csv weighted h c.transactions first last) recorded.history
+      ∙ ap (λ names. ledger_csv weighted s.history names first last) recorded.transactions),
+)
+
+-- what holds of every text
+pub whatever : {T E : Type 0} (r : Result T E) → IfOk r (λ _. ⊤)
+whatever (Ok x) = tt
+whatever (Err e) = tt
+
+-- the same of a text that is made, if it is
+pub csv_told : {T E : Type 0} (items : T → List ℕ) (s : ScriptState) (c : Chronicle) → IsRecorded s c → (first last : ℕ → ℕ) (r : Result T E)
+    → IfOk r (λ v. items v ≡ ledger_csv weighted c.history.schedule c.transactions first last) → IfOk r (λ v. IsLedger Csv s (items v))
+csv_told items s c recorded first last (Ok v) is = ledger_told s c recorded first last (items v) is
+csv_told items s c recorded first last (Err e) is = tt

@@ -1,0 +1,77 @@
+-- The lines of rows, one after another.
+use Rattle.std.proofs.Common.{◌≡◌, ◌∙◌, ℕ, ◌+◌, ◌<◌, ◌≤◌, List, [], ◌∷◌, ◌++◌, ap, sym, length, take, get_or, append-nil, append_assoc, take_all, map, Bor}
+use Rattle.esr_sheet.specs.Csv.{behind, csv_line}
+use Rattle.std.specs.List.{flat_map}
+use Rattle.std.proofs.lemmas.Grind.{flat_map-append}
+use Rattle.std.proofs.lemmas.List.{take_more, map-append}
+
+-- one more behind those before it
+pub one_line_more : {X : Type 0} (f : X → List ℕ) (out : List ℕ) (xs : List X) (i : ℕ) (d : X) (before after : List ℕ) → i < length xs
+    → before ≡ out ++ flat_map f (take i xs) → after ≡ before ++ f (get_or xs i d) → after ≡ out ++ flat_map f (take (i + 1) xs)
+one_line_more f out xs i d before after within stood grew =
+    grew
+    ∙ (ap (λ l. l ++ f (get_or xs i d)) stood
+    ∙ (append_assoc out (flat_map f (take i xs)) (f (get_or xs i d))
+    ∙ ap (λ l. out ++ l)
+    (ap (λ l. flat_map f (take i xs) ++ l) (sym (append-nil (f (get_or xs i d))))
+    ∙ (sym (flat_map-append f (take i xs) (get_or xs i d ∷ [])) ∙ ap (flat_map f) (sym (take_more xs i d within))))))
+
+-- after the last
+pub all_lines : {X : Type 0} (f : X → List ℕ) (out : List ℕ) (xs : List X) (i : ℕ) (after : List ℕ) → length xs ≤ i
+    → after ≡ out ++ flat_map f (take i xs) → after ≡ out ++ flat_map f xs
+all_lines f out xs i after all stood = stood ∙ ap (λ l. out ++ flat_map f l) (take_all i xs all)
+
+-- ---- fields behind commas
+
+abbrev comma : List ℕ → List ℕ
+comma field = 44 ∷ field
+
+-- the first field has no comma
+pub first_field : (out x after : List ℕ) → after ≡ out ++ x → after ≡ out ++ (x ++ behind [])
+first_field out x after is = is ∙ ap (λ l. out ++ l) (sym (append-nil x))
+
+-- more fields
+pub behind_more : (out x : List ℕ) (xs ys : List (List ℕ)) (before after : List ℕ) → before ≡ out ++ (x ++ behind xs) → after ≡ before ++ behind ys
+    → after ≡ out ++ (x ++ behind (xs ++ ys))
+behind_more out x xs ys before after stood grew =
+    grew
+    ∙ (ap (λ l. l ++ behind ys) stood
+    ∙ (append_assoc out (x ++ behind xs) (behind ys)
+    ∙ ap (λ l. out ++ l) (append_assoc x (behind xs) (behind ys) ∙ ap (λ l. x ++ l) (sym (flat_map-append comma xs ys)))))
+
+-- the end of the line
+pub line_ended : (out x : List ℕ) (xs : List (List ℕ)) (before after : List ℕ) → before ≡ out ++ (x ++ behind xs) → after ≡ before ++ 10 ∷ [] → after ≡ out ++ csv_line x xs
+line_ended out x xs before after stood grew =
+    grew ∙ (ap (λ l. l ++ 10 ∷ []) stood ∙ (append_assoc out (x ++ behind xs) (10 ∷ []) ∙ ap (λ l. out ++ l) (append_assoc x (behind xs) (10 ∷ []))))
+
+-- a field of a list more
+pub field_more : (out : List ℕ) (xs : List (Bor (List ℕ))) (i : ℕ) (d : Bor (List ℕ)) (before after : List ℕ) → i < length xs
+    → before ≡ out ++ behind (map (λ (w : Bor (List ℕ)). w.now) (take i xs)) → after ≡ before ++ behind ((get_or xs i d).now ∷ [])
+    → after ≡ out ++ behind (map (λ (w : Bor (List ℕ)). w.now) (take (i + 1) xs))
+field_more out xs i d before after within stood grew =
+    let f : Bor (List ℕ) → List ℕ = λ (w : Bor (List ℕ)). w.now in
+    grew
+    ∙ (ap (λ l. l ++ behind (f (get_or xs i d) ∷ [])) stood
+    ∙ (append_assoc out (behind (map f (take i xs))) (behind (f (get_or xs i d) ∷ []))
+    ∙ ap (λ l. out ++ l)
+    (sym (flat_map-append comma (map f (take i xs)) (f (get_or xs i d) ∷ []))
+    ∙ ap behind (sym (ap (map f) (take_more xs i d within) ∙ map-append f (take i xs) (get_or xs i d ∷ []))))))
+
+-- a field that is another word for the same
+pub field_is : (before after word same : List ℕ) → after ≡ before ++ behind (word ∷ []) → word ≡ same → after ≡ before ++ behind (same ∷ [])
+field_is before after word same grew is = grew ∙ ap (λ w. before ++ behind (w ∷ [])) is
+
+-- a line of parts, one after another
+pub line_of_parts : (out x name kind end far : List ℕ) (amounts span : List (List ℕ)) (a b c d e f g h : List ℕ) → a ≡ out ++ x → b ≡ a ++ behind (name ∷ []) → c ≡ b ++ behind (kind ∷ [])
+    → d ≡ c ++ behind amounts → e ≡ d ++ behind (end ∷ []) → f ≡ e ++ behind (far ∷ []) → g ≡ f ++ behind span → h ≡ g ++ 10 ∷ []
+    → h ≡ out ++ csv_line x (name ∷ kind ∷ amounts ++ end ∷ far ∷ span)
+line_of_parts out x name kind end far amounts span a b c d e f g h is_a is_b is_c is_d is_e is_f is_g is_h =
+    let first : a ≡ out ++ (x ++ behind []) = first_field out x a is_a in
+    let second : b ≡ out ++ (x ++ behind (name ∷ [])) = behind_more out x [] (name ∷ []) a b first is_b in
+    let third : c ≡ out ++ (x ++ behind (name ∷ kind ∷ [])) = behind_more out x (name ∷ []) (kind ∷ []) b c second is_c in
+    let fourth : d ≡ out ++ (x ++ behind (name ∷ kind ∷ amounts)) = behind_more out x (name ∷ kind ∷ []) amounts c d third is_d in
+    let fifth : e ≡ out ++ (x ++ behind ((name ∷ kind ∷ amounts) ++ end ∷ [])) = behind_more out x (name ∷ kind ∷ amounts) (end ∷ []) d e fourth is_e in
+    let sixth : f ≡ out ++ (x ++ behind (((name ∷ kind ∷ amounts) ++ end ∷ []) ++ far ∷ [])) = behind_more out x ((name ∷ kind ∷ amounts) ++ end ∷ []) (far ∷ []) e f fifth is_f in
+    let seventh : g ≡ out ++ (x ++ behind ((((name ∷ kind ∷ amounts) ++ end ∷ []) ++ far ∷ []) ++ span)) = behind_more out x (((name ∷ kind ∷ amounts) ++ end ∷ []) ++ far ∷ []) span f g sixth is_g in
+    line_ended out x ((((name ∷ kind ∷ amounts) ++ end ∷ []) ++ far ∷ []) ++ span) g h seventh is_h
+    ∙ ap (λ l. out ++ csv_line x (name ∷ kind ∷ l)) (append_assoc (amounts ++ end ∷ []) (far ∷ []) span ∙ append_assoc amounts (end ∷ []) (far ∷ span))

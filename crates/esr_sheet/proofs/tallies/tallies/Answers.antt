@@ -1,0 +1,15 @@
+use Rattle.std.proofs.Common.{◌≡◌, ◌∙◌, ◌≤◌, ◌<◌, ◌+◌, ◌^◌, ◌∷◌, [], ◌++◌, List, ap, sym, subst, arith, length, take, Some, slice_get}
+use Rattle.std.proofs.lemmas.List.{length-take-le}
+use Rattle.esr_history.specs.declared.event.Entry.{Entry}
+use Rattle.esr_sheet.specs.Entries.{AreTallies}
+use Rattle.esr_sheet.proofs.Places.{take_next}
+use Rattle.esr_sheet.proofs.Tallied.{all_countable}
+use Rattle.esr_sheet.proofs.tallies.tallies.Goals as goal
+
+pub loop-place-preserved : goal.loop-place-preserved
+loop-place-preserved c =
+    let es = c.args.history.now.schedule.entries in let i = c.loop-place.place in let e = c.in-Some.entry in
+    let is : slice_get es i ≡ Some e = sym (c.in-Some.ensures ∙ ap (λ l. slice_get l i) c.log-log.ensures.entries) in (
+      omega (arith, c.loop-place.invariant.0, c.count.ensures.length),
+      subst (λ (l : List Entry). AreTallies l c.count.new.tallies.items) (sym (take_next es i e is)) (c.count.ensures.tallies (take i es) c.loop-place.invariant.1),
+    )

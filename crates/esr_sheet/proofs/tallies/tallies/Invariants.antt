@@ -1,0 +1,10 @@
+use Rattle.std.proofs.Common.{◌<◌, length, take}
+use Rattle.esr_history.specs.BackLinks.{begun_count}
+use Rattle.esr_sheet.specs.Entries.{AreTallies}
+use Rattle.esr_sheet.proofs.tallies.tallies.Given as goal
+
+-- the entries so far are counted
+abbrev pub invariant-loop-place : goal.invariant-loop-place
+invariant-loop-place l =
+    let es = l.history.schedule.entries in
+    (begun_count es < length l.tallies.items) × AreTallies (take l.place es) l.tallies.items

@@ -1,0 +1,5 @@
+pub mod Rows
+pub mod Entries
+pub mod Spans
+pub mod Csv
+pub mod Written

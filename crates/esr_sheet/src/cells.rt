@@ -1,0 +1,76 @@
+//! The cells of a ledger's rows, as text and JSON have them: proved safe, and their text is tested.
+
+use crate::csv::{end_word, kind_word};
+use crate::rows::Row;
+use crate::spans::Span;
+
+/// What a row has of a transaction, in the order of its fields.
+#[derive(Clone, Copy, PartialEq, Eq, Debug)]
+pub enum Cell {
+    Number,
+    Name,
+    Kind,
+    Limit,
+    Charged,
+    Left,
+    Reads,
+    Writes,
+    ByLock,
+    ByImport,
+    ByExport,
+    End,
+    Distance,
+    First,
+    Last,
+}
+
+/// All of them, each with the name of its field.
+pub const CELLS: [(Cell, &str); 15] = [
+    (Cell::Number, "number"),
+    (Cell::Name, "name"),
+    (Cell::Kind, "kind"),
+    (Cell::Limit, "limit"),
+    (Cell::Charged, "charged"),
+    (Cell::Left, "left"),
+    (Cell::Reads, "reads"),
+    (Cell::Writes, "writes"),
+    (Cell::ByLock, "blocked_by_lock"),
+    (Cell::ByImport, "blocked_by_import"),
+    (Cell::ByExport, "blocked_by_export"),
+    (Cell::End, "end"),
+    (Cell::Distance, "distance"),
+    (Cell::First, "first_line"),
+    (Cell::Last, "last_line"),
+];
+
+/// What is in a cell.
+#[derive(Clone, Copy, Debug)]
+pub enum Content<'a> {
+    Number(u64),
+    Word(&'a str),
+    Nothing,
+}
+
+/// What a row has in a cell.
+pub fn content_of<'a>(cell: Cell, name: &'a str, row: &Row, span: Span) -> Content<'a> {
+    match cell {
+        Cell::Number => Content::Number(u64::from(row.number.0)),
+        Cell::Name => Content::Word(name),
+        Cell::Kind => Content::Word(kind_word(row.kind)),
+        Cell::Limit => Content::Number(row.limit),
+        Cell::Charged => Content::Number(row.charged),
+        Cell::Left => Content::Number(row.left),
+        Cell::Reads => Content::Number(row.tally.reads),
+        Cell::Writes => Content::Number(row.tally.writes),
+        Cell::ByLock => Content::Number(row.tally.by_lock),
+        Cell::ByImport => Content::Number(row.tally.by_import),
+        Cell::ByExport => Content::Number(row.tally.by_export),
+        Cell::End => Content::Word(end_word(row.end)),
+        Cell::Distance => match row.distance {
+            Some(distance) => Content::Number(distance),
+            None => Content::Nothing,
+        },
+        Cell::First => Content::Number(u64::from(span.first)),
+        Cell::Last => Content::Number(u64::from(span.last)),
+    }
+}

@@ -1,0 +1,72 @@
+//! The ledger of a script: a row for each accepted begin, in their order.
+
+ghost use Rattle.std.specs.Prelude.{◌≡◌, IfOk};
+ghost use Rattle.esr_items.specs.Weights.{weighted};
+ghost use Rattle.esr_sheet.specs.Csv.{ledger_csv};
+ghost use Rattle.esr_sheet.specs.Rows.{rows_of};
+ghost use Rattle.esr_sheet.specs.Spans.{first_of, last_of};
+ghost use Rattle.esr_sheet.specs.Written.{IsLedger};
+ghost use Rattle.esr_telling.specs.Ask.{IsRecorded};
+ghost use Rattle.esr_telling.specs.State.{ScriptState};
+
+use crate::csv::push_ledger;
+use crate::format::Format;
+use crate::json::ledger_json;
+use crate::rows::{Row, rows_of};
+use crate::spans::{Spans, spans_of};
+use crate::text::ledger_text;
+use esr_telling::{Chronicle, Survey};
+use std::alloc::{AllocError, Global};
+
+/// What each transaction of a script did: its kind and limit, what it was charged, how its lines were answered, how it
+/// ended and, of a committed query, how far it was from the nearest serial placement.
+#[derive(Clone, Copy, Debug)]
+pub struct Ledger {
+    pub format: Format,
+}
+
+/// A ledger as CSV.
+fn ledger_csv(
+    alloc: Global,
+    chronicle: &Chronicle<'_>,
+    rows: &[Row],
+    spans: &Spans,
+) -> Result<Vec<u8>, AllocError>
+    requires { rows.now ≡ rows_of weighted chronicle.now.history.schedule }
+    ensures { IfOk result (λ text. text.items ≡ ledger_csv weighted chronicle.now.history.schedule
+        chronicle.now.transactions (first_of spans.now) (last_of spans.now)) }
+{
+    let mut out = Vec::new(alloc);
+    push_ledger(&mut out, &chronicle.transactions, rows, spans)?;
+    Ok(out)
+}
+
+/// The ledger of a script in this form.
+fn text_in(alloc: Global, chronicle: &Chronicle<'_>, format: Format) -> Result<Vec<u8>, AllocError>
+    ensures { (s : ScriptState) → IsRecorded s chronicle.now → IfOk result (λ text. IsLedger format s text.items) }
+{
+    let Ok(rows) = rows_of(alloc, &chronicle.history) else {
+        return Err(AllocError);
+    };
+    let spans = spans_of(alloc, chronicle)?;
+    match format {
+        Format::Text => ledger_text(alloc, &chronicle.transactions, &rows, &spans),
+        Format::Csv => ledger_csv(alloc, chronicle, &rows, &spans),
+        Format::Json => ledger_json(alloc, &chronicle.transactions, &rows, &spans),
+    }
+}
+
+impl Survey for Ledger {
+    ghost IsTextOf = { λ l s text. IsLedger l.format s text };
+
+    fn text_of(
+        &self,
+        alloc: Global,
+        chronicle: &Chronicle<'_>,
+    ) -> Result<Option<Vec<u8>>, AllocError> {
+        match text_in(alloc, chronicle, self.format) {
+            Ok(text) => Ok(Some(text)),
+            Err(error) => Err(error),
+        }
+    }
+}

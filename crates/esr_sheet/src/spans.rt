@@ -1,0 +1,80 @@
+//! From which line of the script to which a transaction goes. The history knows no lines: the script is read once more
+//! for them, and no clause says which they are.
+
+ghost use Rattle.std.specs.Prelude.{◌≡◌};
+ghost use Rattle.esr_sheet.specs.Spans.{first_of, last_of};
+
+use crate::tallies::txn_of;
+use esr_history::{Entry, Refusal, Reply, TxnId};
+use esr_prose::lines_of_entries;
+use esr_telling::Chronicle;
+use std::alloc::{AllocError, Global};
+
+/// The numbers of two lines of a script, from 1; 0 where there is none.
+#[derive(Clone, Copy, PartialEq, Eq, Debug)]
+pub struct Span {
+    /// The line that begins the transaction.
+    pub first: u32,
+    /// The last line of the transaction that was accepted or blocked.
+    pub last: u32,
+}
+
+/// The spans of transactions, by their numbers.
+#[derive(Drop)]
+pub struct Spans(Vec<Span>);
+
+const NOWHERE: Span = Span { first: 0, last: 0 };
+
+/// Whether a line was refused for another reason than a lock or a limit.
+fn is_mistaken(reply: Reply) -> bool {
+    match reply {
+        Reply::Refused(why) => !matches!(
+            why,
+            Refusal::BlockedByLock(_) | Refusal::BlockedByImport(_) | Refusal::BlockedByExport(_)
+        ),
+        _ => false,
+    }
+}
+
+impl Spans {
+    /// The span of a transaction.
+    pub fn of(&self, t: TxnId) -> Span
+        ensures first { result.first ≡ first_of self.now t.0 }
+        ensures last { result.last ≡ last_of self.now t.0 }
+    {
+        match self.0.get(t.0 as usize) {
+            Some(span) => *span,
+            None => NOWHERE,
+        }
+    }
+
+    /// Notes that an entry is of this line.
+    fn note(&mut self, entry: Entry, line: u32) {
+        if is_mistaken(entry.reply) {
+            return;
+        }
+        let Some(number) = txn_of(entry.event, entry.reply) else {
+            return;
+        };
+        if let Some(span) = self.0.get_mut(number as usize) {
+            if span.first == 0 {
+                span.first = line;
+            }
+            span.last = line;
+        }
+    }
+}
+
+/// The spans of the transactions of a script.
+pub fn spans_of(alloc: Global, chronicle: &Chronicle<'_>) -> Result<Spans, AllocError> {
+    let history = &chronicle.history;
+    let lines = lines_of_entries(alloc, chronicle.script, &chronicle.transactions, history)?;
+    let count = history.begun_count().saturating_add(1);
+    let mut spans = Spans(vec![in alloc; NOWHERE; count]?);
+    for (place, line) in lines.iter().enumerate() {
+        if let Some(entry) = history.log().get(place) {
+            spans.note(entry, *line);
+        }
+    }
+    Ok(spans)
+}
