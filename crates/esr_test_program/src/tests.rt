@@ -8,3 +8,4 @@ mod pictures;
 mod scripts;
 mod surveys;
 mod watched;
+mod whys;

@@ -1,0 +1,4 @@
+mod Current
+mod Noting
+mod Places
+mod Blocked
