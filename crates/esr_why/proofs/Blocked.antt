@@ -4,7 +4,13 @@ use Rattle.std.proofs.lemmas.Bool.{false≢true}
 use Rattle.std.proofs.lemmas.Bool.Decides.{nat_tests}
 use Rattle.std.proofs.lemmas.Option.{same_Some}
 use Rattle.esr_items.specs.Values.{IsValue, is_value}
-use Rattle.esr_history.specs.Events.{Event, BeginUpdate, BeginQuery, Read, Write, Commit, Abort, Reply, Refused, Refusal, NoSuchTransaction, AlreadyEnded, NoSuchItem, QueryMayNotWrite, ValueOutOfRange, LimitOutOfRange, TooManyTransactions, is_refusal, is_begun, is_active, is_query}
+use Rattle.esr_history.specs.declared.event.Event.{Event}
+use Rattle.esr_history.specs.declared.event.Event.TheVariants.{BeginUpdate, BeginQuery, Read, Write, Commit, Abort}
+use Rattle.esr_history.specs.declared.event.Reply.{Reply}
+use Rattle.esr_history.specs.declared.event.Reply.TheVariants.{Refused}
+use Rattle.esr_history.specs.declared.event.Refusal.{Refusal}
+use Rattle.esr_history.specs.declared.event.Refusal.TheVariants.{NoSuchTransaction, AlreadyEnded, NoSuchItem, QueryMayNotWrite, ValueOutOfRange, LimitOutOfRange, TooManyTransactions}
+use Rattle.esr_history.specs.Events.{is_refusal, is_begun, is_active, is_query}
 use Rattle.esr_history.specs.Machine.{Distance, Schedule, done, refusal, first_reason, when, reply_to, answered, acceptance}
 use Rattle.esr_history.proofs.Lawful.{acceptance_accepts}
 use Rattle.esr_why.specs.Notes.{IsInRange}

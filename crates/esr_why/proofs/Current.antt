@@ -4,7 +4,9 @@ use Rattle.std.specs.List.{filter_map, last_or, cons_option, list_any}
 use Rattle.std.proofs.lemmas.Bool.{eq-eqb, false≢true, and_parts, and_from, cases_Bool, false_from_ne_true}
 use Rattle.std.proofs.lemmas.Option.{same_Some}
 use Rattle.esr_items.specs.Values.{value_at}
-use Rattle.esr_history.specs.Events.{Event, Write, writes, written, last_value, is_begun, is_active, is_update, is_committed, is_aborted, holds_write, numbers, beginnings, current_value, committed_value}
+use Rattle.esr_history.specs.declared.event.Event.{Event}
+use Rattle.esr_history.specs.declared.event.Event.TheVariants.{Write}
+use Rattle.esr_history.specs.Events.{writes, written, last_value, is_begun, is_active, is_update, is_committed, is_aborted, holds_write, numbers, beginnings, current_value, committed_value}
 use Rattle.esr_history.specs.Machine.{Schedule, done, writer}
 use Rattle.esr_history.specs.Orderly.{IsOrderly, names, writer_of, last_writer}
 use Rattle.esr_history.proofs.Lists.{find_some, find_none}
@@ -64,14 +66,21 @@ pub current_of_none : (h : Schedule) → IsOrderly (done h) → (x : ℕ) → wr
 current_of_none h o x none =
     ap (last_value (value_at h.opening x)) (written_agree (λ t. not (is_aborted (done h) t)) (is_committed (done h)) x (done h) settled)
   where
-    events : List Event
-    events = done h
-
     ended : (c a : Bool) → (not c && not a) ≡ false → (c ≡ true → a ≡ false) → not a ≡ c
     ended true true off once = absurd (false≢true (sym (once refl)))
     ended true false off once = refl
     ended false true off once = refl
     ended false false off once = absurd (false≢true (sym off))
+
+    parts : (a b c d : Bool) → a ≡ true → b ≡ true → d ≡ true → (a && (b && c && d)) ≡ false → c ≡ false
+    parts true true c true p q r is = at c is
+      where
+        at : (c' : Bool) → (true && (true && c' && true)) ≡ false → c' ≡ false
+        at true bad = absurd (false≢true (sym bad))
+        at false bad = refl
+    parts true true c false p q r is = absurd (false≢true r)
+    parts true false c d p q r is = absurd (false≢true q)
+    parts false b c d p q r is = absurd (false≢true p)
 
     settled : (t : ℕ) → list_any (writes t x) (done h) ≡ true → not (is_aborted (done h) t) ≡ is_committed (done h) t
     settled t wrote =
@@ -79,13 +88,4 @@ current_of_none h o x none =
         let begun : is_begun (done h) t ≡ true = update_begun (done h) t update in
         let n = begun_number (done h) t begun in
         let free : (is_update (done h) t && holds_write (done h) t x) ≡ false = find_none (λ u. is_update (done h) u && holds_write (done h) u x) 1 _ none t n.0 n.1 in
-        ended (is_committed (done h) t) (is_aborted (done h) t) (off update begun wrote free) (o.once t)
-      where
-        off : is_update (done h) t ≡ true → is_begun (done h) t ≡ true → list_any (writes t x) (done h) ≡ true → (is_update (done h) t && (is_begun (done h) t && (not (is_committed (done h) t) && not (is_aborted (done h) t)) && list_any (writes t x) (done h))) ≡ false
-            → (not (is_committed (done h) t) && not (is_aborted (done h) t)) ≡ false
-        off update begun wrote free = parts (is_update (done h) t) (is_begun (done h) t) (not (is_committed (done h) t) && not (is_aborted (done h) t)) (list_any (writes t x) (done h)) update begun wrote free
-
-        parts : (a b c d : Bool) → a ≡ true → b ≡ true → d ≡ true → (a && (b && c && d)) ≡ false → c ≡ false
-        parts true true true true p q r is = is
-        parts true true false d p q r is = refl
-        parts _ _ _ _ p q r is = grind (arith, false≢true)
+        ended (is_committed (done h) t) (is_aborted (done h) t) (parts (is_update (done h) t) (is_begun (done h) t) (not (is_committed (done h) t) && not (is_aborted (done h) t)) (list_any (writes t x) (done h)) update begun wrote free) (o.once t)

@@ -1,25 +1,36 @@
 -- What is noted of an accepted event keeps the locks and the last values those of the history.
-use Rattle.std.proofs.Common.{◌≡◌, ℕ, ℤ, ◌<◌, List, [], ◌∷◌, ◌++◌, length, Bool, true, false, not, ◌&&◌, ◌==◌, refl, sym, ◌∙◌, ap, subst, arith, inl, inr, Option, None, Some, if◌then◌else◌, get_or, set, pos, map, All, unwrap_or, option_map, append-nil, get_or-set_other, get_or-set_same}
+use Rattle.std.proofs.Common.{◌≡◌, ℕ, zero, suc, ℤ, ◌<◌, ◌≤◌, List, [], ◌∷◌, ◌++◌, length, Bool, true, false, not, ◌&&◌, ◌==◌, refl, sym, ◌∙◌, ap, subst, arith, inl, inr, Option, None, Some, if◌then◌else◌, get_or, set, pos, map, All, unwrap_or, option_map, append-nil, w64, FitsSigned, IfOk, Result, Ok, Err, is_err, get_or-set_other, get_or-set_same}
 use Rattle.std.proofs.Math.ListN.{length-set}
 use Rattle.std.specs.List.{filter_map, cons_option, range_with_len}
-use Rattle.std.proofs.lemmas.Bool.{cases_eq, eq-eqb, ne_eqb, false≢true, false_from_ne_true}
+use Rattle.std.proofs.lemmas.Bool.{cases_lt, cases_eq, eq-eqb, ne_eqb, false≢true, false_from_ne_true}
 use Rattle.std.proofs.lemmas.Bool.Decides.{nat_tests}
+use Rattle.std.proofs.lemmas.Int.{ints}
+use Rattle.std.proofs.lemmas.List.Elements.{All-get_or}
+use Rattle.std.proofs.lemmas.Option.{same_Some, slice_get-get_or}
 use Rattle.std.proofs.lemmas.List.FromFn.{length-map-range_with_len, get_or-map-range_with_len}
+use Rattle.esr_items.specs.Weights.{weighted}
 use Rattle.esr_items.specs.Values.{value_at, IsValue, is_value, both_versions}
 use Rattle.esr_items.specs.declared.store.Versions.{Versions}
-use Rattle.esr_history.specs.Events.{Event, BeginUpdate, BeginQuery, Read, Write, Commit, Abort, Reply, Refusal, Refused, NoSuchItem, ValueOutOfRange, written, last_value, last_written, is_begun, is_active, is_query, is_update, committed_value, current_value, is_refusal, all_reads_of}
-use Rattle.esr_history.specs.ItemLocks.{ItemLocks, locks_of}
-use Rattle.esr_history.specs.Machine.{Distance, Schedule, done, extended, refusal, reasons, reply_to, acceptance}
+use Rattle.esr_history.specs.declared.event.Event.{Event}
+use Rattle.esr_history.specs.declared.event.Event.TheVariants.{BeginUpdate, BeginQuery, Read, Write, Commit, Abort}
+use Rattle.esr_history.specs.declared.event.Reply.{Reply}
+use Rattle.esr_history.specs.declared.event.Refusal.{Refusal}
+use Rattle.esr_history.specs.declared.event.Reply.TheVariants.{Refused, Value, Begun, Wrote, Committed, Aborted}
+use Rattle.esr_history.specs.declared.event.Refusal.TheVariants.{NoSuchItem, ValueOutOfRange}
+use Rattle.esr_history.specs.Events.{written, last_value, last_written, is_begun, is_active, is_query, is_update, committed_value, current_value, is_refusal, all_reads_of}
+use Rattle.esr_history.specs.ItemLocks.{ItemLocks, item_locks, locks_of}
+use Rattle.esr_history.specs.Machine.{Distance, Schedule, done, extended, refusal, reasons, reply_to, answered, acceptance}
 use Rattle.esr_history.specs.Orderly.{IsOrderly}
 use Rattle.esr_history.proofs.Allowed.{none_applies, read_allowed, write_allowed}
 use Rattle.esr_history.proofs.Lawful.{when_none, not_ended, update_from, done-refused, done-accepted, acceptance_accepts, follows}
 use Rattle.esr_history.proofs.Lists.{filter_map_push, last_value_push}
 use Rattle.esr_history.proofs.Orderly.{active_parts, IsOrderly-push}
 use Rattle.esr_locks.specs.Tables.{locks_at}
+use Rattle.esr_core.specs.declared.machine.StepError.{StepError}
 use Rattle.esr_core.specs.Tied.{IsTied, transactions_after, books_of}
 use Rattle.esr_core.proofs.Accepted.{few_here, read_few, read_active}
 use Rattle.esr_core.proofs.Held.{begin_update, begin_query, active-commit, active-abort}
-use Rattle.esr_core.proofs.Locks.{all-begin, all-read, all-query, all-write, all-end}
+use Rattle.esr_core.proofs.Locks.{locks_len, locks_here, all-begin, all-read, all-query, all-write, all-end}
 use Rattle.esr_why.specs.Notes.{is_query_read, noted, values_noted, HasItem, IsBelowMost}
 use Rattle.esr_why.specs.Replays.{last_value_of, IsBeside}
 
@@ -120,7 +131,7 @@ module _ (d : Distance) (h : Schedule) (o : IsOrderly (done h)) where
             ∙ last_value_push (value_at h.opening x) (filter_map (written (λ s. true) x) (done h)) v)))
         | inr other ↦
             let none : written (λ s. true) x (Write t y v) ≡ None = ap (λ b. if b && true then Some v else None) (ne_eqb y.0 x other) in
-            get_or-set_other values y.0 x v (pos 0) other ∙ (is ∙ kept (Write t y v) x none)
+            get_or-set_other values y.0 x v (pos 0) (λ (e : x ≡ y.0). other (sym e)) ∙ (is ∙ kept (Write t y v) x none)
       ]
   last_noted (Read t y) values l x is = is ∙ kept (Read t y) x refl
   last_noted (BeginUpdate limit) values l x is = is ∙ kept (BeginUpdate limit) x refl
@@ -135,7 +146,7 @@ module _ (d : Distance) (h : Schedule) (o : IsOrderly (done h)) where
             let out = when_none _ ValueOutOfRange (write_allowed d h t y v (none_applies (reasons d h (Write t y v)) none)).uncharged.value in
             let fits : IsValue v = grind (arith, nat_tests) in
             subst IsValue (sym (ap (value_at (values_noted (Write t y v) values)) (sym same) ∙ get_or-set_same values y.0 v (pos 0) l)) fits
-        | inr other ↦ subst IsValue (sym (get_or-set_other values y.0 x v (pos 0) other)) (range x)
+        | inr other ↦ subst IsValue (sym (get_or-set_other values y.0 x v (pos 0) (λ (e : x ≡ y.0). other (sym e)))) (range x)
       ]
   range_noted (Read t y) values none l range x = range x
   range_noted (BeginUpdate limit) values none l range x = range x
@@ -170,3 +181,50 @@ beside_accepted d h o e r locks values none ok b =
 -- before the first entry
 pub beside_blank : (h : Schedule) (values : List ℤ) → values ≡ h.opening → ((x : ℕ) → IsValue (value_at values x)) → IsBeside (record h { entries = [] }) (locks_of [] (length h.opening)) values
 beside_blank h values is range = record { locked = refl; count = ap length is; last = λ x l. ap (λ (vs : List ℤ). value_at vs x) is; range = range }
+
+-- values that are in range, and 0 past them
+pub all_in_range : (vs : List ℤ) → All IsValue vs → (x : ℕ) → IsValue (value_at vs x)
+all_in_range vs all x =
+    elim (cases_lt x (length vs)) [
+      | inl l ↦ All-get_or IsValue vs x (pos 0) l all
+      | inr past ↦ beyond vs x (omega (arith, past))
+    ]
+  where
+    beyond : (us : List ℤ) (y : ℕ) → length us ≤ y → IsValue (value_at us y)
+    beyond [] y l = omega arith
+    beyond (v ∷ us) zero l = absurd (omega (arith, l))
+    beyond (v ∷ us) (suc y) l = beyond us y (omega (arith, l))
+
+-- ---- what is looked up beside the machine
+
+pub locks_long : (h : Schedule) (locks : List ItemLocks) (values : List ℤ) → IsBeside h locks values → length locks ≡ length h.opening
+locks_long h locks values b = ap length b.locked ∙ locks_len (done h) (length h.opening)
+
+pub queries_here : (h : Schedule) (locks : List ItemLocks) (values : List ℤ) → IsBeside h locks values → (x : ℕ) → x < length h.opening → (locks_at locks x).queries ≡ (item_locks (done h) x).queries
+queries_here h locks values b x l =
+    ap (λ (ls : List ItemLocks). (locks_at ls x).queries) b.locked ∙ ap (λ (g : ItemLocks). g.queries) (locks_here (done h) (length h.opening) x l)
+
+pub value_fits : (v : ℤ) → IsValue v → FitsSigned w64 v
+value_fits v h = omega (arith, ints)
+
+-- ---- one step of the machine
+
+pub stepped : (h new : Schedule) (e : Event) (r : Result Reply StepError) → is_err r ≡ false → IfOk r (λ reply. reply ≡ reply_to weighted h e) → IfOk r (λ reply. new ≡ extended h e reply)
+    → new ≡ extended h e (reply_to weighted h e)
+stepped h new e (Ok reply) ok is added = added ∙ ap (λ (r : Reply). extended h e r) is
+stepped h new e (Err x) ok is added = cc
+
+pub accepted_reply : (d : Distance) (h : Schedule) (e : Event) → refusal d h e ≡ None → is_refusal (reply_to d h e) ≡ false
+accepted_reply d h e none = ap (λ (w : Option Refusal). is_refusal (answered w (acceptance h e))) none ∙ acceptance_accepts h e
+
+pub beside_refusal : (h : Schedule) (e : Event) (r : Reply) (locks : List ItemLocks) (values : List ℤ) → is_refusal r ≡ true → IsBeside h locks values → IsBeside (extended h e r) locks values
+beside_refusal h e (Refused why) locks values is b = beside_refused h e why locks values b
+beside_refusal h e (Value v) locks values is b = absurd (false≢true is)
+beside_refusal h e (Begun t) locks values is b = absurd (false≢true is)
+beside_refusal h e Wrote locks values is b = absurd (false≢true is)
+beside_refusal h e Committed locks values is b = absurd (false≢true is)
+beside_refusal h e Aborted locks values is b = absurd (false≢true is)
+
+-- what stands for a missing element does not matter where there is one
+pub get_or_either : {X : Type 0} (xs : List X) (i : ℕ) (d e : X) → i < length xs → get_or xs i d ≡ get_or xs i e
+get_or_either xs i d e l = same_Some (get_or xs i d) (get_or xs i e) (sym (slice_get-get_or xs i d l) ∙ slice_get-get_or xs i e l)

@@ -1,6 +1,7 @@
 -- The lock by which an update keeps an event back.
 use Rattle.std.specs.Prelude.{ℕ, Option, None, Some, ◌==◌, if◌then◌else◌}
-use Rattle.esr_history.specs.Events.{Event, Read, Write}
+use Rattle.esr_history.specs.declared.event.Event.{Event}
+use Rattle.esr_history.specs.declared.event.Event.TheVariants.{Read, Write}
 use Rattle.esr_history.specs.Machine.{Schedule, done, writer}
 use Rattle.esr_why.specs.declared.replay.Lock.{Lock}
 use Rattle.esr_why.specs.declared.replay.Lock.TheVariants as lock

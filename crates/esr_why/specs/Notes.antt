@@ -2,7 +2,9 @@
 use Rattle.std.specs.Prelude.{◌≡◌, ℕ, ℤ, ◌<◌, List, length, map, All, Bool, true, false, slice_set, ⊤}
 use Rattle.esr_items.specs.Values.{IsValue}
 use Rattle.esr_history.specs.declared.limits.TheConstants.{MOST_READS}
-use Rattle.esr_history.specs.Events.{is_query, Event, BeginUpdate, BeginQuery, Read, Write, Commit, Abort}
+use Rattle.esr_history.specs.declared.event.Event.{Event}
+use Rattle.esr_history.specs.declared.event.Event.TheVariants.{BeginUpdate, BeginQuery, Read, Write, Commit, Abort}
+use Rattle.esr_history.specs.Events.{is_query}
 use Rattle.esr_history.specs.ItemLocks.{ItemLocks}
 use Rattle.esr_history.specs.Machine.{Schedule, done}
 use Rattle.esr_locks.specs.Tables.{Table, locks_at, room_for, with_reader, with_writer, with_query_read, released}

@@ -1,7 +1,10 @@
 -- What a blocked event would have added to limits that it would have passed.
 use Rattle.std.specs.Prelude.{◌≡◌, ℕ, ◌+◌, List, [], ◌∷◌, ◌++◌, Bool, true, false, Option, Some, None, nat_lt, if◌then◌else◌}
 use Rattle.std.specs.List.{filter_map}
-use Rattle.esr_history.specs.Events.{limit_of, Event, Refusal, BlockedByLock, BlockedByImport, BlockedByExport}
+use Rattle.esr_history.specs.declared.event.Event.{Event}
+use Rattle.esr_history.specs.declared.event.Refusal.{Refusal}
+use Rattle.esr_history.specs.declared.event.Refusal.TheVariants.{BlockedByLock, BlockedByImport, BlockedByExport}
+use Rattle.esr_history.specs.Events.{limit_of}
 use Rattle.esr_history.specs.Machine.{Distance, Schedule, Charge, done, due_in, charges_in, import_in, export_in, total}
 use Rattle.esr_why.specs.declared.shortfall.Side.{Side}
 use Rattle.esr_why.specs.declared.shortfall.Side.TheVariants.{Import, Export}

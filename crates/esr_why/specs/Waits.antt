@@ -1,7 +1,10 @@
 -- Who waits for whom, and in a ring.
 use Rattle.std.specs.Prelude.{◌≡◌, ℕ, ◌<◌, List, [], ◌∷◌, ◌++◌, length, All, Option, Some, slice_get, map, option_map}
 use Rattle.esr_history.specs.declared.event.TxnId.{TxnId}
-use Rattle.esr_history.specs.Events.{Entry, Reply, Refused, BlockedByLock}
+use Rattle.esr_history.specs.declared.event.Entry.{Entry}
+use Rattle.esr_history.specs.declared.event.Reply.{Reply}
+use Rattle.esr_history.specs.declared.event.Reply.TheVariants.{Refused}
+use Rattle.esr_history.specs.declared.event.Refusal.TheVariants.{BlockedByLock}
 use Rattle.esr_history.specs.BackLinks.{last_place, txn_in}
 use Rattle.esr_why.specs.declared.waits.Wait.{Wait}
 

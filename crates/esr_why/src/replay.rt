@@ -171,6 +171,7 @@ impl<'a> Replay<'a> {
         ensures ok { OnOk result (self.new ≡ extended self.old event (reply_to weighted self.old event)) }
         ensures err { OnErr result (self.new ≡ self.old) }
     {
+        let _legal = self.machine.log(); // brings the invariant into the proof
         let as_query = is_query_read(&self.machine, event);
         reserve(&mut self.locks, event)?;
         if self.machine.step(event).is_err() {
@@ -205,6 +206,7 @@ impl<'a> Replay<'a> {
         ensures value { result ≡ current_value self.now.opening (done self.now) x.0 }
         ensures range { IsValue result }
     {
+        let _legal = self.machine.log(); // brings the invariant into the proof
         match self.machine.writer(x) {
             Some(_) => self.last[x.0 as usize],
             None => self.machine.committed(x),

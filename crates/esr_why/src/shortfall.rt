@@ -151,6 +151,15 @@ impl Replay<'_> {
         Ok(found)
     }
 
+    /// What a query lacks that has read an item so often, where one read costs this amount.
+    fn reads_lack(&self, reads: QueryReads, amount: u64) -> Option<Shortfall>
+        requires few { reads.count ≤ MOST_READS }
+        requires amount { amount ≤ largest_distance }
+        ensures { result ≡ import_lack weighted self.now reads.query.0 (reads.count * amount) }
+    {
+        self.import_lack(reads.query, u64::from(reads.count) * amount)
+    }
+
     /// Appends what the queries lack that have read an item, where one read of each costs this amount.
     fn push_imports(
         &self,
@@ -164,10 +173,7 @@ impl Replay<'_> {
             ++ filter_map (λ r. import_lack weighted self.now r.0 (r.1 * amount)) (map query_and_count reads.now)) }
     {
         for r in reads {
-            push_if(
-                found,
-                self.import_lack(r.query, u64::from(r.count) * amount),
-            )?;
+            push_if(found, self.reads_lack(*r, amount))?;
         }
         Ok(())
     }
@@ -190,8 +196,8 @@ impl Replay<'_> {
         if reads.is_empty() {
             return Ok(found);
         }
-        let current = self.current(x);
-        let amount = self.machine.history().metric().distance(x, value, current);
+        let before = self.current(x);
+        let amount = self.machine.history().metric().distance(x, value, before);
         self.push_imports(&mut found, reads, amount)?;
         push_if(&mut found, self.export_lack(u, total(reads, amount)))?;
         Ok(found)
@@ -203,11 +209,19 @@ impl Replay<'_> {
         ensures { IfOk result (λ v. v.items ≡ shortfalls weighted self.now event) }
     {
         match event {
-            Event::Read { txn, item } if self.is_query(txn) => {
-                self.read_shortfalls(alloc, txn, item)
+            Event::Read { txn, item } => {
+                if self.is_query(txn) {
+                    self.read_shortfalls(alloc, txn, item)
+                } else {
+                    Ok(Vec::new(alloc))
+                }
             }
-            Event::Write { txn, item, value } if self.is_update(txn) => {
-                self.write_shortfalls(alloc, txn, item, value)
+            Event::Write { txn, item, value } => {
+                if self.is_update(txn) {
+                    self.write_shortfalls(alloc, txn, item, value)
+                } else {
+                    Ok(Vec::new(alloc))
+                }
             }
             _ => Ok(Vec::new(alloc)),
         }
