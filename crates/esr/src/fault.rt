@@ -3,7 +3,7 @@
 use esr_drive::DriveFault;
 use esr_line::{Parsed, parse_line};
 use esr_lint::{NoQuery, Source, find_reason};
-use esr_script::RunFault;
+use esr_script::{MAX_LINE_BYTES, RunFault};
 use std::fmt;
 
 /// The fault of a script.
@@ -42,6 +42,17 @@ pub struct DriveText<'a> {
     pub fault: DriveFault,
     /// The first line at fault, where one is.
     pub line: &'a [u8],
+    /// What was read.
+    pub read: &'a [u8],
+}
+
+/// The number of the first line that is too long.
+fn long_line(read: &[u8]) -> u64 {
+    let lines = read.split(|byte| *byte == b'\n');
+    let before = lines
+        .take_while(|line| line.len() <= MAX_LINE_BYTES)
+        .count();
+    (before as u64).saturating_add(1)
 }
 
 /// What is wrong with a line of a drive file, by its number.
@@ -76,7 +87,10 @@ impl fmt::Display for DriveText<'_> {
                 write!(f, "{place}: error {error}: ")?;
                 push_why(f, error, self.line)
             }
-            DriveFault::LineTooLong => write!(f, "{source}{fault}: 200 bytes are the most"),
+            DriveFault::LineTooLong => {
+                let place = source.line(long_line(self.read));
+                write!(f, "{place}: {fault}: 200 bytes are the most")
+            }
             DriveFault::HistoryFull => write!(f, "{source}{fault}: 1,000,000 entries are the most"),
             DriveFault::TooManyLines => write!(f, "{source}{fault}: 2,000,000 are the most"),
             DriveFault::Write => write!(f, "{fault}"),

@@ -1,9 +1,9 @@
-//! A gate that each worker calls before each job. It does nothing in the program, and lets a test hold one worker until
-//! another has come: no contract can say that two threads run side by side.
+//! A gate that each worker calls before each job. It lets the program show how far it is, and a test hold one worker
+//! until another has come: no contract can say that two threads run side by side.
 
-/// What is called before a job of a number is begun. A call of it returns.
+/// What is called before a job of a number is begun, of so many. A call of it returns.
 pub trait Gate {
-    fn enter(&self, job: u64);
+    fn enter(&self, job: u64, jobs: u64);
 }
 
 /// A gate that is always open.
@@ -11,5 +11,5 @@ pub trait Gate {
 pub struct NoGate;
 
 impl Gate for NoGate {
-    fn enter(&self, _job: u64) {}
+    fn enter(&self, _job: u64, _jobs: u64) {}
 }

@@ -14,7 +14,7 @@ use Rattle.clap.specs.Takes.{is_given}
 use Rattle.clap.specs.Faults.{check_fault, defaults_fault, entered_fault, fault_of, is_simple_and_free, level_fault, settle_fault, values_fault, walk_fault}
 use Rattle.clap.proofs.OnLiterals.{clap_on_literals}
 use Rattle.esr_cli.specs.Job as asked
-use Rattle.esr_cli.specs.Program.{audit, bail_rule, certify, drive, explain, file_rule, name_rule, named, page, program, workers_rule, worst_rule}
+use Rattle.esr_cli.specs.Program.{as_script_rule, audit, bail_rule, certify, drive, explain, file_rule, format_rule, name_rule, named, no_progress_rule, page, program, progress_rule, workers_rule, worst_rule}
 use Rattle.esr_cli.specs.Job.{HasWorkers, Request, Work, flag_in, number_in, request_in, request_of, requested, count_in, work_in, work_of}
 use Rattle.esr_cli.specs.declared.Job.{Job}
 use Rattle.esr_cli.proofs.Rows.{HasFirst, IsFit, default_there, first_passes, given_there, has_text, level_good}
@@ -47,6 +47,18 @@ file = with_index 1 (filled file_rule)
 
 abbrev bail : Rule
 bail = filled bail_rule
+
+abbrev progress : Rule
+progress = filled progress_rule
+
+abbrev no_progress : Rule
+no_progress = filled no_progress_rule
+
+abbrev format : Rule
+format = filled format_rule
+
+abbrev as_script : Rule
+as_script = filled as_script_rule
 
 abbrev workers : Rule
 workers = filled workers_rule
@@ -153,7 +165,7 @@ named_served name ask within asks words none =
     let rows = rows_after s.rules [] words in
     let given = has_text (codes "NAME") (λ _. true) rows
     (level_good (codes "NAME") (λ _. true) s words
-    (query_fit, (other_fit _ _ _ refl, (other_fit _ _ _ refl, (other_fit _ _ _ refl, tt)))) none)
+    (query_fit, (other_fit _ _ _ refl, (other_fit _ _ _ refl, (other_fit _ _ _ refl, (other_fit _ _ _ refl, (other_fit _ _ _ refl, tt)))))) none)
     (given_there (codes "NAME") rows (name_is_given name rows (check_none s words none))) in
     subst (λ o. IsSomeAnd (option_map (requested rows) o) HasItsWorkers) (sym (asks rows))
     (one_named ask rows given.text within given.first)
@@ -163,7 +175,7 @@ certify_served words none =
     let rows = rows_after certify_shape.rules [] words in
     let given = has_text (codes "NAME") (λ _. true) rows
     (level_good (codes "NAME") (λ _. true) certify_shape words
-    (query_fit, (other_fit _ _ _ refl, (other_fit _ _ _ refl, (other_fit _ _ _ refl, (other_fit _ _ _ refl, tt))))) none)
+    (query_fit, (other_fit _ _ _ refl, (other_fit _ _ _ refl, (other_fit _ _ _ refl, (other_fit _ _ _ refl, (other_fit _ _ _ refl, (other_fit _ _ _ refl, tt))))))) none)
     (given_there (codes "NAME") rows (query_is_given rows (check_none certify_shape words none))) in
     one_named (λ name. asked.certify name (flag_in (codes "steps") rows)) rows given.text (λ t. tt) given.first
 
@@ -172,7 +184,7 @@ explain_served words none =
     let rows = rows_after explain_shape.rules [] words in
     let given = has_text (codes "NAME") (λ _. true) rows
     (level_good (codes "NAME") (λ _. true) explain_shape words
-    (query_fit, (other_fit _ _ _ refl, (other_fit _ _ _ refl, (other_fit _ _ _ refl, (other_fit _ _ _ refl, tt))))) none)
+    (query_fit, (other_fit _ _ _ refl, (other_fit _ _ _ refl, (other_fit _ _ _ refl, (other_fit _ _ _ refl, (other_fit _ _ _ refl, (other_fit _ _ _ refl, (other_fit _ _ _ refl, tt)))))))) none)
     (given_there (codes "NAME") rows (must_be_given (is_given (codes "NAME") rows) (check_none explain_shape words none))) in
     one_named (λ name. asked.explain name (flag_in (codes "prose") rows)) rows given.text (λ t. tt) given.first
 
@@ -191,14 +203,18 @@ count_served option ask rows text within one passes =
     let counted : count_in option rows ≡ Some (digits_value 10 (without_leading_plus text)) = rw one read.0 in
     rw counted (within _ read.1 read.2)
 
+-- the rows with the defaults of what each command that reads a script takes first
+abbrev before_own : List Row → List Row
+before_own rows = with_default (with_default (with_default (with_default rows file) bail) progress) no_progress
+
 audit_served : IsServed audit_shape
 audit_served words none =
     let rows = rows_after audit_shape.rules [] words in
     let held = (walk audit_shape.rules [] nothing_held words).held in
     let given = has_text (codes "workers") (is_unsigned_in 1 64) rows
     (level_good (codes "workers") (is_unsigned_in 1 64) audit_shape words
-    (other_fit _ _ _ refl, (other_fit _ _ _ refl, (workers_fit, (other_fit _ _ _ refl, tt)))) none)
-    (default_there workers (codes "4") [] (help_flag ∷ []) (with_default (with_default (settled audit_shape.rules held).rows file) bail) refl) in
+    (other_fit _ _ _ refl, (other_fit _ _ _ refl, (other_fit _ _ _ refl, (other_fit _ _ _ refl, (workers_fit, (other_fit _ _ _ refl, (other_fit _ _ _ refl, tt))))))) none)
+    (default_there workers (codes "4") [] (format ∷ help_flag ∷ []) (before_own (settled audit_shape.rules held).rows) refl) in
     count_served (codes "workers") asked.audit rows given.text (λ n low high. (low, high)) given.one given.passes
 
 page_served : IsServed page_shape
@@ -207,8 +223,8 @@ page_served words none =
     let held = (walk page_shape.rules [] nothing_held words).held in
     let given = has_text (codes "worst") (is_unsigned_in 1 64) rows
     (level_good (codes "worst") (is_unsigned_in 1 64) page_shape words
-    (other_fit _ _ _ refl, (other_fit _ _ _ refl, (worst_fit, (other_fit _ _ _ refl, tt)))) none)
-    (default_there worst (codes "10") [] (help_flag ∷ []) (with_default (with_default (settled page_shape.rules held).rows file) bail) refl) in
+    (other_fit _ _ _ refl, (other_fit _ _ _ refl, (other_fit _ _ _ refl, (other_fit _ _ _ refl, (worst_fit, (other_fit _ _ _ refl, tt)))))) none)
+    (default_there worst (codes "10") [] (help_flag ∷ []) (before_own (settled page_shape.rules held).rows) refl) in
     count_served (codes "worst") asked.page rows given.text (λ n low high. tt) given.one given.passes
 
 drive_served : IsServed drive_shape
@@ -217,9 +233,9 @@ drive_served words none =
     let held = (walk drive_shape.rules [] nothing_held words).held in
     let given = has_text (codes "workers") (is_unsigned_in 1 64) rows
     (level_good (codes "workers") (is_unsigned_in 1 64) drive_shape words
-    (other_fit _ _ _ refl, (workers_fit, (other_fit _ _ _ refl, tt))) none)
-    (default_there workers (codes "4") [] (help_flag ∷ []) (with_default (settled drive_shape.rules held).rows file) refl) in
-    count_served (codes "workers") asked.drive rows given.text (λ n low high. (low, high)) given.one given.passes
+    (other_fit _ _ _ refl, (workers_fit, (other_fit _ _ _ refl, (other_fit _ _ _ refl, tt)))) none)
+    (default_there workers (codes "4") [] (as_script ∷ help_flag ∷ []) (with_default (settled drive_shape.rules held).rows file) refl) in
+    count_served (codes "workers") (λ n. asked.drive n (flag_in (codes "as-script") rows)) rows given.text (λ n low high. (low, high)) given.one given.passes
 
 -- the program and its commands as they are built
 abbrev shell : App
@@ -240,7 +256,13 @@ served = (
         inr explain_served,
         (
           inr (named_served (codes "picture") asked.picture (λ t. tt) (λ rows. refl)),
-          (inr page_served, (inr audit_served, (inr drive_served, (inr (λ words none. tt), (inl refl, tt))))),
+          (
+            inr page_served,
+            (
+              inr (λ words none. tt),
+              (inr (λ words none. tt), (inr audit_served, (inr drive_served, (inr (λ words none. tt), (inl refl, tt))))),
+            ),
+          ),
         ),
       ),
     ),

@@ -1,5 +1,6 @@
 -- The jobs that words ask for.
 use Rattle.std.specs.Prelude.{◌≡◌, ◌≤◌, ◌⊎◌, ⊤, ℕ, Bool, true, false, List, [], ◌∷◌, ◌++◌, Option, Some, None, codes, if◌then◌else◌, option_and_then, option_map, unwrap_or, bytes_eq}
+use Rattle.std.specs.Option.{option_map_or}
 use Rattle.std.specs.Str.Parse.{digits_value, without_leading_plus}
 use Rattle.clap.specs.Lexer.{strip_byte}
 use Rattle.clap.specs.Words.{Row, Text, first_of, one_of}
@@ -7,44 +8,61 @@ use Rattle.clap.specs.ValueTests.{is_unsigned_in}
 use Rattle.esr_cli.specs.declared.Job.{Job}
 use Rattle.esr_cli.specs.declared.Task.{Task}
 use Rattle.esr_cli.specs.declared.Task.TheVariants as task
+use Rattle.esr_cli.specs.declared.Format.{Format}
+use Rattle.esr_cli.specs.declared.Format.TheVariants.{Text as Plain, Csv, Json}
+use Rattle.esr_cli.specs.declared.Progress.{Progress}
+use Rattle.esr_cli.specs.declared.Progress.TheVariants.{AtATerminal, Always, Never}
 
 -- what is done with the input
 pub data Work : Type 0 where
   run : Work
   certify : Text → Bool → Work
-  check : Work
+  check : (script query : Option Text) → (verbose : Bool) → Work
   explain : Text → Bool → Work
   picture : Text → Work
   page : ℕ → Work
   audit : ℕ → Work
-  drive : ℕ → Work
+  drive : ℕ → (as_script : Bool) → Work
+  ledger : Work
+  why : Option Text → Work
   lint : Work
 
--- what the program is asked for: the work, the file that is read, if one is named, and whether a line at fault is to
--- show in the status
+-- what the program is asked for: the work, the file that is read, if one is named, whether a line at fault is to show in
+-- the status, when progress is shown, and how what is told is written, if the word for it is a format
 pub record Request : Type 0 where
   pub work : Work
   pub file : Option Text
   pub bail : Bool
+  pub progress : Progress
+  pub format : Option Format
 
 abbrev pub work_of : Task → Work
 work_of task.Run = run
 work_of (task.Certify name steps) = certify name.now steps
-work_of task.Check = check
+work_of (task.Check script query verbose) =
+    check (option_map (λ file. file.now) script) (option_map (λ name. name.now) query) verbose
 work_of (task.Explain name prose) = explain name.now prose
 work_of (task.Picture name) = picture name.now
 work_of (task.Page worst) = page worst
 work_of (task.Audit workers) = audit workers
-work_of (task.Drive workers) = drive workers
+work_of (task.Drive workers as_script) = drive workers as_script
+work_of task.Ledger = ledger
+work_of (task.Why name) = why (option_map (λ n. n.now) name)
 work_of task.Lint = lint
 
 abbrev pub request_of : Job → Request
-request_of job = record { work = work_of job.task; file = option_map (λ name. name.now) job.file; bail = job.bail }
+request_of job = record {
+  work = work_of job.task;
+  file = option_map (λ name. name.now) job.file;
+  bail = job.bail;
+  progress = job.progress;
+  format = job.format;
+}
 
 -- 1 to 64 workers, where any work
 abbrev pub HasWorkers : Work → Type 0
 HasWorkers (audit workers) = (1 ≤ workers) × (workers ≤ 64)
-HasWorkers (drive workers) = (1 ≤ workers) × (workers ≤ 64)
+HasWorkers (drive workers _) = (1 ≤ workers) × (workers ≤ 64)
 HasWorkers _ = ⊤
 
 abbrev pub bool_of : Text → Option Bool
@@ -67,6 +85,24 @@ certify_in rows = option_map (λ name. certify name (flag_in (codes "steps") row
 abbrev pub explain_in : List Row → Option Work
 explain_in rows = option_map (λ name. explain name (flag_in (codes "prose") rows)) (first_of (codes "NAME") rows)
 
+-- what a bundle is judged by
+abbrev pub check_in : List Row → Work
+check_in rows = check (first_of (codes "script") rows) (first_of (codes "query") rows) (flag_in (codes "verbose") rows)
+
+-- when progress is shown; not to show it goes first
+abbrev pub progress_in : List Row → Progress
+progress_in rows = if flag_in (codes "no-progress") rows then Never
+    else (if flag_in (codes "progress") rows then Always else AtATerminal)
+
+abbrev pub format_named : Text → Option Format
+format_named name = if bytes_eq name (codes "text") then Some Plain
+    else (if bytes_eq name (codes "csv") then Some Csv
+    else (if bytes_eq name (codes "json") then Some Json else None))
+
+-- text where no format is named
+abbrev pub format_in : List Row → Option Format
+format_in rows = option_map_or format_named (first_of (codes "format") rows) (Some Plain)
+
 -- the number that an option is given
 abbrev pub count_in : Text → List Row → Option ℕ
 count_in option rows = option_and_then number_in (one_of option rows)
@@ -74,19 +110,24 @@ count_in option rows = option_and_then number_in (one_of option rows)
 abbrev pub workers_in : List Row → Option ℕ
 workers_in = count_in (codes "workers")
 
+abbrev pub drive_in : List Row → Option Work
+drive_in rows = option_map (λ workers. drive workers (flag_in (codes "as-script") rows)) (workers_in rows)
+
 -- what a subcommand and its matches ask for
 abbrev pub work_in : Text → List Row → Option Work
 work_in name rows =
     if bytes_eq name (codes "run") then Some run
     else (if bytes_eq name (codes "certify") then certify_in rows
-    else (if bytes_eq name (codes "check") then Some check
+    else (if bytes_eq name (codes "check") then Some (check_in rows)
     else (if bytes_eq name (codes "explain") then explain_in rows
     else (if bytes_eq name (codes "picture") then option_map picture (first_of (codes "NAME") rows)
     else (if bytes_eq name (codes "page") then option_map page (count_in (codes "worst") rows)
     else (if bytes_eq name (codes "audit") then option_map audit (workers_in rows)
-    else (if bytes_eq name (codes "drive") then option_map drive (workers_in rows)
+    else (if bytes_eq name (codes "drive") then drive_in rows
+    else (if bytes_eq name (codes "ledger") then Some ledger
+    else (if bytes_eq name (codes "why") then Some (why (first_of (codes "NAME") rows))
     else (if bytes_eq name (codes "lint") then Some lint
-    else None))))))))
+    else None))))))))))
 
 -- the work, with what else is asked for
 abbrev pub requested : List Row → Work → Request
@@ -94,6 +135,8 @@ requested rows work = record {
   work = work;
   file = first_of (codes "FILE") rows;
   bail = flag_in (codes "bail") rows;
+  progress = progress_in rows;
+  format = format_in rows;
 }
 
 abbrev pub request_in_one : Text → List Row → Option Request
@@ -154,7 +197,7 @@ abbrev pub SpellsWork : Work → Request → List Text → Type 0
 SpellsWork run r words = SpellsScript (codes "run") [] [] r words
 SpellsWork (certify name steps) r words =
     IsPlainWord name × SpellsScript (codes "certify") (flag_words steps (codes "--steps")) (name ∷ []) r words
-SpellsWork check r words = SpellsReader (codes "check") [] r words
+SpellsWork (check None None false) r words = SpellsReader (codes "check") [] r words
 SpellsWork (explain name prose) r words =
     IsPlainWord name × SpellsScript (codes "explain") (flag_words prose (codes "--prose")) (name ∷ []) r words
 SpellsWork (picture name) r words = IsPlainWord name × SpellsScript (codes "picture") [] (name ∷ []) r words
@@ -163,9 +206,13 @@ SpellsWork (page worst) r words =
     × SpellsScript (codes "page") options [] r words
 SpellsWork (audit workers) r words =
     (options : List Text) × IsWorkers workers options × SpellsScript (codes "audit") options [] r words
-SpellsWork (drive workers) r words =
+SpellsWork (drive workers false) r words =
     (options : List Text) × IsWorkers workers options × SpellsReader (codes "drive") options r words
+SpellsWork ledger r words = SpellsScript (codes "ledger") [] [] r words
+SpellsWork (why None) r words = SpellsScript (codes "why") [] [] r words
 SpellsWork lint r words = SpellsReader (codes "lint") [] r words
+SpellsWork _ r words = ⊥
 
+-- of what is asked for by the words that have no other option
 abbrev pub Spells : List Text → Request → Type 0
-Spells words r = SpellsWork r.work r words
+Spells words r = (r.progress ≡ AtATerminal) × (r.format ≡ Some Plain) × SpellsWork r.work r words

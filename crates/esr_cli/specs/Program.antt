@@ -1,7 +1,7 @@
 -- The command line of the program, as `clap` reads it.
 use Rattle.std.specs.Prelude.{[], ◌∷◌, Some, true, codes}
 use Rattle.clap.specs.Words.{App, Rule, Text, new_app, new_rule, with_rule, with_subcommand}
-use Rattle.clap.specs.declared.builder.action.ArgAction.TheVariants.{SetTrue}
+use Rattle.clap.specs.declared.builder.action.ArgAction.TheVariants.{Append, SetTrue}
 use Rattle.clap.specs.declared.builder.value_parser.ValueParser.TheVariants.{Unsigned}
 
 -- the command `esr`, with a version, which needs one of its subcommands
@@ -40,8 +40,43 @@ worst_rule = record (new_rule (codes "worst")) {
 abbrev pub bail_rule : Rule
 bail_rule = record (new_rule (codes "bail")) { long = Some (codes "bail"); action = Some SetTrue }
 
+abbrev pub progress_rule : Rule
+progress_rule = record (new_rule (codes "progress")) { long = Some (codes "progress"); action = Some SetTrue }
+
+abbrev pub no_progress_rule : Rule
+no_progress_rule =
+    record (new_rule (codes "no-progress")) { long = Some (codes "no-progress"); action = Some SetTrue }
+
+-- text where no format is named
+abbrev pub format_rule : Rule
+format_rule = record (new_rule (codes "format")) {
+  long = Some (codes "format");
+  value_names = 1;
+  defaults = codes "text" ∷ [];
+}
+
+abbrev pub script_rule : Rule
+script_rule = record (new_rule (codes "script")) { long = Some (codes "script"); value_names = 1 }
+
+abbrev pub query_rule : Rule
+query_rule = record (new_rule (codes "query")) { long = Some (codes "query"); value_names = 1 }
+
+abbrev pub verbose_rule : Rule
+verbose_rule = record (new_rule (codes "verbose")) { long = Some (codes "verbose"); action = Some SetTrue }
+
+abbrev pub as_script_rule : Rule
+as_script_rule = record (new_rule (codes "as-script")) { long = Some (codes "as-script"); action = Some SetTrue }
+
+-- the name of a transaction, which need not be given
+abbrev pub of_rule : Rule
+of_rule = new_rule (codes "NAME")
+
 abbrev pub file_rule : Rule
 file_rule = new_rule (codes "FILE")
+
+-- several files
+abbrev pub files_rule : Rule
+files_rule = record (new_rule (codes "FILE")) { action = Some Append }
 
 -- a subcommand that reads a file
 abbrev pub reading : App → App
@@ -49,7 +84,7 @@ reading a = with_rule a file_rule
 
 -- one that reads a script
 abbrev pub scripted : App → App
-scripted a = with_rule (reading a) bail_rule
+scripted a = with_rule (with_rule (with_rule (reading a) bail_rule) progress_rule) no_progress_rule
 
 -- one that tells of one query of a script
 abbrev pub named : Text → App
@@ -59,27 +94,42 @@ abbrev pub certify : App
 certify = with_rule (named (codes "certify")) steps_rule
 
 abbrev pub explain : App
-explain = with_rule (named (codes "explain")) prose_rule
+explain = with_rule (with_rule (named (codes "explain")) prose_rule) format_rule
 
 abbrev pub page : App
 page = with_rule (scripted (new_app (codes "page"))) worst_rule
 
 abbrev pub audit : App
-audit = with_rule (scripted (new_app (codes "audit"))) workers_rule
+audit = with_rule (with_rule (scripted (new_app (codes "audit"))) workers_rule) format_rule
 
 abbrev pub drive : App
-drive = with_rule (reading (new_app (codes "drive"))) workers_rule
+drive = with_rule (with_rule (reading (new_app (codes "drive"))) workers_rule) as_script_rule
+
+abbrev pub lint : App
+lint = with_rule (new_app (codes "lint")) files_rule
+
+abbrev pub check : App
+check = with_rule (with_rule (with_rule (reading (new_app (codes "check"))) script_rule) query_rule) verbose_rule
+
+abbrev pub ledger : App
+ledger = with_rule (scripted (new_app (codes "ledger"))) format_rule
+
+abbrev pub why : App
+why = with_rule (scripted (new_app (codes "why"))) of_rule
 
 abbrev pub scripts : App
 scripts =
     with_subcommand (with_subcommand (with_subcommand esr (scripted (new_app (codes "run"))).top) certify.top)
-    (reading (new_app (codes "check"))).top
+    check.top
 
 abbrev pub queries : App
 queries =
     with_subcommand (with_subcommand (with_subcommand scripts explain.top) (named (codes "picture")).top) page.top
 
+abbrev pub tables : App
+tables = with_subcommand (with_subcommand queries ledger.top) why.top
+
 abbrev pub program : App
 program =
-    with_subcommand (with_subcommand (with_subcommand queries audit.top) drive.top)
-    (reading (new_app (codes "lint"))).top
+    with_subcommand (with_subcommand (with_subcommand tables audit.top) drive.top)
+    lint.top

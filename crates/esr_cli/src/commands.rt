@@ -7,7 +7,7 @@
 ghost use Rattle.std.specs.Prelude.{◌≡◌, IfOk, codes, false};
 ghost use Rattle.clap.specs.Words.{App, app_of, new_app, with_rule, with_subcommand, rule_of};
 ghost use Rattle.clap.specs.declared.builder.command.Command.TheViews.{out-Command};
-ghost use Rattle.esr_cli.specs.Program.{audit, bail_rule, certify, drive, esr, explain, file_rule, name_rule, named, page, program, prose_rule, queries, reading, scripted, scripts, steps_rule, workers_rule, worst_rule};
+ghost use Rattle.esr_cli.specs.Program.{as_script_rule, audit, bail_rule, certify, check, drive, esr, explain, file_rule, files_rule, format_rule, ledger, lint, name_rule, named, no_progress_rule, of_rule, page, program, progress_rule, prose_rule, queries, query_rule, reading, script_rule, scripted, scripts, steps_rule, tables, verbose_rule, why, workers_rule, worst_rule};
 
 use crate::help;
 use clap::{Arg, ArgAction, Command, value_parser};
@@ -54,6 +54,16 @@ fn file<'a>(alloc: Global) -> Arg<'a>
     ensures local { result.global ≡ false }
 {
     Arg::new(alloc, "FILE").help("What is read; standard input where it is - or none is named")
+}
+
+/// `FILE..`
+fn files<'a>(alloc: Global) -> Arg<'a>
+    ensures rule { rule_of result ≡ files_rule }
+    ensures local { result.global ≡ false }
+{
+    Arg::new(alloc, "FILE")
+        .action(ArgAction::Append)
+        .help("What is read, one after another; standard input where it is - or none is named")
 }
 
 /// `--bail`
@@ -115,6 +125,92 @@ fn workers<'a>(alloc: Global) -> Arg<'a>
         .help("How many threads audit, 1 to 64")
 }
 
+/// `--progress`
+fn progress<'a>(alloc: Global) -> Arg<'a>
+    ensures rule { rule_of result ≡ progress_rule }
+    ensures local { result.global ≡ false }
+{
+    Arg::new(alloc, "progress")
+        .long("progress")
+        .action(ArgAction::SetTrue)
+        .help("Shows on standard error how far it is, also where that is no terminal")
+}
+
+/// `--no-progress`
+fn no_progress<'a>(alloc: Global) -> Arg<'a>
+    ensures rule { rule_of result ≡ no_progress_rule }
+    ensures local { result.global ≡ false }
+{
+    Arg::new(alloc, "no-progress")
+        .long("no-progress")
+        .action(ArgAction::SetTrue)
+        .help("Never shows how far it is")
+}
+
+/// `--format FORMAT`
+fn format<'a>(alloc: Global) -> Arg<'a>
+    ensures rule { rule_of result ≡ format_rule }
+    ensures local { result.global ≡ false }
+{
+    Arg::new(alloc, "format")
+        .long("format")
+        .value_name("FORMAT")
+        .default_value("text")
+        .help("How it is written: text, csv, or json with an object a line")
+}
+
+/// `--script SCRIPT`
+fn script<'a>(alloc: Global) -> Arg<'a>
+    ensures rule { rule_of result ≡ script_rule }
+    ensures local { result.global ≡ false }
+{
+    Arg::new(alloc, "script")
+        .long("script")
+        .value_name("SCRIPT")
+        .help("The script that the bundle is said to be of, with --query")
+}
+
+/// `--query QUERY`
+fn query<'a>(alloc: Global) -> Arg<'a>
+    ensures rule { rule_of result ≡ query_rule }
+    ensures local { result.global ≡ false }
+{
+    Arg::new(alloc, "query")
+        .long("query")
+        .value_name("QUERY")
+        .help("The query of that script")
+}
+
+/// `--verbose`
+fn verbose<'a>(alloc: Global) -> Arg<'a>
+    ensures rule { rule_of result ≡ verbose_rule }
+    ensures local { result.global ≡ false }
+{
+    Arg::new(alloc, "verbose")
+        .long("verbose")
+        .action(ArgAction::SetTrue)
+        .help("Says on standard error what was found amiss")
+}
+
+/// `--as-script`
+fn as_script<'a>(alloc: Global) -> Arg<'a>
+    ensures rule { rule_of result ≡ as_script_rule }
+    ensures local { result.global ≡ false }
+{
+    Arg::new(alloc, "as-script")
+        .long("as-script")
+        .action(ArgAction::SetTrue)
+        .help("Writes the history that came, as a script")
+}
+
+/// `NAME`, which need not be given
+fn of<'a>(alloc: Global) -> Arg<'a>
+    ensures rule { rule_of result ≡ of_rule }
+    ensures local { result.global ≡ false }
+{
+    Arg::new(alloc, "NAME").help("The transaction; all where none is named")
+}
+
 /// A command that reads a file.
 fn reading<'a>(
     alloc: Global,
@@ -138,7 +234,8 @@ fn scripted<'a>(
         → IfOk result (λ c. app_of c ≡ scripted whole) }
     ensures local { IfOk result (λ c. (out-Command c).has_globals ≡ false) }
 {
-    taking(reading(alloc, command), bail(alloc))
+    let command = taking(reading(alloc, command), bail(alloc));
+    taking(taking(command, progress(alloc)), no_progress(alloc))
 }
 
 /// A command that tells of one query of a script.
@@ -173,13 +270,14 @@ fn certify<'a>(alloc: Global) -> Result<Command<'a>, AllocError>
     taking(named(alloc, "certify", about, help::CERTIFY), steps(alloc))
 }
 
-/// `explain [--bail] [--prose] NAME [FILE]`
+/// `explain [--bail] [--prose] [--format FORMAT] NAME [FILE]`
 fn explain<'a>(alloc: Global) -> Result<Command<'a>, AllocError>
     ensures app { IfOk result (λ c. app_of c ≡ explain) }
     ensures local { IfOk result (λ c. (out-Command c).has_globals ≡ false) }
 {
     let about = "Runs a script and tells what a query read and was charged";
-    taking(named(alloc, "explain", about, help::EXPLAIN), prose(alloc))
+    let command = named(alloc, "explain", about, help::EXPLAIN);
+    taking(taking(command, prose(alloc)), format(alloc))
 }
 
 /// `page [--bail] [--worst N] [FILE]`
@@ -194,46 +292,70 @@ fn page<'a>(alloc: Global) -> Result<Command<'a>, AllocError>
     )
 }
 
-/// `check [FILE]`
+/// `check [--verbose] [--script SCRIPT --query QUERY] [FILE]`
 fn check<'a>(alloc: Global) -> Result<Command<'a>, AllocError>
-    ensures app { IfOk result (λ c. app_of c ≡ reading (new_app (codes "check"))) }
+    ensures app { IfOk result (λ c. app_of c ≡ check) }
     ensures local { IfOk result (λ c. (out-Command c).has_globals ≡ false) }
 {
     let about = "Judges a bundle: valid, invalid or bad";
-    reading(alloc, plain(alloc, "check", about, help::CHECK))
+    let command = reading(alloc, plain(alloc, "check", about, help::CHECK));
+    taking(
+        taking(taking(command, script(alloc)), query(alloc)),
+        verbose(alloc),
+    )
 }
 
-/// `audit [--bail] [--workers W] [FILE]`
+/// `ledger [--bail] [--format FORMAT] [FILE]`
+fn ledger<'a>(alloc: Global) -> Result<Command<'a>, AllocError>
+    ensures app { IfOk result (λ c. app_of c ≡ ledger) }
+    ensures local { IfOk result (λ c. (out-Command c).has_globals ≡ false) }
+{
+    let about = "Runs a script and writes a row for each transaction";
+    taking(
+        scripted(alloc, plain(alloc, "ledger", about, help::LEDGER)),
+        format(alloc),
+    )
+}
+
+/// `why [--bail] [FILE] [NAME]`
+fn why<'a>(alloc: Global) -> Result<Command<'a>, AllocError>
+    ensures app { IfOk result (λ c. app_of c ≡ why) }
+    ensures local { IfOk result (λ c. (out-Command c).has_globals ≡ false) }
+{
+    let about = "Runs a script and tells why lines were blocked";
+    taking(
+        scripted(alloc, plain(alloc, "why", about, help::WHY)),
+        of(alloc),
+    )
+}
+
+/// `audit [--bail] [--workers W] [--format FORMAT] [FILE]`
 fn audit<'a>(alloc: Global) -> Result<Command<'a>, AllocError>
     ensures app { IfOk result (λ c. app_of c ≡ audit) }
     ensures local { IfOk result (λ c. (out-Command c).has_globals ≡ false) }
 {
     let about = "Runs a script and audits each committed query";
-    taking(
-        scripted(alloc, plain(alloc, "audit", about, help::AUDIT)),
-        workers(alloc),
-    )
+    let command = scripted(alloc, plain(alloc, "audit", about, help::AUDIT));
+    taking(taking(command, workers(alloc)), format(alloc))
 }
 
-/// `drive [--workers W] [FILE]`
+/// `drive [--workers W] [--as-script] [FILE]`
 fn drive<'a>(alloc: Global) -> Result<Command<'a>, AllocError>
     ensures app { IfOk result (λ c. app_of c ≡ drive) }
     ensures local { IfOk result (λ c. (out-Command c).has_globals ≡ false) }
 {
     let about = "Runs the sessions of a drive file, each on a thread";
-    taking(
-        reading(alloc, plain(alloc, "drive", about, help::DRIVE)),
-        workers(alloc),
-    )
+    let command = reading(alloc, plain(alloc, "drive", about, help::DRIVE));
+    taking(taking(command, workers(alloc)), as_script(alloc))
 }
 
-/// `lint [FILE]`
+/// `lint [FILE..]`
 fn lint<'a>(alloc: Global) -> Result<Command<'a>, AllocError>
-    ensures app { IfOk result (λ c. app_of c ≡ reading (new_app (codes "lint"))) }
+    ensures app { IfOk result (λ c. app_of c ≡ lint) }
     ensures local { IfOk result (λ c. (out-Command c).has_globals ≡ false) }
 {
     let about = "Lists what is wrong in a script, line by line";
-    reading(alloc, plain(alloc, "lint", about, help::LINT))
+    taking(plain(alloc, "lint", about, help::LINT), files(alloc))
 }
 
 /// Adds a command to a program, where there was memory for it.
@@ -278,11 +400,19 @@ fn queries<'a>(alloc: Global) -> Result<Command<'a>, AllocError>
     with(commands, page(alloc))
 }
 
+/// The same with the jobs that show what was charged and what was blocked.
+fn tables<'a>(alloc: Global) -> Result<Command<'a>, AllocError>
+    ensures { IfOk result (λ c. app_of c ≡ tables) }
+{
+    let commands = with(queries(alloc)?, ledger(alloc))?;
+    with(commands, why(alloc))
+}
+
 /// The program `esr` with all its commands, as `clap` is told of them.
 pub fn program<'a>(alloc: Global) -> Result<Command<'a>, AllocError>
     ensures { IfOk result (λ c. app_of c ≡ program) }
 {
-    let commands = with(queries(alloc)?, audit(alloc))?;
+    let commands = with(tables(alloc)?, audit(alloc))?;
     let commands = with(commands, drive(alloc))?;
     with(commands, lint(alloc))
 }

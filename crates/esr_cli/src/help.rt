@@ -108,6 +108,27 @@ For example:
   committed u
   totals import 0 export 0 entries 3";
 
+pub const LEDGER: &str =
+    "It writes a row for each transaction that began, in order: its number, name and
+kind, its limit, what it was charged and what is left, how many reads and writes
+were accepted and how many were blocked, by a lock, an import or an export limit,
+how it ended, its first and last line, and a committed query's distance.
+
+Which limit does a report need? Run it with a large one, and look at the charge.
+
+For example:
+
+  $ esr ledger --format csv examples/first.esr";
+
+pub const WHY: &str =
+    "It tells of each blocked line what was asked for, what would have been charged, what
+was left, and which limit would let it pass; or which lock it waited for, and when
+that was released. Transactions that wait for one another are named as a deadlock.
+
+For example:
+
+  $ esr why examples/first.esr";
+
 pub const LINT: &str =
     "It lists lines that are no commands, lines that are answered by an error or by a
 refusal 1 to 8, and transactions that are still active at the end, each as

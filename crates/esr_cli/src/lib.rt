@@ -12,7 +12,7 @@ ghost use Rattle.clap.specs.Words.{subcommand_of, subcommand_rows_of, FailsBy};
 ghost use Rattle.clap.specs.Walk.{texts};
 ghost use Rattle.clap.specs.declared.error.kind.ErrorKind.TheVariants.{OutOfMemory};
 ghost use Rattle.esr_cli.specs.Program.{program};
-ghost use Rattle.esr_cli.specs.Job.{certify_in, count_in, explain_in, flag_in, request_in, request_of, work_in, work_of, HasWorkers, Spells};
+ghost use Rattle.esr_cli.specs.Job.{certify_in, check_in, count_in, drive_in, explain_in, flag_in, format_in, format_named, progress_in, request_in, request_of, work_in, work_of, HasWorkers, Spells};
 
 mod commands;
 mod help;
@@ -29,8 +29,13 @@ pub enum Task<'a> {
     /// Runs a script without writing its lines, and writes the bundle of the
     /// query `name`, with the count of augmentations if `steps`.
     Certify { name: &'a str, steps: bool },
-    /// Judges a bundle.
-    Check,
+    /// Judges a bundle: on its own, or as what a script gives for a query, where both are named; and tells what
+    /// an invalid one lacks if `verbose`.
+    Check {
+        script: Option<&'a str>,
+        query: Option<&'a str>,
+        verbose: bool,
+    },
     /// Runs a script without writing its lines, and explains the query `name`,
     /// in sentences if `prose`.
     Explain { name: &'a str, prose: bool },
@@ -43,10 +48,36 @@ pub enum Task<'a> {
     /// with so many workers, 1 to 64.
     Audit { workers: u64 },
     /// Runs the sessions of a drive file, and audits with so many workers, 1 to
-    /// 64.
-    Drive { workers: u64 },
+    /// 64, or writes the history that came as a script if `as_script`.
+    Drive { workers: u64, as_script: bool },
+    /// Runs a script without writing its lines, and writes a row for each of its
+    /// transactions.
+    Ledger,
+    /// Runs a script without writing its lines, and tells why lines were blocked:
+    /// all, or those of one transaction.
+    Why { name: Option<&'a str> },
     /// Runs a script without writing its lines, and lists the lines at fault.
     Lint,
+}
+
+/// How a table is written.
+#[derive(Clone, Copy, Debug, PartialEq, Eq)]
+pub enum Format {
+    /// For people.
+    Text,
+    /// Comma-separated values, with a line of headings.
+    Csv,
+    /// JSON, an object a line.
+    Json,
+}
+
+/// When progress is shown on standard error.
+#[derive(Clone, Copy, Debug, PartialEq, Eq)]
+pub enum Progress {
+    /// Where standard error is a terminal.
+    AtATerminal,
+    Always,
+    Never,
 }
 
 /// What the words of a command line ask for.
@@ -57,6 +88,9 @@ pub struct Job<'a> {
     pub file: Option<&'a str>,
     /// Whether a line at fault makes the status 1.
     pub bail: bool,
+    pub progress: Progress,
+    /// How what is told is written, or none where the word for it is no format.
+    pub format: Option<Format>,
 }
 
 /// The first value of an argument.
@@ -80,6 +114,42 @@ fn count(given: &ArgMatches<'_>, id: &str) -> Option<u64>
     given.get_one::<u64>(id)
 }
 
+/// The format of that name.
+fn format_named(name: &str) -> Option<Format>
+    ensures { result ≡ format_named name.now }
+{
+    match name {
+        "text" => Some(Format::Text),
+        "csv" => Some(Format::Csv),
+        "json" => Some(Format::Json),
+        _ => None,
+    }
+}
+
+/// The format that is asked for: text where none is.
+fn asked_format(given: &ArgMatches<'_>) -> Option<Format>
+    ensures { result ≡ format_in (rows_of (found_of given.now)) }
+{
+    match text(given, "format") {
+        Some(name) => format_named(name),
+        None => Some(Format::Text),
+    }
+}
+
+/// When progress is to be shown. Not to show it goes first.
+fn asked_progress(given: &ArgMatches<'_>) -> Progress
+    ensures { result ≡ progress_in (rows_of (found_of given.now)) }
+{
+    if flag(given, "no-progress") {
+        return Progress::Never;
+    }
+    if flag(given, "progress") {
+        Progress::Always
+    } else {
+        Progress::AtATerminal
+    }
+}
+
 fn certify_task<'a>(given: &ArgMatches<'a>) -> Option<Task<'a>>
     ensures { option_map work_of result ≡ certify_in (rows_of (found_of given.now)) }
 {
@@ -100,13 +170,33 @@ fn explain_task<'a>(given: &ArgMatches<'a>) -> Option<Task<'a>>
     })
 }
 
+fn check_task<'a>(given: &ArgMatches<'a>) -> Task<'a>
+    ensures { work_of result ≡ check_in (rows_of (found_of given.now)) }
+{
+    Task::Check {
+        script: text(given, "script"),
+        query: text(given, "query"),
+        verbose: flag(given, "verbose"),
+    }
+}
+
+fn drive_task<'a>(given: &ArgMatches<'a>) -> Option<Task<'a>>
+    ensures { option_map work_of result ≡ drive_in (rows_of (found_of given.now)) }
+{
+    let workers = count(given, "workers")?;
+    Some(Task::Drive {
+        workers,
+        as_script: flag(given, "as-script"),
+    })
+}
+
 fn task_of<'a>(name: &str, given: &ArgMatches<'a>) -> Option<Task<'a>>
     ensures { option_map work_of result ≡ work_in name.now (rows_of (found_of given.now)) }
 {
     match name {
         "run" => Some(Task::Run),
         "certify" => certify_task(given),
-        "check" => Some(Task::Check),
+        "check" => Some(check_task(given)),
         "explain" => explain_task(given),
         "picture" => Some(Task::Picture {
             name: text(given, "NAME")?,
@@ -117,8 +207,10 @@ fn task_of<'a>(name: &str, given: &ArgMatches<'a>) -> Option<Task<'a>>
         "audit" => Some(Task::Audit {
             workers: count(given, "workers")?,
         }),
-        "drive" => Some(Task::Drive {
-            workers: count(given, "workers")?,
+        "drive" => drive_task(given),
+        "ledger" => Some(Task::Ledger),
+        "why" => Some(Task::Why {
+            name: text(given, "NAME"),
         }),
         "lint" => Some(Task::Lint),
         _ => None,
@@ -134,6 +226,8 @@ fn job_of<'a>(matches: &ArgMatches<'a>) -> Option<Job<'a>>
         task,
         file: text(given, "FILE"),
         bail: flag(given, "bail"),
+        progress: asked_progress(given),
+        format: asked_format(given),
     })
 }
 

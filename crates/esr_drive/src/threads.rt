@@ -42,6 +42,7 @@ pub fn run_blocks<'a, 't, N: Naming + Send + Sync, R: Threads + Wait + Sync, G: 
     ensures most { IfOk result (λ v. AllPairs (λ task ran. length ran.session ≤ 100 * length task.calls.now)
         tasks.entry.items v.items) }
 {
+    let blocks = tasks.len() as u64;
     thread::map_vec(
         rt,
         tasks,
@@ -50,7 +51,7 @@ pub fn run_blocks<'a, 't, N: Naming + Send + Sync, R: Threads + Wait + Sync, G: 
             ensures run { IfOk result.outcome (λ replies. IsBlockRun task.entry.calls.now replies.items result.session) }
             ensures most { length result.session ≤ 100 * length task.entry.calls.now }
         {
-            gate.enter(task.number);
+            gate.enter(task.number, blocks);
             run_block(rt, alloc, task.calls, task.session)
         },
     )

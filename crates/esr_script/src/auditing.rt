@@ -13,6 +13,7 @@ ghost use Rattle.esr_script.specs.Text.{final};
 use crate::fault::RunFault;
 use crate::replaying::replay;
 use crate::sending::send_all;
+use esr_board::Gate;
 use esr_history::Watched;
 use esr_lint::Observer;
 use std::alloc::Global;
@@ -20,11 +21,12 @@ use std::io::{Read, Write};
 use std::thread::Threads;
 
 /// The output.
-fn prepare<T: Threads + Sync, R: Read, O: Observer>(
+fn prepare<T: Threads + Sync, R: Read, G: Gate + Sync, O: Observer>(
     rt: &T,
     alloc: Global,
     reader: &mut Watched<R>,
     workers: u64,
+    gate: &G,
     observer: &mut O,
 ) -> Result<Vec<u8>, RunFault>
     requires reader { failed reader.old ≡ false }
@@ -35,23 +37,25 @@ fn prepare<T: Threads + Sync, R: Read, O: Observer>(
     ensures write { is_write_fault result ≡ false }
 {
     match replay(alloc, reader, observer) {
-        Ok(mut script) => script.audit_all(rt, workers),
+        Ok(mut script) => script.audit_all(rt, workers, gate),
         Err(fault) => Err(fault),
     }
 }
 
 /// Runs a script without writing its output, audits its whole history by so many workers, 1 to 64, and writes the
-/// committed updates in a serial order, what is found of each committed query, and the totals.
+/// committed updates in a serial order, what is found of each committed query, and the totals. A worker calls the gate
+/// before each audit.
 ///
 /// # Errors
 /// `LineTooLong`, `HistoryFull` and `TooManyLines` where `run` would end so. After a fault other than `Write` nothing
 /// was written, after `Write` a prefix of the output. `NotACommittedQuery` never comes.
-pub fn audit<T: Threads + Sync, R: Read, W: Write, O: Observer>(
+pub fn audit<T: Threads + Sync, R: Read, W: Write, G: Gate + Sync, O: Observer>(
     rt: &T,
     alloc: Global,
     reader: &mut Watched<R>,
     writer: &mut Watched<W>,
     workers: u64,
+    gate: &G,
     observer: &mut O,
 ) -> Result<(), RunFault>
     requires reader { failed reader.old ≡ false }
@@ -60,7 +64,7 @@ pub fn audit<T: Threads + Sync, R: Read, W: Write, O: Observer>(
     ensures { ReadsAndWrites R.remaining W.contents reader.old reader.new writer.old writer.new
         IsAuditedBy result }
 {
-    let mut out = match prepare(rt, alloc, reader, workers, observer) {
+    let mut out = match prepare(rt, alloc, reader, workers, gate, observer) {
         Ok(out) => out,
         Err(fault) => return Err(fault),
     };

@@ -29,6 +29,7 @@ pub use asked::ask;
 pub use auditing::audit;
 pub use certifying::{certify, certify_steps};
 pub use copied::Copied;
+pub use esr_board::{Gate, NoGate};
 pub use esr_line::{INPUT_ROOM, Line, MAX_LINE_BYTES, MAX_LINES, Parsed, parse_line};
 pub use fault::RunFault;
 pub use linting::lint;

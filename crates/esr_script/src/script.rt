@@ -21,6 +21,7 @@ use crate::book::push_audit;
 use crate::fault::RunFault;
 use crate::stage::Stage;
 use esr_audit::{AuditError, Finding};
+use esr_board::Gate;
 use esr_history::{Event, Reply, TxnId};
 use esr_items::{ItemId, LARGEST_VALUE, LARGEST_WEIGHT, MOST_ITEMS};
 use esr_line::{Line, Parsed, parse_line};
@@ -138,10 +139,10 @@ impl Script {
         ensures { Obeys (obey self.old (command.item name.now value)) self.new out.old.items out.new.items result }
     {
         if let Some(error) = self.item_error(name, value, 1) {
-            return said(error_line(out, error));
+            return line_or_fault(error_line(out, error));
         }
         self.add_item(name, value, 1)?;
-        said(item_line(out, name, value))
+        line_or_fault(item_line(out, name, value))
     }
 
     /// Declares an item with a weight.
@@ -156,10 +157,10 @@ impl Script {
             self.new out.old.items out.new.items result }
     {
         if let Some(error) = self.item_error(name, value, weight) {
-            return said(error_line(out, error));
+            return line_or_fault(error_line(out, error));
         }
         self.add_item(name, value, weight)?;
-        said(weighted_item_line(out, name, value, weight))
+        line_or_fault(weighted_item_line(out, name, value, weight))
     }
 
     /// Gives the machine an event, and answers with its reply.
@@ -174,7 +175,7 @@ impl Script {
                 return Err(RunFault::NoMemory);
             }
         }
-        said(reply_line(out, &self.transactions, subject, reply))
+        line_or_fault(reply_line(out, &self.transactions, subject, reply))
     }
 
     /// Begins a transaction, whose name may not be bound already.
@@ -182,7 +183,7 @@ impl Script {
         ensures { Obeys (begin self.old name.now event) self.new out.old.items out.new.items result }
     {
         if self.transactions.number_of(name).is_some() {
-            return said(error_line(out, LineError::NameInUse));
+            return line_or_fault(error_line(out, LineError::NameInUse));
         }
         self.ask(alone(name), event, out)
     }
@@ -249,7 +250,7 @@ impl Script {
     {
         self.stage.close(self.alloc)?;
         let totals = self.stage.totals();
-        said(totals_line(out, totals.import, totals.export, totals.entries))
+        line_or_fault(totals_line(out, totals.import, totals.export, totals.entries))
     }
 
     /// What the audit of the transaction of that name finds. The machine is made, where it is not made yet.
@@ -275,14 +276,14 @@ impl Script {
         let found = match self.find(txn) {
             Ok(found) => found,
             Err(RunFault::NotACommittedQuery) => {
-                return said(error_line(out, LineError::NotACommittedQuery));
+                return line_or_fault(error_line(out, LineError::NotACommittedQuery));
             }
             Err(fault) => return Err(fault),
         };
         // let go before the line is made, which may be long
         drop(found.problem);
         drop(found.certificate);
-        said(audit_line(
+        line_or_fault(audit_line(
             out,
             &self.transactions,
             txn,
@@ -368,17 +369,18 @@ impl Script {
     }
 
     /// The audit of the whole history, by so many workers.
-    pub fn audit_all<T: Threads + Sync>(
+    pub fn audit_all<T: Threads + Sync, G: Gate + Sync>(
         &mut self,
         rt: &T,
         workers: u64,
+        gate: &G,
     ) -> Result<Vec<u8>, RunFault>
         requires { (1 ≤ workers) × (workers ≤ MOST_SEATS) }
         ensures ok { IfOk result (λ out. out.items ≡ audit_output self.old) }
         ensures faults { IfErr result (λ e. e ≡ RunFault.NoMemory) }
     {
         self.stage.close(self.alloc)?;
-        let found = self.stage.audit_all(rt, self.alloc, workers)?;
+        let found = self.stage.audit_all(rt, self.alloc, workers, gate)?;
         let totals = self.stage.totals();
         let mut out = Vec::new(self.alloc);
         match push_audit(&mut out, &self.transactions, &found, totals) {
@@ -432,7 +434,7 @@ impl Script {
     {
         match parse_line(line) {
             Parsed::Skipped => Ok(()),
-            Parsed::NotACommand => said(error_line(out, LineError::NotACommand)),
+            Parsed::NotACommand => line_or_fault(error_line(out, LineError::NotACommand)),
             Parsed::Command(line) => self.obey(line, out),
         }
     }
@@ -463,7 +465,7 @@ fn fault_of(error: AuditError) -> RunFault
 }
 
 /// The result of appending a line, as a fault of the run.
-fn said(appended: Result<(), AllocError>) -> Result<(), RunFault>
+fn line_or_fault(appended: Result<(), AllocError>) -> Result<(), RunFault>
     ensures ok { IsOk result ↔ IsOk appended }
     ensures faults { IfErr result (λ e. e ≡ RunFault.NoMemory) }
 {

@@ -16,7 +16,7 @@ ghost use Rattle.esr_items.specs.Weights.{weighted};
 use crate::engine::Engine;
 use crate::fault::RunFault;
 use esr_audit::{AuditError, Finding, Summaries};
-use esr_board::{NoGate, summarize_parallel};
+use esr_board::{Gate, summarize_parallel};
 use esr_core::{Machine, StepError, Totals};
 use esr_history::{Event, History, Reply, TxnId};
 use esr_items::{Store, Weighted};
@@ -156,11 +156,12 @@ impl Stage {
     }
 
     /// What the audit of the whole history by so many workers finds, in summaries: of each finding a line is told.
-    pub fn audit_all<T: Threads + Sync>(
+    pub fn audit_all<T: Threads + Sync, G: Gate + Sync>(
         &self,
         rt: &T,
         alloc: Global,
         workers: u64,
+        gate: &G,
     ) -> Result<Summaries, RunFault>
         requires running { is_running self.now ≡ true }
         requires workers { (1 ≤ workers) × (workers ≤ MOST_SEATS) }
@@ -170,7 +171,7 @@ impl Stage {
         let Stage::Running(engine) = self else {
             unreachable!()
         };
-        match summarize_parallel(rt, alloc, engine.history(), workers, &NoGate) {
+        match summarize_parallel(rt, alloc, engine.history(), workers, gate) {
             Ok(found) => Ok(found),
             Err(AuditError::NoMemory) => Err(RunFault::NoMemory),
             Err(AuditError::NotACommittedQuery) => unreachable!(),

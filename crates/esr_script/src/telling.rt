@@ -18,7 +18,7 @@ use std::alloc::{AllocError, Global};
 use std::io::{Read, Write};
 
 /// What was made, with the fault of the run where it was not.
-fn made(text: Result<Vec<u8>, AllocError>) -> Result<Vec<u8>, RunFault>
+fn text_or_fault(text: Result<Vec<u8>, AllocError>) -> Result<Vec<u8>, RunFault>
     ensures ok { IfOk result (λ made. text ≡ Ok made) }
     ensures faults { IfErr result (λ e. e ≡ RunFault.NoMemory) }
     ensures read { is_read_fault result ≡ false }
@@ -31,7 +31,7 @@ fn made(text: Result<Vec<u8>, AllocError>) -> Result<Vec<u8>, RunFault>
 }
 
 /// The text of what a script tells of its query of that name.
-fn told<R: Read, T: Telling, O: Observer>(
+fn telling_text<R: Read, T: Telling, O: Observer>(
     alloc: Global,
     reader: &mut Watched<R>,
     name: &str,
@@ -39,7 +39,7 @@ fn told<R: Read, T: Telling, O: Observer>(
     observer: &mut O,
 ) -> Result<Vec<u8>, RunFault>
     requires reader { failed reader.old ≡ false }
-    ensures told { (input : List ℕ) → R.remaining (inner reader.old) ≡ Some input
+    ensures text { (input : List ℕ) → R.remaining (inner reader.old) ≡ Some input
         → IsReachedBy (λ text. (is_query input name.now ≡ true)
         × T.IsTextOf telling.now (final input) name.now text.items)
         (IsNoQuery input name.now) input (R.remaining (inner reader.new)) result }
@@ -47,7 +47,7 @@ fn told<R: Read, T: Telling, O: Observer>(
     ensures write { is_write_fault result ≡ false }
 {
     match ask(alloc, reader, name, observer) {
-        Ok(mut asked) => made(telling.text_of(alloc, &mut asked)),
+        Ok(mut asked) => text_or_fault(telling.text_of(alloc, &mut asked)),
         Err(fault) => Err(fault),
     }
 }
@@ -70,7 +70,7 @@ pub fn tell<R: Read, W: Write, T: Telling, O: Observer>(
     ensures { ReadsAndWrites R.remaining W.contents reader.old reader.new writer.old writer.new
         (λ input. IsToldBy (T.IsTextOf telling.now (final input) name.now) input name.now) result }
 {
-    let mut text = match told(alloc, reader, name, telling, observer) {
+    let mut text = match telling_text(alloc, reader, name, telling, observer) {
         Ok(text) => text,
         Err(fault) => return Err(fault),
     };

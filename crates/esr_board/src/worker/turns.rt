@@ -49,7 +49,7 @@ fn draw<M: Metric, G: Gate, T: From<Finding> + Drop>(
 {
     let mut found = Vec::new(alloc);
     while let Some(job) = board.claim(seat) {
-        gate.enter(job);
+        gate.enter(job, jobs.len() as u64);
         let finding = match audit_query_in(alloc, history, committed, jobs[job as usize]) {
             Ok(finding) => finding,
             Err(failed) => return Err(failed),

@@ -16,7 +16,7 @@ pub struct Meeting {
 }
 
 impl Gate for Meeting {
-    fn enter(&self, job: u64) {
+    fn enter(&self, job: u64, _jobs: u64) {
         if job == 1 {
             self.second.fetch_add(1, SeqCst);
             return;

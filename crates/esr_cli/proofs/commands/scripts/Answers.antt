@@ -5,7 +5,7 @@ use Rattle.esr_cli.proofs.commands.scripts.Goals as goal
 
 pub returns : goal.returns
 returns c =
-    c.with-3.ensures _ (spec.reading (new_app (codes "check")))
+    c.with-3.ensures _ spec.check
     (c.in_ok-commands-2.ensures _ spec.certify
     (c.in_ok-commands.ensures spec.esr (spec.scripted (new_app (codes "run"))) c.shell.ensures c.run.ensures.app)
     c.certify.ensures.app)

@@ -5,7 +5,7 @@ use Rattle.esr_script.proofs.telling.tell.Goals as goal
 
 pub returns-in-Err : goal.returns-in-Err
 returns-in-Err g c = record {
-  text = λ input known. ([], Appends-nil _, grind (arith, written_fault, c.in-Err.ensures.told input known));
+  text = λ input known. ([], Appends-nil _, grind (arith, written_fault, c.in-Err.ensures.text input known));
   reader = search rules;
   writer = search rules;
 }

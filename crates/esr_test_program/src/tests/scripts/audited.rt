@@ -3,7 +3,7 @@
 use crate::tests::devices::check_written;
 use esr_history::Watched;
 use esr_lint::Unobserved;
-use esr_script::{RunFault, audit};
+use esr_script::{NoGate, RunFault, audit};
 use std::alloc::Global;
 use std::process::Abort;
 use std::thread::Threads;
@@ -106,6 +106,7 @@ fn audits<R: Abort + Threads + Sync>(
         &mut reader,
         &mut writer,
         workers,
+        &NoGate,
         &mut Unobserved,
     );
     assert!(rt; ended == ends, "the audit ends so");

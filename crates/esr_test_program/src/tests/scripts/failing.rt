@@ -3,7 +3,7 @@
 use crate::tests::devices::{Way, check_cut, check_narrow, cut_after, narrow_until};
 use esr_history::Watched;
 use esr_lint::Unobserved;
-use esr_script::{RunFault, audit, run};
+use esr_script::{NoGate, RunFault, audit, run};
 use std::alloc::Global;
 use std::process::Abort;
 use std::thread::Threads;
@@ -84,7 +84,7 @@ fn each_read_of_an_audit_fails_in_turn(rt: HostRuntime) {
     for left in 0..SCRIPT.len() + 1 {
         let mut reader = cut_after(SCRIPT, 1, left);
         let mut writer = Watched::new(Vec::new(alloc));
-        let ended = audit(&rt, alloc, &mut reader, &mut writer, 2, &mut Unobserved);
+        let ended = audit(&rt, alloc, &mut reader, &mut writer, 2, &NoGate, &mut Unobserved);
         assert!(rt; ended == Err(RunFault::Read));
         check_cut(&rt, &reader, &writer);
     }
@@ -99,7 +99,7 @@ fn audit_is_written<R: Abort + Threads + Sync>(
 ) -> bool {
     let mut reader = Watched::new(SCRIPT.as_bytes());
     let mut writer = narrow_until(alloc, 3, left, way);
-    let ended = audit(rt, alloc, &mut reader, &mut writer, 2, &mut Unobserved);
+    let ended = audit(rt, alloc, &mut reader, &mut writer, 2, &NoGate, &mut Unobserved);
     let written = ended == Ok(());
     assert!(rt; written || ended == Err(RunFault::Write));
     assert!(rt; !reader.failed());

@@ -1,0 +1,131 @@
+//! How far a run is, on standard error: how many lines were read, then which audit of how many has begun.
+//!
+//! It is one line that is rewritten, from two seconds on, five times a second at most, and gone before anything else is
+//! written. The clock is read at every 1,024th line and at each audit, so that a run that is not watched pays nothing it
+//! could notice. Whoever audits says so by a gate, since an observer is no thread's but the reader's. What is shown is
+//! promised by no clause, and a line that cannot be written is no fault of the run.
+
+use esr_cli::Progress;
+use esr_lint::{NoQuery, Observer, Standing, Teller};
+use esr_script::Gate;
+use std::fmt::Display;
+use std::io::IsTerminal;
+use std::sync::atomic::{AtomicU64, Ordering};
+use std::time::{Clock, Instant};
+
+/// Nothing is shown before so many milliseconds, and nothing again before so many more.
+const PATIENCE: u64 = 2_000;
+const PAUSE: u64 = 200;
+
+/// The clock is read once in so many lines.
+const LINES: u64 = 1_024;
+
+/// Shows how far a run is.
+#[derive(Drop)]
+pub struct Meter<'a, R> {
+    rt: &'a R,
+    /// None where nothing is shown.
+    began: Option<Instant>,
+    /// When it was shown last, in milliseconds; 0 before the first time, and after it was taken away.
+    shown: AtomicU64,
+}
+
+impl<'a, R: Clock + Eprint> Meter<'a, R> {
+    pub fn new(rt: &'a R, progress: Progress, terminal: &impl IsTerminal) -> Meter<'a, R> {
+        let shows = match progress {
+            Progress::AtATerminal => terminal.is_terminal(),
+            Progress::Always => true,
+            Progress::Never => false,
+        };
+        let began = if shows { Instant::now(rt).ok() } else { None };
+        Meter {
+            rt,
+            began,
+            shown: AtomicU64::new(0),
+        }
+    }
+
+    /// Shows a text, where it is time for one. Of two threads that come at once one does.
+    fn show(&self, text: &impl Display) {
+        let Some(began) = self.began else {
+            return;
+        };
+        let Ok(elapsed) = began.elapsed(self.rt) else {
+            return;
+        };
+        let now = elapsed.as_millis() as u64;
+        let shown = self.shown.load(Ordering::Relaxed);
+        if now < PATIENCE || now < shown.saturating_add(PAUSE) {
+            return;
+        }
+        let taken =
+            self.shown
+                .compare_exchange(shown, now, Ordering::Relaxed, Ordering::Relaxed);
+        if taken.is_ok() {
+            let _ = eprint!(self.rt; "\r{text}\x1b[K");
+        }
+    }
+
+    /// Takes away what is shown.
+    pub fn clear(&self) {
+        if self.shown.swap(0, Ordering::Relaxed) > 0 {
+            let _ = eprint!(self.rt; "\r\x1b[K");
+        }
+    }
+}
+
+impl<R: Clock + Eprint> Gate for Meter<'_, R> {
+    fn enter(&self, job: u64, jobs: u64) {
+        let number = job.saturating_add(1);
+        self.show(&format_args!("audit {number} of {jobs}"));
+    }
+}
+
+/// Tells the lines at fault, and shows how many were read.
+#[derive(Drop)]
+pub struct Watching<'a, 'm, R, E> {
+    teller: Teller<'a, E>,
+    meter: &'m Meter<'a, R>,
+}
+
+impl<'a, 'm, R: Clock + Eprint, E: Eprint> Watching<'a, 'm, R, E> {
+    pub fn new(teller: Teller<'a, E>, meter: &'m Meter<'a, R>) -> Watching<'a, 'm, R, E> {
+        Watching { teller, meter }
+    }
+
+    /// How many lines were at fault.
+    pub fn faults(&self) -> u64 {
+        self.teller.faults()
+    }
+
+    /// The line after the last one that was answered: where a line ends the run, that one.
+    pub fn next_line(&self) -> u64 {
+        self.teller.next_line()
+    }
+
+    /// Why there is no committed query of the name that was asked for.
+    pub fn refusal(&self) -> NoQuery<'_> {
+        self.teller.refusal()
+    }
+}
+
+impl<R: Clock + Eprint, E: Eprint> Observer for Watching<'_, '_, R, E> {
+    fn see_line(&mut self, number: u64, line: &[u8], answer: &[u8]) {
+        if answer.starts_with(b"error ") {
+            self.meter.clear();
+        }
+        self.teller.see_line(number, line, answer);
+        if number % LINES == 0 {
+            self.meter.show(&format_args!("line {number}"));
+        }
+    }
+
+    fn see_transaction(&mut self, name: &str, standing: Standing) {
+        self.teller.see_transaction(name, standing);
+    }
+
+    fn see_end(&mut self) {
+        self.meter.clear();
+        self.teller.see_end();
+    }
+}

@@ -1,0 +1,224 @@
+//! What is done with a script: its answers are written, or a text of what it leads to.
+//!
+//! Each way reads through a reader that notes a failed read and writes through one that notes a failed write, and lets an
+//! observer see each line; how it ended is told in one place. With `--bail` what a script leads to is made first and
+//! written only where no line was at fault; a run answers each line as it comes.
+
+ghost use Rattle.std.specs.Prelude.{◌≡◌, ◌≤◌, false};
+ghost use Rattle.esr_history.specs.Watch.{failed};
+
+use crate::fail;
+use crate::fault::RunText;
+use crate::meter::{Meter, Watching};
+use crate::output::Output;
+use esr_cli::{Job, Task};
+use esr_history::Watched;
+use esr_lint::{Observer, Source, Teller, When};
+use esr_script::{Copied, RunFault, audit, certify, certify_steps, run, survey, tell};
+use esr_telling::{Survey, Telling};
+use std::alloc::Global;
+use std::io;
+use std::io::{Read, Write};
+use std::thread::Threads;
+use std::time::Clock;
+
+/// What is done with a script that is read once.
+pub trait Work {
+    /// Does it.
+    fn work<R: Read, W: Write, O: Observer>(
+        &self,
+        alloc: Global,
+        reader: &mut Watched<R>,
+        writer: &mut Watched<W>,
+        observer: &mut O,
+    ) -> Result<(), RunFault>
+        requires reader { failed reader.old ≡ false }
+        requires writer { failed writer.old ≡ false };
+}
+
+/// Writes the answers.
+#[derive(Drop)]
+pub struct Running;
+
+impl Work for Running {
+    fn work<R: Read, W: Write, O: Observer>(
+        &self,
+        alloc: Global,
+        reader: &mut Watched<R>,
+        writer: &mut Watched<W>,
+        observer: &mut O,
+    ) -> Result<(), RunFault> {
+        run(alloc, reader, writer, observer)
+    }
+}
+
+/// Writes the bundle of a query, with the count of augmentations if `steps`.
+#[derive(Drop)]
+pub struct Certifying<'a> {
+    pub name: &'a str,
+    pub steps: bool,
+}
+
+impl Work for Certifying<'_> {
+    fn work<R: Read, W: Write, O: Observer>(
+        &self,
+        alloc: Global,
+        reader: &mut Watched<R>,
+        writer: &mut Watched<W>,
+        observer: &mut O,
+    ) -> Result<(), RunFault> {
+        if self.steps {
+            certify_steps(alloc, reader, writer, self.name, observer)
+        } else {
+            certify(alloc, reader, writer, self.name, observer)
+        }
+    }
+}
+
+/// Tells of a committed query.
+#[derive(Drop)]
+pub struct TellingOf<'a, T> {
+    pub name: &'a str,
+    pub telling: &'a T,
+}
+
+impl<T: Telling> Work for TellingOf<'_, T> {
+    fn work<R: Read, W: Write, O: Observer>(
+        &self,
+        alloc: Global,
+        reader: &mut Watched<R>,
+        writer: &mut Watched<W>,
+        observer: &mut O,
+    ) -> Result<(), RunFault> {
+        tell(
+            alloc,
+            reader,
+            writer,
+            self.name,
+            self.telling,
+            observer,
+        )
+    }
+}
+
+/// Does some work on a script.
+pub fn work_on<R: Print + Eprint + AllocGlobal + Clock, I: Read + Drop, W: Work>(
+    rt: &R,
+    meter: &Meter<'_, R>,
+    job: Job<'_>,
+    source: Source<'_>,
+    input: I,
+    work: &W,
+) -> u8 {
+    let alloc = rt.alloc();
+    let mut reader = Watched::new(input);
+    let mut writer = Watched::new(Output::new(alloc, io::writer(rt), holds_back(job)));
+    let teller = Teller::new(rt, alloc, source, when_of(job.task), sought_by(job.task));
+    let mut observer = Watching::new(teller, meter);
+    let ended = work.work(alloc, &mut reader, &mut writer, &mut observer);
+    conclude(rt, job, source, ended, &observer, writer.inner())
+}
+
+/// Writes the audit of a script.
+pub fn audit_script<R: Print + Eprint + AllocGlobal + Clock + Threads + Sync, I: Read + Drop>(
+    rt: &R,
+    meter: &Meter<'_, R>,
+    job: Job<'_>,
+    source: Source<'_>,
+    input: I,
+    workers: u64,
+) -> u8
+    requires { (1 ≤ workers) × (workers ≤ 64) }
+{
+    let alloc = rt.alloc();
+    let mut reader = Watched::new(input);
+    let mut writer = Watched::new(Output::new(alloc, io::writer(rt), holds_back(job)));
+    let teller = Teller::new(rt, alloc, source, When::AtOnce, "");
+    let mut observer = Watching::new(teller, meter);
+    let ended = audit(
+        rt,
+        alloc,
+        &mut reader,
+        &mut writer,
+        workers,
+        meter,
+        &mut observer,
+    );
+    meter.clear();
+    conclude(rt, job, source, ended, &observer, writer.inner())
+}
+
+/// Writes a text of what a whole script leads to.
+pub fn survey_script<R: Print + Eprint + AllocGlobal + Clock, I: Read + Drop, S: Survey>(
+    rt: &R,
+    meter: &Meter<'_, R>,
+    job: Job<'_>,
+    source: Source<'_>,
+    input: I,
+    survey_of: &S,
+) -> u8 {
+    let alloc = rt.alloc();
+    let mut reader = Watched::new(Copied::new(alloc, input));
+    let mut writer = Watched::new(Output::new(alloc, io::writer(rt), holds_back(job)));
+    let teller = Teller::new(rt, alloc, source, When::AtOnce, "");
+    let mut observer = Watching::new(teller, meter);
+    match survey(alloc, &mut reader, &mut writer, survey_of, &mut observer) {
+        Err(RunFault::NotACommittedQuery) => fail(rt, &"not a query", 1),
+        ended => conclude(rt, job, source, ended, &observer, writer.inner()),
+    }
+}
+
+/// When the lines at fault are told: a run has answered them.
+fn when_of(task: Task<'_>) -> When {
+    match task {
+        Task::Run => When::AtTheEnd,
+        _ => When::AtOnce,
+    }
+}
+
+/// The committed query that is asked for, if one is.
+fn sought_by(task: Task<'_>) -> &str {
+    match task {
+        Task::Certify { name, .. } | Task::Explain { name, .. } | Task::Picture { name } => name,
+        _ => "",
+    }
+}
+
+/// Whether what is written waits until no line was at fault.
+fn holds_back(job: Job<'_>) -> bool {
+    job.bail && !matches!(job.task, Task::Run)
+}
+
+/// Tells how it ended, and writes what was held back.
+fn conclude<R: Print + Eprint + Clock, W: Write>(
+    rt: &R,
+    job: Job<'_>,
+    source: Source<'_>,
+    ended: Result<(), RunFault>,
+    observer: &Watching<'_, '_, R, R>,
+    output: &Output<W>,
+) -> u8 {
+    match ended {
+        Ok(()) if job.bail && observer.faults() > 0 => 1,
+        Ok(()) => release(rt, output),
+        Err(fault) => fail(
+            rt,
+            &RunText {
+                source,
+                fault,
+                line: observer.next_line(),
+                query: Some(observer.refusal()),
+            },
+            1,
+        ),
+    }
+}
+
+/// Writes what was held back, and is done.
+fn release<W: Write>(rt: &(impl Print + Eprint), output: &Output<W>) -> u8 {
+    let mut writer = Watched::new(io::writer(rt));
+    match writer.send_all(output.held()) {
+        Ok(()) => 0,
+        Err(_) => fail(rt, &"write failed", 1),
+    }
+}
