@@ -1,8 +1,7 @@
 //! The claim of a bundle about a query, and its line.
 
-ghost use Rattle.std.specs.Prelude.{◌≡◌, ◌≢◌, ℕ, List, IfOk, IsOk};
+ghost use Rattle.std.specs.Prelude.{◌≡◌, ◌≢◌, ℕ, List, Ok, IfOk, IsOk};
 ghost use Rattle.esr_cert.specs.Faults.{bundle_fault_number};
-ghost use Rattle.esr_cert.specs.Problem.{Problem};
 ghost use Rattle.esr_cert.specs.Views.{certificate_of};
 ghost use Rattle.esr_telling.specs.Ask.{IsAnswered};
 ghost use Rattle.esr_telling.specs.State.{ScriptState};
@@ -32,8 +31,13 @@ fn claim_on(asked: &Problem, problem: &Problem, certificate: &Certificate) -> Cl
     ensures { IsClaim asked.now (Ok (problem.now, certificate_of certificate.now)) result }
 {
     match check(problem, certificate) {
-        Ok(()) if is_same(problem, asked) => Claim::Of(certificate.worth),
-        Ok(()) => Claim::NotOf(certificate.worth),
+        Ok(()) => {
+            if is_same(problem, asked) {
+                Claim::Of(certificate.worth)
+            } else {
+                Claim::NotOf(certificate.worth)
+            }
+        }
         Err(fault) => Claim::Invalid(fault.number()),
     }
 }

@@ -1,13 +1,13 @@
 //! The lines of a script that were blocked, and the rings of those who wait for one another, told entry by entry. A ring
 //! is told behind the line that closes it: where that line is tried again, the ring was there before.
 
-ghost use Rattle.std.specs.Prelude.{◌≡◌, ◌++◌, ◌∷◌, ◌<◌, [], true, length, OnOk, IfSome};
+ghost use Rattle.std.specs.Prelude.{◌≡◌, ◌<◌, ◌+◌, [], length, take, OnOk};
 ghost use Rattle.esr_items.specs.Weights.{weighted};
 ghost use Rattle.esr_history.specs.Machine.{blank, extended, reply_to};
 ghost use Rattle.esr_why.specs.Notes.{IsInRange};
 ghost use Rattle.esr_why.specs.Locks.{lock_in_way};
-ghost use Rattle.esr_why.specs.Shortfalls.{is_blocked};
-ghost use Rattle.esr_why.specs.Waits.{AreLatest, IsWaiting};
+ghost use Rattle.esr_why.specs.Replays.{until};
+ghost use Rattle.esr_why.specs.Waits.{AreLatest};
 
 use crate::replay::{Lock, Replay};
 use crate::sentences::Script;
@@ -75,12 +75,15 @@ struct Telling<'a> {
 }
 
 impl Telling<'_> {
-    /// Tells why an entry was blocked, which comes next.
-    fn tell_entry(&mut self, place: usize, entry: Entry) -> Result<(), AllocError>
+    /// Tells why an entry of a transaction was blocked, which comes next.
+    fn tell_entry(&mut self, place: usize, entry: Entry, txn: TxnId) -> Result<(), AllocError>
         requires { entry.reply ≡ reply_to weighted self.old.replay entry.event }
         ensures replay { self.new.replay ≡ self.old.replay }
         ensures latest { self.new.latest ≡ self.old.latest }
     {
+        if !self.sought.has(txn) {
+            return Ok(());
+        }
         match entry.reply {
             Reply::Refused(Refusal::BlockedByLock(holder)) => {
                 let lock = lock_of(&self.replay, entry.event, holder);
@@ -124,9 +127,7 @@ impl Telling<'_> {
         ensures replay { OnOk result (self.new.replay ≡ extended self.old.replay entry.event entry.reply) }
         ensures latest { OnOk result (AreLatest self.new.replay.entries self.new.latest.places.items) }
     {
-        if self.sought.has(txn) {
-            self.tell_entry(place, entry)?;
-        }
+        self.tell_entry(place, entry, txn)?;
         let before = self.latest.wait(self.replay.log(), txn);
         self.replay.step(entry)?;
         self.latest.note(entry, place);
@@ -150,15 +151,29 @@ impl Telling<'_> {
         Ok(())
     }
 
+    /// Tells of the entry of a history at a place, and goes on behind it.
+    fn tell_at(&mut self, history: &History<Weighted>, place: usize) -> Result<(), NoMemory>
+        requires place { place < length history.now.schedule.entries }
+        requires replay { self.old.replay ≡ until place history.now.schedule }
+        requires latest { AreLatest (take place history.now.schedule.entries) self.old.latest.places.items }
+        ensures replay { OnOk result (self.new.replay ≡ until (place + 1) history.now.schedule) }
+        ensures latest { OnOk result
+            (AreLatest (take (place + 1) history.now.schedule.entries) self.new.latest.places.items) }
+    {
+        let Some(entry) = history.log().get(place) else {
+            unreachable!()
+        };
+        self.tell(place, entry)?;
+        Ok(())
+    }
+
     /// Tells of all entries of a history.
     fn tell_all(&mut self, history: &History<Weighted>) -> Result<(), NoMemory>
         requires replay { self.old.replay ≡ blank history.now.schedule }
         requires latest { AreLatest [] self.old.latest.places.items }
     {
         for place in 0..history.log().len() {
-            if let Some(entry) = history.log().get(place) {
-                self.tell(place, entry)?;
-            }
+            self.tell_at(history, place)?;
         }
         Ok(())
     }

@@ -92,7 +92,13 @@ fn blocked_lines_and_rings_are_told(rt: HostRuntime) {
     let alloc = rt.alloc();
     tells(&rt, alloc, CLOSING, None, CLOSING_TOLD);
     tells(&rt, alloc, NIGHT, None, NIGHT_TOLD);
-    tells(&rt, alloc, "item a 0\nread b a\n", None, "nothing was blocked\n");
+    tells(
+        &rt,
+        alloc,
+        "item a 0\nread b a\n",
+        None,
+        "nothing was blocked\n",
+    );
 }
 
 /// The lines of one transaction, and the rings that it is in.
