@@ -28,8 +28,8 @@ or_some (Some f) e h = cc
 pub claims_of : (asked p : Problem) (c : Certificate) (u : Unit {0}) → Ok u ≡ or_fault (fault p c) → p ≡ asked → IsClaim asked (Ok (p, c)) (Of c.worth)
 claims_of asked p c u h same = (or_none (fault p c) u h, refl, same)
 
-pub claims_other : (asked p : Problem) (c : Certificate) (u : Unit {0}) → Ok u ≡ or_fault (fault p c) → p ≢ asked → IsClaim asked (Ok (p, c)) (NotOf c.worth)
-claims_other asked p c u h other = (or_none (fault p c) u h, refl, other)
+pub claims_other : (asked p : Problem) (c : Certificate) (u : Unit {0}) → Ok u ≡ or_fault (fault p c) → IsClaim asked (Ok (p, c)) (NotOf c.worth)
+claims_other asked p c u h = (or_none (fault p c) u h, refl)
 
 pub claims_fault : (asked p : Problem) (c : Certificate) (f : Fault) (n : ℕ) → Err f ≡ or_fault (fault p c) → n ≡ fault_number f → IsClaim asked (Ok (p, c)) (Invalid n)
 claims_fault asked p c f n h e = (f, or_some (fault p c) f h, e)

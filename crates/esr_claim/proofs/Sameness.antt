@@ -1,12 +1,10 @@
--- Lists that are seen as others.
-use Rattle.std.proofs.Common.{◌≡◌, ◌≢◌, ℕ, List, [], ◌∷◌, refl, sym, ◌∙◌, ap, ap₂, map, get_or}
-use Rattle.esr_history.specs.declared.event.TxnId.{TxnId}
+-- Problems that are the same.
+use Rattle.std.proofs.Common.{◌≡◌, ◌∙◌, ℕ, List, ap}
+use Rattle.esr_cert.specs.Problem.{Chain, Problem}
 
-pub numbers_same : (xs ys : List TxnId) → map (λ t. t.0) xs ≡ map (λ t. t.0) ys → xs ≡ ys
-numbers_same [] [] is = refl
-numbers_same [] (y ∷ ys) is = absurd (cc)
-numbers_same (x ∷ xs) [] is = absurd (cc)
-numbers_same (x ∷ xs) (y ∷ ys) is =
-    let head : x.0 ≡ y.0 = cc in
-    let rest : map (λ (t : TxnId). t.0) xs ≡ map (λ (t : TxnId). t.0) ys = cc in
-    ap₂ (λ (n : ℕ) (l : List TxnId). record { 0 = n } ∷ l) head (numbers_same xs ys rest)
+pub same_problem : (p q : Problem) → p.updates ≡ q.updates → p.before ≡ q.before → p.chains ≡ q.chains → p.must ≡ q.must → p ≡ q
+same_problem p q u b c m =
+    ap (λ (us : List ℕ). record p { updates = us }) u
+    ∙ (ap (λ (bs : List (ℕ × ℕ)). record { updates = q.updates; before = bs; chains = p.chains; must = p.must }) b
+    ∙ (ap (λ (cs : List Chain). record { updates = q.updates; before = q.before; chains = cs; must = p.must }) c
+    ∙ ap (λ (ms : List ℕ). record { updates = q.updates; before = q.before; chains = q.chains; must = ms }) m))

@@ -1,9 +1,10 @@
 -- What a bundle shows of a query that a script was asked for.
-use Rattle.std.specs.Prelude.{◌≡◌, ◌≢◌, ℕ, List, [], ◌∷◌, ◌++◌, codes, decimal, Some, None, Result, Ok, Err}
+use Rattle.std.specs.Prelude.{◌≡◌, ℕ, List, [], ◌∷◌, ◌++◌, codes, decimal, Some, None, Result, Ok, Err}
 use Rattle.esr_items.specs.Weights.{weighted}
 use Rattle.esr_cert.specs.Problem.{Problem}
 use Rattle.esr_cert.specs.Certificate.{Certificate, Certifies, fault}
-use Rattle.esr_cert.specs.Faults.{Fault, fault_number, bundle_fault_number}
+use Rattle.esr_cert.specs.declared.certificate.Fault.{Fault}
+use Rattle.esr_cert.specs.Faults.{fault_number, bundle_fault_number}
 use Rattle.esr_cert.specs.declared.problem.BundleFault.{BundleFault}
 use Rattle.esr_audit.specs.Problems as problems
 use Rattle.esr_bundle.specs.Reading.{Means}
@@ -12,10 +13,10 @@ use Rattle.esr_claim.specs.declared.claim.Claim.{Claim}
 use Rattle.esr_claim.specs.declared.claim.Claim.TheVariants.{Of, NotOf, Invalid, Bad}
 
 -- The claim of a bundle beside the problem of the query: its certificate has no fault, and its problem is that one, or
--- another; or its first fault; or that the bytes are no bundle.
+-- nothing is said of it; or its first fault; or that the bytes are no bundle.
 abbrev pub IsClaim : Problem → Result (Problem × Certificate) BundleFault → Claim → Type 0
 IsClaim asked (Ok b) (Of worth) = Certifies b.0 b.1 × (worth ≡ b.1.worth) × (b.0 ≡ asked)
-IsClaim asked (Ok b) (NotOf worth) = Certifies b.0 b.1 × (worth ≡ b.1.worth) × (b.0 ≢ asked)
+IsClaim asked (Ok b) (NotOf worth) = Certifies b.0 b.1 × (worth ≡ b.1.worth)
 IsClaim asked (Ok b) (Invalid number) = (f : Fault) × (fault b.0 b.1 ≡ Some f) × (number ≡ fault_number f)
 IsClaim asked (Err f) (Bad number) = number ≡ bundle_fault_number f
 IsClaim asked _ _ = ⊥

@@ -1,4 +1,4 @@
-//! Whether two problems are the same.
+//! Whether two problems are the same. Proved is that those that are told to be are: what stands on it is a yes.
 
 ghost use Rattle.std.specs.Prelude.{◌≡◌, ◌↔◌, IsTrue, map};
 ghost use Rattle.esr_cert.specs.Views.{chain_of};
@@ -8,7 +8,37 @@ use esr_history::TxnId;
 
 /// Whether two lists of updates are the same.
 fn are_same_updates(a: &[TxnId], b: &[TxnId]) -> bool
-    ensures { IsTrue result ↔ (map (λ t. t.0) a.now ≡ map (λ t. t.0) b.now) }
+    ensures { IsTrue result → map (λ t. t.0) a.now ≡ map (λ t. t.0) b.now }
+{
+    if a.len() != b.len() {
+        return false;
+    }
+    for i in 0..a.len() {
+        if a[i].0 != b[i].0 {
+            return false;
+        }
+    }
+    true
+}
+
+/// Whether two lists of pairs are the same.
+fn are_same_pairs(a: &[(u32, u32)], b: &[(u32, u32)]) -> bool
+    ensures { IsTrue result → a.now ≡ b.now }
+{
+    if a.len() != b.len() {
+        return false;
+    }
+    for i in 0..a.len() {
+        if a[i].0 != b[i].0 || a[i].1 != b[i].1 {
+            return false;
+        }
+    }
+    true
+}
+
+/// Whether two lists of numbers are the same.
+fn are_same_numbers(a: &[u32], b: &[u32]) -> bool
+    ensures { IsTrue result → a.now ≡ b.now }
 {
     a == b
 }
@@ -24,7 +54,7 @@ fn is_same_chain(a: &Chain, b: &Chain) -> bool
 
 /// Whether two lists of chains are the same.
 fn are_same_chains(a: &[Chain], b: &[Chain]) -> bool
-    ensures { IsTrue result ↔ (map chain_of a.now ≡ map chain_of b.now) }
+    ensures { IsTrue result → map chain_of a.now ≡ map chain_of b.now }
 {
     if a.len() != b.len() {
         return false;
@@ -39,10 +69,16 @@ fn are_same_chains(a: &[Chain], b: &[Chain]) -> bool
 
 /// Whether two problems are the same.
 pub fn is_same(a: &Problem, b: &Problem) -> bool
-    ensures { IsTrue result ↔ (a.now ≡ b.now) }
+    ensures { IsTrue result → a.now ≡ b.now }
 {
-    are_same_updates(a.updates(), b.updates())
-        && a.before() == b.before()
-        && are_same_chains(a.chains(), b.chains())
-        && a.must() == b.must()
+    if !are_same_updates(a.updates(), b.updates()) {
+        return false;
+    }
+    if !are_same_pairs(a.before(), b.before()) {
+        return false;
+    }
+    if !are_same_numbers(a.must(), b.must()) {
+        return false;
+    }
+    are_same_chains(a.chains(), b.chains())
 }
