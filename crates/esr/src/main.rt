@@ -11,16 +11,17 @@ ghost use Rattle.esr_history.specs.Watch.{failed};
 ghost use Rattle.esr_cli.specs.Job.{work_of, HasWorkers};
 
 mod fault;
+mod judging;
 mod meter;
 mod open;
 mod output;
 mod work;
 
 use crate::fault::{DriveText, RunText};
+use crate::judging::{Question, check};
 use crate::meter::Meter;
 use crate::open::open_file;
 use crate::work::{Certifying, Running, TellingOf, audit_script, survey_script, work_on};
-use esr_bundle::{Verdict, judge};
 use esr_cli::{Format, Job, Task, command};
 use esr_drive::{NoGate, drive};
 use esr_explain::Explaining;
@@ -31,6 +32,7 @@ use esr_picture::Drawing;
 use esr_prose::Prose;
 use esr_script::{Copied, lint};
 use esr_sheet::{AuditSheet, Data, ExplanationSheet, Ledger};
+use esr_why::Why;
 use std::alloc::AllocError;
 use std::fmt::Display;
 use std::io;
@@ -96,13 +98,11 @@ fn do_job<'a, R: Input + Print + Eprint + Files + AllocGlobal + Clock + Threads 
 }
 
 /// Does the work of a job, from this input.
-fn do_task<'a, R: Print + Eprint + AllocGlobal + Clock + Threads + Wait + Sync, I: Read + Drop>(
-    rt: &'a R,
-    meter: &Meter<'_, R>,
-    job: Job<'a>,
-    source: Source<'a>,
-    input: I,
-) -> u8
+fn do_task<
+    'a,
+    R: Print + Eprint + Files + AllocGlobal + Clock + Threads + Wait + Sync,
+    I: Read + Drop,
+>(rt: &'a R, meter: &Meter<'_, R>, job: Job<'a>, source: Source<'a>, input: I) -> u8
     requires { HasWorkers (work_of job.task) }
 {
     match job.task {
@@ -140,10 +140,19 @@ fn do_task<'a, R: Print + Eprint + AllocGlobal + Clock + Threads + Wait + Sync, 
             let format = sheet_format(job.format);
             survey_script(rt, meter, job, source, input, &Ledger { format })
         }
-        // not yet
-        Task::Why { name: _ } => fail(rt, &"not yet", 1),
-        // not yet: script, query, verbose
-        Task::Check { .. } => check(rt, source, input),
+        Task::Why { name } => survey_script(rt, meter, job, source, input, &Why { name }),
+        Task::Check {
+            script,
+            query,
+            verbose,
+        } => {
+            let question = Question {
+                script,
+                query,
+                verbose,
+            };
+            check(rt, meter, source, input, question)
+        }
         Task::Drive { workers } => drive_file(rt, source, input, workers),
         Task::Lint => list_faults(rt, source, input),
     }
@@ -164,21 +173,6 @@ fn sheet_format(format: Option<Format>) -> esr_sheet::Format {
         Some(Format::Csv) => esr_sheet::Format::Csv,
         Some(Format::Json) => esr_sheet::Format::Json,
         Some(Format::Text) | None => esr_sheet::Format::Text,
-    }
-}
-
-/// Judges a bundle.
-fn check<I: Read + Drop>(
-    rt: &(impl Print + Eprint + AllocGlobal),
-    source: Source<'_>,
-    input: I,
-) -> u8 {
-    let mut reader = Watched::new(input);
-    let mut writer = Watched::new(io::writer(rt));
-    match judge(rt.alloc(), &mut reader, &mut writer) {
-        Ok(Verdict::Valid(_)) => 0,
-        Ok(_) => 1,
-        Err(fault) => fail(rt, &format_args!("{source}{fault}"), 1),
     }
 }
 

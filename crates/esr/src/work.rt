@@ -90,14 +90,7 @@ impl<T: Telling> Work for TellingOf<'_, T> {
         writer: &mut Watched<W>,
         observer: &mut O,
     ) -> Result<(), RunFault> {
-        tell(
-            alloc,
-            reader,
-            writer,
-            self.name,
-            self.telling,
-            observer,
-        )
+        tell(alloc, reader, writer, self.name, self.telling, observer)
     }
 }
 
@@ -163,8 +156,16 @@ pub fn survey_script<R: Print + Eprint + AllocGlobal + Clock, I: Read + Drop, S:
     let teller = Teller::new(rt, alloc, source, When::AtOnce, "");
     let mut observer = Watching::new(teller, meter);
     match survey(alloc, &mut reader, &mut writer, survey_of, &mut observer) {
-        Err(RunFault::NotACommittedQuery) => fail(rt, &"not a query", 1),
+        Err(RunFault::NotACommittedQuery) => fail(rt, &nobody(job.task), 1),
         ended => conclude(rt, job, source, ended, &observer, writer.inner()),
+    }
+}
+
+/// What is told where a survey has nothing to tell, since nobody has the name that was asked for.
+fn nobody(task: Task<'_>) -> &'static str {
+    match task {
+        Task::Why { .. } => "not a transaction",
+        _ => "not a query",
     }
 }
 

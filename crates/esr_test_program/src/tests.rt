@@ -2,6 +2,7 @@
 //! their bytes, let any call run out of memory, and rest on definitions: the bytes are compared where these stop.
 
 mod bundles;
+mod claims;
 mod devices;
 mod drives;
 mod pictures;
@@ -9,3 +10,4 @@ mod scripts;
 mod sheets;
 mod surveys;
 mod watched;
+mod whys;

@@ -1,0 +1,172 @@
+//! What is judged of a bundle: on its own, or as what a script gives for a query. The second needs the script and the
+//! bundle; the script is a file, since the bundle may be standard input.
+
+ghost use Rattle.std.specs.Prelude.{◌≡◌, false};
+ghost use Rattle.esr_history.specs.Watch.{failed};
+
+use crate::fail;
+use crate::fault::RunText;
+use crate::meter::{Meter, Watching};
+use crate::open::open_file;
+use esr_bundle::{Verdict, judge};
+use esr_claim::{Claim, claim_of, detail_of};
+use esr_history::Watched;
+use esr_lint::{Source, Teller, When};
+use esr_script::{Copied, ask};
+use esr_telling::Asked;
+use std::alloc::{AllocError, Global};
+use std::io;
+use std::io::{Read, Write};
+use std::rt::Files;
+use std::time::Clock;
+
+/// What is asked of a bundle.
+#[derive(Clone, Copy)]
+pub struct Question<'a> {
+    pub script: Option<&'a str>,
+    pub query: Option<&'a str>,
+    /// Whether what an invalid bundle lacks is told on standard error.
+    pub verbose: bool,
+}
+
+/// Judges a bundle as it is asked for.
+pub fn check<R: Print + Eprint + Files + AllocGlobal + Clock, I: Read + Drop>(
+    rt: &R,
+    meter: &Meter<'_, R>,
+    source: Source<'_>,
+    input: I,
+    question: Question<'_>,
+) -> u8 {
+    match (question.script, question.query) {
+        (None, None) => check_alone(rt, source, input, question.verbose),
+        (Some(script), Some(query)) => {
+            check_claim(rt, meter, source, input, script, query, question.verbose)
+        }
+        _ => fail(rt, &"--script and --query go together", 2),
+    }
+}
+
+/// Tells what an invalid bundle lacks.
+fn tell_detail(rt: &impl Eprint, alloc: Global, copy: Option<&[u8]>) {
+    if let Some(bytes) = copy
+        && let Ok(Some(detail)) = detail_of(alloc, bytes)
+    {
+        let _ = eprintln!(rt; "esr: {detail}");
+    }
+}
+
+/// Judges a bundle on its own.
+fn check_alone<I: Read + Drop>(
+    rt: &(impl Print + Eprint + AllocGlobal),
+    source: Source<'_>,
+    input: I,
+    verbose: bool,
+) -> u8 {
+    let alloc = rt.alloc();
+    let mut reader = Watched::new(Copied::new(alloc, input));
+    let mut writer = Watched::new(io::writer(rt));
+    match judge(alloc, &mut reader, &mut writer) {
+        Ok(Verdict::Valid(_)) => 0,
+        Ok(_) => {
+            if verbose {
+                tell_detail(rt, alloc, reader.inner().copy());
+            }
+            1
+        }
+        Err(fault) => fail(rt, &format_args!("{source}{fault}"), 1),
+    }
+}
+
+/// What a script answers of its query, or the status where it has no such answer.
+fn ask_script<R: Print + Eprint + Files + AllocGlobal + Clock>(
+    rt: &R,
+    meter: &Meter<'_, R>,
+    path: &str,
+    query: &str,
+) -> Result<Asked, u8> {
+    let alloc = rt.alloc();
+    let file = match open_file(rt, path) {
+        Ok(file) => file,
+        Err(why) => return Err(fail(rt, &format_args!("{path}: {why}"), 1)),
+    };
+    let source = Source(Some(path));
+    let mut reader = Watched::new(file);
+    let teller = Teller::new(rt, alloc, source, When::AtOnce, query);
+    let mut observer = Watching::new(teller, meter);
+    match ask(alloc, &mut reader, query, &mut observer) {
+        Ok(asked) => Ok(asked),
+        Err(fault) => {
+            let text = RunText {
+                source,
+                fault,
+                line: observer.next_line(),
+                query: Some(observer.refusal()),
+            };
+            Err(fail(rt, &text, 1))
+        }
+    }
+}
+
+/// Judges a bundle as what a script gives for a query.
+fn check_claim<R: Print + Eprint + Files + AllocGlobal + Clock, I: Read + Drop>(
+    rt: &R,
+    meter: &Meter<'_, R>,
+    source: Source<'_>,
+    input: I,
+    script: &str,
+    query: &str,
+    verbose: bool,
+) -> u8 {
+    match ask_script(rt, meter, script, query) {
+        Ok(asked) => judge_claim(rt, source, input, &asked, query, verbose),
+        Err(status) => status,
+    }
+}
+
+/// Judges a bundle as one of the query that was asked for.
+fn judge_claim<I: Read + Drop>(
+    rt: &(impl Print + Eprint + AllocGlobal),
+    source: Source<'_>,
+    input: I,
+    asked: &Asked,
+    query: &str,
+    verbose: bool,
+) -> u8 {
+    let alloc = rt.alloc();
+    let mut reader = Watched::new(Copied::new(alloc, input));
+    let mut verdict = Watched::new(Vec::new(alloc));
+    if let Err(fault) = judge(alloc, &mut reader, &mut verdict) {
+        return fail(rt, &format_args!("{source}{fault}"), 1);
+    }
+    let Some(bytes) = reader.inner().copy() else {
+        return fail(rt, &"out of memory", 1);
+    };
+    match write_claim(rt, alloc, asked, bytes, query) {
+        Ok(Some(Claim::Of(_))) => 0,
+        Ok(Some(_)) => {
+            if verbose {
+                tell_detail(rt, alloc, Some(bytes));
+            }
+            1
+        }
+        Ok(None) => fail(rt, &"write failed", 1),
+        Err(_) => fail(rt, &"out of memory", 1),
+    }
+}
+
+/// Writes the line of a claim, and gives the claim, if the line was written.
+fn write_claim(
+    rt: &impl Print,
+    alloc: Global,
+    asked: &Asked,
+    bytes: &[u8],
+    query: &str,
+) -> Result<Option<Claim>, AllocError> {
+    let claim = claim_of(alloc, asked, bytes)?;
+    let line = claim.line(alloc, query)?;
+    let mut writer = Watched::new(io::writer(rt));
+    match writer.send_all(&line) {
+        Ok(()) => Ok(Some(claim)),
+        Err(_) => Ok(None),
+    }
+}

@@ -1,0 +1,2 @@
+mod Claimed
+mod Sameness

@@ -1,0 +1,90 @@
+//! The claim of a bundle about a query, and its line.
+
+ghost use Rattle.std.specs.Prelude.{◌≡◌, ◌≢◌, ℕ, List, Ok, IfOk, IsOk};
+ghost use Rattle.esr_cert.specs.Faults.{bundle_fault_number};
+ghost use Rattle.esr_cert.specs.Views.{certificate_of};
+ghost use Rattle.esr_telling.specs.Ask.{IsAnswered};
+ghost use Rattle.esr_telling.specs.State.{ScriptState};
+ghost use Rattle.esr_claim.specs.Claims.{IsClaim, IsClaimOf, ShowsDistance, claim_line};
+
+use crate::same::is_same;
+use esr_bundle::from_json;
+use esr_cert::{BundleFault, Certificate, Problem, check};
+use esr_telling::Asked;
+use std::alloc::{AllocError, Global};
+
+/// What a bundle shows of a query that a script was asked for.
+#[derive(Clone, Copy, PartialEq, Eq, Debug)]
+pub enum Claim {
+    /// The certificate shows that this is the query's distance.
+    Of(u64),
+    /// The certificate shows that this is the least cost of another problem.
+    NotOf(u64),
+    /// The number of the certificate's first fault.
+    Invalid(u8),
+    /// The number of the bundle's fault.
+    Bad(u8),
+}
+
+/// The claim of a problem and a certificate beside the problem of the query.
+fn claim_on(asked: &Problem, problem: &Problem, certificate: &Certificate) -> Claim
+    ensures { IsClaim asked.now (Ok (problem.now, certificate_of certificate.now)) result }
+{
+    match check(problem, certificate) {
+        Ok(()) => {
+            if is_same(problem, asked) {
+                Claim::Of(certificate.worth)
+            } else {
+                Claim::NotOf(certificate.worth)
+            }
+        }
+        Err(fault) => Claim::Invalid(fault.number()),
+    }
+}
+
+/// The claim on bytes of such a fault, which out of memory is not.
+fn bad(fault: BundleFault) -> Result<Claim, AllocError>
+    ensures ok { IfOk result (λ v. v ≡ Claim.Bad (bundle_fault_number fault)) }
+    ensures memory { IsOk result → fault ≢ BundleFault.NoMemory }
+{
+    if let BundleFault::NoMemory = fault {
+        return Err(AllocError);
+    }
+    Ok(Claim::Bad(fault.number()))
+}
+
+/// The claim of a bundle, given as its bytes, about a query that a script was asked for.
+pub fn claim_of(alloc: Global, asked: &Asked, bytes: &[u8]) -> Result<Claim, AllocError>
+    ensures claim { IfOk result (IsClaimOf asked.now.finding.problem bytes.now) }
+    ensures shows { (s : ScriptState) (name : List ℕ) → IsAnswered s name asked.now
+        → (worth : ℕ) → result ≡ Ok (Claim.Of worth) → ShowsDistance s name bytes.now worth }
+{
+    match from_json(alloc, bytes) {
+        Ok((problem, certificate)) => {
+            Ok(claim_on(&asked.finding.problem, &problem, &certificate))
+        }
+        Err(fault) => bad(fault),
+    }
+}
+
+impl Claim {
+    /// The line of a claim about the query of that name.
+    pub fn line(self, alloc: Global, name: &str) -> Result<Vec<u8>, AllocError>
+        ensures { IfOk result (λ v. v.items ≡ claim_line name.now self) }
+    {
+        let mut digits = itoa::Buffer::new();
+        let (word, number, link, about) = match self {
+            Claim::Of(worth) => ("valid ", digits.format(worth), " of ", name),
+            Claim::NotOf(worth) => ("valid ", digits.format(worth), ", not of ", name),
+            Claim::Invalid(fault) => ("invalid ", digits.format(fault), "", ""),
+            Claim::Bad(fault) => ("bad ", digits.format(fault), "", ""),
+        };
+        let mut line = Vec::new(alloc);
+        line.extend_from_slice(word.as_bytes())?;
+        line.extend_from_slice(number.as_bytes())?;
+        line.extend_from_slice(link.as_bytes())?;
+        line.extend_from_slice(about.as_bytes())?;
+        line.push(b'\n')?;
+        Ok(line)
+    }
+}

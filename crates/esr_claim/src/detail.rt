@@ -1,0 +1,264 @@
+//! What is told of a fault beside its number: the words of its first place, for people. It is advice: that it is safe is
+//! proved, and what it says is promised by no clause.
+
+use esr_bundle::from_json;
+use esr_cert::{BundleFault, Certificate, Chain, Fault, Problem, check};
+use std::alloc::{AllocError, Global};
+
+/// The first two neighbours of a list that do not ascend.
+fn descent(set: &[u32]) -> Option<(u32, u32)> {
+    let mut before = set.first().copied()?;
+    for member in set.iter().skip(1) {
+        if *member <= before {
+            return Some((before, *member));
+        }
+        before = *member;
+    }
+    None
+}
+
+/// Whether a list that ascends has a member.
+fn contains(set: &[u32], member: u32) -> bool {
+    set.binary_search(&member).is_ok()
+}
+
+/// How many writers there are up to and with the last one in the set.
+fn version(writers: &[u32], set: &[u32]) -> usize {
+    let mut version = 0usize;
+    for (place, writer) in writers.iter().enumerate() {
+        if contains(set, *writer) {
+            version = place.saturating_add(1);
+        }
+    }
+    version
+}
+
+/// What a set costs.
+fn cost(chains: &[Chain], set: &[u32]) -> u128 {
+    let mut sum = 0u128;
+    for chain in chains {
+        let cost = chain.costs.get(version(&chain.writers, set)).copied();
+        sum = sum.saturating_add(u128::from(cost.unwrap_or(0)));
+    }
+    sum
+}
+
+/// What leaves the source.
+fn flow(certificate: &Certificate) -> u128 {
+    let mut sum = 0u128;
+    for row in &certificate.chain_flow {
+        sum = sum.saturating_add(u128::from(row.first().copied().unwrap_or(0)));
+    }
+    for amount in &certificate.must_flow {
+        sum = sum.saturating_add(u128::from(*amount));
+    }
+    sum
+}
+
+/// What a set lacks to be closed.
+fn push_lack(out: &mut String, problem: &Problem, set: &[u32]) -> Result<(), AllocError> {
+    for (u, v) in problem.before() {
+        if contains(set, *v) && !contains(set, *u) {
+            return write!(out, "the set has {v} and lacks {u}, which is before it");
+        }
+    }
+    for must in problem.must() {
+        if !contains(set, *must) {
+            return write!(out, "the set lacks {must}, which it must have");
+        }
+    }
+    Ok(())
+}
+
+/// The first amount of a chain that is above its arc's capacity, with that.
+fn excess(chain: &Chain, row: &[u64]) -> Option<(u64, u64)> {
+    for (amount, cost) in row.iter().zip(chain.costs.iter()) {
+        if *amount > *cost {
+            return Some((*amount, *cost));
+        }
+    }
+    None
+}
+
+/// What is wrong with the amounts of a chain, if something is.
+fn push_row(out: &mut String, chain: &Chain, row: &[u64]) -> Result<(), AllocError> {
+    let (item, wanted, given) = (chain.item.0, chain.costs.len(), row.len());
+    if wanted != given {
+        return write!(
+            out,
+            "the chain of item {item} has {wanted} arcs and {given} amounts"
+        );
+    }
+    match excess(chain, row) {
+        Some((amount, cost)) => write!(
+            out,
+            "the chain of item {item} has an amount of {amount} where {cost} may flow"
+        ),
+        None => Ok(()),
+    }
+}
+
+/// How many there are of some lists and of their amounts, where these differ.
+fn push_counts(
+    out: &mut String,
+    what: &str,
+    wanted: usize,
+    given: usize,
+) -> Result<(), AllocError> {
+    if out.is_empty() && wanted != given {
+        write!(out, "there are {wanted} {what} and {given} amounts")?;
+    }
+    Ok(())
+}
+
+/// Which amounts do not fit their arcs.
+fn push_excess(
+    out: &mut String,
+    problem: &Problem,
+    certificate: &Certificate,
+) -> Result<(), AllocError> {
+    let rows = &certificate.chain_flow;
+    push_counts(out, "chains", problem.chains().len(), rows.len())?;
+    for (chain, row) in problem.chains().iter().zip(rows.iter()) {
+        if out.is_empty() {
+            push_row(out, chain, row)?;
+        }
+    }
+    let (before, back) = (problem.before().len(), certificate.back_flow.len());
+    push_counts(out, "pairs", before, back)?;
+    let (must, flow) = (problem.must().len(), certificate.must_flow.len());
+    push_counts(out, "updates that the set must have", must, flow)
+}
+
+/// What flows into an update, and out of it.
+#[derive(Clone, Copy, PartialEq, Eq)]
+struct Balance {
+    into: u128,
+    from: u128,
+}
+
+/// Adds an amount that flows into an update.
+fn add_into(balances: &mut [Balance], update: u32, amount: u64) {
+    if let Some(balance) = balances.get_mut(update as usize) {
+        balance.into = balance.into.saturating_add(u128::from(amount));
+    }
+}
+
+/// Adds an amount that flows out of an update.
+fn add_from(balances: &mut [Balance], update: u32, amount: u64) {
+    if let Some(balance) = balances.get_mut(update as usize) {
+        balance.from = balance.from.saturating_add(u128::from(amount));
+    }
+}
+
+/// Adds what flows along a chain: each amount but the last into a writer, each but the first out of one.
+fn add_row(balances: &mut [Balance], chain: &Chain, row: &[u64]) {
+    for (writer, amount) in chain.writers.iter().zip(row.iter()) {
+        add_into(balances, *writer, *amount);
+    }
+    for (writer, amount) in chain.writers.iter().zip(row.iter().skip(1)) {
+        add_from(balances, *writer, *amount);
+    }
+}
+
+/// What flows into each update, and out of it.
+fn balances_of(
+    alloc: Global,
+    problem: &Problem,
+    certificate: &Certificate,
+) -> Result<Vec<Balance>, AllocError> {
+    let none = Balance { into: 0, from: 0 };
+    let mut balances = vec![in alloc; none; problem.updates().len()]?;
+    for (chain, row) in problem.chains().iter().zip(certificate.chain_flow.iter()) {
+        add_row(&mut balances, chain, row);
+    }
+    for ((u, v), amount) in problem.before().iter().zip(certificate.back_flow.iter()) {
+        add_from(&mut balances, *v, *amount);
+        add_into(&mut balances, *u, *amount);
+    }
+    for (update, amount) in problem.must().iter().zip(certificate.must_flow.iter()) {
+        add_into(&mut balances, *update, *amount);
+    }
+    Ok(balances)
+}
+
+/// At which update the flow is not conserved.
+fn push_imbalance(
+    alloc: Global,
+    out: &mut String,
+    problem: &Problem,
+    certificate: &Certificate,
+) -> Result<(), AllocError> {
+    let balances = balances_of(alloc, problem, certificate)?;
+    for (update, balance) in balances.iter().enumerate() {
+        if balance.into != balance.from {
+            let (into, from) = (balance.into, balance.from);
+            return write!(
+                out,
+                "{into} flows into update {update}, and {from} out of it"
+            );
+        }
+    }
+    Ok(())
+}
+
+/// What the worth is not.
+fn push_worth(
+    out: &mut String,
+    problem: &Problem,
+    certificate: &Certificate,
+) -> Result<(), AllocError> {
+    let worth = certificate.worth;
+    let cost = cost(problem.chains(), &certificate.set);
+    if cost != u128::from(worth) {
+        return write!(out, "the set costs {cost}, the worth says {worth}");
+    }
+    let flow = flow(certificate);
+    write!(out, "the flow is worth {flow}, the worth says {worth}")
+}
+
+/// What is found of a certificate with this fault.
+fn push_fault(
+    alloc: Global,
+    out: &mut String,
+    problem: &Problem,
+    certificate: &Certificate,
+    fault: Fault,
+) -> Result<(), AllocError> {
+    match fault {
+        Fault::SetNotAscending => match descent(&certificate.set) {
+            Some((before, member)) => write!(out, "in the set {member} comes behind {before}"),
+            None => Ok(()),
+        },
+        Fault::UnknownUpdate => {
+            let (count, last) = (problem.updates().len(), certificate.set.last().copied());
+            let last = last.unwrap_or(0);
+            write!(
+                out,
+                "the set has {last}, and there are {count} updates, from 0"
+            )
+        }
+        Fault::SetNotClosed => push_lack(out, problem, &certificate.set),
+        Fault::OverCapacity => push_excess(out, problem, certificate),
+        Fault::NotConserved => push_imbalance(alloc, out, problem, certificate),
+        Fault::WorthNotCost => push_worth(out, problem, certificate),
+        Fault::TooManyAugmentations => {
+            let count = certificate.augmentations.unwrap_or(0);
+            write!(out, "{count} augmentations are more than nodes times arcs")
+        }
+    }
+}
+
+/// What is found of a bundle's fault, in words; nothing of a valid bundle.
+pub fn detail_of(alloc: Global, bytes: &[u8]) -> Result<Option<String>, AllocError> {
+    let mut out = String::new(alloc);
+    match from_json(alloc, bytes) {
+        Ok((problem, certificate)) => match check(&problem, &certificate) {
+            Ok(()) => return Ok(None),
+            Err(fault) => push_fault(alloc, &mut out, &problem, &certificate, fault)?,
+        },
+        Err(BundleFault::NoMemory) => return Err(AllocError),
+        Err(fault) => write!(out, "{fault}")?,
+    }
+    Ok(Some(out))
+}

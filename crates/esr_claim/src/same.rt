@@ -1,0 +1,84 @@
+//! Whether two problems are the same. Proved is that those that are told to be are: what stands on it is a yes.
+
+ghost use Rattle.std.specs.Prelude.{◌≡◌, ◌↔◌, IsTrue, map};
+ghost use Rattle.esr_cert.specs.Views.{chain_of};
+
+use esr_cert::{Chain, Problem};
+use esr_history::TxnId;
+
+/// Whether two lists of updates are the same.
+fn are_same_updates(a: &[TxnId], b: &[TxnId]) -> bool
+    ensures { IsTrue result → map (λ t. t.0) a.now ≡ map (λ t. t.0) b.now }
+{
+    if a.len() != b.len() {
+        return false;
+    }
+    for i in 0..a.len() {
+        if a[i].0 != b[i].0 {
+            return false;
+        }
+    }
+    true
+}
+
+/// Whether two lists of pairs are the same.
+fn are_same_pairs(a: &[(u32, u32)], b: &[(u32, u32)]) -> bool
+    ensures { IsTrue result → a.now ≡ b.now }
+{
+    if a.len() != b.len() {
+        return false;
+    }
+    for i in 0..a.len() {
+        if a[i].0 != b[i].0 || a[i].1 != b[i].1 {
+            return false;
+        }
+    }
+    true
+}
+
+/// Whether two lists of numbers are the same.
+fn are_same_numbers(a: &[u32], b: &[u32]) -> bool
+    ensures { IsTrue result → a.now ≡ b.now }
+{
+    a == b
+}
+
+/// Whether two chains are the same.
+fn is_same_chain(a: &Chain, b: &Chain) -> bool
+    ensures { IsTrue result ↔ (chain_of a.now ≡ chain_of b.now) }
+{
+    a.item.0 == b.item.0
+        && a.writers.as_slice() == b.writers.as_slice()
+        && a.costs.as_slice() == b.costs.as_slice()
+}
+
+/// Whether two lists of chains are the same.
+fn are_same_chains(a: &[Chain], b: &[Chain]) -> bool
+    ensures { IsTrue result → map chain_of a.now ≡ map chain_of b.now }
+{
+    if a.len() != b.len() {
+        return false;
+    }
+    for i in 0..a.len() {
+        if !is_same_chain(&a[i], &b[i]) {
+            return false;
+        }
+    }
+    true
+}
+
+/// Whether two problems are the same.
+pub fn is_same(a: &Problem, b: &Problem) -> bool
+    ensures { IsTrue result → a.now ≡ b.now }
+{
+    if !are_same_updates(a.updates(), b.updates()) {
+        return false;
+    }
+    if !are_same_pairs(a.before(), b.before()) {
+        return false;
+    }
+    if !are_same_numbers(a.must(), b.must()) {
+        return false;
+    }
+    are_same_chains(a.chains(), b.chains())
+}

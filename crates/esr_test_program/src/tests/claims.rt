@@ -1,0 +1,70 @@
+//! Bundles beside the script that they are about. What a claim is, is proved; its line is compared byte for byte, and
+//! the words about a fault are in no clause.
+
+use esr_claim::{claim_of, detail_of};
+use esr_history::Watched;
+use esr_lint::Unobserved;
+use esr_script::ask;
+use std::alloc::Global;
+use std::process::Abort;
+use std::str::from_utf8;
+
+/// A report that is 1 away from the state after both updates, and one that read nothing.
+const SCRIPT: &str = "item a 0\n\
+        item b 0\n\
+        begin report query 100\n\
+        begin first update 100\n\
+        begin second update 100\n\
+        begin other query 0\n\
+        read report a\n\
+        write first a 10\n\
+        commit first\n\
+        write second a 1\n\
+        write second b 8\n\
+        commit second\n\
+        read report b\n\
+        commit other\n\
+        commit report\n";
+
+const BUNDLE: &str =
+    r#"{"certificate":{"back_flow":[0],"chain_flow":[[0,0,1],[1,0]],"set":[0,1],"worth":1},"problem":{"before":[[0,1]],"chains":[{"costs":[0,10,1],"item":0,"writers":[0,1]},{"costs":[8,0],"item":1,"writers":[1]}],"updates":[2,3]}}"#;
+
+const CHANGED: &str =
+    r#"{"certificate":{"back_flow":[0],"chain_flow":[[0,0,1],[1,0]],"set":[0,1],"worth":0},"problem":{"before":[[0,1]],"chains":[{"costs":[0,10,1],"item":0,"writers":[0,1]},{"costs":[8,0],"item":1,"writers":[1]}],"updates":[2,3]}}"#;
+
+/// Whether this is the line about a bundle and a query of the script.
+fn claims(rt: &impl Abort, alloc: Global, name: &str, bundle: &str, wanted: &str) {
+    let mut reader = Watched::new(SCRIPT.as_bytes());
+    let Ok(asked) = ask(alloc, &mut reader, name, &mut Unobserved) else {
+        panic!(rt; "a committed query");
+    };
+    let Ok(claim) = claim_of(alloc, &asked, bundle.as_bytes()) else {
+        panic!(rt; "memory");
+    };
+    let Ok(line) = claim.line(alloc, name) else {
+        panic!(rt; "memory");
+    };
+    assert!(rt; from_utf8(&line) == Ok(wanted));
+}
+
+/// The same problem, another query's, a fault, and no bundle.
+#[test]
+fn a_bundle_is_of_one_query(rt: HostRuntime) {
+    let alloc = rt.alloc();
+    claims(&rt, alloc, "report", BUNDLE, "valid 1 of report\n");
+    claims(&rt, alloc, "other", BUNDLE, "valid 1, not of other\n");
+    claims(&rt, alloc, "report", CHANGED, "invalid 6\n");
+    claims(&rt, alloc, "report", "{}", "bad 2\n");
+}
+
+/// The words for people.
+#[test]
+fn what_a_fault_is_is_told(rt: HostRuntime) {
+    let detail = detail_of(rt.alloc(), CHANGED.as_bytes());
+    match &detail {
+        Ok(Some(text)) => {
+            assert!(&rt; text.as_str() == "the set costs 1, the worth says 0");
+        }
+        _ => panic!(&rt; "a detail"),
+    }
+}

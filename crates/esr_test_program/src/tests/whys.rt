@@ -1,0 +1,133 @@
+//! Why lines were blocked, and who waits for whom. The amounts and the rings are proved; the words are in no clause.
+
+use esr_history::Watched;
+use esr_lint::Unobserved;
+use esr_script::{Copied, RunFault, survey};
+use esr_why::Why;
+use std::alloc::Global;
+use std::process::Abort;
+use std::str::from_utf8;
+
+/// A lock of each mode, two that wait for each other, and a limit that is used up.
+const CLOSING: &str = "item checking 500\n\
+        item savings 1500\n\
+        begin closer query 100\n\
+        read closer checking\n\
+        read closer savings\n\
+        begin transfer update 1000\n\
+        write transfer savings 1600\n\
+        begin other update 1000\n\
+        read other checking\n\
+        write transfer checking 400\n\
+        write other savings 1\n\
+        abort other\n\
+        write transfer savings 1700\n\
+        commit closer\n\
+        commit transfer\n";
+
+const CLOSING_TOLD: &str = "\
+line 10: write transfer checking 400: blocked by the read lock of other; other ended at line 12
+line 11: write other savings 1: blocked by the write lock of transfer; transfer ended at line 15
+deadlock: transfer waits for other at line 10, other waits for transfer at line 11
+line 13: write transfer savings 1700: blocked by the import limit of closer: 100 would be charged, 0 of 100 is left; 200 would let it pass; closer ended at line 14
+";
+
+/// Lines that make no entry; a write that is too much for one query of two and for its update; a read that is too much
+/// for both sides; three in a ring, closed by a second try, and a third that finds it closed.
+const NIGHT: &str = "# a night\n\
+        item a 0 weight 2\n\
+        item b 0\n\
+        begin rich query 1000\n\
+        read rich a\n\
+        begin poor query 5\n\
+        read poor a\n\
+        read poor a\n\
+        begin up update 10\n\
+        wirte up a 1\n\
+        write up a 10\n\
+        begin up update 10\n\
+        write up b 20\n\
+        read poor b\n\
+        begin second update 0\n\
+        write second a 0\n\
+        begin third update 0\n\
+        read third b\n\
+        read third a\n\
+        read second b\n\
+        read up a\n\
+        read up a\n\
+        read third a\n";
+
+const NIGHT_TOLD: &str = "\
+line 11: write up a 10: blocked by the import limit of poor: 40 would be charged, 5 of 5 is left; then by the export limit of up: 60 would be charged, 10 of 10 is left; 40 for poor and 60 for up would let it pass; poor is still active; up is still active
+line 14: read poor b: blocked by the import limit of poor: 20 would be charged, 5 of 5 is left; then by the export limit of up: 20 would be charged, 10 of 10 is left; 20 for poor and 20 for up would let it pass; poor is still active; up is still active
+line 18: read third b: blocked by the write lock of up; up is still active
+line 19: read third a: blocked by the write lock of second; second is still active
+line 20: read second b: blocked by the write lock of up; up is still active
+line 21: read up a: blocked by the write lock of second; second is still active
+deadlock: second waits for up at line 20, up waits for second at line 21
+line 22: read up a: blocked by the write lock of second; second is still active
+line 23: read third a: blocked by the write lock of second; second is still active
+";
+
+/// Whether this is told of a script.
+fn tells(rt: &impl Abort, alloc: Global, script: &str, name: Option<&str>, wanted: &str) {
+    let mut reader = Watched::new(Copied::new(alloc, script.as_bytes()));
+    let mut writer = Watched::new(Vec::new(alloc));
+    let ended = survey(
+        alloc,
+        &mut reader,
+        &mut writer,
+        &Why { name },
+        &mut Unobserved,
+    );
+    assert!(rt; ended == Ok(()));
+    let written = from_utf8(writer.inner().as_slice()).unwrap_or("");
+    assert!(rt; written == wanted, "it is {}", written);
+}
+
+/// Each kind of line that there is, in the words of the guide.
+#[test]
+fn blocked_lines_and_rings_are_told(rt: HostRuntime) {
+    let alloc = rt.alloc();
+    tells(&rt, alloc, CLOSING, None, CLOSING_TOLD);
+    tells(&rt, alloc, NIGHT, None, NIGHT_TOLD);
+    tells(
+        &rt,
+        alloc,
+        "item a 0\nread b a\n",
+        None,
+        "nothing was blocked\n",
+    );
+}
+
+/// The lines of one transaction, and the rings that it is in.
+#[test]
+fn one_transaction_is_told_of(rt: HostRuntime) {
+    let alloc = rt.alloc();
+    let other = "\
+line 11: write other savings 1: blocked by the write lock of transfer; transfer ended at line 15
+deadlock: transfer waits for other at line 10, other waits for transfer at line 11
+";
+    tells(&rt, alloc, CLOSING, Some("other"), other);
+    let closer = "nothing of closer was blocked\n";
+    tells(&rt, alloc, CLOSING, Some("closer"), closer);
+}
+
+/// The contract lets out of memory come in place of this refusal.
+#[test]
+fn nobody_is_not_told_of(rt: HostRuntime) {
+    let alloc = rt.alloc();
+    let mut reader = Watched::new(Copied::new(alloc, CLOSING.as_bytes()));
+    let mut writer = Watched::new(Vec::new(alloc));
+    let name = Some("savings");
+    let ended = survey(
+        alloc,
+        &mut reader,
+        &mut writer,
+        &Why { name },
+        &mut Unobserved,
+    );
+    assert!(rt; ended == Err(RunFault::NotACommittedQuery));
+    assert!(rt; writer.inner().is_empty());
+}

@@ -1,0 +1,6 @@
+mod Current
+mod Noting
+mod Places
+mod Blocked
+mod Amounts
+mod Waiting

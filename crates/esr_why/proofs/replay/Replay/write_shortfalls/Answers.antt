@@ -1,0 +1,51 @@
+use Rattle.std.proofs.Common.{◌≡◌, ◌∙◌, ◌++◌, ◌*◌, ◌≤◌, [], List, ℕ, ℤ, Option, ap, ap₂, sym, subst, map, filter_map, sum_by, w64, to_z, of_z}
+use Rattle.std.proofs.lemmas.Int.{to_z-of_z}
+use Rattle.esr_items.specs.Values.{largest_distance}
+use Rattle.esr_items.specs.Weights.{weighted, weighted-bounded}
+use Rattle.esr_history.specs.Events.{current_value}
+use Rattle.esr_history.specs.ItemLocks.{item_locks}
+use Rattle.esr_history.specs.Machine.{Schedule, done}
+use Rattle.esr_locks.specs.Rows.{query_and_count}
+use Rattle.esr_why.specs.declared.shortfall.Shortfall.{Shortfall}
+use Rattle.esr_why.specs.Shortfalls.{import_lack, export_lack, listed}
+use Rattle.esr_why.proofs.Amounts.{each, no_elements, some_elements, write_none, write_some}
+use Rattle.esr_why.proofs.Noting.{value_fits}
+use Rattle.esr_why.proofs.replay.Replay.write_shortfalls.Goals as goal
+
+pub returns-then-is_empty : goal.returns-then-is_empty
+returns-then-is_empty c =
+    let h = c.args.self.now in
+    let none : (item_locks (done h) c.args.x.0).queries ≡ [] =
+    sym c.query_reads-reads.ensures.reads ∙ ap (map query_and_count) (no_elements c.query_reads-reads.result.now (sym c.is_empty.ensures ∙ c.if-is_empty.true)) in
+    c.new-found.ensures.items ∙ write_none weighted h c.args.u c.args.x c.args.value c.requires.update none
+
+pub push_imports-requires-clause-amount : goal.push_imports-requires-clause-amount
+push_imports-requires-clause-amount c =
+    let w = c.metric.result.now.0.now in let before = c.current-before.result in
+    let same : c.distance-amount.result ≡ weighted w c.args.x.0 c.args.value before =
+    c.distance-amount.ensures ∙ ap₂ (weighted w c.args.x.0) (to_z-of_z w64 c.args.value (value_fits c.args.value c.requires.value)) (to_z-of_z w64 before (value_fits before c.current-before.ensures.range)) in
+    subst (λ n. n ≤ largest_distance) (sym same) (weighted-bounded w c.args.x.0 c.args.value before c.requires.value c.current-before.ensures.range)
+
+pub total-requires-clause-amount : goal.total-requires-clause-amount
+total-requires-clause-amount c =
+    let w = c.metric.result.now.0.now in let before = c.current-before.result in
+    let same : c.distance-amount.result ≡ weighted w c.args.x.0 c.args.value before =
+    c.distance-amount.ensures ∙ ap₂ (weighted w c.args.x.0) (to_z-of_z w64 c.args.value (value_fits c.args.value c.requires.value)) (to_z-of_z w64 before (value_fits before c.current-before.ensures.range)) in
+    subst (λ n. n ≤ largest_distance) (sym same) (weighted-bounded w c.args.x.0 c.args.value before c.requires.value c.current-before.ensures.range)
+
+pub returns : goal.returns
+returns c =
+    let h = c.args.self.now in let x = c.args.x.0 in let before = c.current-before.result in let a = c.distance-amount.result in
+    let rs : List (ℕ × ℕ) = map query_and_count c.query_reads-reads.result.now in
+    let weights : c.metric.result.now.0.now ≡ h.weights = c.metric.ensures ∙ ap (λ (s : Schedule). s.weights) (c.history.ensures.schedule ∙ c.self.view_is) in
+    let amount : a ≡ each weighted h c.args.x c.args.value =
+    c.distance-amount.ensures
+    ∙ (ap (λ (w : List ℕ). weighted w x (to_z w64 (of_z w64 c.args.value)) (to_z w64 (of_z w64 before))) weights
+    ∙ ap₂ (weighted h.weights x) (to_z-of_z w64 c.args.value (value_fits c.args.value c.requires.value)) (to_z-of_z w64 before (value_fits before c.current-before.ensures.range) ∙ c.current-before.ensures.value)) in
+    let exports = c.export_lack.ensures ∙ ap (export_lack weighted h c.args.u.0) c.total.ensures.total in
+    c.in_ok-push_if.ensures
+    ∙ (ap (λ (l : List Shortfall). l ++ listed c.export_lack.result) (c.in_ok-push_imports.ensures ∙ ap (λ (l : List Shortfall). l ++ filter_map (λ (r : ℕ × ℕ). import_lack weighted h r.0 (r.1 * a)) rs) c.new-found.ensures.items)
+    ∙ (ap (λ (o : Option Shortfall). filter_map (λ (r : ℕ × ℕ). import_lack weighted h r.0 (r.1 * a)) rs ++ listed o) exports
+    ∙ (ap (λ (n : ℕ). filter_map (λ (r : ℕ × ℕ). import_lack weighted h r.0 (r.1 * n)) rs ++ listed (export_lack weighted h c.args.u.0 (sum_by (λ (r : ℕ × ℕ). r.1 * n) rs))) amount
+    ∙ write_some weighted h c.args.u c.args.x c.args.value rs c.requires.update c.query_reads-reads.ensures.reads
+    (some_elements query_and_count c.query_reads-reads.result.now (sym c.is_empty.ensures ∙ c.if-is_empty.false)))))

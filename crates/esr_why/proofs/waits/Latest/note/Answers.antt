@@ -1,0 +1,12 @@
+use Rattle.std.proofs.Common.{arith}
+use Rattle.esr_why.proofs.Waiting.{latest_none, latest_past, latest_some}
+use Rattle.esr_why.proofs.waits.Latest.note.Goals as goal
+
+pub returns-in_default : goal.returns-in_default
+returns-in_default c es place latest = latest_none es c.args.entry c.args.self.now.places.items c.in_default.ensures latest
+
+pub returns-then-at-len : goal.returns-then-at-len
+returns-then-at-len c es place latest = latest_some es c.args.entry c.args.self.now.places.items c.in-Some.txn.0 c.args.place c.in-Some.ensures (omega arith) place latest
+
+pub returns-else-at-len : goal.returns-else-at-len
+returns-else-at-len c es place latest = latest_past es c.args.entry c.args.self.now.places.items c.in-Some.txn.0 c.in-Some.ensures (omega arith) latest

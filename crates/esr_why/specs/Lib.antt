@@ -1,0 +1,5 @@
+pub mod Locks
+pub mod Notes
+pub mod Replays
+pub mod Shortfalls
+pub mod Waits

@@ -1,0 +1,57 @@
+-- What a blocked event would have added to limits that it would have passed.
+use Rattle.std.specs.Prelude.{◌≡◌, ℕ, ◌+◌, List, [], ◌∷◌, ◌++◌, Bool, true, false, Option, Some, None, nat_lt, if◌then◌else◌}
+use Rattle.std.specs.List.{filter_map}
+use Rattle.esr_history.specs.declared.event.Event.{Event}
+use Rattle.esr_history.specs.declared.event.Refusal.{Refusal}
+use Rattle.esr_history.specs.declared.event.Refusal.TheVariants.{BlockedByLock, BlockedByImport, BlockedByExport}
+use Rattle.esr_history.specs.Events.{limit_of}
+use Rattle.esr_history.specs.Machine.{Distance, Schedule, Charge, done, due_in, charges_in, import_in, export_in, total}
+use Rattle.esr_why.specs.declared.shortfall.Side.{Side}
+use Rattle.esr_why.specs.declared.shortfall.Side.TheVariants.{Import, Export}
+use Rattle.esr_why.specs.declared.shortfall.Shortfall.{Shortfall}
+
+-- What a transaction lacks that has been charged so much of its limit and would be charged this much more: nothing where
+-- that is within the limit. The smallest limit that would do is what it would have been charged then.
+abbrev pub lack : Side → ℕ → (due used limit : ℕ) → Option Shortfall
+lack side t due used limit =
+    if nat_lt limit (used + due)
+    then Some (record {
+      side = side;
+      txn = record { 0 = t };
+      due = due;
+      used = used;
+      limit = limit;
+      enough = used + due;
+    })
+    else None
+
+-- a query, to import so much more; an update, to export it
+abbrev pub import_lack : Distance → Schedule → ℕ → ℕ → Option Shortfall
+import_lack d h q due = lack Import q due (import_in (charges_in d h) q) (limit_of (done h) q)
+
+abbrev pub export_lack : Distance → Schedule → ℕ → ℕ → Option Shortfall
+export_lack d h u due = lack Export u due (export_in (charges_in d h) u) (limit_of (done h) u)
+
+abbrev pub listed : Option Shortfall → List Shortfall
+listed None = []
+listed (Some s) = s ∷ []
+
+-- the update whose charges these are lacks it of them all together
+abbrev pub export_shortfall : Distance → Schedule → List Charge → List Shortfall
+export_shortfall d h [] = []
+export_shortfall d h (c ∷ cs) = listed (export_lack d h c.update (total (c ∷ cs)))
+
+-- what is lacking for charges: of the queries' limits, and then of the update's
+abbrev pub shortfalls_of : Distance → Schedule → List Charge → List Shortfall
+shortfalls_of d h cs = filter_map (λ c. import_lack d h c.query c.amount) cs ++ export_shortfall d h cs
+
+-- what an event that comes after a history lacks for the charges that are due
+abbrev pub shortfalls : Distance → Schedule → Event → List Shortfall
+shortfalls d h e = shortfalls_of d h (due_in d h e)
+
+-- a refusal for a lock or a limit
+abbrev pub is_blocked : Refusal → Bool
+is_blocked (BlockedByLock u) = true
+is_blocked (BlockedByImport q) = true
+is_blocked (BlockedByExport u) = true
+is_blocked _ = false

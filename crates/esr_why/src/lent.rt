@@ -1,0 +1,28 @@
+//! A metric that is lent: the machine that makes a history again borrows the history's own.
+use esr_items::{ItemId, Metric, Weighted};
+
+/// The distances of a metric that another owns.
+#[derive(Clone, Copy)]
+pub struct Lent<'a>(pub &'a Weighted);
+
+impl Metric for Lent<'_> {
+    ghost use Rattle.esr_items.specs.Weights.{weighted, weighted-zero, weighted-same, weighted_comm, weighted-triangle, weighted-bounded};
+
+    ghost weights = { λ m. m.0.now };
+
+    ghost distance_by = { weighted };
+
+    fn distance(&self, x: ItemId, a: i64, b: i64) -> u64 {
+        self.0.distance(x, a, b)
+    }
+
+    ghost zero = { weighted-zero };
+
+    ghost same = { weighted-same };
+
+    ghost symmetric = { weighted_comm };
+
+    ghost triangle = { weighted-triangle };
+
+    ghost bounded = { weighted-bounded };
+}

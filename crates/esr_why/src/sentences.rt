@@ -1,0 +1,200 @@
+//! The words of a line: what was asked, what kept it back, and when that ended.
+
+use crate::replay::Lock;
+use crate::shortfall::{Shortfall, Side};
+use crate::waits::Wait;
+use esr_history::{Event, History, LARGEST_LIMIT, TxnId};
+use esr_items::{ItemId, Weighted};
+use esr_report::{Names, name_of_transaction};
+use esr_telling::Chronicle;
+use std::alloc::AllocError;
+
+/// A script with the line of each entry.
+#[derive(Clone, Copy)]
+pub struct Script<'a> {
+    pub items: &'a Names,
+    pub transactions: &'a Names,
+    pub history: &'a History<Weighted>,
+    /// The line of each entry, from 1.
+    pub lines: &'a [u32],
+}
+
+impl<'a> Script<'a> {
+    /// What a script leads to, with the line of each entry.
+    pub fn new(chronicle: &'a Chronicle<'_>, lines: &'a [u32]) -> Script<'a> {
+        Script {
+            items: &chronicle.items,
+            transactions: &chronicle.transactions,
+            history: &chronicle.history,
+            lines,
+        }
+    }
+
+    /// The name of a transaction.
+    pub fn name(&self, t: TxnId) -> &'a str {
+        name_of_transaction(self.transactions, t)
+    }
+
+    /// The name of an item.
+    fn item(&self, x: ItemId) -> &'a str {
+        self.items.name_of(x.0).unwrap_or("")
+    }
+
+    /// The line of the entry at a place.
+    fn line(&self, place: usize) -> u32 {
+        self.lines.get(place).copied().unwrap_or(0)
+    }
+
+    /// The line of the end of a transaction, if it has ended.
+    fn end_line(&self, t: TxnId) -> Option<u32> {
+        let place = self.history.facts(t)?.end?;
+        Some(self.line(usize::try_from(place).ok()?))
+    }
+
+    /// When a transaction ended: `closer ended at line 14`.
+    fn push_end(&self, out: &mut String, t: TxnId) -> Result<(), AllocError> {
+        let name = self.name(t);
+        match self.end_line(t) {
+            Some(line) => write!(out, "{name} ended at line {line}"),
+            None => write!(out, "{name} is still active"),
+        }
+    }
+
+    /// What was asked, and where: `line 13: write again savings 1700: blocked by `.
+    fn push_asked(&self, out: &mut String, place: usize, event: Event) -> Result<(), AllocError> {
+        let line = self.line(place);
+        match event {
+            Event::Read { txn, item } => {
+                let (name, item) = (self.name(txn), self.item(item));
+                write!(out, "line {line}: read {name} {item}: blocked by ")
+            }
+            Event::Write { txn, item, value } => {
+                let (name, item) = (self.name(txn), self.item(item));
+                write!(out, "line {line}: write {name} {item} {value}: blocked by ")
+            }
+            _ => write!(out, "line {line}: blocked by "),
+        }
+    }
+
+    /// Appends the line of an event that a lock kept back.
+    pub fn push_lock_line(
+        &self,
+        out: &mut String,
+        place: usize,
+        event: Event,
+        lock: Lock,
+        holder: TxnId,
+    ) -> Result<(), AllocError> {
+        self.push_asked(out, place, event)?;
+        out.push_str(match lock {
+            Lock::Read => "the read lock of ",
+            Lock::Write => "the write lock of ",
+        })?;
+        out.push_str(self.name(holder))?;
+        out.push_str("; ")?;
+        self.push_end(out, holder)?;
+        out.push('\n')
+    }
+
+    /// How much was asked of a limit, and what was left.
+    fn push_shortfall(&self, out: &mut String, shortfall: Shortfall) -> Result<(), AllocError> {
+        let name = self.name(shortfall.txn);
+        let side = match shortfall.side {
+            Side::Import => "import",
+            Side::Export => "export",
+        };
+        let (due, left, limit) = (shortfall.due, shortfall.left(), shortfall.limit);
+        write!(
+            out,
+            "the {side} limit of {name}: {due} would be charged, {left} of {limit} is left"
+        )
+    }
+
+    /// Which limits would have let an event pass that lacked this.
+    fn push_remedy(&self, out: &mut String, shortfalls: &[Shortfall]) -> Result<(), AllocError> {
+        if shortfalls
+            .iter()
+            .any(|s| s.enough > u128::from(LARGEST_LIMIT))
+        {
+            return out.push_str("; no limit would let it pass");
+        }
+        for (place, shortfall) in shortfalls.iter().enumerate() {
+            out.push_str(if place == 0 { "; " } else { " and " })?;
+            self.push_enough(out, *shortfall, shortfalls.len())?;
+        }
+        out.push_str(" would let it pass")
+    }
+
+    /// A limit that would do, with whose it is where there are several.
+    fn push_enough(
+        &self,
+        out: &mut String,
+        shortfall: Shortfall,
+        count: usize,
+    ) -> Result<(), AllocError> {
+        let mut digits = itoa::Buffer::new();
+        out.push_str(digits.format(shortfall.enough))?;
+        if count > 1 {
+            out.push_str(" for ")?;
+            out.push_str(self.name(shortfall.txn))?;
+        }
+        Ok(())
+    }
+
+    /// Appends the line of an event that limits kept back: the first is the reason of its refusal.
+    pub fn push_limits_line(
+        &self,
+        out: &mut String,
+        place: usize,
+        event: Event,
+        shortfalls: &[Shortfall],
+    ) -> Result<(), AllocError> {
+        self.push_asked(out, place, event)?;
+        self.push_limits(out, shortfalls)?;
+        self.push_remedy(out, shortfalls)?;
+        self.push_ends(out, shortfalls)?;
+        out.push('\n')
+    }
+
+    /// The limits, with what was asked of each.
+    fn push_limits(&self, out: &mut String, shortfalls: &[Shortfall]) -> Result<(), AllocError> {
+        for (place, shortfall) in shortfalls.iter().enumerate() {
+            out.push_str(if place == 0 { "" } else { "; then by " })?;
+            self.push_shortfall(out, *shortfall)?;
+        }
+        Ok(())
+    }
+
+    /// When those ended whose limits they are.
+    fn push_ends(&self, out: &mut String, shortfalls: &[Shortfall]) -> Result<(), AllocError> {
+        for shortfall in shortfalls {
+            out.push_str("; ")?;
+            self.push_end(out, shortfall.txn)?;
+        }
+        Ok(())
+    }
+
+    /// Who waits for whom in a ring, from the one that waits the longest behind the one that closed it.
+    pub fn push_ring(&self, out: &mut String, ring: &[Wait]) -> Result<(), AllocError> {
+        let Some((first, rest)) = ring.split_first() else {
+            return Ok(());
+        };
+        out.push_str("deadlock: ")?;
+        for wait in rest {
+            self.push_wait(out, *wait)?;
+            out.push_str(", ")?;
+        }
+        self.push_wait(out, *first)?;
+        out.push('\n')
+    }
+
+    /// Who waits for whom: `first waits for second at line 7`.
+    fn push_wait(&self, out: &mut String, wait: Wait) -> Result<(), AllocError> {
+        let (name, holder, line) = (
+            self.name(wait.txn),
+            self.name(wait.holder),
+            self.line(wait.place),
+        );
+        write!(out, "{name} waits for {holder} at line {line}")
+    }
+}

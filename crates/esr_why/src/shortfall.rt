@@ -1,0 +1,229 @@
+//! What a blocked event would have added to the limits that it would have passed.
+//!
+//! A refusal names one transaction, the first in the order of reasons. But a write may be too much for several queries,
+//! and for its update besides: a limit that is told to let it pass has to be told of each. So all charges that are due
+//! are looked at, as the machine's definition has them.
+
+ghost use Rattle.std.specs.Prelude.{◌≡◌, ◌<◌, ◌≤◌, ◌-◌, ◌*◌, ◌^◌, ◌++◌, true, length, map, filter_map, sum_by, All, IfOk, OnOk};
+ghost use Rattle.esr_items.specs.Values.{IsValue, largest_distance};
+ghost use Rattle.esr_items.specs.Weights.{weighted};
+ghost use Rattle.esr_history.specs.declared.limits.TheConstants.{MOST_READS};
+ghost use Rattle.esr_history.specs.Events.{is_query, is_update, limit_of};
+ghost use Rattle.esr_history.specs.Machine.{done};
+ghost use Rattle.esr_locks.specs.Rows.{query_and_count};
+ghost use Rattle.esr_why.specs.Notes.{IsInRange};
+ghost use Rattle.esr_why.specs.Shortfalls.{lack, import_lack, export_lack, listed, shortfalls};
+
+use crate::replay::Replay;
+use esr_history::{Event, TxnId};
+use esr_items::{ItemId, Metric};
+use esr_locks::QueryReads;
+use std::alloc::{AllocError, Global};
+
+/// Whose limit it is: a query's, of what it imports, or an update's, of what it exports.
+#[derive(Clone, Copy, PartialEq, Eq, Debug)]
+pub enum Side {
+    Import,
+    Export,
+}
+
+/// What an event would have added to a limit that it would have passed.
+#[derive(Clone, Copy, PartialEq, Eq, Debug)]
+pub struct Shortfall {
+    pub side: Side,
+    pub txn: TxnId,
+    /// What would have been charged.
+    pub due: u128,
+    /// What had been charged before.
+    pub used: u64,
+    pub limit: u64,
+    /// The smallest limit that this would be within.
+    pub enough: u128,
+}
+
+impl Shortfall {
+    /// What is left of the limit.
+    pub fn left(self) -> u64
+        ensures { result ≡ self.limit - self.used }
+    {
+        self.limit.saturating_sub(self.used)
+    }
+}
+
+/// What a transaction lacks that has been charged so much of its limit and would be charged this much more.
+fn lack(side: Side, txn: TxnId, due: u128, used: u64, limit: u64) -> Option<Shortfall>
+    requires { due ≤ 2 ^ 126 }
+    ensures { result ≡ lack side txn.0 due used limit }
+{
+    let enough = u128::from(used) + due;
+    if u128::from(limit) < enough {
+        return Some(Shortfall {
+            side,
+            txn,
+            due,
+            used,
+            limit,
+            enough,
+        });
+    }
+    None
+}
+
+/// Appends a shortfall, if there is one.
+fn push_if(found: &mut Vec<Shortfall>, more: Option<Shortfall>) -> Result<(), AllocError>
+    ensures { OnOk result (found.new.items ≡ found.old.items ++ listed more) }
+{
+    match more {
+        Some(shortfall) => {
+            found.push(shortfall)?;
+            Ok(())
+        }
+        None => Ok(()),
+    }
+}
+
+/// What the queries that have read an item are charged together, where one read of each costs this amount.
+fn total(reads: &[QueryReads], amount: u64) -> u128
+    requires few { All (λ r. r.count ≤ MOST_READS) reads.now }
+    requires amount { amount ≤ largest_distance }
+    ensures total { result ≡ sum_by (λ r. r.1 * amount) (map query_and_count reads.now) }
+    ensures most { result ≤ 2 ^ 126 }
+{
+    let mut sum = 0u128;
+    for r in reads {
+        sum += u128::from(u64::from(r.count) * amount);
+    }
+    sum
+}
+
+impl Replay<'_> {
+    /// The limit of a transaction.
+    fn limit(&self, t: TxnId) -> u64
+        ensures { result ≡ limit_of (done self.now) t.0 }
+    {
+        match self.machine.history().facts(t) {
+            Some(facts) => facts.limit,
+            None => 0,
+        }
+    }
+
+    /// What a query lacks to import this much more.
+    fn import_lack(&self, q: TxnId, due: u64) -> Option<Shortfall>
+        ensures { result ≡ import_lack weighted self.now q.0 due }
+    {
+        let used = self.machine.history().import(q);
+        lack(Side::Import, q, u128::from(due), used, self.limit(q))
+    }
+
+    /// What an update lacks to export this much more.
+    fn export_lack(&self, u: TxnId, due: u128) -> Option<Shortfall>
+        requires { due ≤ 2 ^ 126 }
+        ensures { result ≡ export_lack weighted self.now u.0 due }
+    {
+        let used = self.machine.export(u);
+        lack(Side::Export, u, due, used, self.limit(u))
+    }
+
+    /// What a query's read lacks.
+    fn read_shortfalls(
+        &self,
+        alloc: Global,
+        q: TxnId,
+        x: ItemId,
+    ) -> Result<Vec<Shortfall>, AllocError>
+        requires item { x.0 < length self.now.opening }
+        requires query { is_query (done self.now) q.0 ≡ true }
+        ensures { IfOk result (λ v. v.items ≡ shortfalls weighted self.now (Event.Read q x)) }
+    {
+        let mut found = Vec::new(alloc);
+        let Some(u) = self.machine.writer(x) else {
+            return Ok(found);
+        };
+        let current = self.current(x);
+        let committed = self.machine.committed(x);
+        let due = self
+            .machine
+            .history()
+            .metric()
+            .distance(x, current, committed);
+        push_if(&mut found, self.import_lack(q, due))?;
+        push_if(&mut found, self.export_lack(u, u128::from(due)))?;
+        Ok(found)
+    }
+
+    /// What a query lacks that has read an item so often, where one read costs this amount.
+    fn reads_lack(&self, reads: QueryReads, amount: u64) -> Option<Shortfall>
+        requires few { reads.count ≤ MOST_READS }
+        requires amount { amount ≤ largest_distance }
+        ensures { result ≡ import_lack weighted self.now reads.query.0 (reads.count * amount) }
+    {
+        self.import_lack(reads.query, u64::from(reads.count) * amount)
+    }
+
+    /// Appends what the queries lack that have read an item, where one read of each costs this amount.
+    fn push_imports(
+        &self,
+        found: &mut Vec<Shortfall>,
+        reads: &[QueryReads],
+        amount: u64,
+    ) -> Result<(), AllocError>
+        requires few { All (λ r. r.count ≤ MOST_READS) reads.now }
+        requires amount { amount ≤ largest_distance }
+        ensures { OnOk result (found.new.items ≡ found.old.items
+            ++ filter_map (λ r. import_lack weighted self.now r.0 (r.1 * amount)) (map query_and_count reads.now)) }
+    {
+        for r in reads {
+            push_if(found, self.reads_lack(*r, amount))?;
+        }
+        Ok(())
+    }
+
+    /// What an update's write lacks.
+    fn write_shortfalls(
+        &self,
+        alloc: Global,
+        u: TxnId,
+        x: ItemId,
+        value: i64,
+    ) -> Result<Vec<Shortfall>, AllocError>
+        requires item { x.0 < length self.now.opening }
+        requires update { is_update (done self.now) u.0 ≡ true }
+        requires value { IsValue value }
+        ensures { IfOk result (λ v. v.items ≡ shortfalls weighted self.now (Event.Write u x value)) }
+    {
+        let mut found = Vec::new(alloc);
+        let reads = self.query_reads(x);
+        if reads.is_empty() {
+            return Ok(found);
+        }
+        let before = self.current(x);
+        let amount = self.machine.history().metric().distance(x, value, before);
+        self.push_imports(&mut found, reads, amount)?;
+        push_if(&mut found, self.export_lack(u, total(reads, amount)))?;
+        Ok(found)
+    }
+
+    /// What an event that comes next lacks for the charges that are due.
+    pub fn shortfalls(&self, alloc: Global, event: Event) -> Result<Vec<Shortfall>, AllocError>
+        requires { IsInRange event (length self.now.opening) }
+        ensures { IfOk result (λ v. v.items ≡ shortfalls weighted self.now event) }
+    {
+        match event {
+            Event::Read { txn, item } => {
+                if self.is_query(txn) {
+                    self.read_shortfalls(alloc, txn, item)
+                } else {
+                    Ok(Vec::new(alloc))
+                }
+            }
+            Event::Write { txn, item, value } => {
+                if self.is_update(txn) {
+                    self.write_shortfalls(alloc, txn, item, value)
+                } else {
+                    Ok(Vec::new(alloc))
+                }
+            }
+            _ => Ok(Vec::new(alloc)),
+        }
+    }
+}

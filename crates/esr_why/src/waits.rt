@@ -1,0 +1,177 @@
+//! Who waits for whom, and the rings of those who wait for one another.
+//!
+//! Kept is for each transaction the place of its last entry, so an entry costs one place. Where one is blocked by a lock,
+//! whoever holds it may wait too, and so on: the walk goes on to the first who does not wait or was met before, and what
+//! comes back to its begin is a ring. The walk is a draft: what it found is tested before it is told.
+
+ghost use Rattle.std.specs.Prelude.{◌≡◌, ◌++◌, ◌∷◌, [], List, Some, All, IsTrue, IfOk, IfSome, length, map, option_map};
+ghost use Rattle.esr_history.specs.BackLinks.{last_place, txn_in};
+ghost use Rattle.esr_history.specs.declared.event.Entry.{Entry};
+ghost use Rattle.esr_why.specs.Waits.{AreLatest, IsRing, IsWaiting, turned};
+
+use esr_history::{Entry, Event, Log, Refusal, Reply, TxnId};
+use std::alloc::{AllocError, Global};
+
+/// A transaction whose last event was blocked by a lock of another.
+#[derive(Clone, Copy, PartialEq, Eq, Debug)]
+pub struct Wait {
+    pub txn: TxnId,
+    /// Who holds the lock.
+    pub holder: TxnId,
+    /// The place of the event in the log.
+    pub place: usize,
+}
+
+/// The transaction of an entry: of an accepted begin the one that begins, of a refused one none.
+pub fn transaction_of(entry: Entry) -> Option<TxnId>
+    ensures { option_map (λ t. t.0) result ≡ txn_in entry }
+{
+    match entry.event {
+        Event::BeginUpdate { limit: _ }
+        | Event::BeginQuery {
+            limit: _,
+            strict: _,
+        } => match entry.reply {
+            Reply::Begun(txn) => Some(txn),
+            _ => None,
+        },
+        Event::Read { txn, item: _ }
+        | Event::Write {
+            txn,
+            item: _,
+            value: _,
+        } => Some(txn),
+        Event::Commit { txn } | Event::Abort { txn } => Some(txn),
+    }
+}
+
+/// Whether each waits for the next, and the last for the first.
+fn is_round(waits: &[Wait]) -> bool
+    ensures { IsTrue result → map (λ w. w.holder) waits.now ≡ turned (map (λ w. w.txn) waits.now) }
+{
+    let Some(first) = waits.first() else {
+        return true;
+    };
+    let mut next = first.txn;
+    for wait in waits {
+        if wait.txn != next {
+            return false;
+        }
+        next = wait.holder;
+    }
+    next == first.txn
+}
+
+/// The place of the last entry of each transaction.
+#[derive(Drop)]
+pub struct Latest {
+    places: Vec<Option<usize>>,
+    /// The place of the entry from which a walk came by last.
+    met: Vec<Option<usize>>,
+}
+
+impl Latest {
+    /// Before the first entry, of so many transactions.
+    pub fn new(alloc: Global, transactions: usize) -> Result<Latest, AllocError>
+        ensures { IfOk result (λ l. AreLatest [] l.places.items) }
+    {
+        let count = transactions.saturating_add(1);
+        Ok(Latest {
+            places: vec![in alloc; None; count]?,
+            met: vec![in alloc; None; count]?,
+        })
+    }
+
+    /// Notes the entry at a place.
+    pub fn note(&mut self, entry: Entry, place: usize)
+        ensures { (es : List Entry) → place ≡ length es → AreLatest es self.old.places.items
+            → AreLatest (es ++ entry ∷ []) self.new.places.items }
+    {
+        let Some(txn) = transaction_of(entry) else {
+            return;
+        };
+        let at = txn.0 as usize;
+        if at < self.places.len() {
+            self.places[at] = Some(place);
+        }
+    }
+
+    /// The place of the last entry of a transaction.
+    fn place(&self, txn: TxnId) -> Option<usize>
+        ensures { (es : List Entry) → AreLatest es self.now.places.items
+            → IfSome result (λ place. last_place txn_in txn.0 es ≡ Some place) }
+    {
+        let at = txn.0 as usize;
+        if at < self.places.len() {
+            self.places[at]
+        } else {
+            None
+        }
+    }
+
+    /// The wait of a transaction, if it waits.
+    pub fn wait(&self, log: &Log, txn: TxnId) -> Option<Wait>
+        ensures { AreLatest log.now.entries self.now.places.items → IfSome result (IsWaiting log.now.entries) }
+    {
+        let place = self.place(txn)?;
+        let entry = log.get(place)?;
+        match entry.reply {
+            Reply::Refused(Refusal::BlockedByLock(holder)) => Some(Wait { txn, holder, place }),
+            _ => None,
+        }
+    }
+
+    /// Whether a walk from the entry at a place comes by a transaction for the first time.
+    fn meets(&mut self, txn: TxnId, place: usize) -> bool
+        ensures { self.new.places ≡ self.old.places }
+    {
+        let at = txn.0 as usize;
+        if at >= self.met.len() || self.met[at] == Some(place) {
+            return false;
+        }
+        self.met[at] = Some(place);
+        true
+    }
+
+    /// Those who wait for one another, from one on, as far as a walk goes.
+    fn walk(&mut self, alloc: Global, log: &Log, first: Wait) -> Result<Vec<Wait>, AllocError>
+        requires latest { AreLatest log.now.entries self.old.places.items }
+        requires first { IsWaiting log.now.entries first }
+        ensures waiting { IfOk result (λ v. All (IsWaiting log.now.entries) v.items) }
+        ensures places { self.new.places ≡ self.old.places }
+    {
+        let mut waits = Vec::new(alloc);
+        waits.push(first)?;
+        let mut next = first.holder;
+        for _ in 0..self.places.len() {
+            if next == first.txn || !self.meets(next, first.place) {
+                return Ok(waits);
+            }
+            let Some(wait) = self.wait(log, next) else {
+                return Ok(waits);
+            };
+            waits.push(wait)?;
+            next = wait.holder;
+        }
+        Ok(waits)
+    }
+
+    /// The ring that one closes who waits, if one does.
+    pub fn ring(
+        &mut self,
+        alloc: Global,
+        log: &Log,
+        first: Wait,
+    ) -> Result<Option<Vec<Wait>>, AllocError>
+        requires latest { AreLatest log.now.entries self.old.places.items }
+        requires first { IsWaiting log.now.entries first }
+        ensures ring { IfOk result (λ found. IfSome found (λ v. IsRing log.now.entries v.items)) }
+        ensures places { self.new.places ≡ self.old.places }
+    {
+        let waits = self.walk(alloc, log, first)?;
+        if is_round(&waits) {
+            return Ok(Some(waits));
+        }
+        Ok(None)
+    }
+}

@@ -1,0 +1,251 @@
+//! The lines of a script that were blocked, and the rings of those who wait for one another, told entry by entry. A ring
+//! is told behind the line that closes it: where that line is tried again, the ring was there before.
+
+ghost use Rattle.std.specs.Prelude.{◌≡◌, ◌<◌, ◌+◌, [], length, take, OnOk};
+ghost use Rattle.esr_items.specs.Weights.{weighted};
+ghost use Rattle.esr_history.specs.Machine.{blank, extended, reply_to};
+ghost use Rattle.esr_why.specs.Notes.{IsInRange};
+ghost use Rattle.esr_why.specs.Locks.{lock_in_way};
+ghost use Rattle.esr_why.specs.Replays.{until};
+ghost use Rattle.esr_why.specs.Waits.{AreLatest};
+
+use crate::replay::{Lock, Replay};
+use crate::sentences::Script;
+use crate::waits::{Latest, Wait, transaction_of};
+use esr_history::{Entry, Event, History, NoMemory, Refusal, Reply, TxnId};
+use esr_items::Weighted;
+use esr_prose::lines_of_entries;
+use esr_telling::{Chronicle, Survey};
+use std::alloc::{AllocError, Global};
+
+/// Why the lines of a script were blocked.
+#[derive(Drop)]
+pub struct Why<'a> {
+    /// The transaction whose lines are told, if not all are.
+    pub name: Option<&'a str>,
+}
+
+/// Which transactions are told of.
+#[derive(Clone, Copy, PartialEq, Eq)]
+enum Sought {
+    All,
+    One(TxnId),
+}
+
+impl Sought {
+    /// Whether a transaction is told of.
+    fn has(self, t: TxnId) -> bool {
+        match self {
+            Sought::All => true,
+            Sought::One(u) => t == u,
+        }
+    }
+
+    /// Whether one of those in a ring is told of.
+    fn has_any(self, ring: &[Wait]) -> bool {
+        ring.iter().any(|wait| self.has(wait.txn))
+    }
+}
+
+/// The lock by which an update keeps an event back that comes next.
+fn lock_of(replay: &Replay<'_>, event: Event, holder: TxnId) -> Lock
+    requires { IsInRange event (length replay.now.opening) }
+    ensures { result ≡ lock_in_way replay.now event holder.0 }
+{
+    match event {
+        Event::Read { txn: _, item }
+        | Event::Write {
+            txn: _,
+            item,
+            value: _,
+        } => replay.lock_of(item, holder),
+        _ => Lock::Read,
+    }
+}
+
+/// A survey on its way over the entries.
+#[derive(Drop)]
+struct Telling<'a> {
+    alloc: Global,
+    script: Script<'a>,
+    sought: Sought,
+    replay: Replay<'a>,
+    latest: Latest,
+    out: String,
+}
+
+impl Telling<'_> {
+    /// Tells why an entry of a transaction was blocked, which comes next.
+    fn tell_entry(&mut self, place: usize, entry: Entry, txn: TxnId) -> Result<(), AllocError>
+        requires { entry.reply ≡ reply_to weighted self.old.replay entry.event }
+        ensures replay { self.new.replay ≡ self.old.replay }
+        ensures latest { self.new.latest ≡ self.old.latest }
+    {
+        if !self.sought.has(txn) {
+            return Ok(());
+        }
+        match entry.reply {
+            Reply::Refused(Refusal::BlockedByLock(holder)) => {
+                let lock = lock_of(&self.replay, entry.event, holder);
+                self.script
+                    .push_lock_line(&mut self.out, place, entry.event, lock, holder)
+            }
+            Reply::Refused(Refusal::BlockedByImport(_) | Refusal::BlockedByExport(_)) => {
+                let shortfalls = self.replay.shortfalls(self.alloc, entry.event)?;
+                self.script
+                    .push_limits_line(&mut self.out, place, entry.event, &shortfalls)
+            }
+            _ => Ok(()),
+        }
+    }
+
+    /// Tells of the ring that a transaction closes, if it closes one: it did not wait for the same one before.
+    fn tell_ring(&mut self, txn: TxnId, before: Option<Wait>) -> Result<(), AllocError>
+        requires { AreLatest self.old.replay.entries self.old.latest.places.items }
+        ensures replay { self.new.replay ≡ self.old.replay }
+        ensures latest { self.new.latest.places ≡ self.old.latest.places }
+    {
+        let Some(wait) = self.latest.wait(self.replay.log(), txn) else {
+            return Ok(());
+        };
+        if before.is_some_and(|b| b.holder == wait.holder) {
+            return Ok(());
+        }
+        if let Some(ring) = self.latest.ring(self.alloc, self.replay.log(), wait)? {
+            if self.sought.has_any(&ring) {
+                self.script.push_ring(&mut self.out, &ring)?;
+            }
+        }
+        Ok(())
+    }
+
+    /// Tells of the entry at a place, of the transaction, and goes on behind it.
+    fn tell_of(&mut self, place: usize, entry: Entry, txn: TxnId) -> Result<(), NoMemory>
+        requires reply { entry.reply ≡ reply_to weighted self.old.replay entry.event }
+        requires place { place ≡ length self.old.replay.entries }
+        requires latest { AreLatest self.old.replay.entries self.old.latest.places.items }
+        ensures replay { OnOk result (self.new.replay ≡ extended self.old.replay entry.event entry.reply) }
+        ensures latest { OnOk result (AreLatest self.new.replay.entries self.new.latest.places.items) }
+    {
+        self.tell_entry(place, entry, txn)?;
+        let before = self.latest.wait(self.replay.log(), txn);
+        self.replay.step(entry)?;
+        self.latest.note(entry, place);
+        self.tell_ring(txn, before)?;
+        Ok(())
+    }
+
+    /// Tells of the entry at a place, and goes on behind it.
+    fn tell(&mut self, place: usize, entry: Entry) -> Result<(), NoMemory>
+        requires reply { entry.reply ≡ reply_to weighted self.old.replay entry.event }
+        requires place { place ≡ length self.old.replay.entries }
+        requires latest { AreLatest self.old.replay.entries self.old.latest.places.items }
+        ensures replay { OnOk result (self.new.replay ≡ extended self.old.replay entry.event entry.reply) }
+        ensures latest { OnOk result (AreLatest self.new.replay.entries self.new.latest.places.items) }
+    {
+        if let Some(txn) = transaction_of(entry) {
+            return self.tell_of(place, entry, txn);
+        }
+        self.replay.step(entry)?;
+        self.latest.note(entry, place);
+        Ok(())
+    }
+
+    /// Tells of the entry of a history at a place, and goes on behind it.
+    fn tell_at(&mut self, history: &History<Weighted>, place: usize) -> Result<(), NoMemory>
+        requires place { place < length history.now.schedule.entries }
+        requires replay { self.old.replay ≡ until place history.now.schedule }
+        requires latest { AreLatest (take place history.now.schedule.entries) self.old.latest.places.items }
+        ensures replay { OnOk result (self.new.replay ≡ until (place + 1) history.now.schedule) }
+        ensures latest { OnOk result
+            (AreLatest (take (place + 1) history.now.schedule.entries) self.new.latest.places.items) }
+    {
+        let Some(entry) = history.log().get(place) else {
+            unreachable!()
+        };
+        self.tell(place, entry)?;
+        Ok(())
+    }
+
+    /// Tells of all entries of a history.
+    fn tell_all(&mut self, history: &History<Weighted>) -> Result<(), NoMemory>
+        requires replay { self.old.replay ≡ blank history.now.schedule }
+        requires latest { AreLatest [] self.old.latest.places.items }
+    {
+        for place in 0..history.log().len() {
+            self.tell_at(history, place)?;
+        }
+        Ok(())
+    }
+}
+
+/// Why the lines of a script were blocked, of those that are sought.
+fn text_about(
+    alloc: Global,
+    chronicle: &Chronicle<'_>,
+    sought: Sought,
+) -> Result<String, NoMemory> {
+    let history = &chronicle.history;
+    let lines = lines_of_entries(alloc, chronicle.script, &chronicle.transactions, history)?;
+    let mut telling = Telling {
+        alloc,
+        script: Script::new(chronicle, &lines),
+        sought,
+        replay: Replay::new(alloc, history)?,
+        latest: Latest::new(alloc, history.begun_count())?,
+        out: String::new(alloc),
+    };
+    telling.tell_all(history)?;
+    Ok(telling.out)
+}
+
+/// The one line where there is nothing to tell.
+fn push_nothing(out: &mut String, name: Option<&str>) -> Result<(), AllocError> {
+    match name {
+        Some(name) => writeln!(out, "nothing of {name} was blocked"),
+        None => out.push_str("nothing was blocked\n"),
+    }
+}
+
+impl Why<'_> {
+    /// Which transactions are told of, unless there is none of that name.
+    fn sought(&self, chronicle: &Chronicle<'_>) -> Option<Sought> {
+        let Some(name) = self.name else {
+            return Some(Sought::All);
+        };
+        let position = chronicle.transactions.number_of(name)?;
+        Some(Sought::One(TxnId(position.saturating_add(1))))
+    }
+
+    /// The text, of those that are sought.
+    fn text(
+        &self,
+        alloc: Global,
+        chronicle: &Chronicle<'_>,
+        sought: Sought,
+    ) -> Result<Vec<u8>, NoMemory> {
+        let mut out = text_about(alloc, chronicle, sought)?;
+        if out.is_empty() {
+            push_nothing(&mut out, self.name)?;
+        }
+        Ok(out.into_bytes())
+    }
+}
+
+impl Survey for Why<'_> {
+    ghost IsTextOf = { λ _ _ _. Unit {0} };
+
+    fn text_of(
+        &self,
+        alloc: Global,
+        chronicle: &Chronicle<'_>,
+    ) -> Result<Option<Vec<u8>>, AllocError> {
+        let Some(sought) = self.sought(chronicle) else {
+            return Ok(None);
+        };
+        match self.text(alloc, chronicle, sought) {
+            Ok(text) => Ok(Some(text)),
+            Err(_) => Err(AllocError),
+        }
+    }
+}
