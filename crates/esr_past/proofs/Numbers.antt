@@ -1,5 +1,5 @@
 -- Names by numbers: none is another.
-use Rattle.std.proofs.Common.{◌≡◌, ◌≢◌, ℕ, ◌+◌, ◌<◌, ◌≤◌, ◌^◌, List, [], ◌++◌, Bool, true, false, cond, Option, Some, None, inl, inr, refl, ◌∙◌, ap, arith, length, map, decimal, bytes_eq, le-ltb}
+use Rattle.std.proofs.Common.{◌≡◌, ◌≢◌, ℕ, ◌+◌, ◌<◌, ◌^◌, List, [], false, cond, Some, None, inl, inr, refl, ◌∙◌, ap, arith, length, decimal, bytes_eq, le-ltb}
 use Rattle.std.specs.List.{position_or_len}
 use Rattle.std.proofs.lemmas.Bool.{cases_Bool}
 use Rattle.std.proofs.lemmas.Fmt.{decimal_injective}
@@ -28,7 +28,7 @@ unbound word first count fits =
     let none : position_or_len (bytes_eq name) names ≡ length names =
     position_or_len_is (bytes_eq name) names (length names) [] (omega arith)
     (λ (k : ℕ) (l : k < length names).
-      ap (bytes_eq name) (get_or-map-range_with_len (numbered word) first count k (first + k) [] (omega arith) refl)
-      ∙ differs word (first + count) (first + k) fits (omega arith) (omega arith))
+    ap (bytes_eq name) (get_or-map-range_with_len (numbered word) first count k (first + k) [] (omega arith) refl)
+    ∙ differs word (first + count) (first + k) fits (omega arith) (omega arith))
     (λ l. absurd (omega arith)) in
     ap (λ v. cond v (Some (position_or_len (bytes_eq name) names)) None) (le-ltb (position_or_len (bytes_eq name) names) (length names) (omega arith))

@@ -1,6 +1,6 @@
 -- The script of a history: a line for each item, and one for each entry that was accepted or blocked. Items are named by
 -- their numbers from 0, transactions by theirs from 1.
-use Rattle.std.specs.Prelude.{ℕ, ℤ, ◌==◌, List, [], ◌∷◌, ◌++◌, Bool, true, is_some, length, flat_map, slice_index_or, if◌then◌else◌}
+use Rattle.std.specs.Prelude.{ℕ, ℤ, ◌==◌, List, [], ◌++◌, Bool, true, is_some, length, flat_map, slice_index_or, if◌then◌else◌}
 use Rattle.std.specs.List.{range_with_len}
 use Rattle.esr_items.specs.Values.{value_at}
 use Rattle.esr_items.specs.Weights.{weight_of}

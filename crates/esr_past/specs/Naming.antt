@@ -1,5 +1,5 @@
 -- The names of items and transactions: numbers with a letter, or those of a text that has one on each line.
-use Rattle.std.specs.Prelude.{ℕ, ◌==◌, List, [], ◌∷◌, ◌++◌, Bool, ◌&&◌, Option, Some, None, map, length, codes, decimal, nat_eq, if◌then◌else◌}
+use Rattle.std.specs.Prelude.{ℕ, List, [], ◌++◌, Bool, ◌&&◌, Option, Some, None, map, length, codes, decimal, nat_eq, cond}
 use Rattle.std.specs.List.{list_all, range_with_len, slice_split}
 use Rattle.esr_line.specs.Command.{is_name}
 use Rattle.esr_report.specs.Names.{all_distinct}
@@ -18,13 +18,16 @@ names_in text = slice_split (λ b. nat_eq b 10) text
 
 -- each is a name as scripts have them, and none comes twice
 abbrev pub are_names : List (List ℕ) → Bool
-are_names names = list_all is_name names && all_distinct names
+are_names words = list_all is_name words && all_distinct words
 
--- the names that a text gives to so many items: numbers where it is empty; none where it has not as many names
+abbrev pub named : List (List ℕ) → Option (List (List ℕ))
+named words = cond (are_names words) (Some words) None
+
+-- The names that a text gives to so many items: numbers where it is empty. There are none where it has not as many, or
+-- one that is no name, or one twice.
 abbrev pub item_names : ℕ → List ℕ → Option (List (List ℕ))
 item_names count [] = Some (all_numbered (codes "i") 0 count)
-item_names count text =
-    if (length (names_in text) == count) && are_names (names_in text) then Some (names_in text) else None
+item_names count text = cond (nat_eq (length (names_in text)) count) (named (names_in text)) None
 
 -- so many transactions are named by numbers
 abbrev pub transaction_names : ℕ → List (List ℕ)

@@ -9,5 +9,5 @@
 mod naming;
 mod spelling;
 
-pub use naming::transaction_names;
+pub use naming::{item_names, transaction_names};
 pub use spelling::script;
