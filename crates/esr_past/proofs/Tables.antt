@@ -21,7 +21,7 @@ none_named words b c is = ap (λ v. cond v (Some words) None) is
 flipped : (a b : List ℕ) → bytes_eq a b ≡ true → bytes_eq b a ≡ true
 flipped a b same = (bytes_eq-Decides b a).1 (sym ((bytes_eq-Decides a b).0 same))
 
-twice : (words : List (List ℕ)) (k i : ℕ) (d : List ℕ) → k < i → i < length words → bytes_eq (get_or words i d) (get_or words k d) ≡ true → all_distinct words ≡ false
+pub twice : (words : List (List ℕ)) (k i : ℕ) (d : List ℕ) → k < i → i < length words → bytes_eq (get_or words i d) (get_or words k d) ≡ true → all_distinct words ≡ false
 twice [] k i d before within same = absurd (omega arith)
 twice (w ∷ words) zero zero d before within same = absurd (omega arith)
 twice (w ∷ words) zero (suc i) d before within same =

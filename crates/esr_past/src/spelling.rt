@@ -2,6 +2,7 @@
 
 ghost use Rattle.std.specs.Prelude.{◌≡◌, ◌<◌, ◌++◌, ◌∷◌, IfOk, OnOk, length, flat_map, take};
 ghost use Rattle.esr_items.specs.Weights.{weight_of};
+ghost use Rattle.esr_past.specs.Again.{AreNames, GivesAgain};
 ghost use Rattle.esr_past.specs.Lines.{command_of, declaration, entry_text, is_kept, item_text, items_text, line_of, name_of_item, number_begun, query_command, script};
 ghost use Rattle.esr_line.specs.Command.{begin_update, write};
 
@@ -184,8 +185,8 @@ fn push_entries(
     Ok(())
 }
 
-/// The script of a history, with these names of its items and of its transactions, in the order of their numbers.
-pub fn script(
+/// The lines of a history, with these names.
+fn whole(
     alloc: Global,
     items: &Names,
     transactions: &Names,
@@ -197,4 +198,22 @@ pub fn script(
     push_items(&mut out, items, history)?;
     push_entries(&mut out, items, transactions, history.log())?;
     Ok(out)
+}
+
+/// The script of a history, with these names of its items and of its transactions, in the order of their numbers. It
+/// gives again what happened: it asks for what was accepted or blocked, and is answered so. It needs a name for each item
+/// and each transaction.
+pub fn script(
+    alloc: Global,
+    items: &Names,
+    transactions: &Names,
+    history: &History<Weighted>,
+) -> Result<Vec<u8>, AllocError>
+    ensures text { IfOk result (λ text. text.items ≡ script items.now transactions.now history.now.schedule) }
+    ensures again { AreNames items.now transactions.now history.now.schedule
+        → IfOk result (λ text. GivesAgain items.now transactions.now history.now.schedule text.items) }
+{
+    let _legal = history.log(); // this and the next line bring invariants into the proof
+    let _distinct = (items.len(), transactions.len());
+    whole(alloc, items, transactions, history)
 }
