@@ -173,6 +173,80 @@ static void for_update(void) {
     esr_close(&engine);
 }
 
+/* Many events in one call: they end behind the first refusal where that is asked, and at the first that is none. What was
+ * not answered has written nothing. */
+static void many(void) {
+    static const int64_t opening[1] = {7};
+    static const esr_event sale[5] = {
+        {ESR_BEGIN_UPDATE, 0, 0, 10, 0},
+        {ESR_READ, 1, 0, 0, 0},
+        {ESR_WRITE, 1, 1, 0, 6},
+        {ESR_WRITE, 1, 0, 0, 6},
+        {ESR_COMMIT, 1, 0, 0, 0},
+    };
+    static const esr_event look[3] = {{ESR_BEGIN_STRICT_QUERY, 0, 0, 1, 0}, {ESR_READ, 2, 0, 0, 0}, {9, 2, 0, 0, 0}};
+    esr_engine engine = ESR_CLOSED;
+    esr_reply replies[5] = {{0, 0, 0, 0}}, reply;
+    esr_counts counts;
+    size_t answered_events = 99;
+    WANT(esr_open(&engine, opening, 1), ESR_DONE);
+    WANT(esr_do(&engine, sale, 5, replies, 4, true, &answered_events), ESR_TOO_SMALL);
+    WANT(answered_events, 99);
+    WANT(esr_do(&engine, sale, 5, replies, 5, true, &answered_events), ESR_DONE);
+    WANT(answered_events, 3);
+    WANT(replies[0].txn, 1);
+    WANT(replies[1].value, 7);
+    WANT(replies[2].refusal, ESR_NO_SUCH_ITEM);
+    WANT(replies[3].kind, 0);
+    WANT(esr_do(&engine, sale + 2, 3, replies, 5, false, &answered_events), ESR_DONE);
+    WANT(answered_events, 3);
+    WANT(replies[0].kind, ESR_REFUSED);
+    WANT(replies[1].kind, ESR_WROTE);
+    WANT(replies[2].kind, ESR_COMMITTED);
+    WANT(esr_do(&engine, look, 3, replies, 5, true, &answered_events), ESR_NO_SUCH_EVENT);
+    WANT(answered_events, 2);
+    WANT(replies[1].value, 6);
+    WANT(esr_counts_of(&engine, &counts), ESR_DONE);
+    WANT(counts.entries, 8);
+    answered(esr_abort(&engine, 2, &reply), &reply, ESR_ABORTED);
+    esr_close(&engine);
+}
+
+/* The script has what was accepted or blocked, and no other refusal. */
+static void past(void) {
+    static const int64_t opening[2] = {500, -1500};
+    static const uint32_t weights[1] = {3};
+    static const char wanted[] = "item checking 500 weight 3\nitem savings -1500\nbegin t1 update 200\nbegin t2 query 90 strict\n"
+                                 "write t1 checking 450\nread t2 checking\nabort t1\ncommit t2\n";
+    static const uint8_t names[] = "checking\nsavings", twice[] = "a\na", one[] = "checking", odd[] = "checking\nmy savings";
+    static uint8_t bytes[20000];
+    esr_engine engine = ESR_CLOSED;
+    esr_reply reply;
+    size_t length = 0;
+    WANT(esr_open_weighted(&engine, opening, 2, weights, 1), ESR_DONE);
+    begun(esr_begin_update(&engine, 200, &reply), &reply, 1);
+    answered(esr_begin_update(&engine, UINT64_MAX, &reply), &reply, ESR_REFUSED);
+    begun(esr_begin_query(&engine, 90, true, &reply), &reply, 2);
+    answered(esr_write(&engine, 1, 0, 450, &reply), &reply, ESR_WROTE);
+    answered(esr_write(&engine, 1, 7, 450, &reply), &reply, ESR_REFUSED);
+    answered(esr_read(&engine, 2, 0, &reply), &reply, ESR_REFUSED);
+    WANT(reply.refusal, ESR_BLOCKED_BY_IMPORT);
+    answered(esr_abort(&engine, 1, &reply), &reply, ESR_ABORTED);
+    answered(esr_commit(&engine, 2, &reply), &reply, ESR_COMMITTED);
+    WANT(esr_history_script(&engine, names, sizeof names - 1, bytes, 10, &length), ESR_TOO_SMALL);
+    WANT(length, sizeof wanted - 1);
+    WANT(bytes[0], 0);
+    WANT(esr_history_script(&engine, names, sizeof names - 1, bytes, sizeof bytes, &length), ESR_DONE);
+    WANT(length, sizeof wanted - 1);
+    WANT(memcmp(bytes, wanted, length), 0);
+    WANT(esr_history_script(&engine, names, 0, bytes, sizeof bytes, &length), ESR_DONE);
+    WANT(memcmp(bytes, "item i0 500 weight 3\n", 21), 0);
+    WANT(esr_history_script(&engine, one, sizeof one - 1, bytes, sizeof bytes, &length), ESR_BAD_NAMES);
+    WANT(esr_history_script(&engine, twice, sizeof twice - 1, bytes, sizeof bytes, &length), ESR_BAD_NAMES);
+    WANT(esr_history_script(&engine, odd, sizeof odd - 1, bytes, sizeof bytes, &length), ESR_BAD_NAMES);
+    esr_close(&engine);
+}
+
 /* The words of each status and refusal are there, and no two are alike but where they say the same. */
 static void texts(void) {
     WANT(strcmp(esr_status_text(ESR_HISTORY_FULL), "history full"), 0);
@@ -187,6 +261,8 @@ int main(void) {
     esr_reply reply;
     weights();
     for_update();
+    many();
+    past();
     texts();
     day(&engine);
     audit(&engine);

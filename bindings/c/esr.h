@@ -15,6 +15,8 @@
  *   what it holds. To move it, copy it and set the old variable to ESR_CLOSED.
  * - Every pointer points to a valid object, lists are as long as is told, and no two arguments overlap. A list of no
  *   elements may have any pointer but NULL.
+ * - `const esr_engine *` says that the call leaves the history as it is. Such a call too is given the engine alone: what
+ *   it finds out on the way may be kept for the next one.
  * - No call is made from a signal handler, or in the child of a fork of a process with threads.
  * - malloc, realloc and free are those of one allocator.
  *
@@ -31,6 +33,10 @@
  *
  * What is answered, and does no harm: calls before esr_open and after esr_close, opening twice, closing twice, numbers of
  * transactions and items that there are not, values and limits out of range. Several engines may live at once.
+ *
+ * Texts. Items and transactions have numbers, and texts have names: `t1` for transaction 1, and for the items the names
+ * that the caller gives, one on each line ("checking\nsavings", with no line feed at the end), or `i0`, `i1` where the
+ * list is empty. A name is a letter and up to 15 letters, digits or underscores. No text has a 0 at its end.
  */
 #ifndef ESR_H
 #define ESR_H
@@ -54,9 +60,9 @@ extern "C" {
 #define ESR_LARGEST_LIMIT UINT64_C(1000000000000000000)
 #define ESR_LARGEST_WEIGHT 1000u
 
-/* What a call answers. Unless it is ESR_DONE nothing has changed, but for ESR_TOO_SMALL: esr_values and esr_bundle have
- * told the count then, esr_audit the whole finding, and the room is as it was; and for esr_read_for_update, where the lock
- * may have been taken with ESR_NO_MEMORY. */
+/* What a call answers. Unless it is ESR_DONE nothing has changed, but for ESR_TOO_SMALL: the count is told then, by
+ * esr_audit the whole finding, and the room is as it was; for esr_read_for_update, where the lock may have been taken with
+ * ESR_NO_MEMORY; and for esr_do, which has answered the events before. */
 typedef uint32_t esr_status;
 enum {
     ESR_DONE = 0,
@@ -64,8 +70,10 @@ enum {
     ESR_VALUE_OUT_OF_RANGE = 2,    /* an opening: a value outside -10^12 to 10^12 */
     ESR_NOT_BEGUN = 3,             /* esr_account_of: there is no such transaction */
     ESR_WEIGHT_OUT_OF_RANGE = 4,   /* esr_open_weighted: a weight of 0, or above 1,000 */
+    ESR_BAD_NAMES = 5,             /* a text: not a name for each item, or one that is none, or one twice */
     ESR_NOT_A_COMMITTED_QUERY = 6, /* esr_audit, esr_bundle */
-    ESR_TOO_SMALL = 7,             /* esr_values, esr_audit, esr_bundle: there is not room for all; the count is told */
+    ESR_TOO_SMALL = 7,             /* there is not room for all; the count is told, but not by esr_do */
+    ESR_NO_SUCH_EVENT = 8,         /* esr_do: an event of no kind */
     ESR_HISTORY_FULL = 12,         /* an event: there is no room for it beside the ends of what is active */
     ESR_NO_MEMORY = 13,
     ESR_IS_CLOSED = 14,            /* the engine was not opened, or has been closed */
@@ -163,15 +171,42 @@ esr_status esr_abort(esr_engine *engine, uint32_t txn, esr_reply *reply);
  * this read and the update's next write. It wants two entries. */
 esr_status esr_read_for_update(esr_engine *engine, uint32_t txn, uint32_t item, esr_reply *reply);
 
-esr_status esr_totals_of(esr_engine *engine, esr_totals *totals);
-esr_status esr_counts_of(esr_engine *engine, esr_counts *counts);
-esr_status esr_account_of(esr_engine *engine, uint32_t txn, esr_account *account);
+/* Many events under one lock: each is answered as by a call of its own, one after another, and the replies are in their
+ * order. It ends at the first that is not answered, and where `stop` is set behind the first that is refused; `answered`
+ * tells how many were, the refused one too. There is to be room for a reply to each event. */
+typedef struct esr_event {
+    uint32_t kind;
+    uint32_t txn;   /* of the four below that have one */
+    uint32_t item;  /* of a read and a write */
+    uint64_t limit; /* of a begin */
+    int64_t value;  /* of a write */
+} esr_event;
+enum {
+    ESR_BEGIN_UPDATE = 1,
+    ESR_READ = 2,
+    ESR_WRITE = 3,
+    ESR_COMMIT = 4,
+    ESR_ABORT = 5,
+    ESR_BEGIN_QUERY = 6,
+    ESR_BEGIN_STRICT_QUERY = 7
+};
+esr_status esr_do(esr_engine *engine, const esr_event *events, size_t count, esr_reply *replies, size_t room, bool stop,
+                  size_t *answered);
+
+esr_status esr_totals_of(const esr_engine *engine, esr_totals *totals);
+esr_status esr_counts_of(const esr_engine *engine, esr_counts *counts);
+esr_status esr_account_of(const esr_engine *engine, uint32_t txn, esr_account *account);
 /* The committed values of the items, in their order. */
-esr_status esr_values(esr_engine *engine, int64_t *values, size_t room, size_t *count);
+esr_status esr_values(const esr_engine *engine, int64_t *values, size_t room, size_t *count);
 /* The audit of a committed query, with the updates before the placement, in the order of their commits. */
-esr_status esr_audit(esr_engine *engine, uint32_t query, uint32_t *before, size_t room, esr_finding *finding);
+esr_status esr_audit(const esr_engine *engine, uint32_t query, uint32_t *before, size_t room, esr_finding *finding);
 /* The audit as one JSON object, with no 0 at its end, which `esr check` judges without this engine. */
-esr_status esr_bundle(esr_engine *engine, uint32_t query, uint8_t *bytes, size_t room, size_t *count);
+esr_status esr_bundle(const esr_engine *engine, uint32_t query, uint8_t *bytes, size_t room, size_t *count);
+
+/* The history so far as a script of `esr run`, which gives each entry again that was accepted or blocked. A refusal for
+ * another reason has no line: it has changed nothing, and may be of a number that no line spells. */
+esr_status esr_history_script(const esr_engine *engine, const uint8_t *names, size_t length, uint8_t *bytes, size_t room,
+                              size_t *count);
 
 /* The verdict on a bundle, as `esr check` gives it. It needs no engine. */
 esr_status esr_check(const uint8_t *bytes, size_t length, esr_verdict *verdict);
@@ -190,8 +225,10 @@ static inline const char *esr_status_text(esr_status status) {
     case ESR_VALUE_OUT_OF_RANGE: return "value out of range";
     case ESR_NOT_BEGUN: return "no such transaction";
     case ESR_WEIGHT_OUT_OF_RANGE: return "weight out of range";
+    case ESR_BAD_NAMES: return "not a name for each item";
     case ESR_NOT_A_COMMITTED_QUERY: return "not a committed query";
     case ESR_TOO_SMALL: return "room too small";
+    case ESR_NO_SUCH_EVENT: return "no such event";
     case ESR_HISTORY_FULL: return "history full";
     case ESR_NO_MEMORY: return "out of memory";
     case ESR_IS_CLOSED: return "engine closed";

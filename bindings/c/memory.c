@@ -57,6 +57,7 @@ static int day(void) {
     int64_t opening[2] = {500, 1500}, values[2];
     uint32_t before[2];
     uint8_t bytes[1000];
+    static uint8_t text[20000];
     size_t count, length;
     WANT(esr_open(&engine, opening, 2), ESR_DONE);
     WANT(esr_begin_update(&engine, 200, &reply), ESR_DONE);
@@ -70,6 +71,8 @@ static int day(void) {
     WANT(esr_audit(&engine, 2, before, 2, &finding), ESR_DONE);
     WANT(esr_bundle(&engine, 2, bytes, sizeof bytes, &length), ESR_DONE);
     WANT(esr_check(bytes, length, &verdict), ESR_DONE);
+    WANT(esr_history_script(&engine, bytes, 0, text, sizeof text, &length), ESR_DONE);
+    WANT(esr_bundle(&engine, 2, bytes, sizeof bytes, &length), ESR_DONE);
     WANT(esr_totals_of(&engine, &totals), ESR_DONE);
     WANT(esr_renew(&engine), ESR_DONE);
     WANT(esr_values(&engine, values, 2, &count), ESR_DONE);

@@ -13,6 +13,7 @@ static int wrong;
     } while (0)
 
 _Static_assert(sizeof(esr_engine) == 2 * sizeof(void *), "an engine is two words");
+_Static_assert(sizeof(esr_event) == 32, "an event is four words");
 _Static_assert(sizeof(esr_counts) == 40 && sizeof(esr_account) == 24, "counts are five words, an account three");
 _Static_assert(sizeof(esr_reply) == 24 && sizeof(esr_totals) == 24 && sizeof(esr_finding) == 24, "results are three words");
 
@@ -22,8 +23,9 @@ static void closed(esr_engine *engine) {
     esr_counts counts;
     esr_account account;
     esr_finding finding;
+    esr_event event = {ESR_BEGIN_UPDATE, 0, 0, 0, 0};
     uint32_t before[1];
-    uint8_t bytes[1];
+    uint8_t bytes[1] = {0};
     int64_t values[1];
     size_t count;
     WANT(esr_begin_update(engine, 0, &reply), ESR_IS_CLOSED);
@@ -37,6 +39,8 @@ static void closed(esr_engine *engine) {
     WANT(esr_values(engine, values, 1, &count), ESR_IS_CLOSED);
     WANT(esr_audit(engine, 1, before, 1, &finding), ESR_IS_CLOSED);
     WANT(esr_bundle(engine, 1, bytes, 1, &count), ESR_IS_CLOSED);
+    WANT(esr_history_script(engine, bytes, 0, bytes, 1, &count), ESR_IS_CLOSED);
+    WANT(esr_do(engine, &event, 1, &reply, 0, false, &count), ESR_IS_CLOSED);
     WANT(esr_renew(engine), ESR_IS_CLOSED);
     WANT(esr_renew_aborting(engine), ESR_IS_CLOSED);
     WANT(esr_read_for_update(engine, 1, 0, &reply), ESR_IS_CLOSED);

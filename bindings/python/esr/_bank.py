@@ -7,11 +7,12 @@ nearly full nothing begins until all that is active has ended, and the engine is
 
 import ctypes
 import random
+import re
 import threading
 import time
 from dataclasses import dataclass
 from types import TracebackType
-from typing import Callable, Dict, List, Mapping, Optional, Set, Tuple, Type, TypeVar
+from typing import Callable, Dict, Iterable, List, Mapping, Optional, Set, Tuple, Type, TypeVar
 
 from . import _library as c
 from ._errors import Blocked, Deadlock, EsrError, HistoryFull, OutOfRange, Refused, UnknownItem
@@ -94,6 +95,8 @@ class Bank:
         before_renewal: Optional[Callable[["Bank"], None]] = None,
     ) -> None:
         self._numbers = {name: number for number, name in enumerate(items)}
+        spelled = all(re.fullmatch("[A-Za-z][A-Za-z0-9_]{0,15}", name) for name in items)
+        self._names = "\n".join(items).encode() if spelled else b""
         self._engine = c.Engine()
         self._patience = patience
         self._before_renewal = before_renewal
@@ -159,6 +162,24 @@ class Bank:
             self._check(c.library.esr_values(self._engine, values, len(values), count))
         return values[number]
 
+    def script(self) -> str:
+        """The history since the last renewal as a script of `esr run`: each entry that was accepted or blocked, by the names
+        of the items, or `i0`, `i1` where one is no name of scripts (a letter, and up to 15 letters, digits or underscores);
+        transactions are `t1`, `t2`."""
+        with self._lock:
+            return self._text(c.library.esr_history_script)
+
+    def _text(self, call: Callable[..., int], *words: int) -> str:
+        """A text that a call writes, at its second try where the first room was too small. The lock is held."""
+        count, room = ctypes.c_size_t(), 16384
+        while True:
+            text = (ctypes.c_uint8 * room)()
+            status = call(self._engine, *words, self._names, len(self._names), text, room, count)
+            if status != c.TOO_SMALL:
+                self._check(status)
+                return bytes(text[: count.value]).decode()
+            room = count.value
+
     def due(self) -> List["Query"]:
         """The reports of this history that have committed and were not audited."""
         with self._lock:
@@ -171,6 +192,11 @@ class Bank:
         with self._lock:
             self._check(c.library.esr_totals_of(self._engine, totals))
         return totals.high << 64 | totals.low
+
+    def _account(self, txn: int) -> c.Account:
+        account = c.Account()
+        self._check(c.library.esr_account_of(self._engine, txn, account))
+        return account
 
     def _number_of(self, name: str) -> int:
         try:
@@ -210,6 +236,13 @@ class Bank:
         reply = c.Reply()
         self._check(call(self._engine, *words, reply))
         return reply
+
+    def _answers(self, events: List[c.Event]) -> List[c.Reply]:
+        """The replies to events in turn, to the first that is refused. The lock is held."""
+        replies, answered = (c.Reply * len(events))(), ctypes.c_size_t()
+        given = (c.Event * len(events))(*events)
+        self._check(c.library.esr_do(self._engine, given, len(events), replies, len(replies), True, answered))
+        return list(replies[: answered.value])
 
     def _begin(self, transaction: "_Transaction", call: Callable[..., int], *words: int) -> None:
         with self._lock:
@@ -269,14 +302,26 @@ class _Transaction:
         bank, item = self._bank, self._bank._number_of(name)
         return bank._step(self, lambda: bank._answer(c.library.esr_read, self.number, item)).value
 
+    def read_all(self, names: Iterable[str]) -> List[int]:
+        """Reads items in one call, so that nothing comes between them, but where one is blocked and tried again."""
+        bank = self._bank
+        values: List[int] = []
+        reads = [c.Event(c.READ, self.number, bank._number_of(name), 0, 0) for name in names]
+
+        def on() -> c.Reply:
+            replies = bank._answers(reads[len(values) :])
+            values.extend(reply.value for reply in replies if reply.kind != c.REFUSED)
+            return replies[-1]
+
+        if reads:
+            bank._step(self, on)
+        return values
 
     @property
     def charged(self) -> int:
         """What it was charged so far: what a report has read is off by at most that."""
-        account = c.Account()
         with self._bank._lock:
-            self._bank._check(c.library.esr_account_of(self._bank._engine, self.number, account))
-        return account.charged
+            return self._bank._account(self.number).charged
 
 
 class Update(_Transaction):

@@ -4,9 +4,10 @@ import ctypes
 import ctypes.util
 import os
 import pathlib
-from ctypes import POINTER, c_bool, c_int64, c_size_t, c_uint8, c_uint32, c_uint64
+from ctypes import POINTER, c_bool, c_char_p, c_int64, c_size_t, c_uint8, c_uint32, c_uint64
 
-DONE, NOT_A_COMMITTED_QUERY, TOO_SMALL, FULL, NO_MEMORY = 0, 6, 7, 12, 13
+DONE, BAD_NAMES, NOT_A_COMMITTED_QUERY, TOO_SMALL, FULL, NO_MEMORY = 0, 5, 6, 7, 12, 13
+READ = 2
 BEGUN, VALUE, WROTE, COMMITTED, ABORTED, REFUSED = 1, 2, 3, 4, 5, 6
 
 
@@ -16,6 +17,10 @@ class Engine(ctypes.Structure):
 
 class Reply(ctypes.Structure):
     _fields_ = [("kind", c_uint32), ("refusal", c_uint32), ("txn", c_uint32), ("value", c_int64)]
+
+
+class Event(ctypes.Structure):
+    _fields_ = [("kind", c_uint32), ("txn", c_uint32), ("item", c_uint32), ("limit", c_uint64), ("value", c_int64)]
 
 
 class Totals(ctypes.Structure):
@@ -62,6 +67,8 @@ def _load() -> ctypes.CDLL:
         "esr_values": [engine, POINTER(c_int64), c_size_t, POINTER(c_size_t)],
         "esr_audit": [engine, c_uint32, POINTER(c_uint32), c_size_t, POINTER(Finding)],
         "esr_bundle": [engine, c_uint32, POINTER(c_uint8), c_size_t, POINTER(c_size_t)],
+        "esr_history_script": [engine, c_char_p, c_size_t, POINTER(c_uint8), c_size_t, POINTER(c_size_t)],
+        "esr_do": [engine, POINTER(Event), c_size_t, POINTER(Reply), c_size_t, c_bool, POINTER(c_size_t)],
         "esr_renew": [engine],
     }
     for name, arguments in declared.items():

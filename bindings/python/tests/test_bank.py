@@ -54,6 +54,43 @@ class Banks(unittest.TestCase):
         self.assertEqual(json.loads(report.bundle())["certificate"]["worth"], 100)
         self.assertEqual((bank["checking"], bank["savings"], bank.imported), (400, 1600, 100))
 
+    def test_what_happened_is_told(self):
+        """The script has the names of the items, or their numbers where one is no name of scripts."""
+        bank = two_accounts()
+        with bank.update(200) as transfer:
+            transfer.write("checking", 400)
+        with bank.report(200) as report:
+            report.read("checking")
+        self.assertEqual(
+            bank.script(),
+            "item checking 500\nitem savings 1500\nbegin t1 update 200\nwrite t1 checking 400\ncommit t1\n"
+            "begin t2 query 200\nread t2 checking\ncommit t2\n",
+        )
+        self.assertEqual(Bank({"my savings": 1}).script(), "item i0 1\n")
+
+    def test_reads_in_one_call(self):
+        """The values are in the order of the names; what is blocked is tried again, and the rest read behind it."""
+        bank = two_accounts(patience=5)
+        with bank.report(0) as report:
+            self.assertEqual(report.read_all(["savings", "checking"]), [1500, 500])
+            self.assertEqual(report.read_all([]), [])
+            with self.assertRaises(UnknownItem):
+                report.read_all(["pocket"])
+        has_written = threading.Event()
+
+        def late_commit():
+            with bank.update(0) as transfer:
+                transfer.write("savings", 1400)
+                has_written.set()
+                time.sleep(0.05)
+
+        def read():
+            has_written.wait()
+            with bank.report(0) as report:
+                self.assertEqual(report.read_all(["checking", "savings"]), [500, 1400])
+
+        together(late_commit, read)
+
     def test_an_exception_takes_back(self):
         """What an update wrote before an exception is gone, and its locks with it."""
         bank = two_accounts(patience=0.01)

@@ -201,9 +201,26 @@ impl BankBuilder {
     }
 }
 
+/// Whether a line of a script may have it as a name.
+fn is_name(name: &str) -> bool {
+    let starts = name.starts_with(|letter: char| letter.is_ascii_alphabetic());
+    starts && name.len() <= 16 && name.bytes().all(|b| b.is_ascii_alphanumeric() || b == b'_')
+}
+
+/// The names by their numbers, where texts may have them all; else none, and texts have the numbers.
+fn in_order(names: &HashMap<String, u32>) -> Vec<&str> {
+    if !names.keys().all(|name| is_name(name)) {
+        return Vec::new();
+    }
+    let mut list: Vec<(u32, &str)> = names.iter().map(|(name, n)| (*n, name.as_str())).collect();
+    list.sort_unstable();
+    list.into_iter().map(|(_, name)| name).collect()
+}
+
 /// A history that is about to be renewed: nothing is active, and its reports can be audited for the last time.
 pub struct Closing<'a> {
     engine: &'a mut Engine,
+    names: &'a HashMap<String, u32>,
     due: &'a [Txn],
 }
 
@@ -228,6 +245,14 @@ impl Closing<'_> {
     /// `NotACommittedQuery`, `NoMemory`.
     pub fn bundle(&mut self, report: Txn) -> Result<Vec<u8>, Error> {
         self.engine.bundle(report)
+    }
+
+    /// The whole history as a script: see [`Bank::script`].
+    ///
+    /// # Errors
+    /// `NoMemory`.
+    pub fn script(&mut self) -> Result<String, Error> {
+        self.engine.script(&in_order(self.names))
     }
 }
 
@@ -265,6 +290,7 @@ impl Bank {
         if let Some(work) = &self.before_renewal {
             work(&mut Closing {
                 engine: &mut shared.engine,
+                names: &self.names,
                 due: &shared.due,
             });
         }
@@ -435,6 +461,26 @@ impl Bank {
         let finding = shared.engine.audit(report.query)?;
         shared.due.retain(|due| *due != report.query);
         Ok(finding)
+    }
+
+    /// The history since the last renewal as a script of `esr run`: what was accepted or blocked, by the names of the
+    /// items, or by their numbers where one is no name of scripts (a letter, and up to 15 letters, digits or
+    /// underscores), and `t1`, `t2` for the transactions.
+    ///
+    /// ```
+    /// use esr::{Bank, Error};
+    ///
+    /// let bank = Bank::builder().item("checking", 500).open()?;
+    /// bank.transact(0, |update| update.add("checking", -100))?;
+    /// let script = bank.script()?;
+    /// assert!(script.starts_with("item checking 500\nbegin t1 update 0\n"));
+    /// # Ok::<(), Error>(())
+    /// ```
+    ///
+    /// # Errors
+    /// `NoMemory`.
+    pub fn script(&self) -> Result<String, Error> {
+        self.lock().engine.script(&in_order(&self.names))
     }
 
     /// The committed value of an item.

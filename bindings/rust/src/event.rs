@@ -163,6 +163,8 @@ pub enum Error {
     WeightOutOfRange,
     /// No transaction has that number.
     NotBegun,
+    /// A text asks for a name of each item: a letter and up to 15 letters, digits or underscores, none twice.
+    BadNames,
     /// The transaction is no query, or has not committed.
     NotACommittedQuery,
     /// There is no room for the event beside the ends of what is active, or no number for a begin: end that, and
@@ -187,6 +189,7 @@ impl fmt::Display for Error {
             Error::ValueOutOfRange => "value out of range",
             Error::WeightOutOfRange => "weight out of range",
             Error::NotBegun => "no such transaction",
+            Error::BadNames => "not a name for each item",
             Error::NotACommittedQuery => "not a committed query",
             Error::HistoryFull => "history full",
             Error::NoMemory => "out of memory",

@@ -77,11 +77,13 @@ fn done(status: u32) -> Result<(), Error> {
         2 => Err(Error::ValueOutOfRange),
         3 => Err(Error::NotBegun),
         4 => Err(Error::WeightOutOfRange),
+        5 => Err(Error::BadNames),
         6 => Err(Error::NotACommittedQuery),
         12 => Err(Error::HistoryFull),
         13 => Err(Error::NoMemory),
         16 => Err(Error::TransactionActive),
-        // 14 and 15 come of engines that are closed or opened twice, which this crate never hands over.
+        // 8, 14 and 15 come of events of no kind and of engines that are closed or opened twice, which this crate never
+        // hands over.
         other => unreachable!("status {other}"),
     }
 }
@@ -114,6 +116,50 @@ fn reply_of(reply: sys::Reply) -> Reply {
         6 => Reply::Refused(refusal_of(reply)),
         other => unreachable!("reply {other}"),
     }
+}
+
+fn event_of(event: Event) -> sys::Event {
+    let blank = sys::Event::default();
+    match event {
+        Event::BeginUpdate { limit } => sys::Event {
+            kind: 1,
+            limit,
+            ..blank
+        },
+        Event::BeginQuery { limit, strict } => sys::Event {
+            kind: if strict { 7 } else { 6 },
+            limit,
+            ..blank
+        },
+        Event::Read { txn, item } => sys::Event {
+            kind: 2,
+            txn: txn.0,
+            item,
+            ..blank
+        },
+        Event::Write { txn, item, value } => sys::Event {
+            kind: 3,
+            txn: txn.0,
+            item,
+            value,
+            ..blank
+        },
+        Event::Commit { txn } => sys::Event {
+            kind: 4,
+            txn: txn.0,
+            ..blank
+        },
+        Event::Abort { txn } => sys::Event {
+            kind: 5,
+            txn: txn.0,
+            ..blank
+        },
+    }
+}
+
+/// The bytes of a text that the library wrote.
+fn text(bytes: Vec<u8>) -> String {
+    String::from_utf8(bytes).expect("texts are ASCII")
 }
 
 /// A list that a call writes, at its second try where the first room was too small.
@@ -201,6 +247,50 @@ impl Engine {
             Reply::Refused(why) => Err(Error::Refused(why)),
             reply => Ok(reply),
         }
+    }
+
+    /// Answers events one after another, as [`step`](Engine::step) would each, to the first that is not answered; where
+    /// `stop` is set, to the first that is refused, whose reply is the last. The replies are of the events that were
+    /// answered, with the error that ended it, if one did.
+    ///
+    /// ```
+    /// use esr::{Engine, Event, Refusal, Reply};
+    ///
+    /// let mut engine = Engine::open(&[500, 1500])?;
+    /// let t = engine.begin_update(0)?;
+    /// let (replies, error) = engine.steps(
+    ///     &[
+    ///         Event::Write { txn: t, item: 0, value: 400 },
+    ///         Event::Write { txn: t, item: 7, value: 1600 },
+    ///         Event::Commit { txn: t },
+    ///     ],
+    ///     true,
+    /// );
+    /// assert_eq!(replies, [Reply::Wrote, Reply::Refused(Refusal::NoSuchItem)]);
+    /// assert_eq!(error, None);
+    /// # Ok::<(), esr::Error>(())
+    /// ```
+    pub fn steps(&mut self, events: &[Event], stop: bool) -> (Vec<Reply>, Option<Error>) {
+        let events: Vec<sys::Event> = events.iter().copied().map(event_of).collect();
+        let mut replies = vec![sys::Reply::default(); events.len()];
+        let mut answered = 0;
+        // SAFETY: the pointers and the lengths are those of two lists of this call.
+        let status = unsafe {
+            sys::esr_do(
+                &mut self.raw,
+                events.as_ptr(),
+                events.len(),
+                replies.as_mut_ptr(),
+                replies.len(),
+                stop,
+                &mut answered,
+            )
+        };
+        replies.truncate(answered);
+        (
+            replies.into_iter().map(reply_of).collect(),
+            done(status).err(),
+        )
     }
 
     fn begun(&mut self, event: Event) -> Result<Txn, Error> {
@@ -363,6 +453,30 @@ impl Engine {
         listed(0, 4_096, |bytes, room, count| unsafe {
             sys::esr_bundle(&mut self.raw, query.0, bytes, room, count)
         })
+    }
+
+    /// The history so far as a script of `esr run`, which gives each entry again that was accepted or blocked. Items are
+    /// called by these names, one for each, or `i0`, `i1` where there are none; transactions `t1`, `t2`.
+    ///
+    /// ```
+    /// let mut engine = esr::Engine::open(&[500])?;
+    /// let t = engine.begin_update(0)?;
+    /// engine.write(t, 0, 400)?;
+    /// let script = "item checking 500\nbegin t1 update 0\nwrite t1 checking 400\n";
+    /// assert_eq!(engine.script(&["checking"])?, script);
+    /// # Ok::<(), esr::Error>(())
+    /// ```
+    ///
+    /// # Errors
+    /// `BadNames`, `NoMemory`.
+    pub fn script(&mut self, names: &[&str]) -> Result<String, Error> {
+        let names = names.join("\n");
+        // SAFETY: the pointers and the lengths are those of two lists.
+        let bytes = listed(0, 4_096, |bytes, room, count| unsafe {
+            let (raw, length) = (&mut self.raw, names.len());
+            sys::esr_history_script(raw, names.as_ptr(), length, bytes, room, count)
+        })?;
+        Ok(text(bytes))
     }
 
     /// Goes on from the committed values with an empty history, in which transactions are numbered from 1 again. A

@@ -55,6 +55,16 @@ pub(crate) struct Account {
     pub charged: u64,
 }
 
+#[repr(C)]
+#[derive(Clone, Copy, Default)]
+pub(crate) struct Event {
+    pub kind: u32,
+    pub txn: u32,
+    pub item: u32,
+    pub limit: u64,
+    pub value: i64,
+}
+
 // A call without lists is safe: references promise what `esr.h` asks, and no call has a further condition. A list
 // crosses as a pointer and a length.
 unsafe extern "C" {
@@ -110,6 +120,23 @@ unsafe extern "C" {
     pub(crate) fn esr_bundle(
         engine: &mut Engine,
         query: u32,
+        bytes: *mut u8,
+        room: usize,
+        count: &mut usize,
+    ) -> u32;
+    pub(crate) fn esr_do(
+        engine: &mut Engine,
+        events: *const Event,
+        count: usize,
+        replies: *mut Reply,
+        room: usize,
+        stop: bool,
+        answered: &mut usize,
+    ) -> u32;
+    pub(crate) fn esr_history_script(
+        engine: &mut Engine,
+        names: *const u8,
+        length: usize,
         bytes: *mut u8,
         room: usize,
         count: &mut usize,

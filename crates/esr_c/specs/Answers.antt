@@ -38,7 +38,7 @@ use Rattle.esr_c.specs.declared.account.EsrAccount.{EsrAccount}
 use Rattle.esr_c.specs.declared.audit.EsrFinding.{EsrFinding}
 use Rattle.esr_c.specs.declared.audit.EsrTotals.{EsrTotals}
 use Rattle.esr_c.specs.declared.engine.Status.{Status}
-use Rattle.esr_c.specs.declared.engine.Status.TheVariants.{Done, TooManyItems, OutOfRange, NotBegun, WeightOutOfRange, NotACommittedQuery, TooSmall, Full, NoMemory, Closed, Open, Active}
+use Rattle.esr_c.specs.declared.engine.Status.TheVariants.{Done, TooManyItems, OutOfRange, NotBegun, WeightOutOfRange, BadNames, NotACommittedQuery, TooSmall, NoSuchEvent, Full, NoMemory, Closed, Open, Active}
 use Rattle.esr_c.specs.declared.reply.EsrReply.{EsrReply}
 use Rattle.esr_c.specs.declared.verdict.EsrVerdict.{EsrVerdict}
 
@@ -129,8 +129,10 @@ status_number TooManyItems = 1
 status_number OutOfRange = 2
 status_number NotBegun = 3
 status_number WeightOutOfRange = 4
+status_number BadNames = 5
 status_number NotACommittedQuery = 6
 status_number TooSmall = 7
+status_number NoSuchEvent = 8
 status_number Full = 12
 status_number NoMemory = 13
 status_number Closed = 14

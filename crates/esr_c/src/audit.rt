@@ -62,7 +62,7 @@ fn fill<T: Copy>(room: &mut [T], list: &[T]) -> bool
 }
 
 /// Tells the count of a list, and writes it to the head of a room, where it fits.
-fn hand_out<T: Copy>(room: &mut [T], count: &mut usize, list: &[T]) -> Status
+pub(crate) fn hand_out<T: Copy>(room: &mut [T], count: &mut usize, list: &[T]) -> Status
     ensures known { (result ≡ Status.Done) ⊎ (result ≡ Status.TooSmall) }
     ensures count { count.new ≡ length list.now }
     ensures filled { result ≡ Status.Done → take count.new room.new ≡ list.now }

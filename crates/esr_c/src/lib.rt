@@ -18,6 +18,8 @@ ghost use Rattle.esr_history.specs.Queries.{is_committed_query};
 ghost use Rattle.esr_history.specs.Totals.{IsWithinLimits};
 ghost use Rattle.esr_core.specs.Renewed.{has_active, renewed};
 ghost use Rattle.esr_engine.specs.Room.{NeverStuck, counts_of};
+ghost use Rattle.esr_c.specs.Many.{AreAnswered, IsAnsweredStatus, IsEnd};
+ghost use Rattle.esr_c.specs.Past.{IsScriptOf, IsScriptStatus, IsTextIn, IsTextLong, names_of};
 ghost use Rattle.esr_c.specs.Answers.{opened, IsEventCall, IsForUpdateCall, IsTotal, IsAccount, IsFound, IsCounted, IsBundleIn, IsBundleLong, AreValuesIn, GoesOn, IsSound, IsOpenStatus, IsWeightedOpenStatus, IsRenewStatus, IsValuesStatus, IsAuditStatus, IsVerdictIn};
 
 mod account;
@@ -25,6 +27,8 @@ mod audit;
 mod engine;
 mod handle;
 mod loose;
+mod many;
+mod past;
 mod reply;
 mod verdict;
 
@@ -37,6 +41,9 @@ use engine::{Status, end, go_on, go_on_aborting, open, open_with, out_of, read_f
 use esr_engine::Counts;
 use esr_history::{Event, TxnId};
 use esr_items::ItemId;
+pub use many::EsrEvent;
+use many::answer_all;
+use past::show_script;
 pub use reply::EsrReply;
 use std::alloc::Global;
 pub use verdict::EsrVerdict;
@@ -203,6 +210,42 @@ pub extern "C" fn esr_abort(
     step(alloc, engine, Event::Abort { txn: TxnId(txn) }, reply).number()
 }
 
+/// Answers events one after another, as a call for each would, and tells how many were answered and their replies. It ends
+/// at the first that is not answered; where `stop` is set, behind the first that is refused.
+///
+/// 0, or 7 where there is less room for replies than there are events, 8 where the next is of no kind that there is, 12
+/// where there is no room for it beside the ends of what is active, 13 where an allocation failed, 14 where the engine is
+/// closed. With 7 and 14 nothing has changed.
+#[unsafe(no_mangle)]
+pub extern "C" fn esr_do(
+    alloc: Global,
+    engine: &mut EsrEngine,
+    events: &[EsrEvent],
+    replies: &mut [EsrReply],
+    stop: bool,
+    count: &mut usize,
+) -> u32
+    ensures status { IsAnsweredStatus result ⊎ ((result ≡ 7) ⊎ (result ≡ 14)) }
+    ensures closed { result ≡ 14 ↔ (engine.old.held.history ≡ None) }
+    ensures small { IfSome engine.old.held.history (λ _. (result ≡ 7) ↔ (length replies.old < length events.now)) }
+    ensures untouched { (result ≡ 7) ⊎ (result ≡ 14) → (engine.new.held.history ≡ engine.old.held.history)
+        × (replies.new ≡ replies.old) × (count.new ≡ count.old) }
+    ensures answered { result ≢ 7 → IfSome engine.old.held.history (λ h. IfSome engine.new.held.history
+        (λ g. AreAnswered h g events.now count.new replies.new)) }
+    ensures end { result ≢ 7 → IfSome engine.old.held.history (λ h. IsEnd h events.now stop count.new result) }
+{
+    let Some(mut inner) = out_of(alloc, engine) else {
+        return Status::Closed.number();
+    };
+    let status = if replies.len() < events.len() {
+        Status::TooSmall
+    } else {
+        answer_all(&mut inner, events, replies, stop, count)
+    };
+    *engine = open_with(inner);
+    status.number()
+}
+
 /// What has been imported, and how many entries the history has: 0, or 14 where the engine is closed. No limit has been
 /// passed.
 #[unsafe(no_mangle)]
@@ -352,6 +395,39 @@ pub extern "C" fn esr_bundle(
         return Status::Closed.number();
     };
     let status = show_bundle(alloc, &mut inner, query, bytes, count);
+    *engine = open_with(inner);
+    status.number()
+}
+
+/// The script of the history so far, for which there is room in `bytes`: a run of it gives each entry again that was
+/// accepted or blocked. Items have the names of a text, one on each line, or `i0`, `i1` where it is empty; transactions
+/// are `t1`, `t2`.
+///
+/// 0, or 5 where the text has not a name for each item, 7 where the script has more bytes than there is room, 13 where an
+/// allocation failed, 14 where the engine is closed. With 0 and 7 `count` tells how many bytes it has.
+#[unsafe(no_mangle)]
+pub extern "C" fn esr_history_script(
+    alloc: Global,
+    engine: &mut EsrEngine,
+    names: &[u8],
+    bytes: &mut [u8],
+    count: &mut usize,
+) -> u32
+    ensures status { IsScriptStatus result }
+    ensures closed { result ≡ 14 ↔ (engine.old.held.history ≡ None) }
+    ensures same { engine.new.held.history ≡ engine.old.held.history }
+    ensures bad { result ≡ 5 → IfSome engine.old.held.history (λ h. names_of h names.now ≡ None) }
+    ensures script { result ≡ 0 → IfSome engine.old.held.history
+        (λ h. IsTextIn (IsScriptOf h names.now) count.new bytes.new) }
+    ensures small { result ≡ 7 → (length bytes.old < count.new)
+        × IfSome engine.old.held.history (λ h. IsTextLong (IsScriptOf h names.now) count.new) }
+    ensures kept { result ≢ 0 → bytes.new ≡ bytes.old }
+    ensures untold { result ≢ 0 → result ≢ 7 → count.new ≡ count.old }
+{
+    let Some(inner) = out_of(alloc, engine) else {
+        return Status::Closed.number();
+    };
+    let status = show_script(alloc, &inner, names, bytes, count);
     *engine = open_with(inner);
     status.number()
 }

@@ -1,0 +1,77 @@
+//! The past of an engine as text: its script.
+
+ghost use Rattle.std.specs.Prelude.{◌≡◌, ◌≢◌, ◌⊎◌, ◌<◌, Some, None, length, IfOk, IfErr, IsErrOf};
+ghost use Rattle.esr_engine.specs.Room.{begun};
+ghost use Rattle.esr_past.specs.Naming.{transaction_names};
+ghost use Rattle.esr_c.specs.Answers.{status_number};
+ghost use Rattle.esr_c.specs.Past.{IsScriptOf, IsScriptStatus, IsTextIn, IsTextLong, names_of};
+
+use crate::audit::hand_out;
+use crate::engine::Status;
+use esr_engine::Engine;
+use esr_past::{item_names, script, transaction_names};
+use esr_report::Names;
+use std::alloc::Global;
+
+/// The names of the items of an engine.
+fn items(alloc: Global, engine: &Engine, names: &[u8]) -> Result<Names, Status>
+    ensures ok { IfOk result (λ items. names_of engine.now names.now ≡ Some items) }
+    ensures bad { IsErrOf result Status.BadNames → names_of engine.now names.now ≡ None }
+    ensures err { IfErr result (λ e. (e ≡ Status.BadNames) ⊎ (e ≡ Status.NoMemory)) }
+{
+    match item_names(alloc, names, engine.history().items()) {
+        Ok(Some(items)) => Ok(items),
+        Ok(None) => Err(Status::BadNames),
+        Err(_) => Err(Status::NoMemory),
+    }
+}
+
+/// The names of the transactions of an engine: their numbers.
+#[tactic(auto, using(esr_history::proofs::WithinRanges::legal_begins))]
+fn transactions(alloc: Global, engine: &Engine) -> Result<Names, Status>
+    ensures ok { IfOk result (λ transactions. transactions ≡ transaction_names (begun engine.now)) }
+    ensures err { IfErr result (λ e. e ≡ Status.NoMemory) }
+{
+    let _legal = engine.history(); // brings the invariant into the proof
+    let begun = engine.counts().transactions as u32;
+    match transaction_names(alloc, begun) {
+        Ok(names) => Ok(names),
+        Err(_) => Err(Status::NoMemory),
+    }
+}
+
+/// The script of an engine's history, or why there is none.
+fn script_text(alloc: Global, engine: &Engine, names: &[u8]) -> Result<Vec<u8>, Status>
+    ensures ok { IfOk result (λ text. IsScriptOf engine.now names.now text.items) }
+    ensures bad { IsErrOf result Status.BadNames → names_of engine.now names.now ≡ None }
+    ensures err { IfErr result (λ e. (e ≡ Status.BadNames) ⊎ (e ≡ Status.NoMemory)) }
+{
+    let items = items(alloc, engine, names)?;
+    let transactions = transactions(alloc, engine)?;
+    match script(alloc, &items, &transactions, engine.history()) {
+        Ok(text) => Ok(text),
+        Err(_) => Err(Status::NoMemory),
+    }
+}
+
+pub(crate) fn show_script(
+    alloc: Global,
+    engine: &Engine,
+    names: &[u8],
+    bytes: &mut [u8],
+    count: &mut usize,
+) -> Status
+    ensures known { IsScriptStatus (status_number result) }
+    ensures open { result ≢ Status.Closed }
+    ensures bad { result ≡ Status.BadNames → names_of engine.now names.now ≡ None }
+    ensures script { result ≡ Status.Done → IsTextIn (IsScriptOf engine.now names.now) count.new bytes.new }
+    ensures small { result ≡ Status.TooSmall → (length bytes.old < count.new)
+        × IsTextLong (IsScriptOf engine.now names.now) count.new }
+    ensures kept { result ≢ Status.Done → bytes.new ≡ bytes.old }
+    ensures untold { result ≢ Status.Done → result ≢ Status.TooSmall → count.new ≡ count.old }
+{
+    match script_text(alloc, engine, names) {
+        Ok(text) => hand_out(bytes, count, &text),
+        Err(why) => why,
+    }
+}

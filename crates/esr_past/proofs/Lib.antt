@@ -1,0 +1,5 @@
+pub mod Numbers
+pub mod Tables
+pub mod Texts
+pub mod Feeds
+pub mod Again

@@ -1,0 +1,6 @@
+use Rattle.std.proofs.Common.{◌≡◌}
+use Rattle.esr_past.specs.Naming.{all_numbered}
+use Rattle.esr_past.proofs.naming.all_numbered.Given as goal
+
+abbrev pub invariant-loop-i : goal.invariant-loop-i
+invariant-loop-i l = l.names ≡ all_numbered l.word l.first l.i

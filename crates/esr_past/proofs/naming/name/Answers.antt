@@ -1,0 +1,6 @@
+use Rattle.std.proofs.Common.{arith}
+use Rattle.esr_line.proofs.Blanks.{name_utf8}
+use Rattle.esr_past.proofs.naming.name.Goals as goal
+
+pub returns-in-Err : goal.returns-in-Err
+returns-in-Err c = grind (arith, name_utf8)

@@ -1,0 +1,130 @@
+//! The names of items and transactions: numbers with a letter, or those of a text that has one on each line.
+
+ghost use Rattle.std.specs.Prelude.{◌≡◌, ◌++◌, ◌+◌, ◌<◌, ◌≤◌, ◌^◌, IfOk, OnOk, Option, option_map, length, map, decimal, string_bytes, codes};
+ghost use Rattle.std.specs.List.{list_all};
+ghost use Rattle.esr_items.specs.declared.TheConstants.{MOST_ITEMS};
+ghost use Rattle.esr_line.specs.Command.{is_letter, is_name_byte, is_name, name_of};
+ghost use Rattle.esr_past.specs.Naming.{numbered, all_numbered, item_names, named, names_in, transaction_names};
+
+use esr_report::Names;
+use std::alloc::{AllocError, Global};
+use std::str::from_utf8;
+
+/// A word with a number behind it.
+fn numbered(alloc: Global, word: &str, number: u32) -> Result<String, AllocError>
+    ensures { IfOk result (λ name. string_bytes name ≡ numbered word.now number) }
+{
+    let mut digits = itoa::Buffer::new();
+    let mut name = String::new(alloc);
+    name.push_str(word)?;
+    name.push_str(digits.format(number))?;
+    Ok(name)
+}
+
+/// The names of so many numbers from a first one on: each is the word with the number behind it.
+#[tactic(auto, using(crate::proofs::Numbers::unbound))]
+fn all_numbered(alloc: Global, word: &str, first: u32, count: u32) -> Result<Names, AllocError>
+    requires room { first + count < 2 ^ 32 }
+    ensures { IfOk result (λ names. names ≡ all_numbered word.now first count) }
+{
+    let mut names = Names::new(alloc);
+    for i in 0..count {
+        let name = numbered(alloc, word, first + i)?;
+        names.bind(&name)?;
+    }
+    Ok(names)
+}
+
+/// The names of so many transactions: `t1`, `t2`.
+pub fn transaction_names(alloc: Global, count: u32) -> Result<Names, AllocError>
+    requires room { count + 1 < 2 ^ 32 }
+    ensures { IfOk result (λ names. names ≡ transaction_names count) }
+{
+    all_numbered(alloc, "t", 1, count)
+}
+
+/// What stands between the line feeds of a text.
+fn names_in(alloc: Global, text: &[u8]) -> Result<Vec<&[u8]>, AllocError>
+    ensures { IfOk result (λ lines. map (λ line. line.now) lines.items ≡ names_in text.now) }
+{
+    text.split(|byte| *byte == b'\n').collect(alloc)
+}
+
+fn is_letter(byte: u8) -> bool
+    ensures { result ≡ is_letter byte }
+{
+    matches!(byte, b'a'..=b'z' | b'A'..=b'Z')
+}
+
+fn is_name_byte(byte: u8) -> bool
+    ensures { result ≡ is_name_byte byte }
+{
+    is_letter(byte) || matches!(byte, b'0'..=b'9' | b'_')
+}
+
+fn all_name_bytes(text: &[u8]) -> bool
+    ensures { result ≡ list_all is_name_byte text.now }
+{
+    text.iter().all(|byte| is_name_byte(*byte))
+}
+
+/// Whether a line of a script may have the word as a name.
+fn is_name(word: &[u8]) -> bool
+    ensures { result ≡ is_name word.now }
+{
+    match word.split_first() {
+        None => false,
+        Some((first, rest)) => is_letter(*first) && rest.len() <= 15 && all_name_bytes(rest),
+    }
+}
+
+/// The name that a word is, if it may be one.
+fn name(word: &[u8]) -> Option<&str>
+    ensures { option_map (λ name. name.now) result ≡ name_of word.now }
+{
+    if !is_name(word) {
+        return None;
+    }
+    match from_utf8(word) {
+        Ok(name) => Some(name),
+        Err(_) => None,
+    }
+}
+
+/// A table of these names, or none where one is no name or comes twice.
+fn table(alloc: Global, words: &[&[u8]]) -> Result<Option<Names>, AllocError>
+    requires few { length words.now ≤ MOST_ITEMS }
+    ensures { IfOk result (λ found. found ≡ named (map (λ word. word.now) words.now)) }
+{
+    let mut names = Names::new(alloc);
+    for word in words {
+        let Some(name) = name(word) else {
+            return Ok(None);
+        };
+        if names.number_of(name).is_some() {
+            return Ok(None);
+        }
+        names.bind(name)?;
+    }
+    let _distinct = names.len(); // brings the invariant into the proof
+    Ok(Some(names))
+}
+
+/// The names that a text gives to so many items, one on each line; `i0`, `i1` where it is empty. None where it has not
+/// as many names as there are items, or one that is no name of a script, or one twice.
+pub fn item_names(alloc: Global, text: &[u8], count: u32) -> Result<Option<Names>, AllocError>
+    requires few { count ≤ MOST_ITEMS }
+    ensures { IfOk result (λ found. found ≡ item_names count text.now) }
+{
+    if text.is_empty() {
+        return match all_numbered(alloc, "i", 0, count) {
+            Ok(names) => Ok(Some(names)),
+            Err(error) => Err(error),
+        };
+    }
+    let words = names_in(alloc, text)?;
+    if words.len() != count as usize {
+        return Ok(None);
+    }
+    table(alloc, &words)
+}
