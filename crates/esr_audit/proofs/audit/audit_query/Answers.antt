@@ -1,3 +1,4 @@
+-- Why `audit_query` keeps its contract: the goals that are left to a proof of ours.
 use Rattle.std.proofs.Common.{◌≡◌, true, map, inl, inr}
 use Rattle.std.proofs.lemmas.Bool.{cases_Bool, and_parts}
 use Rattle.esr_history.specs.declared.event.TxnId.{TxnId}

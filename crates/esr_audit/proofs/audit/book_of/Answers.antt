@@ -1,3 +1,4 @@
+-- Why `book_of` keeps its contract: the goals that are left to a proof of ours.
 use Rattle.std.proofs.Common.{rules, ◌≡◌, ◌∙◌, ap, map, List, [], ◌∷◌, refl}
 use Rattle.esr_history.specs.declared.event.TxnId.{TxnId}
 use Rattle.esr_audit.specs.Findings.{committed_queries, Finding}

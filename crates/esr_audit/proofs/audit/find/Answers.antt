@@ -1,3 +1,4 @@
+-- Why `find` keeps its contract: the goals that are left to a proof of ours.
 use Rattle.std.proofs.Common.{◌≡◌, ◌∙◌, sym, subst, refl, ap, ℕ, map, filter_map, slice_get}
 use Rattle.esr_history.specs.declared.event.TxnId.{TxnId}
 use Rattle.esr_history.proofs.Laws.{import_bounds_distance}

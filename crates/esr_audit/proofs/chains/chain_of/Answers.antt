@@ -1,3 +1,4 @@
+-- Why `chain_of` keeps its contract: the goals that are left to a proof of ours.
 use Rattle.std.proofs.Common.{ℤ, List, length, arith, ap, ◌∙◌, sym, subst, All}
 use Rattle.std.proofs.lemmas.List.Elements.{All-from_recursion, recursion_from_All}
 use Rattle.esr_items.specs.Values.{IsValue}

@@ -1,3 +1,4 @@
+-- Why `chains_of` keeps its contract: the goals that are left to a proof of ours.
 use Rattle.std.proofs.Common.{◌≡◌, ℕ, map, ap, ◌∙◌, sym, eqb, Bool, arith}
 use Rattle.std.specs.List.{list_any}
 use Rattle.esr_order.specs.Orders.{Ordered, chain_at}

@@ -1,3 +1,4 @@
+-- What holds at each turn of the loop in `lists_among`.
 use Rattle.std.proofs.Common.{◌≡◌, not, take, filter}
 use Rattle.esr_history.specs.declared.event.TxnId.{TxnId}
 use Rattle.esr_history.specs.Events.{is_query}

@@ -1,3 +1,4 @@
+-- What holds at each turn of the loop in `gather`.
 use Rattle.std.proofs.Common.{◌≡◌, ℕ, ◌+◌, ◌<◌, length, vec_len, All}
 use Rattle.esr_board.specs.Claims.{times, count_past}
 use Rattle.esr_board.specs.Boards.{IsSeatOf, drawn, all_drawn}

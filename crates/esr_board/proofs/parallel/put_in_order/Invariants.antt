@@ -1,3 +1,4 @@
+-- What holds at each turn of the loop in `put_in_order`.
 use Rattle.std.proofs.Common.{◌≡◌, ℕ, ◌⊎◌, length, map, vec_len}
 use Rattle.esr_board.specs.Claims.{times}
 use Rattle.esr_board.specs.Shares.{AreKept, IsFilled, AreRight}

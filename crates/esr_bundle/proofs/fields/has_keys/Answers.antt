@@ -1,3 +1,4 @@
+-- Why `has_keys` keeps its contract: the goals that are left to a proof of ours.
 use Rattle.std.proofs.Common.{◌∙◌, ◌==◌, sym, ap}
 use Rattle.serde_json.proofs.Views.{members_len-members_view}
 use Rattle.esr_bundle.proofs.fields.has_keys.Goals as goal

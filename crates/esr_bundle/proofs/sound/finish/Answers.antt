@@ -1,3 +1,4 @@
+-- Why `finish` keeps its contract: the goals that are left to a proof of ours.
 use Rattle.std.proofs.Common.{◌≡◌, ℕ, List, true, Ok, refl, sym, ap, ◌∙◌}
 use Rattle.std.specs.List.{list_all}
 use Rattle.esr_cert.specs.Problem.{Problem}

@@ -1,3 +1,4 @@
+-- Why `fitting` keeps its contract: the goals that are left to a proof of ours.
 use Rattle.esr_bundle.proofs.Wide.{fitting}
 use Rattle.esr_bundle.proofs.writing.fitting.Goals as goal
 

@@ -1,3 +1,4 @@
+-- What holds at each turn of the loop in `list`.
 use Rattle.std.proofs.Common.{◌≡◌, map, take}
 use Rattle.serde_json.specs.View.{view}
 use Rattle.esr_bundle.proofs.writing.list.Given as goal

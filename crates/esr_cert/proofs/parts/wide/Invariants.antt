@@ -1,3 +1,4 @@
+-- What holds at each turn of the loop in `wide`.
 use Rattle.std.proofs.Common.{◌≡◌, take}
 use Rattle.esr_cert.proofs.parts.wide.Given as goal
 

@@ -1,3 +1,4 @@
+-- Why `degrees_of` keeps its contract: the goals that are left to a proof of ours.
 use Rattle.std.proofs.Common.{arith, ◌≡◌, refl, ℕ, ◌+◌, ◌<◌, ◌++◌, [], ◌∷◌, List, length, get_or, set, subst}
 use Rattle.std.proofs.lemmas.List.{length_push}
 use Rattle.esr_cert.specs.Steps.{Forward, Backward}

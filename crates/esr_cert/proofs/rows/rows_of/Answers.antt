@@ -1,3 +1,4 @@
+-- Why `rows_of` keeps its contract: the goals that are left to a proof of ours.
 use Rattle.std.proofs.Common.{arith}
 use Rattle.esr_cert.proofs.Laid.{laid_rows, laid_steps, within_along, within_against, laid_more}
 use Rattle.esr_cert.proofs.rows.rows_of.Goals as goal

@@ -1,3 +1,4 @@
+-- What holds at each turn of the loop in `rows_of`.
 use Rattle.esr_cert.proofs.Laid.{Laid}
 use Rattle.esr_cert.proofs.rows.rows_of.Given as goal
 

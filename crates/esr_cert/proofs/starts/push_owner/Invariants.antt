@@ -1,3 +1,4 @@
+-- What holds at each turn of the loop in `push_owner`.
 use Rattle.std.proofs.Common.{◌≡◌, ◌++◌, replicate}
 use Rattle.esr_cert.proofs.starts.push_owner.Given as goal
 

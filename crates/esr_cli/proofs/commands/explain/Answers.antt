@@ -1,3 +1,4 @@
+-- Why `explain` keeps its contract: the goals that are left to a proof of ours.
 use Rattle.std.proofs.Common.{codes}
 use Rattle.clap.specs.Words.{new_app, with_rule}
 use Rattle.esr_cli.specs.Program as spec

@@ -1,3 +1,4 @@
+-- Why `scripted` keeps its contract: the goals that are left to a proof of ours.
 use Rattle.clap.specs.Words.{with_rule}
 use Rattle.esr_cli.specs.Program as spec
 use Rattle.esr_cli.proofs.commands.scripted.Goals as goal

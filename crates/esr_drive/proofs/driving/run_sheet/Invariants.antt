@@ -1,3 +1,4 @@
+-- What holds at each turn of the loop in `run_sheet`.
 use Rattle.std.proofs.Common.{map}
 use Rattle.esr_drive.proofs.driving.run_sheet.Given as goal
 

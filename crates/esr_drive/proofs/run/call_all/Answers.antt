@@ -1,3 +1,4 @@
+-- Why `call_all` keeps its contract: the goals that are left to a proof of ours.
 use Rattle.std.proofs.Common.{arith, ap, ◌+◌, ◌≤◌, length, [], List, take, sym, subst, rules, take_all}
 use Rattle.esr_items.specs.Weights.{weighted}
 use Rattle.esr_history.specs.declared.event.Reply.{Reply}

@@ -1,3 +1,4 @@
+-- What holds at each turn of the loop in `call_all`.
 use Rattle.std.proofs.Common.{◌≡◌, ◌≤◌, ◌*◌, ℕ, List, length, take, vec_len, vec_capacity}
 use Rattle.esr_plan.specs.Blocks.{AreRuns}
 use Rattle.esr_plan.specs.Calls.{answers_of, AreResolved}

@@ -1,3 +1,4 @@
+-- What holds at each turn of the loop in `gather`.
 use Rattle.std.proofs.Common.{◌≡◌, Ok, None, map}
 use Rattle.esr_drive.specs.Faults.{told_fault}
 use Rattle.esr_drive.proofs.threads.gather.Given as goal

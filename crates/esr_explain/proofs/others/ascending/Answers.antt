@@ -1,3 +1,4 @@
+-- Why `ascending` keeps its contract: the goals that are left to a proof of ours.
 use Rattle.std.proofs.Common.{eqb, arith}
 use Rattle.std.proofs.lemmas.List.Sorted.{IsNonDecreasingBy-from_sort, list_any-IsPermutation}
 use Rattle.esr_explain.proofs.others.ascending.Goals as goal

@@ -1,3 +1,4 @@
+-- What holds at each turn of the loop in `are_equal`.
 use Rattle.std.proofs.Common.{◌≡◌, ◌≢◌, ℕ, ◌<◌, get_or}
 use Rattle.esr_flow.proofs.flows.are_equal.Given as goal
 

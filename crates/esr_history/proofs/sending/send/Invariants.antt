@@ -1,3 +1,4 @@
+-- What holds at each turn of the loop in `send`.
 use Rattle.std.proofs.Common.{◌≡◌, length, ◌-◌, ◌≤◌, take}
 use Rattle.std.specs.Io.KnownBytes.{Appends}
 use Rattle.esr_history.specs.Watch.{inner, failed}

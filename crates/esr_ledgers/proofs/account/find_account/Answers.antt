@@ -1,3 +1,4 @@
+-- Why `find_account` keeps its contract: the goals that are left to a proof of ours.
 use Rattle.std.proofs.Common.{false}
 use Rattle.esr_history.proofs.Ascending.{found_at}
 use Rattle.esr_ledgers.specs.Books.{number}

@@ -1,3 +1,4 @@
+-- Why `parse_line` keeps its contract: the goals that are left to a proof of ours.
 use Rattle.std.proofs.Common.{sym, ◌∙◌}
 use Rattle.esr_line.proofs.Spelling.{spelled, read_back}
 use Rattle.esr_line.proofs.parse.parse_line.Goals as goal

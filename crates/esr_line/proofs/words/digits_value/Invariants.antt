@@ -1,3 +1,4 @@
+-- What holds at each turn of the loop in `digits_value`.
 use Rattle.esr_line.proofs.Laws.{IsValueOf}
 use Rattle.esr_line.proofs.words.digits_value.Given as goal
 

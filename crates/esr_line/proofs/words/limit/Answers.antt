@@ -1,3 +1,4 @@
+-- Why `limit` keeps its contract: the goals that are left to a proof of ours.
 use Rattle.std.proofs.Common.{sym, ◌∙◌, arith}
 use Rattle.std.proofs.lemmas.Option.{get_or_from_slice_get}
 use Rattle.esr_line.proofs.Laws.{by_digits}

@@ -1,3 +1,4 @@
+-- Why `one_word` keeps its contract: the goals that are left to a proof of ours.
 use Rattle.std.proofs.Common.{arith}
 use Rattle.esr_line.proofs.Blanks.{one_of_more}
 use Rattle.esr_line.proofs.words.one_word.Goals as goal

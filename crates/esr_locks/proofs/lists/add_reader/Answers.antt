@@ -1,3 +1,4 @@
+-- Why `add_reader` keeps its contract: the goals that are left to a proof of ours.
 use Rattle.std.proofs.Common.{sym, ap, not, arith}
 use Rattle.esr_history.proofs.Ascending.{placed_same, placed_gap, any_place, any_gap}
 use Rattle.esr_locks.specs.Rows.{reader}

@@ -1,3 +1,4 @@
+-- Why `drop_row` keeps its contract: the goals that are left to a proof of ours.
 use Rattle.std.proofs.Common.{◌∙◌, sym}
 use Rattle.esr_history.proofs.Ascending.{others_at, others_gap}
 use Rattle.esr_locks.proofs.lists.drop_row.Goals as goal

@@ -1,3 +1,4 @@
+-- What holds at each turn of the loop in `make_lists`.
 use Rattle.std.proofs.Common.{◌≡◌, ℕ, ◌+◌, ◌-◌, vec_len, length, ◌<◌, ◌≤◌}
 use Rattle.esr_locks.specs.Rows.{held_at}
 use Rattle.esr_locks.proofs.table.make_lists.Given as goal

@@ -1,3 +1,4 @@
+-- What holds at each turn of the loop in `list_accesses`.
 use Rattle.esr_history.specs.BackLinks.{coded}
 use Rattle.esr_order.proofs.Accessed.{IsBackTo}
 use Rattle.esr_order.proofs.accesses.list_accesses.Given as goal

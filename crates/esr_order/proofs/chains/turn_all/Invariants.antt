@@ -1,3 +1,4 @@
+-- What holds at each turn of the loop in `turn_all`.
 use Rattle.std.proofs.Common.{◌≡◌, map}
 use Rattle.esr_order.specs.Chains.{turned, seen_links}
 use Rattle.esr_order.proofs.Lists.{changed}

@@ -1,3 +1,4 @@
+-- Why `parts_are_closed_sets` keeps its contract: the goals that are left to a proof of ours.
 use Rattle.esr_order.proofs.Ordered.{law_of_placements}
 use Rattle.esr_order.proofs.laws.parts_are_closed_sets.Goals as goal
 

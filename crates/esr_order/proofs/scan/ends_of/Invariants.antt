@@ -1,3 +1,4 @@
+-- What holds at each turn of the loop in `ends_of`.
 use Rattle.std.proofs.Common.{◌≤◌, ◌-◌}
 use Rattle.esr_order.proofs.Commits.{AreEndsBelow}
 use Rattle.esr_order.proofs.scan.ends_of.Given as goal

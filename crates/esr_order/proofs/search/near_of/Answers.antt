@@ -1,3 +1,4 @@
+-- Why `near_of` keeps its contract: the goals that are left to a proof of ours.
 use Rattle.std.proofs.Common.{◌≡◌, ◌<◌, ◌-◌, ◌⊎◌, ◌||◌, suc, true, false, sym, ◌∙◌, ap, subst, inl, inr, length, map, reverse, All, arith}
 use Rattle.std.specs.List.{list_any}
 use Rattle.esr_history.specs.Queries.{updates_of}

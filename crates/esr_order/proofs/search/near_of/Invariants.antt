@@ -1,3 +1,4 @@
+-- What holds at each turn of the loop in `near_of`.
 use Rattle.esr_order.proofs.Seeking.{IsSought}
 use Rattle.esr_order.proofs.search.near_of.Given as goal
 

@@ -1,3 +1,4 @@
+-- What holds at each turn of the loop in `tie_back`.
 use Rattle.std.proofs.Common.{◌≡◌, ◌++◌, drop, reverse}
 use Rattle.esr_order.specs.Ties.{pairs_from}
 use Rattle.esr_order.proofs.ties.tie_back.Given as goal

@@ -1,3 +1,4 @@
+-- What holds at each turn of the loop in `draft_of`.
 use Rattle.std.proofs.Common.{◌≡◌, ◌+◌, ◌<◌, length}
 use Rattle.esr_line.specs.Lines.{lines}
 use Rattle.esr_plan.specs.Plan.{plan_from, nothing}

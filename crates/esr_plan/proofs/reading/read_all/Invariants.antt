@@ -1,3 +1,4 @@
+-- What holds at each turn of the loop in `read_all`.
 use Rattle.std.proofs.Common.{◌≡◌, ◌<◌, false, None, length}
 use Rattle.std.specs.Io.KnownBytes.{Consumes}
 use Rattle.esr_history.specs.Watch.{inner, failed}

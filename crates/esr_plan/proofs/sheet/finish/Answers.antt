@@ -1,3 +1,4 @@
+-- Why `finish` keeps its contract: the goals that are left to a proof of ours.
 use Rattle.std.proofs.Common.{rules}
 use Rattle.esr_plan.proofs.Adding.{done_with, done_alone, sheet_made}
 use Rattle.esr_plan.proofs.sheet.finish.Goals as goal

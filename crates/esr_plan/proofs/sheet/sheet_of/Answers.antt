@@ -1,3 +1,4 @@
+-- Why `sheet_of` keeps its contract: the goals that are left to a proof of ours.
 use Rattle.std.proofs.Common.{arith}
 use Rattle.esr_line.specs.Lines.{lines}
 use Rattle.esr_plan.proofs.Cuts.{few_lines}

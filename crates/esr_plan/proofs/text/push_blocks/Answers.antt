@@ -1,3 +1,4 @@
+-- Why `push_blocks` keeps its contract: the goals that are left to a proof of ours.
 use Rattle.std.proofs.Common.{rules, ◌≤◌, ◌++◌, length, map, ap, ap₂, sym, ◌∙◌, arith}
 use Rattle.std.proofs.lemmas.List.{length-map}
 use Rattle.esr_plan.specs.Calls.{answers_of, all_answers}

@@ -1,3 +1,4 @@
+-- Why `push_each` keeps its contract: the goals that are left to a proof of ours.
 use Rattle.std.proofs.Common.{rules}
 use Rattle.esr_plan.specs.Text.{finding_text}
 use Rattle.esr_plan.proofs.Told.{lines_more}

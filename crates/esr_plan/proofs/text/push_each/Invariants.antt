@@ -1,3 +1,4 @@
+-- What holds at each turn of the loop in `push_each`.
 use Rattle.std.proofs.Common.{◌≡◌, ◌++◌, take, flat_map}
 use Rattle.esr_plan.specs.Text.{finding_text}
 use Rattle.esr_plan.specs.Tables.{names_in}

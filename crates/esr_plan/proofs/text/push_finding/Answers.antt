@@ -1,3 +1,4 @@
+-- Why `push_finding` keeps its contract: the goals that are left to a proof of ours.
 use Rattle.std.proofs.Common.{map, ap, ◌∙◌}
 use Rattle.esr_plan.proofs.Told.{told, same_end}
 use Rattle.esr_report.specs.Lines.{audit_line}

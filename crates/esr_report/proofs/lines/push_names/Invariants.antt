@@ -1,3 +1,4 @@
+-- What holds at each turn of the loop in `push_names`.
 use Rattle.std.proofs.Common.{◌≡◌, ◌++◌, ◌∷◌, map, take}
 use Rattle.std.specs.List.{join_with_byte}
 use Rattle.esr_history.specs.declared.event.TxnId.{TxnId}

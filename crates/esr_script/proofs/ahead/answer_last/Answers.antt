@@ -1,3 +1,4 @@
+-- Why `answer_last` keeps its contract: the goals that are left to a proof of ours.
 use Rattle.esr_script.proofs.Held.{is_some, held_many, held_last}
 use Rattle.esr_script.proofs.Replays.{replay_many, replay_ended}
 use Rattle.esr_script.proofs.ahead.answer_last.Goals as goal

@@ -1,3 +1,4 @@
+-- Why `next_length` keeps its contract: the goals that are left to a proof of ours.
 use Rattle.std.proofs.Common.{rules}
 use Rattle.esr_script.proofs.ahead.next_length.Goals as goal
 

@@ -1,3 +1,4 @@
+-- Why `ask` keeps its contract: the goals that are left to a proof of ours.
 use Rattle.std.proofs.Common.{arith}
 use Rattle.esr_history.specs.Watch.{inner}
 use Rattle.esr_script.proofs.Ends.{reached_fault, asked_after}

@@ -1,3 +1,4 @@
+-- What holds at each turn of the loop in `answer_lines`.
 use Rattle.std.proofs.Common.{◌≡◌, ℕ, ◌+◌, ◌-◌, ◌*◌, ◌≤◌, List, ◌++◌, Some, false, length}
 use Rattle.std.specs.Io.KnownBytes.{Appends}
 use Rattle.esr_history.specs.Watch.{inner, failed}

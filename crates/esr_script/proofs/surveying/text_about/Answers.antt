@@ -1,3 +1,4 @@
+-- Why `text_about` keeps its contract: the goals that are left to a proof of ours.
 use Rattle.esr_script.proofs.surveying.text_about.Goals as goal
 
 pub returns-in-Ok-Some-clause-text : goal.returns-in-Ok-Some-clause-text

@@ -1,3 +1,4 @@
+-- Why `tell` keeps its contract: the goals that are left to a proof of ours.
 use Rattle.std.proofs.Common.{[], arith, rules}
 use Rattle.std.proofs.KnownBytes.{Appends-nil}
 use Rattle.esr_script.proofs.Ends.{written_fault, written_sent}

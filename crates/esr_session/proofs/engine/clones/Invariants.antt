@@ -1,3 +1,4 @@
+-- What holds at each turn of the loop in `clones`.
 use Rattle.std.proofs.Common.{◌≡◌, vec_len}
 use Rattle.esr_session.proofs.engine.clones.Given as goal
 

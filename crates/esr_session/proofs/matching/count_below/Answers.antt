@@ -1,3 +1,4 @@
+-- Why `count_below` keeps its contract: the goals that are left to a proof of ours.
 use Rattle.std.proofs.Common.{ap, length, arith}
 use Rattle.esr_session.proofs.Lists.{count_more}
 use Rattle.esr_session.proofs.matching.count_below.Goals as goal

@@ -1,3 +1,4 @@
+-- Why `match_receipts` keeps its contract: the goals that are left to a proof of ours.
 use Rattle.std.proofs.Common.{rules}
 use Rattle.esr_session.proofs.matching.match_receipts.Goals as goal
 

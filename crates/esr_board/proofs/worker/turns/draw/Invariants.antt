@@ -1,3 +1,4 @@
+-- What holds at each turn of the loop in `draw`.
 use Rattle.std.proofs.Common.{◌-◌, length, map}
 use Rattle.esr_board.specs.Claims.{Drew}
 use Rattle.esr_board.specs.Boards.{IsSeatOf, drawn}

@@ -1,3 +1,4 @@
+-- Why `Machine::writer` keeps its contract: the goals that are left to a proof of ours.
 use Rattle.std.proofs.Common.{arith}
 use Rattle.esr_core.proofs.Locks.{locks_here}
 use Rattle.esr_core.proofs.machine.Machine.writer.Goals as goal

@@ -1,3 +1,4 @@
+-- Why `ExplainingTelling::text_of` keeps its contract: the goals that are left to a proof of ours.
 use Rattle.esr_explain.proofs.Sent.{explained_told, told_so}
 use Rattle.esr_explain.proofs.explaining.ExplainingTelling.text_of.Goals as goal
 

@@ -1,3 +1,4 @@
+-- Why `BackLinks::add` keeps its contract: the goals that are left to a proof of ours.
 use Rattle.std.proofs.Common.{◌≡◌, ◌+◌, ◌++◌, ◌∷◌, [], length, sym, ◌∙◌, ap, rules, refl, arith, vec_capacity, length-append}
 use Rattle.esr_history.specs.BackLinks.{key_at, item_in, txn_in, accepted_item}
 use Rattle.esr_history.proofs.Linking.{accepted_more, refused_more, links_length}

@@ -1,3 +1,4 @@
+-- Why `WatchedWrite::write` keeps its contract: the goals that are left to a proof of ours.
 use Rattle.std.proofs.Common.{rules}
 use Rattle.esr_history.proofs.watched.WatchedWrite.write.Goals as goal
 

@@ -1,3 +1,4 @@
+-- Why `Row::add_query_read` keeps its contract: the goals that are left to a proof of ours.
 use Rattle.std.proofs.Common.{◌≡◌, ◌∙◌, sym, ap, subst, refl, not, ℕ, map, ◌<◌, arith, All}
 use Rattle.esr_history.proofs.Ascending.{placed_ascends, map-placed, any-map}
 use Rattle.esr_locks.specs.Rows.{RowOf, query_and_count}

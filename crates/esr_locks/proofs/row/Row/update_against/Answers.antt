@@ -1,3 +1,4 @@
+-- Why `Row::update_against` keeps its contract: the goals that are left to a proof of ours.
 use Rattle.std.proofs.Common.{◌≡◌, ℕ, refl, not, ◌==◌, Bool, true, false, ◌&&◌, ◌||◌}
 use Rattle.esr_locks.specs.Modes.{Read, Write, conflicts}
 use Rattle.esr_locks.specs.Tables.{is_reader, is_writer, keeps_from}

@@ -1,3 +1,4 @@
+-- Why `LockTable::items_of` keeps its contract: the goals that are left to a proof of ours.
 use Rattle.std.proofs.Common.{◌≡◌, ℕ, ◌<◌, ◌≤◌, subst, map, length, true, List, arith, []}
 use Rattle.esr_items.specs.declared.metric.ItemId.{ItemId}
 use Rattle.esr_locks.specs.Rows.{RowOf, held_at}

@@ -1,3 +1,4 @@
+-- Why `Index::extend` keeps its contract: the goals that are left to a proof of ours.
 use Rattle.std.proofs.Common.{◌≡◌, ◌∙◌, slice_get, Some, sym, ap}
 use Rattle.esr_order.proofs.Indexes.{index_more}
 use Rattle.esr_order.proofs.index.Index.extend.Goals as goal

@@ -1,3 +1,4 @@
+-- What holds at each turn of the loop in `Index::extend`.
 use Rattle.std.proofs.Common.{◌-◌, length}
 use Rattle.esr_order.specs.Index.{IsIndexOf}
 use Rattle.esr_order.proofs.index.Index.extend.Given as goal

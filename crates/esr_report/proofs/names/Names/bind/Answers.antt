@@ -1,3 +1,4 @@
+-- Why `Names::bind` keeps its contract: the goals that are left to a proof of ours.
 use Rattle.std.proofs.Common.{◌≡◌, ◌≤◌, ◌<◌, ◌^◌, length-append, List, length, ◌∙◌, map, ap, ◌++◌, ◌∷◌, [], false, arith, rules, None, bytes_eq}
 use Rattle.std.specs.List.{list_any}
 use Rattle.arrayvec.specs.declared.array_string.ArrayString.{ArrayString}

@@ -1,3 +1,4 @@
+-- Why `Names::number_of` keeps its contract: the goals that are left to a proof of ours.
 use Rattle.std.proofs.Common.{◌<◌, length, ◌∙◌, sym, ap, rules, position, bytes_eq}
 use Rattle.arrayvec.specs.declared.array_string.ArrayString.{ArrayString}
 use Rattle.esr_report.specs.Names.{position_of}

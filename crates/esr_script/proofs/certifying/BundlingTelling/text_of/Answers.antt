@@ -1,3 +1,4 @@
+-- Why `BundlingTelling::text_of` keeps its contract: the goals that are left to a proof of ours.
 use Rattle.std.proofs.lemmas.Result.{IfOk-weaker}
 use Rattle.esr_script.proofs.Replays.{bundle_told}
 use Rattle.esr_script.proofs.certifying.BundlingTelling.text_of.Goals as goal

@@ -1,3 +1,4 @@
+-- Why `Pending::fill` keeps its contract: the goals that are left to a proof of ours.
 use Rattle.std.proofs.Common.{refl, ◌∙◌, arith}
 use Rattle.esr_script.proofs.Buffers.{has_room, kept, filled}
 use Rattle.esr_script.proofs.pending.Pending.fill.Goals as goal

@@ -1,3 +1,4 @@
+-- Why `Script::asked` keeps its contract: the goals that are left to a proof of ours.
 use Rattle.std.proofs.Common.{◌∙◌, ap, sym, subst}
 use Rattle.esr_telling.specs.Ask.{IsFoundOf}
 use Rattle.esr_script.specs.Text.{ScriptState}

@@ -1,3 +1,4 @@
+-- Why `Stage::close` keeps its contract: the goals that are left to a proof of ours.
 use Rattle.std.proofs.Common.{refl, ◌∙◌}
 use Rattle.esr_script.proofs.Opens.{opens}
 use Rattle.esr_script.proofs.stage.Stage.close.Goals as goal
