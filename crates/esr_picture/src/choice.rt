@@ -2,7 +2,9 @@
 //!
 //! Of few updates all are. Else a lane needs those that bound its version at the line and the one nearest to what was
 //! read; what is between is one dotted piece with a count. Lanes that are off come first, and then those without which
-//! the picture would contradict its line (`weighing`).
+//! the picture would contradict its line (`weighing`). These are drawn also where there is no room for the updates that
+//! they need, and the line then crosses a dotted piece: a lane that was left out would take what it is off out of the
+//! sum, and the sum is what the picture is about.
 
 use crate::weighing::{Costs, Places, against};
 use esr_cert::{Chain, Problem};
@@ -40,7 +42,7 @@ pub struct Choice {
 }
 
 /// Whether each of so many positions is in the set.
-fn marked(alloc: Global, count: usize, set: &[u32]) -> Result<Vec<bool>, AllocError> {
+fn marks_of(alloc: Global, count: usize, set: &[u32]) -> Result<Vec<bool>, AllocError> {
     let mut marks = vec![in alloc; false; count]?;
     for position in set {
         if let Some(mark) = marks.get_mut(*position as usize) {
@@ -80,7 +82,7 @@ fn crossings(
 }
 
 /// The lanes, those that are off most first, and those that are off alike as they come.
-fn ranked(alloc: Global, crossings: &[Crossing]) -> Result<Vec<usize>, AllocError> {
+fn ranking(alloc: Global, crossings: &[Crossing]) -> Result<Vec<usize>, AllocError> {
     let mut ranks = Vec::new(alloc);
     for (lane, crossing) in crossings.iter().enumerate() {
         ranks.push((u64::MAX - crossing.off, lane))?;
@@ -110,56 +112,66 @@ fn maker_of(chain: &Chain, version: usize) -> Option<u32> {
 }
 
 /// Those updates that make or end the version at the line or another one, and are not drawn yet.
-fn missing(
+fn bounds_of(
     alloc: Global,
     chain: &Chain,
     crossing: Crossing,
     other: usize,
     drawn: &[u32],
 ) -> Result<Vec<u32>, AllocError> {
-    let wanted = [
+    let bounds = [
         maker_of(chain, crossing.version),
         end_of(chain, crossing.version),
         maker_of(chain, other),
         end_of(chain, other),
     ];
-    let mut missing = Vec::new(alloc);
-    for update in wanted.iter().flatten() {
-        if !drawn.contains(update) && !missing.contains(update) {
-            missing.push(*update)?;
+    let mut new = Vec::new(alloc);
+    for update in bounds.iter().flatten() {
+        if !drawn.contains(update) && !new.contains(update) {
+            new.push(*update)?;
         }
     }
-    Ok(missing)
+    Ok(new)
 }
 
-/// The lanes in the order in which there is to be room for them: those that are off, most first; those without which the
-/// drawn ones would be cheaper elsewhere; and the others as they come.
-fn wanted(
+/// The lanes that may be drawn.
+#[derive(Drop)]
+struct Candidates {
+    /// In the order in which there is to be room for them: those that are off, most first; those without which the drawn
+    /// ones would be cheaper elsewhere; and the others as they come.
+    lanes: Vec<usize>,
+    /// How many are of the first two kinds.
+    needed: usize,
+}
+
+/// The lanes that may be drawn.
+fn candidates_of(
     alloc: Global,
     problem: &Problem,
     crossings: &[Crossing],
     places: &Places,
-) -> Result<Vec<usize>, AllocError> {
+) -> Result<Candidates, AllocError> {
     let chains = problem.chains();
-    let ranked = ranked(alloc, crossings)?;
-    let mut wanted: Vec<usize> = Vec::new(alloc);
+    let ranking = ranking(alloc, crossings)?;
+    let mut lanes: Vec<usize> = Vec::new(alloc);
     let mut costs = Costs::none(alloc, problem.updates().len())?;
-    for lane in ranked.iter().take(MOST_LANES) {
+    for lane in ranking.iter().take(MOST_LANES) {
         if let (Some(chain), Some(crossing)) = (chains.get(*lane), crossings.get(*lane)) {
             if crossing.off > 0 {
                 costs.add(chain, places);
-                wanted.push(*lane)?;
+                lanes.push(*lane)?;
             }
         }
     }
-    push_speaking_against(&mut wanted, &mut costs, chains, crossings, places)?;
-    push_others(&mut wanted, &ranked)?;
-    Ok(wanted)
+    push_speaking_against(&mut lanes, &mut costs, chains, crossings, places)?;
+    let needed = lanes.len();
+    push_others(&mut lanes, &ranking)?;
+    Ok(Candidates { lanes, needed })
 }
 
 /// Adds the lanes without which others would be cheaper elsewhere than at the line.
 fn push_speaking_against(
-    wanted: &mut Vec<usize>,
+    lanes: &mut Vec<usize>,
     costs: &mut Costs,
     chains: &[Chain],
     crossings: &[Crossing],
@@ -169,22 +181,22 @@ fn push_speaking_against(
         let Some(place) = costs.cheaper_place(places) else {
             break;
         };
-        let Some(lane) = against(chains, crossings, places, place, wanted) else {
+        let Some(lane) = against(chains, crossings, places, place, lanes) else {
             break;
         };
         if let Some(chain) = chains.get(lane) {
             costs.add(chain, places);
         }
-        wanted.push(lane)?;
+        lanes.push(lane)?;
     }
     Ok(())
 }
 
 /// Adds the first of the other lanes, as many as may be drawn.
-fn push_others(wanted: &mut Vec<usize>, ranked: &[usize]) -> Result<(), AllocError> {
-    for lane in ranked.iter().take(MOST_LANES * 3) {
-        if !wanted.contains(lane) {
-            wanted.push(*lane)?;
+fn push_others(lanes: &mut Vec<usize>, ranking: &[usize]) -> Result<(), AllocError> {
+    for lane in ranking.iter().take(MOST_LANES * 3) {
+        if !lanes.contains(lane) {
+            lanes.push(*lane)?;
         }
     }
     Ok(())
@@ -200,31 +212,52 @@ fn needs(
     most: usize,
 ) -> Result<Option<Vec<u32>>, AllocError> {
     let room = most.saturating_sub(drawn.len());
-    let both = missing(alloc, chain, crossing, nearest(chain), drawn)?;
+    let both = bounds_of(alloc, chain, crossing, nearest(chain), drawn)?;
     if both.len() <= room {
         return Ok(Some(both));
     }
-    let at_line = missing(alloc, chain, crossing, crossing.version, drawn)?;
+    let at_line = bounds_of(alloc, chain, crossing, crossing.version, drawn)?;
     Ok((at_line.len() <= room).then_some(at_line))
 }
 
-/// As many of the lanes as there is room for, and the updates that they need beside those that are drawn.
-fn fitting(
+/// Draws a lane, and the updates that it needs beside those that are drawn. Where there is no room for these, it draws
+/// none of them, and a lane that is not needed neither.
+fn draw_lane(
+    lanes: &mut Vec<usize>,
+    drawn: &mut Vec<u32>,
+    lane: usize,
+    needs: Option<Vec<u32>>,
+    is_needed: bool,
+) -> Result<(), AllocError> {
+    if lanes.len() >= MOST_LANES {
+        return Ok(());
+    }
+    match needs {
+        Some(more) => {
+            drawn.extend_from_slice(&more)?;
+            lanes.push(lane)?;
+        }
+        None if is_needed => lanes.push(lane)?,
+        None => {}
+    }
+    Ok(())
+}
+
+/// The lanes that are drawn, and the updates that they need beside those that are drawn.
+fn draw_lanes(
     alloc: Global,
     chains: &[Chain],
     crossings: &[Crossing],
-    wanted: &[usize],
+    candidates: &Candidates,
     drawn: &mut Vec<u32>,
     most: usize,
 ) -> Result<Vec<usize>, AllocError> {
     let mut lanes = Vec::new(alloc);
-    for lane in wanted {
+    for (place, lane) in candidates.lanes.iter().enumerate() {
         if let (Some(chain), Some(crossing)) = (chains.get(*lane), crossings.get(*lane)) {
             let needs = needs(alloc, chain, *crossing, drawn, most)?;
-            if let (Some(more), true) = (needs, lanes.len() < MOST_LANES) {
-                drawn.extend_from_slice(&more)?;
-                lanes.push(*lane)?;
-            }
+            let is_needed = place < candidates.needed;
+            draw_lane(&mut lanes, drawn, *lane, needs, is_needed)?;
         }
     }
     Ok(lanes)
@@ -271,17 +304,17 @@ pub fn choose(
     most: usize,
 ) -> Result<Choice, AllocError> {
     let count = problem.updates().len();
-    let inside = marked(alloc, count, set)?;
+    let inside = marks_of(alloc, count, set)?;
     let crossings = crossings(alloc, problem.chains(), &inside)?;
     let places = Places::new(alloc, &inside, problem.must())?;
-    let wanted = wanted(alloc, problem, &crossings, &places)?;
+    let candidates = candidates_of(alloc, problem, &crossings, &places)?;
     let mut updates = if count <= FEW_UPDATES && count <= most {
         (0..count as u32).collect(alloc)?
     } else {
         Vec::new(alloc)
     };
     let chains = problem.chains();
-    let mut lanes = fitting(alloc, chains, &crossings, &wanted, &mut updates, most)?;
+    let mut lanes = draw_lanes(alloc, chains, &crossings, &candidates, &mut updates, most)?;
     lanes.sort_unstable();
     updates.sort_unstable();
     Ok(Choice {

@@ -1,13 +1,15 @@
 //! What is told of a query that is drawn.
 //!
-//! What is drawn promises nothing of its own, so it is tested before anything rests on it: a picture with an element of
-//! its own name in it would be broken in a page, and an empty one stands for it. That never comes: no part of a picture
-//! writes that name.
+//! What is drawn promises nothing of its own, so it is tested before anything rests on it: a picture with an element
+//! that stays open, or with one of its own name in it, would be broken in a page, and an empty one stands for it. That
+//! never comes: each part that is written closes what it opens, and none has that name.
 
 ghost use Rattle.std.specs.Prelude.{◌≡◌, IfOk, codes, true, string_bytes};
-ghost use Rattle.esr_picture.specs.Picture.{IsSvg, Lacks};
+ghost use Rattle.esr_picture.specs.Markup.{Attributes, IsMarkup};
+ghost use Rattle.esr_picture.specs.Picture.{IsSvg, IsWithin, Lacks};
 
-use crate::svg::body_of;
+use crate::markup::{is_attributes, is_markup};
+use crate::svg::{Parts, parts_of};
 use esr_prose::Audited;
 use esr_telling::{Asked, Telling};
 use std::alloc::{AllocError, Global};
@@ -19,25 +21,53 @@ fn lacks(text: &str, word: &str) -> bool
     !text.contains(word)
 }
 
-/// What is drawn, or nothing where it would not be within one element.
-fn within_one(alloc: Global, body: String) -> String
-    ensures begins { Lacks (codes "<svg") (string_bytes result) }
-    ensures ends { Lacks (codes "</svg") (string_bytes result) }
+/// Whether a text may stand within the element of a picture.
+fn is_within(alloc: Global, body: &str) -> Result<bool, AllocError>
+    ensures { IfOk result (λ is. is ≡ true → IsWithin body.now) }
 {
-    if lacks(&body, "<svg") && lacks(&body, "</svg") {
-        body
+    let is_markup = is_markup(alloc, body)?;
+    Ok(is_markup && lacks(body, "<svg") && lacks(body, "</svg"))
+}
+
+/// What is drawn, or nothing where it may not stand within one element.
+fn within_one(alloc: Global, body: String) -> Result<String, AllocError>
+    ensures { IfOk result (λ kept. IsWithin (string_bytes kept)) }
+{
+    if is_within(alloc, body.as_str())? {
+        Ok(body)
+    } else {
+        Ok(String::new(alloc))
+    }
+}
+
+/// The attributes, or none where they are no attributes.
+fn in_quotes(alloc: Global, attributes: String) -> String
+    ensures { Attributes (string_bytes result) }
+{
+    if is_attributes(attributes.as_str()) {
+        attributes
     } else {
         String::new(alloc)
     }
+}
+
+/// The element with these parts.
+fn element(alloc: Global, parts: Parts) -> Result<String, AllocError>
+    ensures { IfOk result (λ text. IsSvg (string_bytes text)) }
+{
+    let Parts { attributes, body } = parts;
+    let attributes = in_quotes(alloc, attributes);
+    let body = within_one(alloc, body)?;
+    let text = format!(in alloc; "<svg{attributes}>{body}</svg>\n")?;
+    Ok(text)
 }
 
 /// The picture of the audit of a query.
 pub fn picture<'a>(alloc: Global, audited: &'a Audited<'a>) -> Result<String, AllocError>
     ensures { IfOk result (λ text. IsSvg (string_bytes text)) }
 {
-    let body = within_one(alloc, body_of(alloc, audited)?);
-    let text = format!(in alloc; "<svg {body}</svg>\n")?;
-    Ok(text)
+    let parts = parts_of(alloc, audited)?;
+    element(alloc, parts)
 }
 
 /// The bytes of a picture.

@@ -11,6 +11,9 @@ use esr_prose::{letters_of, number_letters};
 /// No picture is wider, as long as what it has to show can be folded.
 const WIDEST: u32 = 1100;
 
+/// So many letters there are at most behind the words on a value that did not stay.
+const MOST_ENDING: usize = 22;
+
 /// From lane to lane, and where a lane tells of a value that did not stay.
 const LANE: u32 = 76;
 
@@ -170,12 +173,29 @@ fn factors_widths(scene: &Scene<'_>) -> u16
     widest.unwrap_or(0).max(off_widths(scene)).min(1280)
 }
 
+/// The width of what a lane tells of values that did not stay, with the sign before it.
+fn lane_strays_width(lane: &Lane<'_>) -> u32
+    ensures { result ≤ 1000 }
+{
+    let Some(stray) = lane.strays.first else {
+        return 0;
+    };
+    let words = stray.writer.len().min(20) + stray.fate.len().min(30);
+    let letters = letters_of(stray.value).min(30) + words + 17;
+    let ending = if stray.has_piece || lane.strays.more > 0 {
+        MOST_ENDING
+    } else {
+        0
+    };
+    (letters + ending) as u32 * 8 + 38
+}
+
 /// The width of what lanes tell of values that did not stay.
 fn strays_width(scene: &Scene<'_>) -> u32
     ensures { result ≤ 1000 }
 {
-    let has_strays = scene.lanes.iter().any(|lane| lane.strays.first.is_some());
-    if has_strays { 760 } else { 0 }
+    let widest = scene.lanes.iter().map(lane_strays_width).max();
+    widest.unwrap_or(0).min(1000)
 }
 
 /// The width of the longest sentence above the lanes.
@@ -190,9 +210,10 @@ impl Frame {
     /// The sizes of a scene.
     pub fn of(scene: &Scene<'_>) -> Frame {
         let box_width = box_width(scene);
+        let left = labels_width(scene) + 40;
         let has_strays = scene.lanes.iter().any(|lane| lane.strays.first.is_some());
         Frame {
-            left: labels_width(scene) + 40,
+            left,
             pitch: (box_width + 24).max(values_width(scene) + 16),
             box_width,
             arches: arches(scene),
@@ -202,7 +223,7 @@ impl Frame {
             sentences: scene.sentences.len().min(9) as u8,
             words: sentences_width(scene)
                 .max(keys_width(scene))
-                .max(strays_width(scene)),
+                .max(strays_width(scene) + u32::from(left)),
             off_width: off_widths(scene),
             factors_width: factors_widths(scene),
         }
@@ -300,6 +321,6 @@ impl Frame {
     pub fn height(&self) -> u32
         ensures { result ≤ 200000 }
     {
-        self.floor() + 138
+        self.floor() + 160
     }
 }

@@ -26,6 +26,7 @@ text{font:12px sans-serif;fill:#1f2328}\n\
 .t{stroke:#57606a;stroke-width:2}\n\
 .v{stroke:#b4bcc4;stroke-width:4}\n\
 .s{stroke-dasharray:4 4}\n\
+.f{stroke:#2da565;stroke-width:6}\n\
 .u{stroke:#2da565;stroke-width:11}\n\
 .l{stroke:#1f2328;stroke-width:2}\n\
 .y{stroke-width:14}\n\
@@ -35,23 +36,25 @@ text{font:12px sans-serif;fill:#1f2328}\n\
 @media (prefers-color-scheme:dark){\n\
 text{fill:#e6edf3}.q{fill:#9aa4af}.g{fill:#4cc47c}.r{fill:#ff7b72}.o{stroke:#0d1117}.p{fill:#0d1117}\n\
 .b{fill:#1d3a57;stroke:#6ea8dc}.a{fill:#22272e;stroke:#68737f}.w{stroke:#9aa4af}.k{fill:#9aa4af}\n\
-.d{stroke:#57606a}.t{stroke:#9aa4af}.v{stroke:#56606b}.u{stroke:#2f9e5f}.l{stroke:#e6edf3}\n\
+.d{stroke:#57606a}.t{stroke:#9aa4af}.v{stroke:#56606b}.f{stroke:#2f9e5f}.u{stroke:#2f9e5f}.l{stroke:#e6edf3}\n\
 .c{fill:#0d1117;stroke:#ff7b72}}\n\
 </style>\n";
 
-/// The attributes of the element.
-fn push_attributes(
+/// The attributes of the element, with a blank before each.
+pub fn push_attributes(
     out: &mut String,
-    query: &str,
-    width: u32,
-    height: u32,
+    scene: &Scene<'_>,
+    frame: &Frame,
 ) -> Result<(), AllocError> {
+    let query = scene.query;
+    let width = frame.width(scene.line);
+    let height = frame.height();
     write!(
         out,
-        "xmlns='http://www.w3.org/2000/svg' viewBox='0 0 {width} {height}'"
+        " xmlns='http://www.w3.org/2000/svg' viewBox='0 0 {width} {height}'"
     )?;
     write!(out, " width='{width}' height='{height}' role='img'")?;
-    write!(out, " aria-labelledby='{query}-title {query}-desc'>\n")
+    write!(out, " aria-labelledby='{query}-title {query}-desc'")
 }
 
 /// The names of the updates before the line, for the description.
@@ -149,11 +152,11 @@ fn push_tip(out: &mut String, query: &str) -> Result<(), AllocError> {
     out.push_str("<path class='k' d='M0 1L7 4L0 7'/></marker></defs>\n")
 }
 
-/// The attributes of the element, the title and the description, the style and the paper.
+/// The title and the description, the style and the paper.
 pub fn push_head(out: &mut String, scene: &Scene<'_>, frame: &Frame) -> Result<(), AllocError> {
     let width = frame.width(scene.line);
     let height = frame.height();
-    push_attributes(out, scene.query, width, height)?;
+    out.push('\n')?;
     push_description(out, scene)?;
     out.push_str(STYLE)?;
     push_tip(out, scene.query)?;

@@ -1,4 +1,4 @@
-//! The legend: what each colour and line means, of those that occur in the picture, two above one another.
+//! The legend: what each colour and line means, of those that occur in the picture, three above one another.
 
 ghost use Rattle.std.specs.Prelude.{◌≤◌};
 
@@ -11,6 +11,8 @@ use std::alloc::AllocError;
 enum Key {
     Read,
     Other,
+    Several,
+    SeveralRead,
     Stray,
     Before,
     After,
@@ -20,13 +22,15 @@ enum Key {
 }
 
 /// The keys, in the order in which they are drawn.
-const KEYS: [Key; 8] = [
+const KEYS: [Key; 10] = [
     Key::Read,
     Key::Other,
+    Key::Nearest,
     Key::Before,
     Key::After,
     Key::First,
-    Key::Nearest,
+    Key::Several,
+    Key::SeveralRead,
     Key::Stray,
     Key::Must,
 ];
@@ -39,6 +43,8 @@ fn words_of(key: Key) -> &'static str {
     match key {
         Key::Read => "value that it read",
         Key::Other => "other value",
+        Key::Several => "several values",
+        Key::SeveralRead => "several, some of them read",
         Key::Stray => "read, and did not stay",
         Key::Before => "update before the line",
         Key::After => "update after it",
@@ -49,8 +55,17 @@ fn words_of(key: Key) -> &'static str {
 }
 
 /// Whether a lane has a value that was read, or one that was not.
-fn has_value(lane: &Lane<'_>, read: bool) -> bool {
-    lane.stretches.iter().any(|s| (s.reads > 0) == read)
+fn has_value(lane: &Lane<'_>, is_read: bool) -> bool {
+    lane.stretches
+        .iter()
+        .any(|s| s.versions == 1 && (s.reads > 0) == is_read)
+}
+
+/// Whether a lane has a stretch of several values of which some were read, or none.
+fn has_several(lane: &Lane<'_>, is_read: bool) -> bool {
+    lane.stretches
+        .iter()
+        .any(|s| s.versions > 1 && (s.seen > 0) == is_read)
 }
 
 /// Whether the picture has what a key means.
@@ -58,6 +73,8 @@ fn occurs(scene: &Scene<'_>, key: Key) -> bool {
     match key {
         Key::Read => scene.lanes.iter().any(|lane| has_value(lane, true)),
         Key::Other => scene.lanes.iter().any(|lane| has_value(lane, false)),
+        Key::Several => scene.lanes.iter().any(|lane| has_several(lane, false)),
+        Key::SeveralRead => scene.lanes.iter().any(|lane| has_several(lane, true)),
         Key::Stray => scene.lanes.iter().any(|lane| lane.strays.first.is_some()),
         Key::Before => scene.updates.iter().any(|u| u.slot < scene.line),
         Key::After => scene.updates.iter().any(|u| u.slot > scene.line),
@@ -75,8 +92,8 @@ pub fn keys_width(scene: &Scene<'_>) -> u32
         .iter()
         .filter(|key| occurs(scene, **key))
         .count()
-        .min(8) as u32;
-    KEY_WIDTH * count.div_ceil(2)
+        .min(10) as u32;
+    KEY_WIDTH * count.div_ceil(3)
 }
 
 /// A small box.
@@ -96,6 +113,8 @@ fn push_sign(out: &mut String, query: &str, key: Key, x: u32, y: u32) -> Result<
     match key {
         Key::Read => push_horizontal(out, "u", middle, x, x + 26),
         Key::Other => push_horizontal(out, "v", middle, x, x + 26),
+        Key::Several => push_horizontal(out, "v s", middle, x, x + 26),
+        Key::SeveralRead => push_horizontal(out, "f s", middle, x, x + 26),
         Key::Stray => push_horizontal(out, "u s", middle, x, x + 26),
         Key::Before => push_box(out, "b", x, y),
         Key::After => push_box(out, "a", x, y),
@@ -109,17 +128,14 @@ fn push_sign(out: &mut String, query: &str, key: Key, x: u32, y: u32) -> Result<
 pub fn push_keys(out: &mut String, scene: &Scene<'_>, y: u32) -> Result<(), AllocError>
     requires { y ≤ 200000 }
 {
-    let mut x = 20u32;
-    let mut is_upper = true;
+    let mut place = 0u32;
     for key in KEYS {
         if occurs(scene, key) {
-            let low = if is_upper { y } else { y + 22 };
-            push_sign(out, scene.query, key, x.min(2000), low)?;
-            push_text(out, "q", x.saturating_add(34), low, words_of(key))?;
-            if !is_upper {
-                x = x.saturating_add(KEY_WIDTH);
-            }
-            is_upper = !is_upper;
+            let x = 20 + KEY_WIDTH * (place / 3).min(3);
+            let low = y + 22 * (place % 3);
+            push_sign(out, scene.query, key, x, low)?;
+            push_text(out, "q", x + 34, low, words_of(key))?;
+            place = place.saturating_add(1);
         }
     }
     out.push_str("\n")

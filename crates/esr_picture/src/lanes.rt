@@ -99,6 +99,8 @@ fn class_of(stretch: Stretch) -> &'static str {
         "u y"
     } else if stretch.reads == 1 {
         "u"
+    } else if stretch.versions > 1 && stretch.seen > 0 {
+        "f s"
     } else if stretch.versions > 1 {
         "v s"
     } else {
@@ -165,11 +167,19 @@ fn push_strays(out: &mut String, strays: &Strays<'_>, left: u32, y: u32) -> Resu
     out.push_str(stray.writer)?;
     out.push_str(", which ")?;
     out.push_str(stray.fate)?;
-    if strays.more > 0 {
-        let more = strays.more;
+    push_ending(out, stray.has_piece, strays.more)?;
+    out.push_str("</text>\n")
+}
+
+/// The end of the words on a value that did not stay: at most 22 letters.
+fn push_ending(out: &mut String, has_piece: bool, more: usize) -> Result<(), AllocError> {
+    if has_piece {
+        return out.push_str("; it is above as well");
+    }
+    if more > 0 {
         write!(out, "; and {more} more")?;
     }
-    out.push_str("</text>\n")
+    Ok(())
 }
 
 /// The values that did not stay, lane by lane.
@@ -252,12 +262,18 @@ fn push_line(out: &mut String, query: &str, line: u8, frame: &Frame) -> Result<(
 }
 
 /// The axis: the updates one after another, from before all of them to behind the last.
-fn push_axis(out: &mut String, query: &str, frame: &Frame) -> Result<(), AllocError> {
+fn push_axis(out: &mut String, scene: &Scene<'_>, frame: &Frame) -> Result<(), AllocError> {
     let y = frame.floor() + 32;
-    push_straight(out, query, y, frame.x(0), frame.end())?;
+    let has_updates = !scene.updates.is_empty() || scene.other_updates > 0;
+    let start = if has_updates {
+        "before all updates"
+    } else {
+        "the start"
+    };
+    push_straight(out, scene.query, y, frame.x(0), frame.end())?;
     push_text(out, "q", 20, y + 4, "serial order")?;
-    push_text(out, "q", frame.x(0), y + 18, "before all updates")?;
-    if frame.end() > frame.x(0) + 280 {
+    push_text(out, "q", frame.x(0), y + 18, start)?;
+    if has_updates && frame.end() > frame.x(0) + 280 {
         open_before(out, "q", frame.end(), y + 18)?;
         close_text(out, "after all of them")?;
     }
@@ -267,21 +283,25 @@ fn push_axis(out: &mut String, query: &str, frame: &Frame) -> Result<(), AllocEr
 /// The lanes and the line.
 pub fn push_audit(out: &mut String, scene: &Scene<'_>, frame: &Frame) -> Result<(), AllocError> {
     push_lanes(out, &scene.lanes, frame)?;
-    push_axis(out, scene.query, frame)?;
+    push_axis(out, scene, frame)?;
     push_line(out, scene.query, scene.line, frame)?;
     push_all_strays(out, &scene.lanes, frame)?;
     push_crossings(out, scene, frame)
 }
 
-/// How many items are not drawn, and how many of them are off.
-fn push_other_items(out: &mut String, items: u64, off: u64) -> Result<(), AllocError> {
+/// How many items are not drawn, and how many of them are off, and by how much.
+fn push_other_items(out: &mut String, items: u64, off: u64, sum: u64) -> Result<(), AllocError> {
     push_count(out, items, " more item", " more items")?;
     if off == 0 {
         return out.push_str(", as read");
     }
     out.push_str(", ")?;
-    push_number(out, off)?;
-    out.push_str(" of them off")
+    if items > 1 {
+        push_number(out, off)?;
+        out.push_str(" of them ")?;
+    }
+    out.push_str("off by ")?;
+    push_number(out, sum)
 }
 
 /// How many updates and items are not drawn, where not all are.
@@ -299,10 +319,11 @@ pub fn push_others(out: &mut String, scene: &Scene<'_>, y: u32) -> Result<(), Al
         out.push_str("; ")?;
     }
     if items > 0 {
-        push_other_items(out, items, scene.others_off as u64)?;
+        push_other_items(out, items, scene.others_off as u64, scene.others_sum)?;
     }
+    out.push('.')?;
     if scene.others_decide {
-        out.push_str(", which keep the line from other places")?;
+        out.push_str(" What is not drawn keeps the line from other places.")?;
     }
-    out.push_str(".</text>\n")
+    out.push_str("</text>\n")
 }

@@ -5,7 +5,8 @@
 //! It is a subcommand, written by a proved crate, since a tool beside the program would have to run scripts itself: a
 //! bundle has no values. It draws lanes, and not the network with its cut and flow, which tells nothing to whoever does
 //! not know it: a lane is a chain and a line is a cut, so the picture shows what the audit decides. What it shows is
-//! promised by no clause; `checks/pictures` compares it with a replay of the script.
+//! promised by no clause, but that it is one element in which each other is closed; `checks/pictures` compares it with a
+//! replay of the script.
 #![tactic(auto)]
 
 mod boxes;
@@ -16,6 +17,7 @@ mod frame;
 mod head;
 mod keys;
 mod lanes;
+mod markup;
 mod order;
 mod scene;
 mod sights;
@@ -24,3 +26,4 @@ mod weighing;
 mod written;
 
 pub use drawing::{Drawing, picture};
+pub use markup::markup_or_nothing;

@@ -6,7 +6,7 @@
 use crate::choice::{Choice, MOST_LANES, MOST_UPDATES, choose};
 use crate::frame::Frame;
 use crate::order::{Arrow, Slots, arrows};
-use crate::sights::{LaneReads, Strays, count_of, reads_of, strays_of};
+use crate::sights::{LaneReads, Strays, count_of, reads_of, seen_by_writer, strays_of};
 use crate::written::{Written, written_by};
 use esr_cert::Chain;
 use esr_items::{ItemId, Metric};
@@ -27,6 +27,8 @@ pub struct Stretch {
     pub versions: usize,
     /// How often the value was read, where it is one version.
     pub reads: u64,
+    /// How often its versions were read.
+    pub seen: u64,
 }
 
 /// A lane: an item that was read.
@@ -69,22 +71,24 @@ pub struct Scene<'a> {
     /// How many updates before the query's commit are not drawn, and how many items that it read.
     pub other_updates: u64,
     pub other_items: usize,
-    /// How many of those items are off.
+    /// How many of those items are off, and by how much together.
     pub others_off: usize,
+    pub others_sum: u64,
     /// Whether items that are not drawn are why the line is where it is.
     pub others_decide: bool,
 }
 
-/// How many lanes are off that are not drawn.
-fn others_off(choice: &Choice) -> usize {
-    let all = choice.crossings.iter().filter(|c| c.off != 0).count();
-    let drawn = choice
-        .lanes
-        .iter()
-        .filter_map(|lane| choice.crossings.get(*lane))
-        .filter(|c| c.off != 0)
-        .count();
-    all.saturating_sub(drawn)
+/// How many lanes that are not drawn are off, and by how much together.
+fn others_off(choice: &Choice) -> (usize, u64) {
+    let mut count = 0usize;
+    let mut sum = 0u64;
+    for (lane, crossing) in choice.crossings.iter().enumerate() {
+        if crossing.off > 0 && !choice.lanes.contains(&lane) {
+            count = count.saturating_add(1);
+            sum = sum.saturating_add(crossing.off);
+        }
+    }
+    (count, sum)
 }
 
 /// The updates that are drawn, those before the line first.
@@ -152,13 +156,21 @@ impl<'a> SceneParts<'a> {
     }
 
     /// A stretch of one version.
-    fn version(&self, item: ItemId, from: u8, value: i64) -> Stretch {
+    fn version(&self, item: ItemId, from: u8, value: i64, seen: u64) -> Stretch {
         Stretch {
             from,
             value,
             versions: 1,
             reads: count_of(self.story, item, value),
+            seen,
         }
+    }
+
+    /// How often the version of an update was read, by its position.
+    fn seen(&self, by_writer: &[u64], writer: u32) -> u64 {
+        let txn = self.asked.finding.problem.updates().get(writer as usize);
+        let number = txn.map_or(usize::MAX, |txn| txn.0 as usize);
+        by_writer.get(number).copied().unwrap_or(0)
     }
 
     /// The stretches of a lane.
@@ -168,18 +180,23 @@ impl<'a> SceneParts<'a> {
         chain: &Chain,
         lane: usize,
     ) -> Result<Vec<Stretch>, AllocError> {
+        let begun = self.asked.history.begun_count();
+        let by_writer = seen_by_writer(alloc, self.story, chain.item, begun)?;
+        let at_start = by_writer.first().copied().unwrap_or(0);
         let mut stretches = Vec::new(alloc);
-        let mut last = self.version(chain.item, 0, self.opening(chain.item));
+        let mut last = self.version(chain.item, 0, self.opening(chain.item), at_start);
         for writer in &chain.writers {
             let slot = self.slots.of(*writer);
+            let seen = self.seen(&by_writer, *writer);
             match self.written.value(lane, slot) {
                 Some(value) if slot != 0 => {
                     stretches.push(last)?;
-                    last = self.version(chain.item, slot, value);
+                    last = self.version(chain.item, slot, value, seen);
                 }
                 _ => {
                     last.versions = last.versions.saturating_add(1);
                     last.reads = 0;
+                    last.seen = last.seen.saturating_add(seen);
                 }
             }
         }
@@ -268,6 +285,7 @@ impl<'a> SceneParts<'a> {
         let sentences = sentences_of(alloc, self.asked, self.story)?;
         let updates = self.updates(alloc)?;
         let lanes = self.lanes(alloc)?;
+        let (others_off, others_sum) = others_off(&self.choice);
         Ok(Scene {
             query: name_of_transaction(self.asked.transactions, finding.query),
             distance: finding.distance,
@@ -276,7 +294,8 @@ impl<'a> SceneParts<'a> {
             arrows,
             other_updates: self.story.committed.saturating_sub(updates.len() as u64),
             other_items: self.choice.crossings.len().saturating_sub(lanes.len()),
-            others_off: others_off(&self.choice),
+            others_off,
+            others_sum,
             others_decide: self.choice.is_cheaper_elsewhere,
             line: self.line,
             updates,

@@ -1,5 +1,6 @@
-//! What was read in a lane: the values that it was read with, and those that are nowhere in the order, since their
-//! writer aborted, came later, or wrote over them.
+//! What was read in a lane: the values that it was read with, and those that did not stay, since their writer aborted,
+//! came later, or wrote over them. A lane may have the value of one all the same, of another update: its piece is green
+//! then, since audits compare values and nothing else, and whose the value was is told as well.
 
 use esr_items::ItemId;
 use esr_prose::{Audited, End, Sight, Story};
@@ -13,16 +14,18 @@ pub struct LaneReads {
     pub count: u64,
 }
 
-/// A value that was read and is no version of the item.
+/// A value that was read and did not stay.
 #[derive(Clone, Copy)]
 pub struct Stray<'a> {
     pub value: i64,
     pub writer: &'a str,
     /// What became of it, in words that follow the writer's name.
     pub fate: &'static str,
+    /// Whether a piece of the lane has that value, of another update.
+    pub has_piece: bool,
 }
 
-/// The strays of a lane: the first, and how many more there are.
+/// The strays of a lane: the first, of those without a piece if there is one, and how many more there are.
 #[derive(Clone, Copy)]
 pub struct Strays<'a> {
     pub first: Option<Stray<'a>>,
@@ -53,7 +56,34 @@ pub fn count_of(story: &Story, item: ItemId, value: i64) -> u64 {
     count
 }
 
-/// What became of a value that was read, if it is no version of its item.
+/// Whether a value that was read is a version of its item.
+fn is_kept(story: &Story, sight: &Sight) -> bool {
+    match sight.writer {
+        Some(writer) => story.end(writer) == End::Committed && !sight.overwritten,
+        None => true,
+    }
+}
+
+/// How often an item was read with what each transaction left, by the number of the transaction, of which there are so
+/// many; and at place 0 how often as it was at the start.
+pub fn seen_by_writer(
+    alloc: Global,
+    story: &Story,
+    item: ItemId,
+    begun: usize,
+) -> Result<Vec<u64>, AllocError> {
+    let mut seen = vec![in alloc; 0u64; begun.saturating_add(1)]?;
+    for sight in &story.sights {
+        let number = sight.writer.map_or(0, |writer| writer.0 as usize);
+        let is_seen = sight.item == item && is_kept(story, sight);
+        if let (Some(count), true) = (seen.get_mut(number), is_seen) {
+            *count = count.saturating_add(sight.count);
+        }
+    }
+    Ok(seen)
+}
+
+/// What became of a value that was read, if it did not stay.
 fn fate_of(asked: &Audited<'_>, story: &Story, sight: &Sight) -> Option<&'static str> {
     let writer = sight.writer?;
     let has_ended = asked
@@ -69,32 +99,52 @@ fn fate_of(asked: &Audited<'_>, story: &Story, sight: &Sight) -> Option<&'static
     }
 }
 
-/// The strays of an item, but for values that a piece of the lane has.
+/// A value that was read of an item, if it did not stay.
+fn stray_of<'a>(
+    asked: &Audited<'a>,
+    story: &Story,
+    sight: &Sight,
+    pieces: &[i64],
+) -> Option<Stray<'a>> {
+    let fate = fate_of(asked, story, sight)?;
+    let writer = sight.writer?;
+    Some(Stray {
+        value: sight.value,
+        writer: name_of_transaction(asked.transactions, writer),
+        fate,
+        has_piece: pieces.contains(&sight.value),
+    })
+}
+
+impl<'a> Strays<'a> {
+    /// Adds one.
+    fn add(&mut self, stray: Stray<'a>) {
+        match self.first {
+            None => self.first = Some(stray),
+            Some(first) => {
+                self.more = self.more.saturating_add(1);
+                if first.has_piece && !stray.has_piece {
+                    self.first = Some(stray);
+                }
+            }
+        }
+    }
+}
+
+/// The strays of an item, whose lane has pieces of these values.
 pub fn strays_of<'a>(
     asked: &Audited<'a>,
     story: &Story,
     item: ItemId,
-    has_piece: &[i64],
+    pieces: &[i64],
 ) -> Strays<'a> {
     let mut strays = Strays {
         first: None,
         more: 0,
     };
     for sight in story.sights.iter().filter(|sight| sight.item == item) {
-        let (Some(fate), Some(writer)) = (fate_of(asked, story, sight), sight.writer) else {
-            continue;
-        };
-        if has_piece.contains(&sight.value) {
-            continue;
-        }
-        if strays.first.is_some() {
-            strays.more = strays.more.saturating_add(1);
-        } else {
-            strays.first = Some(Stray {
-                value: sight.value,
-                writer: name_of_transaction(asked.transactions, writer),
-                fate,
-            });
+        if let Some(stray) = stray_of(asked, story, sight, pieces) {
+            strays.add(stray);
         }
     }
     strays

@@ -5,29 +5,38 @@
 
 use crate::boxes::push_updates;
 use crate::frame::Frame;
-use crate::head::{push_head, push_heading};
+use crate::head::{push_attributes, push_head, push_heading};
 use crate::keys::push_keys;
 use crate::lanes::{push_audit, push_others};
 use crate::scene::{Scene, scene_of, story_in};
 use esr_prose::Audited;
 use std::alloc::{AllocError, Global};
 
-/// The text of a scene, without the ends of its element.
-fn push_body(out: &mut String, scene: &Scene<'_>) -> Result<(), AllocError> {
-    let frame = Frame::of(scene);
-    push_head(out, scene, &frame)?;
+/// What is written of a picture between the ends of its element.
+#[derive(Drop)]
+pub struct Parts {
+    pub attributes: String,
+    pub body: String,
+}
+
+/// The text of a scene, within its element.
+fn push_body(out: &mut String, scene: &Scene<'_>, frame: &Frame) -> Result<(), AllocError> {
+    push_head(out, scene, frame)?;
     push_heading(out, scene)?;
-    push_updates(out, scene, &frame)?;
-    push_audit(out, scene, &frame)?;
+    push_updates(out, scene, frame)?;
+    push_audit(out, scene, frame)?;
     push_others(out, scene, frame.floor() + 70)?;
     push_keys(out, scene, frame.floor() + 98)
 }
 
-/// The text of the picture of what a script tells of one of its queries, without the ends of its element.
-pub fn body_of<'a>(alloc: Global, asked: &'a Audited<'a>) -> Result<String, AllocError> {
+/// What is written of the picture of what a script tells of one of its queries.
+pub fn parts_of<'a>(alloc: Global, asked: &'a Audited<'a>) -> Result<Parts, AllocError> {
     let story = story_in(alloc, asked)?;
     let scene = scene_of(alloc, asked, &story)?;
+    let frame = Frame::of(&scene);
+    let mut attributes = String::new(alloc);
+    push_attributes(&mut attributes, &scene, &frame)?;
     let mut body = String::new(alloc);
-    push_body(&mut body, &scene)?;
-    Ok(body)
+    push_body(&mut body, &scene, &frame)?;
+    Ok(Parts { attributes, body })
 }

@@ -1,6 +1,6 @@
 //! What a query was charged, in words: how much, in which line, and why; and the sums by item and by update.
 
-use crate::numbers::{push_number, push_value};
+use crate::numbers::{push_count, push_number, push_value};
 use crate::prose::{Block, MOST_POINTS};
 use crate::story::{Cause, Charge, Story, Sum};
 use crate::tale::Tale;
@@ -42,12 +42,23 @@ fn push_cause(out: &mut String, tale: &Tale<'_>, charge: &Charge) -> Result<(), 
     }
 }
 
+/// How many lines made the same charge behind the first.
+fn push_later_lines(out: &mut String, count: u64) -> Result<(), AllocError> {
+    let later = count.saturating_sub(1);
+    if later == 0 {
+        return Ok(());
+    }
+    out.push_str(" and ")?;
+    push_count(out, later, " later one", " later ones")
+}
+
 /// A charge.
 fn charge_words(alloc: Global, tale: &Tale<'_>, charge: &Charge) -> Result<String, AllocError> {
     let mut out = String::new(alloc);
     push_number(&mut out, charge.amount)?;
     out.push_str(" in ")?;
     tale.push_line(&mut out, charge.place)?;
+    push_later_lines(&mut out, charge.count)?;
     push_cause(&mut out, tale, charge)?;
     let weight = tale.weight(charge.item);
     if weight > 1 {
@@ -86,21 +97,19 @@ fn push_more_charges(
     blocks: &mut Vec<Block>,
     story: &Story,
 ) -> Result<(), AllocError> {
-    let more = story
-        .charge_count
-        .saturating_sub(story.charges.len() as u64);
+    let mut more = story.charge_count;
+    let mut sum = story.charge_sum();
+    for charge in &story.charges {
+        more = more.saturating_sub(charge.count);
+        sum = sum.saturating_sub(charge.amount);
+    }
     if more == 0 {
         return Ok(());
-    }
-    let mut sum = story.charged();
-    for charge in &story.charges {
-        sum = sum.saturating_sub(charge.amount);
     }
     let mut out = String::new(alloc);
     push_number(&mut out, sum)?;
     out.push_str(" by ")?;
-    push_number(&mut out, more)?;
-    out.push_str(" more charges")?;
+    push_count(&mut out, more, " more charge", " more charges")?;
     Block::push_point(blocks, out)
 }
 
@@ -146,7 +155,7 @@ pub fn push_charges(
     tale: &Tale<'_>,
     story: &Story,
 ) -> Result<(), AllocError> {
-    let agrees = story.charged() == tale.history.import(tale.query);
+    let agrees = story.charge_sum() == tale.history.import(tale.query);
     let has_charges = agrees && !story.charges.is_empty();
     Block::push(blocks, intro(alloc, tale, has_charges)?)?;
     if !has_charges {

@@ -155,7 +155,11 @@ pub fn push_nearest(
     let values = values_behind(alloc, tale, &finding.before)?;
     let items = items_read(alloc, story, tale, &values)?;
     let mut intro = String::new(alloc);
-    intro.push_str("At the nearest moment the values were:")?;
+    intro.push_str(if items.len() == 1 {
+        "At the nearest moment the value was:"
+    } else {
+        "At the nearest moment the values were:"
+    })?;
     Block::push(blocks, intro)?;
     push_items(alloc, blocks, tale, &items)?;
     match sum_of_reads(story, tale) {

@@ -104,7 +104,7 @@ fn answer(alloc: Global, tale: &Tale<'_>, story: &Story) -> Result<String, Alloc
     let mut out = verdict(alloc, &audited, story)?;
     if finding.distance > 0 {
         out.push(' ')?;
-        out.push_str(&nearest(alloc, &audited)?)?;
+        out.push_str(&nearest(alloc, &audited, story)?)?;
     }
     if !finding.problem.must().is_empty() {
         out.push(' ')?;

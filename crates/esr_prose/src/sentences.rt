@@ -18,8 +18,11 @@ fn name<'a>(asked: &Audited<'a>, txn: TxnId) -> &'a str {
 }
 
 /// Where the line is.
-pub fn push_moment(out: &mut String, asked: &Audited<'_>) -> Result<(), AllocError> {
+fn push_moment(out: &mut String, asked: &Audited<'_>, story: &Story) -> Result<(), AllocError> {
     let before = &asked.finding.before;
+    if story.committed == 0 {
+        return out.push_str("at the start");
+    }
     if before.is_empty() {
         return out.push_str("before all updates");
     }
@@ -43,20 +46,20 @@ pub fn verdict(alloc: Global, asked: &Audited<'_>, story: &Story) -> Result<Stri
         return Ok(out);
     }
     out.push_str(" read was true at one moment, ")?;
-    push_moment(&mut out, asked)?;
+    push_moment(&mut out, asked, story)?;
     out.push('.')?;
     Ok(out)
 }
 
 /// The nearest moment, where none has all that was read.
-pub fn nearest(alloc: Global, asked: &Audited<'_>) -> Result<String, AllocError> {
+pub fn nearest(alloc: Global, asked: &Audited<'_>, story: &Story) -> Result<String, AllocError> {
     let mut out = String::new(alloc);
     out.push_str(if asked.finding.problem.must().is_empty() {
         "The nearest moment, "
     } else {
         "The nearest moment that a strict report may have, "
     })?;
-    push_moment(&mut out, asked)?;
+    push_moment(&mut out, asked, story)?;
     out.push_str(", differs by ")?;
     push_number(&mut out, asked.finding.distance)?;
     out.push('.')?;
@@ -75,7 +78,11 @@ fn push_charges(out: &mut String, asked: &Audited<'_>, charges: &[Sum]) -> Resul
 }
 
 /// What the query was charged of its limit, and by whom. Nobody is named where the sums do not agree.
-fn charged(alloc: Global, asked: &Audited<'_>, story: &Story) -> Result<String, AllocError> {
+fn charge_sentence(
+    alloc: Global,
+    asked: &Audited<'_>,
+    story: &Story,
+) -> Result<String, AllocError> {
     let import = asked.finding.import;
     let limit = asked
         .history
@@ -84,9 +91,9 @@ fn charged(alloc: Global, asked: &Audited<'_>, story: &Story) -> Result<String, 
     let mut out = String::new(alloc);
     out.push_str("Charged ")?;
     push_number(&mut out, import)?;
-    out.push_str(" of ")?;
+    out.push_str(" of its limit of ")?;
     push_number(&mut out, limit)?;
-    if story.charged() == import {
+    if story.charge_sum() == import {
         push_charges(&mut out, asked, &story.sums_by_update(alloc)?)?;
     }
     out.push('.')?;
@@ -118,9 +125,14 @@ pub fn sentences_of(
     let mut lines = Vec::new(alloc);
     wrap(alloc, &mut lines, LINE, &verdict(alloc, asked, story)?)?;
     if asked.finding.distance > 0 {
-        wrap(alloc, &mut lines, LINE, &nearest(alloc, asked)?)?;
+        wrap(alloc, &mut lines, LINE, &nearest(alloc, asked, story)?)?;
     }
-    wrap(alloc, &mut lines, LINE, &charged(alloc, asked, story)?)?;
+    wrap(
+        alloc,
+        &mut lines,
+        LINE,
+        &charge_sentence(alloc, asked, story)?,
+    )?;
     if !asked.finding.problem.must().is_empty() {
         wrap(alloc, &mut lines, LINE, &strict(alloc, asked)?)?;
     }

@@ -12,7 +12,7 @@ use std::alloc::{AllocError, Global};
 /// The numbers of transactions are below this.
 const MOST_NUMBERS: usize = MOST_TRANSACTIONS + 1;
 
-/// So many charges are kept one by one.
+/// So many charges are kept one by one. Those of the same reads, one after another, are kept as one.
 const MOST_CHARGES: usize = 12;
 
 /// How a transaction ended, as the query could know it at its end.
@@ -50,17 +50,39 @@ pub enum Cause {
     Write { reads: u64 },
 }
 
-/// A charge to the query.
+/// A charge to the query, or several one after another of reads that were alike.
 #[derive(Clone, Copy)]
 pub struct Charge {
     pub update: TxnId,
     pub item: ItemId,
+    /// How much was charged, all together.
     pub amount: u64,
+    /// How often.
+    pub count: u64,
     pub cause: Cause,
     /// The value before the update's change, and behind it.
     pub old: i64,
     pub new: i64,
+    /// The place of the first in the log.
     pub place: usize,
+}
+
+impl Charge {
+    /// Whether another one is of a read that was like those of this one.
+    fn is_like(&self, other: &Charge) -> bool {
+        self.cause == Cause::Read
+            && other.cause == Cause::Read
+            && self.update == other.update
+            && self.item == other.item
+            && self.old == other.old
+            && self.new == other.new
+    }
+
+    /// Takes another one in.
+    fn take_in(&mut self, other: &Charge) {
+        self.amount = self.amount.saturating_add(other.amount);
+        self.count = self.count.saturating_add(other.count);
+    }
 }
 
 /// A sum of charges, of a transaction or an item of that number.
@@ -123,7 +145,7 @@ fn add_to(sums: &mut [u64], number: u32, amount: u64) {
 }
 
 /// The sums above 0, most first.
-fn ranked(alloc: Global, sums: &[u64]) -> Result<Vec<Sum>, AllocError> {
+fn ranking(alloc: Global, sums: &[u64]) -> Result<Vec<Sum>, AllocError> {
     let mut ranks = Vec::new(alloc);
     for (number, amount) in (0u32..65_536).zip(sums.iter()) {
         if *amount > 0 {
@@ -131,14 +153,14 @@ fn ranked(alloc: Global, sums: &[u64]) -> Result<Vec<Sum>, AllocError> {
         }
     }
     ranks.sort_unstable();
-    let mut ranked = Vec::new(alloc);
+    let mut ranking = Vec::new(alloc);
     for (rank, number) in &ranks {
-        ranked.push(Sum {
+        ranking.push(Sum {
             number: *number,
             amount: u64::MAX.saturating_sub(*rank),
         })?;
     }
-    Ok(ranked)
+    Ok(ranking)
 }
 
 /// What the history tells of a query.
@@ -152,9 +174,11 @@ pub struct Story {
     by_item: Vec<u64>,
     /// Each value that the query read of an item, once.
     pub sights: Vec<Sight>,
-    /// The first charges, and how many there are.
+    /// The first charges, and how many there are of all.
     pub charges: Vec<Charge>,
     pub charge_count: u64,
+    /// Whether charges came that are not kept.
+    is_cut: bool,
     /// How many updates committed before the query.
     pub committed: u64,
     /// The place of the query's begin in the log.
@@ -190,6 +214,7 @@ impl Story {
             sights: Vec::new(alloc),
             charges: Vec::new(alloc),
             charge_count: 0,
+            is_cut: false,
             committed: 0,
             begin: None,
             is_strict: false,
@@ -210,8 +235,22 @@ impl Story {
         add_to(&mut self.by_update, charge.update.0, charge.amount);
         add_to(&mut self.by_item, charge.item.0, charge.amount);
         self.charge_count = self.charge_count.saturating_add(1);
+        self.keep(charge)
+    }
+
+    /// Keeps a charge, if there is room.
+    fn keep(&mut self, charge: Charge) -> Result<(), AllocError> {
+        let is_cut = self.is_cut;
+        if let Some(last) = self.charges.last_mut() {
+            if !is_cut && last.is_like(&charge) {
+                last.take_in(&charge);
+                return Ok(());
+            }
+        }
         if self.charges.len() < MOST_CHARGES {
             self.charges.push(charge)?;
+        } else {
+            self.is_cut = true;
         }
         Ok(())
     }
@@ -260,6 +299,7 @@ impl Story {
                 update,
                 item,
                 amount: gap(metric, item, now.current, now.committed),
+                count: 1,
                 cause: Cause::Read,
                 old: now.committed,
                 new: now.current,
@@ -305,6 +345,7 @@ impl Story {
             update,
             item,
             amount: each.saturating_mul(before.reads),
+            count: 1,
             cause: Cause::Write {
                 reads: before.reads,
             },
@@ -378,16 +419,16 @@ impl Story {
 
     /// What updates were charged to the query, most first.
     pub fn sums_by_update(&self, alloc: Global) -> Result<Vec<Sum>, AllocError> {
-        ranked(alloc, &self.by_update)
+        ranking(alloc, &self.by_update)
     }
 
     /// What the query was charged on items, most first.
     pub fn sums_by_item(&self, alloc: Global) -> Result<Vec<Sum>, AllocError> {
-        ranked(alloc, &self.by_item)
+        ranking(alloc, &self.by_item)
     }
 
     /// The sum of all charges.
-    pub fn charged(&self) -> u64 {
+    pub fn charge_sum(&self) -> u64 {
         let mut sum = 0u64;
         for amount in &self.by_item {
             sum = sum.saturating_add(*amount);

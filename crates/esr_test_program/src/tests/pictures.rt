@@ -28,7 +28,7 @@ static BANK_DRAWN: [&str; 20] = [
     "<text class='h' x='20' y='28'>report: distance 100, import 100</text>\n",
     "<text class='q' x='20' y='50'>What report read was never true at one moment.</text>\n",
     "<text class='q' x='20' y='70'>The nearest moment, before all updates, differs by 100.</text>\n",
-    "<text class='q' x='20' y='90'>Charged 100 of 200: transfer 100.</text>\n",
+    "<text class='q' x='20' y='90'>Charged 100 of its limit of 200: transfer 100.</text>\n",
     "<path class='d' d='M352 142V268'/>\n",
     "<rect class='a' x='310' y='114' width='84' height='28' rx='6'/><text class='m' x='352' y='133' text-anchor='middle'>transfer</text>\n",
     "<text class='m n' x='20' y='186'>checking</text><text class='m g' x='20' y='204'>read 500</text>",
@@ -99,13 +99,15 @@ fn little_is_drawn(rt: HostRuntime) {
     has(&rt, rt.alloc(), TWICE, "q", &texts);
 }
 
-/// A value that was read and given up, one that was read twice, and one that its writer wrote over.
+/// A value that was read and given up, one that was read twice, one that its writer wrote over, and one that was given up
+/// and is the item's own all the same.
 #[test]
 fn values_that_did_not_stay_are_told(rt: HostRuntime) {
     let texts = [
         ">read 9 of u, which aborted</text>",
         ">read 6 of v, which wrote over it</text>",
         ">3 x 2</text>",
+        ">read 8 of w, which aborted; it is above as well</text>",
     ];
     has(
         &rt,
@@ -113,7 +115,12 @@ fn values_that_did_not_stay_are_told(rt: HostRuntime) {
         "item a 5\n\
             item b 3\n\
             item c 5\n\
+            item d 8\n\
             begin q query 99\n\
+            begin w update 99\n\
+            write w d 8\n\
+            read q d\n\
+            abort w\n\
             begin u update 99\n\
             write u a 9\n\
             read q a\n\
@@ -182,7 +189,7 @@ fn of_many_updates_those_are_drawn_that_bound_what_is_seen(rt: HostRuntime) {
         lanes,
         ("Not drawn: 27 more updates.", 1),
         (">off by 28<", 1),
-        ("keep the line", 0),
+        ("keeps the line", 0),
     ];
     has_so_often(&rt, rt.alloc(), 30, &of_many);
 }

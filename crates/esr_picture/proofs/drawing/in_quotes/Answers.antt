@@ -1,0 +1,5 @@
+use Rattle.esr_picture.specs.Markup.{none}
+use Rattle.esr_picture.proofs.drawing.in_quotes.Goals as goal
+
+pub returns-else-is_attributes : goal.returns-else-is_attributes
+returns-else-is_attributes c = rw c.new.ensures.bytes none
