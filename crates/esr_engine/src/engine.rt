@@ -182,15 +182,6 @@ impl Engine {
         machine.close()
     }
 
-    /// The weights of the items, as the engine was opened with them.
-    pub fn weights(&self) -> &[u32]
-        ensures weights { result.now ≡ self.now.weights }
-        ensures few { length result.now ≤ MOST_ITEMS }
-        ensures range { All IsWeight result.now }
-    {
-        &self.weights
-    }
-
     /// The history so far.
     pub fn history(&self) -> &History<Weighted>
         ensures schedule { result.now.schedule ≡ self.now }
