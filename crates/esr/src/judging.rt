@@ -55,26 +55,40 @@ fn tell_detail(rt: &impl Eprint, alloc: Global, copy: Option<&[u8]>) {
     }
 }
 
-/// Judges a bundle on its own.
+/// Writes the verdict on a bundle, or tells why there is none.
+fn write_verdict<I: Read>(
+    rt: &(impl Print + Eprint + AllocGlobal),
+    source: Source<'_>,
+    reader: &mut Watched<I>,
+) -> u8
+    requires { failed reader.old ≡ false }
+{
+    let mut writer = Watched::new(io::writer(rt));
+    match judge(rt.alloc(), reader, &mut writer) {
+        Ok(Verdict::Valid(_)) => 0,
+        Ok(_) => 1,
+        Err(fault) => fail(rt, &format_args!("{source}{fault}"), 1),
+    }
+}
+
+/// Judges a bundle on its own. Only who asks what an invalid one lacks pays for a copy of it.
 fn check_alone<I: Read + Drop>(
     rt: &(impl Print + Eprint + AllocGlobal),
     source: Source<'_>,
     input: I,
     verbose: bool,
 ) -> u8 {
+    if !verbose {
+        let mut reader = Watched::new(input);
+        return write_verdict(rt, source, &mut reader);
+    }
     let alloc = rt.alloc();
     let mut reader = Watched::new(Copied::new(alloc, input));
-    let mut writer = Watched::new(io::writer(rt));
-    match judge(alloc, &mut reader, &mut writer) {
-        Ok(Verdict::Valid(_)) => 0,
-        Ok(_) => {
-            if verbose {
-                tell_detail(rt, alloc, reader.inner().copy());
-            }
-            1
-        }
-        Err(fault) => fail(rt, &format_args!("{source}{fault}"), 1),
+    let status = write_verdict(rt, source, &mut reader);
+    if status != 0 {
+        tell_detail(rt, alloc, reader.inner().copy());
     }
+    status
 }
 
 /// What a script answers of its query, or the status where it has no such answer.

@@ -122,7 +122,8 @@ Which limit does a report need? Run it with a large one, and look at the charge.
 
 For example:
 
-  $ esr ledger --format csv examples/first.esr";
+  $ printf 'item a 1\\nbegin q query 0\\nread q a\\ncommit q\\n' | esr ledger --format csv | tail -n 1
+  1,q,query,0,0,0,1,0,0,0,0,committed,0,2,4";
 
 pub const WHY: &str =
     "It tells of each blocked line what was asked for, what would have been charged, what
@@ -131,7 +132,8 @@ that was released. Transactions that wait for one another are named as a deadloc
 
 For example:
 
-  $ esr why examples/first.esr";
+  $ printf 'item a 1\\nbegin u update 9\\nbegin v update 9\\nwrite u a 2\\nread v a\\ncommit u\\n' | esr why
+  line 5: read v a: blocked by the write lock of u; u ended at line 6";
 
 pub const LINT: &str =
     "It lists lines that are no commands, lines that are answered by an error or by a
