@@ -1,6 +1,9 @@
 -- What a page is.
 use Rattle.std.specs.Prelude.{◌≡◌, ℕ, List, [], ◌∷◌, ◌++◌, codes}
+use Rattle.esr_picture.specs.Markup.{IsMarkup}
 
--- one document, whatever is in it
+-- one document of one element, in which each other element is closed
 abbrev pub IsPage : List ℕ → Type 0
-IsPage text = (body : List ℕ) × (text ≡ codes "<!DOCTYPE html>" ++ (body ++ (codes "</html>" ++ 10 ∷ [])))
+IsPage text = (body : List ℕ)
+    × (text ≡ codes "<!DOCTYPE html><html lang='en'>" ++ (body ++ (codes "</html>" ++ 10 ∷ [])))
+    × IsMarkup body

@@ -118,11 +118,21 @@ fn push_query(
     }
 }
 
+/// What queries are told in full: those that were farthest off, or where none was off, those that were charged most.
+fn heading_of(rows: &[Row<'_>]) -> &'static str {
+    if rows.iter().any(|row| row.distance().unwrap_or(0) > 0) {
+        "<h2>The farthest off</h2>\n"
+    } else {
+        "<h2>None was off; these were charged most</h2>\n"
+    }
+}
+
 /// Picture and prose of these queries.
 pub fn push_details(
     alloc: Global,
     out: &mut String,
     chronicle: &Chronicle<'_>,
+    rows: &[Row<'_>],
     told: &[TxnId],
 ) -> Result<(), AllocError> {
     if told.is_empty() {
@@ -134,7 +144,7 @@ pub fn push_details(
         &chronicle.transactions,
         &chronicle.history,
     )?;
-    out.push_str("<h2>The farthest off</h2>\n")?;
+    out.push_str(heading_of(rows))?;
     for query in told {
         push_query(alloc, out, chronicle, &lines, *query)?;
     }

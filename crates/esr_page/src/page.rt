@@ -11,13 +11,11 @@ use crate::table::push_table;
 use esr_audit::{CommitLists, Summaries, Summary, audit_query, commit_lists};
 use esr_history::{History, TxnId};
 use esr_items::Weighted;
+use esr_picture::markup_or_nothing;
 use esr_prose::{push_count, push_number};
 use esr_report::{Names, name_of_transaction};
 use esr_telling::{Chronicle, Survey};
 use std::alloc::{AllocError, Global};
-
-/// Of so many queries at most picture and prose are told.
-pub const MOST_TOLD: u64 = 1000;
 
 /// The page about a script.
 #[derive(Drop)]
@@ -104,7 +102,7 @@ fn push_order(out: &mut String, names: &Names, order: &[TxnId]) -> Result<(), Al
     out.push_str("</p></details>\n")
 }
 
-/// The document without its first words and its last.
+/// What the document has within its outermost element.
 fn body_of(
     alloc: Global,
     chronicle: &Chronicle<'_>,
@@ -118,13 +116,14 @@ fn body_of(
     push_sums(&mut out, totals_of(&all.rows), found.order.len() as u64)?;
     push_chart(&mut out, &mut all, &found.summaries)?;
     push_table(&mut out, &all.rows)?;
-    push_details(alloc, &mut out, chronicle, &told)?;
+    push_details(alloc, &mut out, chronicle, &all.rows, &told)?;
     push_order(&mut out, &chronicle.transactions, &found.order)?;
     out.push_str(SCRIPT)?;
     Ok(out)
 }
 
-/// The page about a script of which this was found.
+/// The page about a script of which this was found. What is written promises nothing, so it is tested to be markup
+/// before it is put into the document, and nothing stands for it where it is not; that never comes.
 fn page_of(
     alloc: Global,
     chronicle: &Chronicle<'_>,
@@ -133,8 +132,8 @@ fn page_of(
 ) -> Result<Vec<u8>, AllocError>
     ensures { IfOk result (λ text. IsPage text.items) }
 {
-    let body = body_of(alloc, chronicle, found, worst)?;
-    let text = format!(in alloc; "<!DOCTYPE html>{body}</html>\n")?;
+    let body = markup_or_nothing(alloc, body_of(alloc, chronicle, found, worst)?)?;
+    let text = format!(in alloc; "<!DOCTYPE html><html lang='en'>{body}</html>\n")?;
     Ok(text.into_bytes())
 }
 

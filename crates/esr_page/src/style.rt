@@ -2,11 +2,10 @@
 
 /// The head, and the start of the body. Classes have three letters or more, since pictures bring some of one letter.
 pub const HEAD: &str = "
-<html lang='en'>
 <head>
-<meta charset='utf-8'>
-<meta name='viewport' content='width=device-width, initial-scale=1'>
-<meta name='color-scheme' content='light dark'>
+<meta charset='utf-8'/>
+<meta name='viewport' content='width=device-width, initial-scale=1'/>
+<meta name='color-scheme' content='light dark'/>
 <title>How far the reports were off</title>
 <style>
 :root{--ink:#1f2328;--dim:#59636e;--paper:#fff;--rule:#d1d9e0;--link:#0a56a8;--charged:#9ec5e8;--off:#c4302b}
@@ -44,12 +43,12 @@ ol.chart{display:flex;align-items:flex-end;list-style:none;margin:0;padding:0 0 
 .key .lim{height:0;margin-bottom:4px}
 table{border-collapse:collapse;font-size:.9em}
 th,td{padding:4px 10px;border-bottom:1px solid var(--rule);text-align:left;white-space:nowrap}
-td.num{text-align:right;font-variant-numeric:tabular-nums}
+.num{text-align:right;font-variant-numeric:tabular-nums}
 thead th{position:sticky;top:0;background:var(--paper)}
 th button{font:inherit;color:var(--link);background:none;border:0;padding:0;cursor:pointer;text-decoration:underline}
 tr:target,section:target h3{outline:2px solid var(--link)}
 .order{color:var(--dim);max-width:none}
-@media print{*{-webkit-print-color-adjust:exact;print-color-adjust:exact}.wide{overflow:visible}.wide svg{max-width:100%;height:auto}.many li{flex-basis:0}table{font-size:.7em}th,td{padding:2px 5px}h3{break-after:avoid}.wide{break-inside:avoid-page}}
+@media print{*{-webkit-print-color-adjust:exact;print-color-adjust:exact}.wide{overflow:visible}.wide svg{max-width:100%;height:auto}.chart li{flex:1 1 0}table{font-size:.7em}th,td{padding:2px 5px}h2,h3{break-after:avoid}section .wide{break-inside:avoid-page}}
 </style>
 </head>
 <body>

@@ -9,7 +9,7 @@ use std::alloc::AllocError;
 const MOST_ROWS: usize = 2000;
 
 const HEADINGS: &str =
-    "<h2 id='all'>All queries</h2>\n<div class='wide' tabindex='0' role='group' aria-label='Table'><table>\n<thead><tr><th scope='col'>Number</th><th scope='col'>Name</th><th scope='col'>Kind</th><th scope='col'>Limit</th><th scope='col'>Charged</th><th scope='col'>Left</th><th scope='col'>Reads</th><th scope='col'>Ended</th><th scope='col'>Off by</th></tr></thead>\n<tbody>\n";
+    "<h2 id='all'>All queries</h2>\n<div class='wide' tabindex='0' role='group' aria-label='Table'><table>\n<thead><tr><th scope='col' class='num'>Number</th><th scope='col'>Name</th><th scope='col'>Kind</th><th scope='col' class='num'>Limit</th><th scope='col' class='num'>Charged</th><th scope='col' class='num'>Left</th><th scope='col' class='num'>Reads</th><th scope='col'>Ended</th><th scope='col' class='num'>Off by</th></tr></thead>\n<tbody>\n";
 
 /// A cell with a number.
 fn push_cell(out: &mut String, number: u64) -> Result<(), AllocError> {

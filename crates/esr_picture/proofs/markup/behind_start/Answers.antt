@@ -1,4 +1,4 @@
-use Rattle.std.proofs.Common.{rules, ◌≡◌, ◌++◌, ◌∷◌, ℕ, List, string_bytes, Some, lit<}
+use Rattle.std.proofs.Common.{string_bytes, Some, lit<}
 use Rattle.std.proofs.lemmas.Str.Pattern.{strip_suffix_char}
 use Rattle.esr_picture.proofs.Building.{single, starting}
 use Rattle.esr_picture.proofs.markup.behind_start.Goals as goal
