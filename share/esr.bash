@@ -1,19 +1,26 @@
 # Completion of esr for bash: subcommands, their options, and files.
 _esr() {
     local word=${COMP_WORDS[COMP_CWORD]} command=${COMP_WORDS[1]-} options=
+    local script="--bail --progress --no-progress --help"
     if [ "$COMP_CWORD" -eq 1 ]; then
-        mapfile -t COMPREPLY < <(compgen -W "run audit explain picture page certify check lint drive help --help --version" -- "$word")
+        mapfile -t COMPREPLY < <(compgen -W "run audit ledger why explain picture page certify check lint drive help --help --version" -- "$word")
         return
     fi
     case $command in
-        run | picture) options="--bail --help" ;;
-        explain) options="--bail --prose --help" ;;
-        page) options="--bail --worst --help" ;;
-        certify) options="--bail --steps --help" ;;
-        audit) options="--bail --workers --help" ;;
+        run | picture | why) options="$script" ;;
+        explain) options="$script --prose --format" ;;
+        page) options="$script --worst" ;;
+        certify) options="$script --steps" ;;
+        audit) options="$script --workers --format" ;;
+        ledger) options="$script --format" ;;
         drive) options="--workers --help" ;;
-        check | lint) options="--help" ;;
+        check) options="--script --query --verbose --help" ;;
+        lint) options="--help" ;;
     esac
+    if [ "${COMP_WORDS[COMP_CWORD - 1]}" = --format ]; then
+        mapfile -t COMPREPLY < <(compgen -W "text csv json" -- "$word")
+        return
+    fi
     case $word in
         -*) mapfile -t COMPREPLY < <(compgen -W "$options" -- "$word") ;;
         *) mapfile -t COMPREPLY < <(compgen -f -- "$word") ;;

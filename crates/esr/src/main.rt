@@ -140,8 +140,7 @@ fn do_task<
             };
             check(rt, meter, source, input, question)
         }
-        // not yet: as_script
-        Task::Drive { workers, .. } => drive_file(rt, source, input, workers),
+        Task::Drive { workers } => drive_file(rt, source, input, workers),
         Task::Lint => list_faults(rt, source, input),
     }
 }

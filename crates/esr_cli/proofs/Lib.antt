@@ -1,4 +1,6 @@
+mod Entered
 mod Faultless
+mod Leads
 mod Readings
 mod Rows
 mod Spelled

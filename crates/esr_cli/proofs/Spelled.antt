@@ -1,12 +1,12 @@
 -- Words that spell a job have no fault, and ask for it.
-use Rattle.std.proofs.Common.{◌≡◌, ℕ, Bool, cond, codes, true, false, refl, sym, subst, List, [], ◌∷◌, ◌++◌, Option, Some, None, IfOk, IsErrAnd, Result, Ok, Err, MatchResult, ⊎_elim, inl, inr, ◌==◌, arith, ◌&&◌, bytes_eq, option_map, ◌∙◌}
+use Rattle.std.proofs.Common.{◌≡◌, ℕ, Bool, cond, codes, true, false, refl, sym, ap, subst, List, [], ◌∷◌, ◌++◌, Option, Some, None, IfOk, IsErrAnd, Result, Ok, Err, MatchResult, ⊎_elim, inl, inr, ◌==◌, arith, ◌&&◌, bytes_eq, option_map, ◌∙◌}
 use Rattle.clap.proofs.ValueTestLemmas.{accepts-Accepts}
 use Rattle.std.specs.Str.Parse.{IsNumeral, digits_value, without_leading_plus}
 use Rattle.std.proofs.lemmas.Bool.Decides.{nat_tests}
 use Rattle.std.proofs.lemmas.Str.Parse.{digit_from_value}
 use Rattle.clap.specs.Lexer.{long_of, short_of, strip_byte}
-use Rattle.clap.specs.Walk.{Text}
-use Rattle.clap.specs.Simple.{subcommand_of}
+use Rattle.clap.specs.Walk.{Row, Text, Walk, finished, idle, nothing_held, walk_from, walked}
+use Rattle.clap.specs.Simple.{Shape, subcommand_of}
 use Rattle.clap.specs.Values.{kind_of}
 use Rattle.clap.specs.ValueTests.{is_unsigned_in}
 use Rattle.clap.specs.Kinds.{FailsBy, IsAmong}
@@ -21,6 +21,8 @@ use Rattle.esr_cli.specs.Job.{SpellsWork, IsCall, IsCount, IsFile, IsPlainWord, 
 use Rattle.esr_cli.specs.declared.Job.{Job}
 use Rattle.esr_cli.specs.declared.Format.TheVariants.{Text as Plain}
 use Rattle.esr_cli.specs.declared.Progress.TheVariants.{AtATerminal}
+use Rattle.esr_cli.proofs.Entered.{IsNameOf, audit_is, audit_shape, certify_is, certify_shape, check_is, check_shape, drive_is, drive_shape, explain_is, explain_shape, fault_behind, ledger_is, ledger_shape, lint_is, lint_shape, page_is, page_shape, picture_is, picture_shape, rows_behind, run_is, run_shape, why_is, why_shape}
+use Rattle.esr_cli.proofs.Leads.{IsOperand, Leads, at_end, behind_operand, fault_at, finished_well, own_fault_is, rows_are, then_operand, then_word}
 use Rattle.esr_cli.proofs.Faultless.{number}
 
 -- what is asked for without the other options
@@ -38,12 +40,6 @@ AreTaken rest wanted = (name : Text) → IsTaken (name ∷ rest) wanted
 called : (words rest : List Text) (wanted : Request) → IsCall words rest → AreTaken rest wanted → IsTaken words wanted
 called words rest wanted (name, is) taken = subst (λ w. IsTaken w wanted) (sym is) (taken name)
 
--- a word that is neither `--` nor an option
-record IsOperand (word : Text) : Type 0 where
-  pub no_dashes : bytes_eq word (45 ∷ 45 ∷ []) ≡ false
-  pub no_long : long_of word ≡ None
-  pub no_short : short_of word ≡ None
-
 not_dashes : (word : Text) → strip_byte 45 word ≡ None → bytes_eq word (45 ∷ 45 ∷ []) ≡ false
 not_dashes [] plain = refl
 not_dashes (x ∷ xs) plain = go (x == 45) plain
@@ -59,59 +55,14 @@ file_operand : (file : Text) → IsFile (Some file) → IsOperand file
 file_operand file (inl is) = subst IsOperand (sym is) (record { no_dashes = refl; no_long = refl; no_short = refl })
 file_operand file (inr plain) = plain_operand file plain
 
-run : (bail : Bool) (file : Option Text) → IsFile file → AreTaken (codes "run" ∷ flag_words bail (codes "--bail") ++ file_words file) (plainly asked.run file bail)
-unfolding clap_on_literals
-run false None plain name = (refl, refl)
-run false (Some file) plain name = let to = file_operand file plain in rw (to.no_dashes, to.no_long, to.no_short) (refl, refl)
-run true None plain name = (refl, refl)
-run true (Some file) plain name = let to = file_operand file plain in rw (to.no_dashes, to.no_long, to.no_short) (refl, refl)
-
-certify : (query : Text) (bail : Bool) (file : Option Text) → IsOperand query → IsFile file → AreTaken (codes "certify" ∷ flag_words bail (codes "--bail") ++ (query ∷ [] ++ file_words file)) (plainly (asked.certify query false) file bail)
-unfolding clap_on_literals
-certify query false None is plain name = rw (is.no_dashes, is.no_long, is.no_short) (refl, refl)
-certify query false (Some file) is plain name = let to = file_operand file plain in rw (is.no_dashes, is.no_long, is.no_short, to.no_dashes, to.no_long, to.no_short) (refl, refl)
-certify query true None is plain name = rw (is.no_dashes, is.no_long, is.no_short) (refl, refl)
-certify query true (Some file) is plain name = let to = file_operand file plain in rw (is.no_dashes, is.no_long, is.no_short, to.no_dashes, to.no_long, to.no_short) (refl, refl)
-
-certify_steps : (query : Text) (bail : Bool) (file : Option Text) → IsOperand query → IsFile file → AreTaken (codes "certify" ∷ codes "--steps" ∷ (flag_words bail (codes "--bail") ++ (query ∷ [] ++ file_words file))) (plainly (asked.certify query true) file bail)
-unfolding clap_on_literals
-certify_steps query false None is plain name = rw (is.no_dashes, is.no_long, is.no_short) (refl, refl)
-certify_steps query false (Some file) is plain name = let to = file_operand file plain in rw (is.no_dashes, is.no_long, is.no_short, to.no_dashes, to.no_long, to.no_short) (refl, refl)
-certify_steps query true None is plain name = rw (is.no_dashes, is.no_long, is.no_short) (refl, refl)
-certify_steps query true (Some file) is plain name = let to = file_operand file plain in rw (is.no_dashes, is.no_long, is.no_short, to.no_dashes, to.no_long, to.no_short) (refl, refl)
-
-check : (file : Option Text) → IsFile file → AreTaken (codes "check" ∷ file_words file) (plainly (asked.check None None false) file false)
-unfolding clap_on_literals
-check None plain name = (refl, refl)
-check (Some file) plain name = let to = file_operand file plain in rw (to.no_dashes, to.no_long, to.no_short) (refl, refl)
-
-explain : (query : Text) (bail : Bool) (file : Option Text) → IsOperand query → IsFile file → AreTaken (codes "explain" ∷ flag_words bail (codes "--bail") ++ (query ∷ [] ++ file_words file)) (plainly (asked.explain query false) file bail)
-unfolding clap_on_literals
-explain query false None is plain name = rw (is.no_dashes, is.no_long, is.no_short) (refl, refl)
-explain query false (Some file) is plain name = let to = file_operand file plain in rw (is.no_dashes, is.no_long, is.no_short, to.no_dashes, to.no_long, to.no_short) (refl, refl)
-explain query true None is plain name = rw (is.no_dashes, is.no_long, is.no_short) (refl, refl)
-explain query true (Some file) is plain name = let to = file_operand file plain in rw (is.no_dashes, is.no_long, is.no_short, to.no_dashes, to.no_long, to.no_short) (refl, refl)
-
-explain_prose : (query : Text) (bail : Bool) (file : Option Text) → IsOperand query → IsFile file → AreTaken (codes "explain" ∷ codes "--prose" ∷ (flag_words bail (codes "--bail") ++ (query ∷ [] ++ file_words file))) (plainly (asked.explain query true) file bail)
-unfolding clap_on_literals
-explain_prose query false None is plain name = rw (is.no_dashes, is.no_long, is.no_short) (refl, refl)
-explain_prose query false (Some file) is plain name = let to = file_operand file plain in rw (is.no_dashes, is.no_long, is.no_short, to.no_dashes, to.no_long, to.no_short) (refl, refl)
-explain_prose query true None is plain name = rw (is.no_dashes, is.no_long, is.no_short) (refl, refl)
-explain_prose query true (Some file) is plain name = let to = file_operand file plain in rw (is.no_dashes, is.no_long, is.no_short, to.no_dashes, to.no_long, to.no_short) (refl, refl)
-
-picture : (query : Text) (bail : Bool) (file : Option Text) → IsOperand query → IsFile file → AreTaken (codes "picture" ∷ flag_words bail (codes "--bail") ++ (query ∷ [] ++ file_words file)) (plainly (asked.picture query) file bail)
-unfolding clap_on_literals
-picture query false None is plain name = rw (is.no_dashes, is.no_long, is.no_short) (refl, refl)
-picture query false (Some file) is plain name = let to = file_operand file plain in rw (is.no_dashes, is.no_long, is.no_short, to.no_dashes, to.no_long, to.no_short) (refl, refl)
-picture query true None is plain name = rw (is.no_dashes, is.no_long, is.no_short) (refl, refl)
-picture query true (Some file) is plain name = let to = file_operand file plain in rw (is.no_dashes, is.no_long, is.no_short, to.no_dashes, to.no_long, to.no_short) (refl, refl)
-
-audit : (bail : Bool) (file : Option Text) → IsFile file → AreTaken (codes "audit" ∷ flag_words bail (codes "--bail") ++ file_words file) (plainly (asked.audit 4) file bail)
-unfolding clap_on_literals
-audit false None plain name = (refl, refl)
-audit false (Some file) plain name = let to = file_operand file plain in rw (to.no_dashes, to.no_long, to.no_short) (refl, refl)
-audit true None plain name = (refl, refl)
-audit true (Some file) plain name = let to = file_operand file plain in rw (to.no_dashes, to.no_long, to.no_short) (refl, refl)
+-- where the words behind the name of a subcommand lead to this walk, have no fault and ask for this, so do the words with
+-- the name
+behind : (word : Text) (s : Shape) → IsNameOf word s → (rest : List Text) (to : Walk) (wanted : Request) → Leads s (walk_from nothing_held) rest to
+    → fault_at s to ≡ [] → request_in (Some (s.name, finished s.rules to.held)) ≡ Some wanted → AreTaken (word ∷ rest) wanted
+behind word s is rest to wanted leads none asks name = (
+  fault_behind name word s rest is ∙ own_fault_is s rest to leads ∙ none,
+  ap request_in (rows_behind name word s rest is ∙ ap (λ (p : Text × List Row). Some p) (rows_are s rest to leads)) ∙ asks,
+)
 
 -- work of a number that is read as it stands
 counted : (ask : ℕ → Work) (text : Text) (file : Option Text) (bail : Bool) → is_unsigned_in 1 64 text ≡ true
@@ -119,63 +70,188 @@ counted : (ask : ℕ → Work) (text : Text) (file : Option Text) (bail : Bool) 
     ≡ Some (plainly (ask (digits_value 10 (without_leading_plus text))) file bail)
 counted ask text file bail passes = rw (number text passes).0 refl
 
-audit_counted : (text : Text) (bail : Bool) (file : Option Text) → IsOperand text → is_unsigned_in 1 64 text ≡ true → IsFile file → AreTaken (codes "audit" ∷ codes "--workers" ∷ text ∷ (flag_words bail (codes "--bail") ++ file_words file)) (plainly (asked.audit (digits_value 10 (without_leading_plus text))) file bail)
-unfolding clap_on_literals
-audit_counted text false None is passes plain name = (rw (is.no_dashes, is.no_long, is.no_short, passes) refl, rw (is.no_dashes, is.no_long, is.no_short, (number text passes).0) refl)
-audit_counted text false (Some file) is passes plain name = let to = file_operand file plain in (rw (is.no_dashes, is.no_long, is.no_short, to.no_dashes, to.no_long, to.no_short, passes) refl, rw (is.no_dashes, is.no_long, is.no_short, to.no_dashes, to.no_long, to.no_short, (number text passes).0) refl)
-audit_counted text true None is passes plain name = (rw (is.no_dashes, is.no_long, is.no_short, passes) refl, rw (is.no_dashes, is.no_long, is.no_short, (number text passes).0) refl)
-audit_counted text true (Some file) is passes plain name =
-    let to = file_operand file plain in (
-      rw (is.no_dashes, is.no_long, is.no_short, passes, to.no_dashes, to.no_long, to.no_short) refl,
-      rw (is.no_dashes, is.no_long, is.no_short, to.no_dashes, to.no_long, to.no_short) (counted asked.audit text (Some file) true passes),
-    )
+-- the walk behind an option with its number, and behind `--bail` after it
+abbrev with_number : (option text : Text) → Walk
+with_number option text = record {
+  held = record { rows = []; pending = Some (option, text ∷ []); skip = 0 };
+  waiting = idle;
+  position = 1;
+  is_trailing = false;
+  stopped = None;
+}
 
-page : (bail : Bool) (file : Option Text) → IsFile file → AreTaken (codes "page" ∷ flag_words bail (codes "--bail") ++ file_words file) (plainly (asked.page 10) file bail)
+abbrev with_bail : Shape → (option text : Text) → Walk
+with_bail s option text = record {
+  held = record { rows = (walked s.rules [] (with_number option text) (codes "--bail")).held.rows; pending = None; skip = 0 };
+  waiting = idle;
+  position = 1;
+  is_trailing = false;
+  stopped = None;
+}
+
+run : (bail : Bool) (file : Option Text) → IsFile file → AreTaken (codes "run" ∷ (flag_words bail (codes "--bail") ++ file_words file)) (plainly asked.run file bail)
 unfolding clap_on_literals
-page false None plain name = (refl, refl)
-page false (Some file) plain name = let to = file_operand file plain in rw (to.no_dashes, to.no_long, to.no_short) (refl, refl)
-page true None plain name = (refl, refl)
-page true (Some file) plain name = let to = file_operand file plain in rw (to.no_dashes, to.no_long, to.no_short) (refl, refl)
+run false None plain =
+    behind (codes "run") run_shape run_is ([]) _ (plainly asked.run None false) (at_end run_shape _) refl refl
+run false (Some file) plain =
+    behind (codes "run") run_shape run_is (file ∷ []) _ (plainly asked.run (Some file) false) (then_operand run_shape _ _ _ _ (file_operand file plain) refl refl refl (at_end run_shape _)) refl refl
+run true None plain =
+    behind (codes "run") run_shape run_is (codes "--bail" ∷ []) _ (plainly asked.run None true) (then_word run_shape _ _ _ _ _ refl refl (at_end run_shape _)) refl refl
+run true (Some file) plain =
+    behind (codes "run") run_shape run_is (codes "--bail" ∷ file ∷ []) _ (plainly asked.run (Some file) true) (then_word run_shape _ _ _ _ _ refl refl (then_operand run_shape _ _ _ _ (file_operand file plain) refl refl refl (at_end run_shape _))) refl refl
+
+certify : (query : Text) (bail : Bool) (file : Option Text) → IsOperand query → IsFile file → AreTaken (codes "certify" ∷ (flag_words bail (codes "--bail") ++ (query ∷ [] ++ file_words file))) (plainly (asked.certify query false) file bail)
+unfolding clap_on_literals
+certify query false None is plain =
+    behind (codes "certify") certify_shape certify_is (query ∷ []) _ (plainly (asked.certify query false) None false) (then_operand certify_shape _ _ _ _ is refl refl refl (at_end certify_shape _)) refl refl
+certify query false (Some file) is plain =
+    behind (codes "certify") certify_shape certify_is (query ∷ file ∷ []) _ (plainly (asked.certify query false) (Some file) false) (then_operand certify_shape _ _ _ _ is refl refl refl (then_operand certify_shape _ _ _ _ (file_operand file plain) refl refl refl (at_end certify_shape _))) refl refl
+certify query true None is plain =
+    behind (codes "certify") certify_shape certify_is (codes "--bail" ∷ query ∷ []) _ (plainly (asked.certify query false) None true) (then_word certify_shape _ _ _ _ _ refl refl (then_operand certify_shape _ _ _ _ is refl refl refl (at_end certify_shape _))) refl refl
+certify query true (Some file) is plain =
+    behind (codes "certify") certify_shape certify_is (codes "--bail" ∷ query ∷ file ∷ []) _ (plainly (asked.certify query false) (Some file) true) (then_word certify_shape _ _ _ _ _ refl refl (then_operand certify_shape _ _ _ _ is refl refl refl (then_operand certify_shape _ _ _ _ (file_operand file plain) refl refl refl (at_end certify_shape _)))) refl refl
+
+certify_steps : (query : Text) (bail : Bool) (file : Option Text) → IsOperand query → IsFile file → AreTaken (codes "certify" ∷ codes "--steps" ∷ (flag_words bail (codes "--bail") ++ (query ∷ [] ++ file_words file))) (plainly (asked.certify query true) file bail)
+unfolding clap_on_literals
+certify_steps query false None is plain =
+    behind (codes "certify") certify_shape certify_is (codes "--steps" ∷ query ∷ []) _ (plainly (asked.certify query true) None false) (then_word certify_shape _ _ _ _ _ refl refl (then_operand certify_shape _ _ _ _ is refl refl refl (at_end certify_shape _))) refl refl
+certify_steps query false (Some file) is plain =
+    behind (codes "certify") certify_shape certify_is (codes "--steps" ∷ query ∷ file ∷ []) _ (plainly (asked.certify query true) (Some file) false) (then_word certify_shape _ _ _ _ _ refl refl (then_operand certify_shape _ _ _ _ is refl refl refl (then_operand certify_shape _ _ _ _ (file_operand file plain) refl refl refl (at_end certify_shape _)))) refl refl
+certify_steps query true None is plain =
+    behind (codes "certify") certify_shape certify_is (codes "--steps" ∷ codes "--bail" ∷ query ∷ []) _ (plainly (asked.certify query true) None true) (then_word certify_shape _ _ _ _ _ refl refl (then_word certify_shape _ _ _ _ _ refl refl (then_operand certify_shape _ _ _ _ is refl refl refl (at_end certify_shape _)))) refl refl
+certify_steps query true (Some file) is plain =
+    behind (codes "certify") certify_shape certify_is (codes "--steps" ∷ codes "--bail" ∷ query ∷ file ∷ []) _ (plainly (asked.certify query true) (Some file) true) (then_word certify_shape _ _ _ _ _ refl refl (then_word certify_shape _ _ _ _ _ refl refl (then_operand certify_shape _ _ _ _ is refl refl refl (then_operand certify_shape _ _ _ _ (file_operand file plain) refl refl refl (at_end certify_shape _))))) refl refl
+
+check : (file : Option Text) → IsFile file → AreTaken (codes "check" ∷ file_words file) (plainly (asked.check None None false) file false)
+unfolding clap_on_literals
+check None plain =
+    behind (codes "check") check_shape check_is ([]) _ (plainly (asked.check None None false) None false) (at_end check_shape _) refl refl
+check (Some file) plain =
+    behind (codes "check") check_shape check_is (file ∷ []) _ (plainly (asked.check None None false) (Some file) false) (then_operand check_shape _ _ _ _ (file_operand file plain) refl refl refl (at_end check_shape _)) refl refl
+
+explain : (query : Text) (bail : Bool) (file : Option Text) → IsOperand query → IsFile file → AreTaken (codes "explain" ∷ (flag_words bail (codes "--bail") ++ (query ∷ [] ++ file_words file))) (plainly (asked.explain query false) file bail)
+unfolding clap_on_literals
+explain query false None is plain =
+    behind (codes "explain") explain_shape explain_is (query ∷ []) _ (plainly (asked.explain query false) None false) (then_operand explain_shape _ _ _ _ is refl refl refl (at_end explain_shape _)) refl refl
+explain query false (Some file) is plain =
+    behind (codes "explain") explain_shape explain_is (query ∷ file ∷ []) _ (plainly (asked.explain query false) (Some file) false) (then_operand explain_shape _ _ _ _ is refl refl refl (then_operand explain_shape _ _ _ _ (file_operand file plain) refl refl refl (at_end explain_shape _))) refl refl
+explain query true None is plain =
+    behind (codes "explain") explain_shape explain_is (codes "--bail" ∷ query ∷ []) _ (plainly (asked.explain query false) None true) (then_word explain_shape _ _ _ _ _ refl refl (then_operand explain_shape _ _ _ _ is refl refl refl (at_end explain_shape _))) refl refl
+explain query true (Some file) is plain =
+    behind (codes "explain") explain_shape explain_is (codes "--bail" ∷ query ∷ file ∷ []) _ (plainly (asked.explain query false) (Some file) true) (then_word explain_shape _ _ _ _ _ refl refl (then_operand explain_shape _ _ _ _ is refl refl refl (then_operand explain_shape _ _ _ _ (file_operand file plain) refl refl refl (at_end explain_shape _)))) refl refl
+
+explain_prose : (query : Text) (bail : Bool) (file : Option Text) → IsOperand query → IsFile file → AreTaken (codes "explain" ∷ codes "--prose" ∷ (flag_words bail (codes "--bail") ++ (query ∷ [] ++ file_words file))) (plainly (asked.explain query true) file bail)
+unfolding clap_on_literals
+explain_prose query false None is plain =
+    behind (codes "explain") explain_shape explain_is (codes "--prose" ∷ query ∷ []) _ (plainly (asked.explain query true) None false) (then_word explain_shape _ _ _ _ _ refl refl (then_operand explain_shape _ _ _ _ is refl refl refl (at_end explain_shape _))) refl refl
+explain_prose query false (Some file) is plain =
+    behind (codes "explain") explain_shape explain_is (codes "--prose" ∷ query ∷ file ∷ []) _ (plainly (asked.explain query true) (Some file) false) (then_word explain_shape _ _ _ _ _ refl refl (then_operand explain_shape _ _ _ _ is refl refl refl (then_operand explain_shape _ _ _ _ (file_operand file plain) refl refl refl (at_end explain_shape _)))) refl refl
+explain_prose query true None is plain =
+    behind (codes "explain") explain_shape explain_is (codes "--prose" ∷ codes "--bail" ∷ query ∷ []) _ (plainly (asked.explain query true) None true) (then_word explain_shape _ _ _ _ _ refl refl (then_word explain_shape _ _ _ _ _ refl refl (then_operand explain_shape _ _ _ _ is refl refl refl (at_end explain_shape _)))) refl refl
+explain_prose query true (Some file) is plain =
+    behind (codes "explain") explain_shape explain_is (codes "--prose" ∷ codes "--bail" ∷ query ∷ file ∷ []) _ (plainly (asked.explain query true) (Some file) true) (then_word explain_shape _ _ _ _ _ refl refl (then_word explain_shape _ _ _ _ _ refl refl (then_operand explain_shape _ _ _ _ is refl refl refl (then_operand explain_shape _ _ _ _ (file_operand file plain) refl refl refl (at_end explain_shape _))))) refl refl
+
+picture : (query : Text) (bail : Bool) (file : Option Text) → IsOperand query → IsFile file → AreTaken (codes "picture" ∷ (flag_words bail (codes "--bail") ++ (query ∷ [] ++ file_words file))) (plainly (asked.picture query) file bail)
+unfolding clap_on_literals
+picture query false None is plain =
+    behind (codes "picture") picture_shape picture_is (query ∷ []) _ (plainly (asked.picture query) None false) (then_operand picture_shape _ _ _ _ is refl refl refl (at_end picture_shape _)) refl refl
+picture query false (Some file) is plain =
+    behind (codes "picture") picture_shape picture_is (query ∷ file ∷ []) _ (plainly (asked.picture query) (Some file) false) (then_operand picture_shape _ _ _ _ is refl refl refl (then_operand picture_shape _ _ _ _ (file_operand file plain) refl refl refl (at_end picture_shape _))) refl refl
+picture query true None is plain =
+    behind (codes "picture") picture_shape picture_is (codes "--bail" ∷ query ∷ []) _ (plainly (asked.picture query) None true) (then_word picture_shape _ _ _ _ _ refl refl (then_operand picture_shape _ _ _ _ is refl refl refl (at_end picture_shape _))) refl refl
+picture query true (Some file) is plain =
+    behind (codes "picture") picture_shape picture_is (codes "--bail" ∷ query ∷ file ∷ []) _ (plainly (asked.picture query) (Some file) true) (then_word picture_shape _ _ _ _ _ refl refl (then_operand picture_shape _ _ _ _ is refl refl refl (then_operand picture_shape _ _ _ _ (file_operand file plain) refl refl refl (at_end picture_shape _)))) refl refl
+
+page : (bail : Bool) (file : Option Text) → IsFile file → AreTaken (codes "page" ∷ (flag_words bail (codes "--bail") ++ file_words file)) (plainly (asked.page 10) file bail)
+unfolding clap_on_literals
+page false None plain =
+    behind (codes "page") page_shape page_is ([]) _ (plainly (asked.page 10) None false) (at_end page_shape _) refl refl
+page false (Some file) plain =
+    behind (codes "page") page_shape page_is (file ∷ []) _ (plainly (asked.page 10) (Some file) false) (then_operand page_shape _ _ _ _ (file_operand file plain) refl refl refl (at_end page_shape _)) refl refl
+page true None plain =
+    behind (codes "page") page_shape page_is (codes "--bail" ∷ []) _ (plainly (asked.page 10) None true) (then_word page_shape _ _ _ _ _ refl refl (at_end page_shape _)) refl refl
+page true (Some file) plain =
+    behind (codes "page") page_shape page_is (codes "--bail" ∷ file ∷ []) _ (plainly (asked.page 10) (Some file) true) (then_word page_shape _ _ _ _ _ refl refl (then_operand page_shape _ _ _ _ (file_operand file plain) refl refl refl (at_end page_shape _))) refl refl
 
 page_counted : (text : Text) (bail : Bool) (file : Option Text) → IsOperand text → is_unsigned_in 1 64 text ≡ true → IsFile file → AreTaken (codes "page" ∷ codes "--worst" ∷ text ∷ (flag_words bail (codes "--bail") ++ file_words file)) (plainly (asked.page (digits_value 10 (without_leading_plus text))) file bail)
 unfolding clap_on_literals
-page_counted text false None is passes plain name = (rw (is.no_dashes, is.no_long, is.no_short, passes) refl, rw (is.no_dashes, is.no_long, is.no_short, (number text passes).0) refl)
-page_counted text false (Some file) is passes plain name = let to = file_operand file plain in (rw (is.no_dashes, is.no_long, is.no_short, to.no_dashes, to.no_long, to.no_short, passes) refl, rw (is.no_dashes, is.no_long, is.no_short, to.no_dashes, to.no_long, to.no_short, (number text passes).0) refl)
-page_counted text true None is passes plain name = (rw (is.no_dashes, is.no_long, is.no_short, passes) refl, rw (is.no_dashes, is.no_long, is.no_short, (number text passes).0) refl)
-page_counted text true (Some file) is passes plain name =
-    let to = file_operand file plain in (
-      rw (is.no_dashes, is.no_long, is.no_short, passes, to.no_dashes, to.no_long, to.no_short) refl,
-      rw (is.no_dashes, is.no_long, is.no_short, to.no_dashes, to.no_long, to.no_short) (counted asked.page text (Some file) true passes),
-    )
+page_counted text false None is passes plain =
+    behind (codes "page") page_shape page_is (codes "--worst" ∷ text ∷ []) (behind_operand page_shape.rules (walked page_shape.rules [] (walk_from nothing_held) (codes "--worst")) text) (plainly (asked.page (digits_value 10 (without_leading_plus text))) None false) (then_word page_shape _ _ _ _ _ refl refl (then_operand page_shape _ _ _ _ is refl refl refl (at_end page_shape _))) (finished_well page_shape (behind_operand page_shape.rules (walked page_shape.rules [] (walk_from nothing_held) (codes "--worst")) text) (rw passes refl) refl) (counted asked.page text None false passes)
+page_counted text false (Some file) is passes plain =
+    behind (codes "page") page_shape page_is (codes "--worst" ∷ text ∷ file ∷ []) (behind_operand page_shape.rules (behind_operand page_shape.rules (walked page_shape.rules [] (walk_from nothing_held) (codes "--worst")) text) file) (plainly (asked.page (digits_value 10 (without_leading_plus text))) (Some file) false) (then_word page_shape _ _ _ _ _ refl refl (then_operand page_shape _ _ _ _ is refl refl refl (then_operand page_shape _ _ _ _ (file_operand file plain) refl refl (rw passes refl) (at_end page_shape _)))) refl (counted asked.page text (Some file) false passes)
+page_counted text true None is passes plain =
+    behind (codes "page") page_shape page_is (codes "--worst" ∷ text ∷ codes "--bail" ∷ []) (walked page_shape.rules [] (behind_operand page_shape.rules (walked page_shape.rules [] (walk_from nothing_held) (codes "--worst")) text) (codes "--bail")) (plainly (asked.page (digits_value 10 (without_leading_plus text))) None true) (then_word page_shape _ _ _ _ _ refl refl (then_operand page_shape _ _ _ _ is refl refl refl (then_word page_shape _ _ _ _ _ refl (rw passes refl) (at_end page_shape _)))) refl (counted asked.page text None true passes)
+page_counted text true (Some file) is passes plain =
+    behind (codes "page") page_shape page_is (codes "--worst" ∷ text ∷ codes "--bail" ∷ file ∷ []) (behind_operand page_shape.rules (with_bail page_shape (codes "worst") text) file) (plainly (asked.page (digits_value 10 (without_leading_plus text))) (Some file) true)
+    (then_word page_shape _ _ (behind_operand page_shape.rules (with_bail page_shape (codes "worst") text) file) _ _ refl refl (then_operand page_shape _ (behind_operand page_shape.rules (with_bail page_shape (codes "worst") text) file) _ _ is refl refl refl
+    (then_word page_shape (with_number (codes "worst") text) (with_bail page_shape (codes "worst") text) (behind_operand page_shape.rules (with_bail page_shape (codes "worst") text) file) _ _ refl (rw passes refl) (then_operand page_shape (with_bail page_shape (codes "worst") text) (behind_operand page_shape.rules (with_bail page_shape (codes "worst") text) file) _ _ (file_operand file plain) refl refl refl (at_end page_shape (behind_operand page_shape.rules (with_bail page_shape (codes "worst") text) file)))))) refl (counted asked.page text (Some file) true passes)
 
-drive : (file : Option Text) → IsFile file → AreTaken (codes "drive" ∷ file_words file) (plainly (asked.drive 4 false) file false)
+ledger : (bail : Bool) (file : Option Text) → IsFile file → AreTaken (codes "ledger" ∷ (flag_words bail (codes "--bail") ++ file_words file)) (plainly asked.ledger file bail)
 unfolding clap_on_literals
-drive None plain name = (refl, refl)
-drive (Some file) plain name = let to = file_operand file plain in rw (to.no_dashes, to.no_long, to.no_short) (refl, refl)
+ledger false None plain =
+    behind (codes "ledger") ledger_shape ledger_is ([]) _ (plainly asked.ledger None false) (at_end ledger_shape _) refl refl
+ledger false (Some file) plain =
+    behind (codes "ledger") ledger_shape ledger_is (file ∷ []) _ (plainly asked.ledger (Some file) false) (then_operand ledger_shape _ _ _ _ (file_operand file plain) refl refl refl (at_end ledger_shape _)) refl refl
+ledger true None plain =
+    behind (codes "ledger") ledger_shape ledger_is (codes "--bail" ∷ []) _ (plainly asked.ledger None true) (then_word ledger_shape _ _ _ _ _ refl refl (at_end ledger_shape _)) refl refl
+ledger true (Some file) plain =
+    behind (codes "ledger") ledger_shape ledger_is (codes "--bail" ∷ file ∷ []) _ (plainly asked.ledger (Some file) true) (then_word ledger_shape _ _ _ _ _ refl refl (then_operand ledger_shape _ _ _ _ (file_operand file plain) refl refl refl (at_end ledger_shape _))) refl refl
 
-drive_counted : (text : Text) (file : Option Text) → IsOperand text → is_unsigned_in 1 64 text ≡ true → IsFile file → AreTaken (codes "drive" ∷ (codes "--workers" ∷ text ∷ [] ++ file_words file)) (plainly (asked.drive (digits_value 10 (without_leading_plus text)) false) file false)
+why : (bail : Bool) (file : Option Text) → IsFile file → AreTaken (codes "why" ∷ (flag_words bail (codes "--bail") ++ file_words file)) (plainly (asked.why None) file bail)
 unfolding clap_on_literals
-drive_counted text None is passes plain name = (rw (is.no_dashes, is.no_long, is.no_short, passes) refl, rw (is.no_dashes, is.no_long, is.no_short, (number text passes).0) refl)
-drive_counted text (Some file) is passes plain name = let to = file_operand file plain in (rw (is.no_dashes, is.no_long, is.no_short, to.no_dashes, to.no_long, to.no_short, passes) refl, rw (is.no_dashes, is.no_long, is.no_short, to.no_dashes, to.no_long, to.no_short, (number text passes).0) refl)
+why false None plain =
+    behind (codes "why") why_shape why_is ([]) _ (plainly (asked.why None) None false) (at_end why_shape _) refl refl
+why false (Some file) plain =
+    behind (codes "why") why_shape why_is (file ∷ []) _ (plainly (asked.why None) (Some file) false) (then_operand why_shape _ _ _ _ (file_operand file plain) refl refl refl (at_end why_shape _)) refl refl
+why true None plain =
+    behind (codes "why") why_shape why_is (codes "--bail" ∷ []) _ (plainly (asked.why None) None true) (then_word why_shape _ _ _ _ _ refl refl (at_end why_shape _)) refl refl
+why true (Some file) plain =
+    behind (codes "why") why_shape why_is (codes "--bail" ∷ file ∷ []) _ (plainly (asked.why None) (Some file) true) (then_word why_shape _ _ _ _ _ refl refl (then_operand why_shape _ _ _ _ (file_operand file plain) refl refl refl (at_end why_shape _))) refl refl
 
-ledger : (bail : Bool) (file : Option Text) → IsFile file → AreTaken (codes "ledger" ∷ flag_words bail (codes "--bail") ++ file_words file) (plainly asked.ledger file bail)
+audit : (bail : Bool) (file : Option Text) → IsFile file → AreTaken (codes "audit" ∷ (flag_words bail (codes "--bail") ++ file_words file)) (plainly (asked.audit 4) file bail)
 unfolding clap_on_literals
-ledger false None plain name = (refl, refl)
-ledger false (Some file) plain name = let to = file_operand file plain in rw (to.no_dashes, to.no_long, to.no_short) (refl, refl)
-ledger true None plain name = (refl, refl)
-ledger true (Some file) plain name = let to = file_operand file plain in rw (to.no_dashes, to.no_long, to.no_short) (refl, refl)
+audit false None plain =
+    behind (codes "audit") audit_shape audit_is ([]) _ (plainly (asked.audit 4) None false) (at_end audit_shape _) refl refl
+audit false (Some file) plain =
+    behind (codes "audit") audit_shape audit_is (file ∷ []) _ (plainly (asked.audit 4) (Some file) false) (then_operand audit_shape _ _ _ _ (file_operand file plain) refl refl refl (at_end audit_shape _)) refl refl
+audit true None plain =
+    behind (codes "audit") audit_shape audit_is (codes "--bail" ∷ []) _ (plainly (asked.audit 4) None true) (then_word audit_shape _ _ _ _ _ refl refl (at_end audit_shape _)) refl refl
+audit true (Some file) plain =
+    behind (codes "audit") audit_shape audit_is (codes "--bail" ∷ file ∷ []) _ (plainly (asked.audit 4) (Some file) true) (then_word audit_shape _ _ _ _ _ refl refl (then_operand audit_shape _ _ _ _ (file_operand file plain) refl refl refl (at_end audit_shape _))) refl refl
 
-why : (bail : Bool) (file : Option Text) → IsFile file → AreTaken (codes "why" ∷ flag_words bail (codes "--bail") ++ file_words file) (plainly (asked.why None) file bail)
+audit_counted : (text : Text) (bail : Bool) (file : Option Text) → IsOperand text → is_unsigned_in 1 64 text ≡ true → IsFile file → AreTaken (codes "audit" ∷ codes "--workers" ∷ text ∷ (flag_words bail (codes "--bail") ++ file_words file)) (plainly (asked.audit (digits_value 10 (without_leading_plus text))) file bail)
 unfolding clap_on_literals
-why false None plain name = (refl, refl)
-why false (Some file) plain name = let to = file_operand file plain in rw (to.no_dashes, to.no_long, to.no_short) (refl, refl)
-why true None plain name = (refl, refl)
-why true (Some file) plain name = let to = file_operand file plain in rw (to.no_dashes, to.no_long, to.no_short) (refl, refl)
+audit_counted text false None is passes plain =
+    behind (codes "audit") audit_shape audit_is (codes "--workers" ∷ text ∷ []) (behind_operand audit_shape.rules (walked audit_shape.rules [] (walk_from nothing_held) (codes "--workers")) text) (plainly (asked.audit (digits_value 10 (without_leading_plus text))) None false) (then_word audit_shape _ _ _ _ _ refl refl (then_operand audit_shape _ _ _ _ is refl refl refl (at_end audit_shape _))) (finished_well audit_shape (behind_operand audit_shape.rules (walked audit_shape.rules [] (walk_from nothing_held) (codes "--workers")) text) (rw passes refl) refl) (counted asked.audit text None false passes)
+audit_counted text false (Some file) is passes plain =
+    behind (codes "audit") audit_shape audit_is (codes "--workers" ∷ text ∷ file ∷ []) (behind_operand audit_shape.rules (behind_operand audit_shape.rules (walked audit_shape.rules [] (walk_from nothing_held) (codes "--workers")) text) file) (plainly (asked.audit (digits_value 10 (without_leading_plus text))) (Some file) false) (then_word audit_shape _ _ _ _ _ refl refl (then_operand audit_shape _ _ _ _ is refl refl refl (then_operand audit_shape _ _ _ _ (file_operand file plain) refl refl (rw passes refl) (at_end audit_shape _)))) refl (counted asked.audit text (Some file) false passes)
+audit_counted text true None is passes plain =
+    behind (codes "audit") audit_shape audit_is (codes "--workers" ∷ text ∷ codes "--bail" ∷ []) (walked audit_shape.rules [] (behind_operand audit_shape.rules (walked audit_shape.rules [] (walk_from nothing_held) (codes "--workers")) text) (codes "--bail")) (plainly (asked.audit (digits_value 10 (without_leading_plus text))) None true) (then_word audit_shape _ _ _ _ _ refl refl (then_operand audit_shape _ _ _ _ is refl refl refl (then_word audit_shape _ _ _ _ _ refl (rw passes refl) (at_end audit_shape _)))) refl (counted asked.audit text None true passes)
+audit_counted text true (Some file) is passes plain =
+    behind (codes "audit") audit_shape audit_is (codes "--workers" ∷ text ∷ codes "--bail" ∷ file ∷ []) (behind_operand audit_shape.rules (with_bail audit_shape (codes "workers") text) file) (plainly (asked.audit (digits_value 10 (without_leading_plus text))) (Some file) true)
+    (then_word audit_shape _ _ (behind_operand audit_shape.rules (with_bail audit_shape (codes "workers") text) file) _ _ refl refl (then_operand audit_shape _ (behind_operand audit_shape.rules (with_bail audit_shape (codes "workers") text) file) _ _ is refl refl refl
+    (then_word audit_shape (with_number (codes "workers") text) (with_bail audit_shape (codes "workers") text) (behind_operand audit_shape.rules (with_bail audit_shape (codes "workers") text) file) _ _ refl (rw passes refl) (then_operand audit_shape (with_bail audit_shape (codes "workers") text) (behind_operand audit_shape.rules (with_bail audit_shape (codes "workers") text) file) _ _ (file_operand file plain) refl refl refl (at_end audit_shape (behind_operand audit_shape.rules (with_bail audit_shape (codes "workers") text) file)))))) refl (counted asked.audit text (Some file) true passes)
+
+drive : (file : Option Text) → IsFile file → AreTaken (codes "drive" ∷ file_words file) (plainly (asked.drive 4) file false)
+unfolding clap_on_literals
+drive None plain =
+    behind (codes "drive") drive_shape drive_is ([]) _ (plainly (asked.drive 4) None false) (at_end drive_shape _) refl refl
+drive (Some file) plain =
+    behind (codes "drive") drive_shape drive_is (file ∷ []) _ (plainly (asked.drive 4) (Some file) false) (then_operand drive_shape _ _ _ _ (file_operand file plain) refl refl refl (at_end drive_shape _)) refl refl
+
+drive_counted : (text : Text) (file : Option Text) → IsOperand text → is_unsigned_in 1 64 text ≡ true → IsFile file → AreTaken (codes "drive" ∷ codes "--workers" ∷ text ∷ file_words file) (plainly (asked.drive (digits_value 10 (without_leading_plus text))) file false)
+unfolding clap_on_literals
+drive_counted text None is passes plain =
+    behind (codes "drive") drive_shape drive_is (codes "--workers" ∷ text ∷ []) (behind_operand drive_shape.rules (walked drive_shape.rules [] (walk_from nothing_held) (codes "--workers")) text) (plainly (asked.drive (digits_value 10 (without_leading_plus text))) None false) (then_word drive_shape _ _ _ _ _ refl refl (then_operand drive_shape _ _ _ _ is refl refl refl (at_end drive_shape _))) (finished_well drive_shape (behind_operand drive_shape.rules (walked drive_shape.rules [] (walk_from nothing_held) (codes "--workers")) text) (rw passes refl) refl) (counted asked.drive text None false passes)
+drive_counted text (Some file) is passes plain =
+    behind (codes "drive") drive_shape drive_is (codes "--workers" ∷ text ∷ file ∷ []) (behind_operand drive_shape.rules (behind_operand drive_shape.rules (walked drive_shape.rules [] (walk_from nothing_held) (codes "--workers")) text) file) (plainly (asked.drive (digits_value 10 (without_leading_plus text))) (Some file) false) (then_word drive_shape _ _ _ _ _ refl refl (then_operand drive_shape _ _ _ _ is refl refl refl (then_operand drive_shape _ _ _ _ (file_operand file plain) refl refl (rw passes refl) (at_end drive_shape _)))) refl (counted asked.drive text (Some file) false passes)
 
 lint : (file : Option Text) → IsFile file → AreTaken (codes "lint" ∷ file_words file) (plainly asked.lint file false)
 unfolding clap_on_literals
-lint None plain name = (refl, refl)
-lint (Some file) plain name = let to = file_operand file plain in rw (to.no_dashes, to.no_long, to.no_short) (refl, refl)
+lint None plain =
+    behind (codes "lint") lint_shape lint_is ([]) _ (plainly asked.lint None false) (at_end lint_shape _) refl refl
+lint (Some file) plain =
+    behind (codes "lint") lint_shape lint_is (file ∷ []) _ (plainly asked.lint (Some file) false) (then_operand lint_shape _ _ _ _ (file_operand file plain) refl refl refl (at_end lint_shape _)) refl refl
 
 -- a number does not begin with `-`
 no_minus : (xs : List ℕ) → is_unsigned_in 1 64 (45 ∷ xs) ≡ true → ⊥
@@ -221,9 +297,8 @@ taken words (asked.page n) file bail (own, count, (named, call)) =
 taken words (asked.audit n) file bail (own, workers, (named, call)) =
     called words _ _ call (with_count (codes "--workers") 4 n own (λ own n. AreTaken (codes "audit" ∷ (own ++ (flag_words bail (codes "--bail") ++ file_words file))) (plainly (asked.audit n) file bail)) workers (audit bail file named)
     (λ text passes. audit_counted text bail file (plain_operand text (plain_number text passes)) passes named))
-taken words (asked.drive n true) file bail spells = absurd spells
-taken words (asked.drive n false) file bail (own, workers, (named, none, call)) =
-    rw none (called words _ _ call (with_count (codes "--workers") 4 n own (λ own n. AreTaken (codes "drive" ∷ (own ++ file_words file)) (plainly (asked.drive n false) file false)) workers (drive file named)
+taken words (asked.drive n) file bail (own, workers, (named, none, call)) =
+    rw none (called words _ _ call (with_count (codes "--workers") 4 n own (λ own n. AreTaken (codes "drive" ∷ (own ++ file_words file)) (plainly (asked.drive n) file false)) workers (drive file named)
     (λ text passes. drive_counted text file (plain_operand text (plain_number text passes)) passes named)))
 taken words asked.ledger file bail (named, call) = called words _ _ call (ledger bail file named)
 taken words (asked.why None) file bail (named, call) = called words _ _ call (why bail file named)
@@ -232,7 +307,13 @@ taken words asked.lint file bail (named, none, call) = rw none (called words _ _
 
 taken_as : (words : List Text) (wanted : Request) → Spells words wanted → IsTaken words wanted
 taken_as words wanted (progress, format, is) =
-    let same : plainly wanted.work wanted.file wanted.bail ≡ wanted = cc in
+    let same : plainly wanted.work wanted.file wanted.bail ≡ wanted = λ i. record {
+      work = wanted.work;
+      file = wanted.file;
+      bail = wanted.bail;
+      progress = sym progress i;
+      format = sym format i;
+    } in
     subst (IsTaken words) same (taken words wanted.work wanted.file wanted.bail (subst (λ r. SpellsWork wanted.work r words) (sym same) is))
 
 -- words that spell a job fail only if allocation fails

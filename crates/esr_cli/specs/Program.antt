@@ -64,9 +64,6 @@ query_rule = record (new_rule (codes "query")) { long = Some (codes "query"); va
 abbrev pub verbose_rule : Rule
 verbose_rule = record (new_rule (codes "verbose")) { long = Some (codes "verbose"); action = Some SetTrue }
 
-abbrev pub as_script_rule : Rule
-as_script_rule = record (new_rule (codes "as-script")) { long = Some (codes "as-script"); action = Some SetTrue }
-
 -- the name of a transaction, which need not be given
 abbrev pub of_rule : Rule
 of_rule = new_rule (codes "NAME")
@@ -103,7 +100,7 @@ abbrev pub audit : App
 audit = with_rule (with_rule (scripted (new_app (codes "audit"))) workers_rule) format_rule
 
 abbrev pub drive : App
-drive = with_rule (with_rule (reading (new_app (codes "drive"))) workers_rule) as_script_rule
+drive = with_rule (reading (new_app (codes "drive"))) workers_rule
 
 abbrev pub lint : App
 lint = with_rule (new_app (codes "lint")) files_rule

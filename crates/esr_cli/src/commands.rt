@@ -7,7 +7,7 @@
 ghost use Rattle.std.specs.Prelude.{◌≡◌, IfOk, codes, false};
 ghost use Rattle.clap.specs.Words.{App, app_of, new_app, with_rule, with_subcommand, rule_of};
 ghost use Rattle.clap.specs.declared.builder.command.Command.TheViews.{out-Command};
-ghost use Rattle.esr_cli.specs.Program.{as_script_rule, audit, bail_rule, certify, check, drive, esr, explain, file_rule, files_rule, format_rule, ledger, lint, name_rule, named, no_progress_rule, of_rule, page, program, progress_rule, prose_rule, queries, query_rule, reading, script_rule, scripted, scripts, steps_rule, tables, verbose_rule, why, workers_rule, worst_rule};
+ghost use Rattle.esr_cli.specs.Program.{audit, bail_rule, certify, check, drive, esr, explain, file_rule, files_rule, format_rule, ledger, lint, name_rule, named, no_progress_rule, of_rule, page, program, progress_rule, prose_rule, queries, query_rule, reading, script_rule, scripted, scripts, steps_rule, tables, verbose_rule, why, workers_rule, worst_rule};
 
 use crate::help;
 use clap::{Arg, ArgAction, Command, value_parser};
@@ -61,9 +61,9 @@ fn files<'a>(alloc: Global) -> Arg<'a>
     ensures rule { rule_of result ≡ files_rule }
     ensures local { result.global ≡ false }
 {
-    Arg::new(alloc, "FILE")
-        .action(ArgAction::Append)
-        .help("What is read, one after another; standard input where it is - or none is named")
+    Arg::new(alloc, "FILE").action(ArgAction::Append).help(
+        "What is read, one after another; standard input where it is - or none is named",
+    )
 }
 
 /// `--bail`
@@ -190,17 +190,6 @@ fn verbose<'a>(alloc: Global) -> Arg<'a>
         .long("verbose")
         .action(ArgAction::SetTrue)
         .help("Says on standard error what was found amiss")
-}
-
-/// `--as-script`
-fn as_script<'a>(alloc: Global) -> Arg<'a>
-    ensures rule { rule_of result ≡ as_script_rule }
-    ensures local { result.global ≡ false }
-{
-    Arg::new(alloc, "as-script")
-        .long("as-script")
-        .action(ArgAction::SetTrue)
-        .help("Writes the history that came, as a script")
 }
 
 /// `NAME`, which need not be given
@@ -339,14 +328,16 @@ fn audit<'a>(alloc: Global) -> Result<Command<'a>, AllocError>
     taking(taking(command, workers(alloc)), format(alloc))
 }
 
-/// `drive [--workers W] [--as-script] [FILE]`
+/// `drive [--workers W] [FILE]`
 fn drive<'a>(alloc: Global) -> Result<Command<'a>, AllocError>
     ensures app { IfOk result (λ c. app_of c ≡ drive) }
     ensures local { IfOk result (λ c. (out-Command c).has_globals ≡ false) }
 {
     let about = "Runs the sessions of a drive file, each on a thread";
-    let command = reading(alloc, plain(alloc, "drive", about, help::DRIVE));
-    taking(taking(command, workers(alloc)), as_script(alloc))
+    taking(
+        reading(alloc, plain(alloc, "drive", about, help::DRIVE)),
+        workers(alloc),
+    )
 }
 
 /// `lint [FILE..]`

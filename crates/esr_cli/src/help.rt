@@ -59,7 +59,11 @@ pub const CHECK: &str = "It writes one line:
 For example:
 
   $ printf '{' | esr check
-  bad 1";
+  bad 1
+
+With --script and --query it writes valid W of NAME only where the problem of the
+bundle is the one that the script gives for that query; else a valid bundle speaks
+of something else: valid W, not of NAME (status 1).";
 
 pub const EXPLAIN: &str =
     "It tells of a committed query what it read beside the value of the nearest
@@ -132,7 +136,7 @@ For example:
 pub const LINT: &str =
     "It lists lines that are no commands, lines that are answered by an error or by a
 refusal 1 to 8, and transactions that are still active at the end, each as
-FILE:LINE:COLUMN: REASON. The status is 1 where there is one.
+FILE:LINE:COLUMN: REASON, of each FILE in turn. The status is 1 where there is one.
 
 For example:
 

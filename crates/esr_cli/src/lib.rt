@@ -12,7 +12,7 @@ ghost use Rattle.clap.specs.Words.{subcommand_of, subcommand_rows_of, FailsBy};
 ghost use Rattle.clap.specs.Walk.{texts};
 ghost use Rattle.clap.specs.declared.error.kind.ErrorKind.TheVariants.{OutOfMemory};
 ghost use Rattle.esr_cli.specs.Program.{program};
-ghost use Rattle.esr_cli.specs.Job.{certify_in, check_in, count_in, drive_in, explain_in, flag_in, format_in, format_named, progress_in, request_in, request_of, work_in, work_of, HasWorkers, Spells};
+ghost use Rattle.esr_cli.specs.Job.{certify_in, check_in, count_in, explain_in, flag_in, format_in, format_named, progress_in, request_in, request_of, work_in, work_of, HasWorkers, Spells};
 
 mod commands;
 mod help;
@@ -28,7 +28,10 @@ pub enum Task<'a> {
     Run,
     /// Runs a script without writing its lines, and writes the bundle of the
     /// query `name`, with the count of augmentations if `steps`.
-    Certify { name: &'a str, steps: bool },
+    Certify {
+        name: &'a str,
+        steps: bool,
+    },
     /// Judges a bundle: on its own, or as what a script gives for a query, where both are named; and tells what
     /// an invalid one lacks if `verbose`.
     Check {
@@ -38,24 +41,37 @@ pub enum Task<'a> {
     },
     /// Runs a script without writing its lines, and explains the query `name`,
     /// in sentences if `prose`.
-    Explain { name: &'a str, prose: bool },
+    Explain {
+        name: &'a str,
+        prose: bool,
+    },
     /// Runs a script without writing its lines, and draws the query `name`.
-    Picture { name: &'a str },
+    Picture {
+        name: &'a str,
+    },
     /// Runs a script without writing its lines, and writes a page about its
     /// queries, of which so many are told in full, 1 to 64.
-    Page { worst: u64 },
+    Page {
+        worst: u64,
+    },
     /// Runs a script without writing its lines, and audits each committed query
     /// with so many workers, 1 to 64.
-    Audit { workers: u64 },
+    Audit {
+        workers: u64,
+    },
     /// Runs the sessions of a drive file, and audits with so many workers, 1 to
-    /// 64, or writes the history that came as a script if `as_script`.
-    Drive { workers: u64, as_script: bool },
+    /// 64.
+    Drive {
+        workers: u64,
+    },
     /// Runs a script without writing its lines, and writes a row for each of its
     /// transactions.
     Ledger,
     /// Runs a script without writing its lines, and tells why lines were blocked:
     /// all, or those of one transaction.
-    Why { name: Option<&'a str> },
+    Why {
+        name: Option<&'a str>,
+    },
     /// Runs a script without writing its lines, and lists the lines at fault.
     Lint,
 }
@@ -180,16 +196,6 @@ fn check_task<'a>(given: &ArgMatches<'a>) -> Task<'a>
     }
 }
 
-fn drive_task<'a>(given: &ArgMatches<'a>) -> Option<Task<'a>>
-    ensures { option_map work_of result ≡ drive_in (rows_of (found_of given.now)) }
-{
-    let workers = count(given, "workers")?;
-    Some(Task::Drive {
-        workers,
-        as_script: flag(given, "as-script"),
-    })
-}
-
 fn task_of<'a>(name: &str, given: &ArgMatches<'a>) -> Option<Task<'a>>
     ensures { option_map work_of result ≡ work_in name.now (rows_of (found_of given.now)) }
 {
@@ -207,7 +213,9 @@ fn task_of<'a>(name: &str, given: &ArgMatches<'a>) -> Option<Task<'a>>
         "audit" => Some(Task::Audit {
             workers: count(given, "workers")?,
         }),
-        "drive" => drive_task(given),
+        "drive" => Some(Task::Drive {
+            workers: count(given, "workers")?,
+        }),
         "ledger" => Some(Task::Ledger),
         "why" => Some(Task::Why {
             name: text(given, "NAME"),

@@ -2,18 +2,34 @@
 //! That these are the ones of the pages, that a job is got if there is memory, and what help says, no clause can say.
 
 use clap::error::ErrorKind;
-use esr_cli::{Task, command};
+use esr_cli::{Format, Progress, Task, command};
 use std::alloc::Global;
 use std::process::Abort;
 
 type Words = &'static [&'static str];
 
 /// Words of the command line, and the work that each line asks for.
-static TASKS: [(Words, Task<'static>); 18] = [
+static TASKS: [(Words, Task<'static>); 22] = [
     // `run` takes no name: it answers every line.
     (&["esr", "run"], Task::Run),
     // `check` takes no name: a bundle is of one query.
-    (&["esr", "check"], Task::Check),
+    (
+        &["esr", "check"],
+        Task::Check {
+            script: None,
+            query: None,
+            verbose: false,
+        },
+    ),
+    // A bundle may be said to be of a query of a script.
+    (
+        &["esr", "check", "--script", "a.esr", "--query", "q", "--verbose"],
+        Task::Check {
+            script: Some("a.esr"),
+            query: Some("q"),
+            verbose: true,
+        },
+    ),
     // A name is enough, and steps are not told unless they are asked for.
     (
         &["esr", "certify", "q"],
@@ -85,12 +101,25 @@ static TASKS: [(Words, Task<'static>); 18] = [
         Task::Audit { workers: 64 },
     ),
     // Where a drive asks for no workers, there are four as well.
-    (&["esr", "drive"], Task::Drive { workers: 4 }),
+    (
+        &["esr", "drive"],
+        Task::Drive {
+            workers: 4,
+        },
+    ),
     // A drive takes workers between the bounds, like an audit.
     (
         &["esr", "drive", "--workers", "7"],
-        Task::Drive { workers: 7 },
+        Task::Drive {
+            workers: 7,
+        },
     ),
+    // A ledger is of a whole script.
+    (&["esr", "ledger"], Task::Ledger),
+    // So is what was blocked, where no transaction is named.
+    (&["esr", "why"], Task::Why { name: None }),
+    // The transaction stands behind the file.
+    (&["esr", "why", "-", "u"], Task::Why { name: Some("u") }),
     // A script is looked at without a name.
     (&["esr", "lint"], Task::Lint),
     // A page tells ten queries in full where no number is given.
@@ -157,6 +186,68 @@ fn names_file(alloc: Global, words: Words, file: Option<&str>, bail: bool) -> bo
 fn words_name_their_file(rt: HostRuntime) {
     for (words, file, bail) in files() {
         assert!(rt; names_file(rt.alloc(), words, *file, *bail), "{:?}", words);
+    }
+}
+
+/// Words, when they want progress to be shown, and how they want it written.
+static WAYS: [(Words, Progress, Option<Format>); 7] = [
+    // Nothing is said: where there is a terminal, and as text.
+    (&["esr", "run"], Progress::AtATerminal, Some(Format::Text)),
+    // A script that is watched from elsewhere.
+    (
+        &["esr", "run", "--progress"],
+        Progress::Always,
+        Some(Format::Text),
+    ),
+    // A terminal that is to stay as it is.
+    (
+        &["esr", "audit", "--no-progress"],
+        Progress::Never,
+        Some(Format::Text),
+    ),
+    // Of both, not to show it goes first.
+    (
+        &["esr", "page", "--progress", "--no-progress"],
+        Progress::Never,
+        Some(Format::Text),
+    ),
+    // A table for a spreadsheet.
+    (
+        &["esr", "ledger", "--format", "csv"],
+        Progress::AtATerminal,
+        Some(Format::Csv),
+    ),
+    // One for a program.
+    (
+        &["esr", "explain", "q", "--format=json"],
+        Progress::AtATerminal,
+        Some(Format::Json),
+    ),
+    // What is no format is told by the program.
+    (
+        &["esr", "audit", "--format", "xml"],
+        Progress::AtATerminal,
+        None,
+    ),
+];
+
+fn ways() -> &'static [(Words, Progress, Option<Format>)] {
+    &WAYS
+}
+
+/// Whether the words ask for this.
+fn asks_so(alloc: Global, words: Words, progress: Progress, format: Option<Format>) -> bool {
+    match command(alloc, words) {
+        Ok(job) => job.progress == progress && job.format == format,
+        Err(_) => false,
+    }
+}
+
+/// The same of how progress is shown and tables are written.
+#[test]
+fn words_say_how_it_is_told(rt: HostRuntime) {
+    for (words, progress, format) in ways() {
+        assert!(rt; asks_so(rt.alloc(), words, *progress, *format), "{:?}", words);
     }
 }
 
