@@ -15,6 +15,7 @@ use std::time::{Clock, Instant};
 
 /// Nothing is shown before so many milliseconds, and nothing again before so many more.
 const PATIENCE: u64 = 2_000;
+
 const PAUSE: u64 = 200;
 
 /// The clock is read once in so many lines.
@@ -58,9 +59,9 @@ impl<'a, R: Clock + Eprint> Meter<'a, R> {
         if now < PATIENCE || now < shown.saturating_add(PAUSE) {
             return;
         }
-        let taken =
-            self.shown
-                .compare_exchange(shown, now, Ordering::Relaxed, Ordering::Relaxed);
+        let taken = self
+            .shown
+            .compare_exchange(shown, now, Ordering::Relaxed, Ordering::Relaxed);
         if taken.is_ok() {
             let _ = eprint!(self.rt; "\r{text}\x1b[K");
         }

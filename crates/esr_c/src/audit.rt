@@ -104,7 +104,7 @@ fn numbers(alloc: Global, txns: &[TxnId]) -> Result<Vec<u32>, AllocError>
 }
 
 /// The audit of a query, or why there is none.
-fn found(alloc: Global, engine: &mut Engine, query: u32) -> Result<Finding, Status>
+fn find(alloc: Global, engine: &mut Engine, query: u32) -> Result<Finding, Status>
     ensures same { engine.new ≡ engine.old }
     ensures ok { IfOk result (IsFindingOf weighted engine.old query) }
     ensures refused { IsErrOf result Status.NotACommittedQuery ↔ (is_committed_query engine.old query ≡ false) }
@@ -134,7 +134,7 @@ pub(crate) fn show_finding(
     ensures kept { result ≢ Status.Done → before.new ≡ before.old }
     ensures untold { result ≢ Status.Done → result ≢ Status.TooSmall → finding.new ≡ finding.old }
 {
-    let found = match found(alloc, engine, query) {
+    let found = match find(alloc, engine, query) {
         Ok(found) => found,
         Err(why) => return why,
     };
@@ -153,7 +153,7 @@ fn bundle(alloc: Global, engine: &mut Engine, query: u32) -> Result<Vec<u8>, Sta
     ensures refused { IsErrOf result Status.NotACommittedQuery ↔ (is_committed_query engine.old query ≡ false) }
     ensures err { IfErr result (λ e. (e ≡ Status.NotACommittedQuery) ⊎ (e ≡ Status.NoMemory)) }
 {
-    let mut found = found(alloc, engine, query)?;
+    let mut found = find(alloc, engine, query)?;
     found.certificate.augmentations = None;
     match to_json(alloc, &found.problem, &found.certificate) {
         Ok(text) => Ok(text),

@@ -57,7 +57,7 @@ impl Status {
     }
 }
 
-pub(crate) fn closed() -> EsrEngine
+pub(crate) fn closed_engine() -> EsrEngine
     ensures { result.held.history ≡ None }
 {
     EsrEngine {
@@ -84,7 +84,7 @@ pub(crate) fn out_of(alloc: Global, variable: &mut EsrEngine) -> Option<Box<Engi
     if !variable.is_open {
         return None;
     }
-    let EsrEngine { is_open: _, held } = mem::replace(variable, closed());
+    let EsrEngine { is_open: _, held } = mem::replace(variable, closed_engine());
     Some(take(alloc, held))
 }
 

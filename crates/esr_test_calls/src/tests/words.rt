@@ -23,7 +23,15 @@ static TASKS: [(Words, Task<'static>); 22] = [
     ),
     // A bundle may be said to be of a query of a script.
     (
-        &["esr", "check", "--script", "a.esr", "--query", "q", "--verbose"],
+        &[
+            "esr",
+            "check",
+            "--script",
+            "a.esr",
+            "--query",
+            "q",
+            "--verbose",
+        ],
         Task::Check {
             script: Some("a.esr"),
             query: Some("q"),
@@ -101,18 +109,11 @@ static TASKS: [(Words, Task<'static>); 22] = [
         Task::Audit { workers: 64 },
     ),
     // Where a drive asks for no workers, there are four as well.
-    (
-        &["esr", "drive"],
-        Task::Drive {
-            workers: 4,
-        },
-    ),
+    (&["esr", "drive"], Task::Drive { workers: 4 }),
     // A drive takes workers between the bounds, like an audit.
     (
         &["esr", "drive", "--workers", "7"],
-        Task::Drive {
-            workers: 7,
-        },
+        Task::Drive { workers: 7 },
     ),
     // A ledger is of a whole script.
     (&["esr", "ledger"], Task::Ledger),
@@ -247,7 +248,11 @@ fn asks_so(alloc: Global, words: Words, progress: Progress, format: Option<Forma
 #[test]
 fn words_say_how_it_is_told(rt: HostRuntime) {
     for (words, progress, format) in ways() {
-        assert!(rt; asks_so(rt.alloc(), words, *progress, *format), "{:?}", words);
+        assert!(rt;
+            asks_so(rt.alloc(), words, *progress, *format),
+            "{:?}",
+            words
+        );
     }
 }
 

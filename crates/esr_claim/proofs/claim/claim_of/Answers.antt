@@ -1,3 +1,4 @@
+-- Why `claim_of` keeps its contract: the goals that are left to a proof of ours.
 use Rattle.std.proofs.Common.{◌≡◌, Ok}
 use Rattle.esr_cert.specs.Views.{certificate_of}
 use Rattle.esr_claim.specs.declared.claim.Claim.TheVariants.{Of}

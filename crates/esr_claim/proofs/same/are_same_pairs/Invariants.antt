@@ -1,3 +1,4 @@
+-- What holds at each turn of the loop in `are_same_pairs`.
 use Rattle.std.proofs.Common.{◌≡◌, take}
 use Rattle.esr_claim.proofs.same.are_same_pairs.Given as goal
 

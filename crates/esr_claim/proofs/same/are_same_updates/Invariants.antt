@@ -1,3 +1,4 @@
+-- What holds at each turn of the loop in `are_same_updates`.
 use Rattle.std.proofs.Common.{◌≡◌, take, map}
 use Rattle.esr_claim.proofs.same.are_same_updates.Given as goal
 

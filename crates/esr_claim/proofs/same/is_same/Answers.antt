@@ -1,3 +1,4 @@
+-- Why `is_same` keeps its contract: the goals that are left to a proof of ours.
 use Rattle.std.proofs.Common.{◌≡◌, ◌∙◌, sym}
 use Rattle.esr_claim.proofs.Sameness.{same_problem}
 use Rattle.esr_claim.proofs.same.is_same.Goals as goal

@@ -1,3 +1,4 @@
+-- Why `page_of` keeps its contract: the goals that are left to a proof of ours.
 use Rattle.std.proofs.Common.{ap, ◌∙◌, ℕ, Vec, string_bytes}
 use Rattle.std.specs.declared.alloc.Global.{Global}
 use Rattle.esr_page.proofs.page.page_of.Goals as goal

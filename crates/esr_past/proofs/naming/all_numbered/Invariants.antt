@@ -1,3 +1,4 @@
+-- What holds at each turn of the loop in `all_numbered`.
 use Rattle.std.proofs.Common.{◌≡◌}
 use Rattle.esr_past.specs.Naming.{all_numbered}
 use Rattle.esr_past.proofs.naming.all_numbered.Given as goal

@@ -1,3 +1,4 @@
+-- Why `table` keeps its contract: the goals that are left to a proof of ours.
 use Rattle.std.proofs.Common.{sym}
 use Rattle.esr_past.proofs.Tables.{pushed, refused, repeated}
 use Rattle.esr_past.proofs.naming.table.Goals as goal

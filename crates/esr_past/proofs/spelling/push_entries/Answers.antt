@@ -1,3 +1,4 @@
+-- Why `push_entries` keeps its contract: the goals that are left to a proof of ours.
 use Rattle.std.proofs.Common.{◌∙◌, ◌++◌, ap, sym}
 use Rattle.esr_past.specs.Lines.{entry_text}
 use Rattle.esr_past.proofs.Texts.{entry_more}

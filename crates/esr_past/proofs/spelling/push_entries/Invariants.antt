@@ -1,3 +1,4 @@
+-- What holds at each turn of the loop in `push_entries`.
 use Rattle.std.proofs.Common.{◌≡◌, ◌++◌, flat_map, take}
 use Rattle.esr_past.specs.Lines.{entry_text}
 use Rattle.esr_past.proofs.spelling.push_entries.Given as goal

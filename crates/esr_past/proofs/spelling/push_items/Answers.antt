@@ -1,3 +1,4 @@
+-- Why `push_items` keeps its contract: the goals that are left to a proof of ours.
 use Rattle.std.proofs.Common.{◌∙◌, ◌++◌, ap}
 use Rattle.esr_past.specs.Lines.{item_text}
 use Rattle.esr_past.proofs.Texts.{item_more}

@@ -1,3 +1,4 @@
+-- Why `script` keeps its contract: the goals that are left to a proof of ours.
 use Rattle.esr_past.specs.Again.{GivesAgain}
 use Rattle.esr_past.specs.Lines.{script}
 use Rattle.esr_past.proofs.Again.{carried, gives_again}

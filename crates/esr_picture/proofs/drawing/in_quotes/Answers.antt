@@ -1,3 +1,4 @@
+-- Why `in_quotes` keeps its contract: the goals that are left to a proof of ours.
 use Rattle.esr_picture.specs.Markup.{none}
 use Rattle.esr_picture.proofs.drawing.in_quotes.Goals as goal
 

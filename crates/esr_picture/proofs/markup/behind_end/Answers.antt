@@ -1,3 +1,4 @@
+-- Why `behind_end` keeps its contract: the goals that are left to a proof of ours.
 use Rattle.esr_picture.proofs.Building.{closing}
 use Rattle.std.proofs.Common.{string_bytes}
 use Rattle.esr_picture.proofs.markup.behind_end.Goals as goal

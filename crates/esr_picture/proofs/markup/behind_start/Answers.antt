@@ -1,3 +1,4 @@
+-- Why `behind_start` keeps its contract: the goals that are left to a proof of ours.
 use Rattle.std.proofs.Common.{string_bytes, Some, lit<}
 use Rattle.std.proofs.lemmas.Str.Pattern.{strip_suffix_char}
 use Rattle.esr_picture.proofs.Building.{single, starting}

@@ -1,3 +1,4 @@
+-- Why `is_attributes` keeps its contract: the goals that are left to a proof of ours.
 use Rattle.std.proofs.Common.{rules, ◌≡◌, true, sym, ◌∙◌}
 use Rattle.esr_picture.proofs.Building.{none_of}
 use Rattle.esr_picture.proofs.markup.is_attributes.Goals as goal

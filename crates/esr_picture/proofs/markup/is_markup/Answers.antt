@@ -1,3 +1,4 @@
+-- Why `is_markup` keeps its contract: the goals that are left to a proof of ours.
 use Rattle.std.proofs.Common.{rules, string_bytes}
 use Rattle.esr_picture.proofs.Building.{continuing}
 use Rattle.esr_picture.proofs.markup.is_markup.Goals as goal

@@ -1,3 +1,4 @@
+-- What holds at each turn of the loop in `is_name`.
 use Rattle.std.proofs.Common.{ℕ, ◌<◌}
 use Rattle.std.specs.Prelude.{slice_index}
 use Rattle.esr_picture.specs.Markup.{IsNameByte}

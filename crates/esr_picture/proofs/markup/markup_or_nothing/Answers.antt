@@ -1,3 +1,4 @@
+-- Why `markup_or_nothing` keeps its contract: the goals that are left to a proof of ours.
 use Rattle.std.proofs.Common.{string_bytes}
 use Rattle.esr_picture.proofs.Building.{nothing}
 use Rattle.esr_picture.proofs.markup.markup_or_nothing.Goals as goal

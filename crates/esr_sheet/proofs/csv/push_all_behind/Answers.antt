@@ -1,3 +1,4 @@
+-- Why `push_all_behind` keeps its contract: the goals that are left to a proof of ours.
 use Rattle.std.proofs.Common.{◌≡◌, ◌∙◌, ℕ, List, Bor, ◌++◌, ◌∷◌, [], ap, map, take_all}
 use Rattle.esr_sheet.specs.Csv.{behind}
 use Rattle.esr_sheet.proofs.Texts.{field_more}

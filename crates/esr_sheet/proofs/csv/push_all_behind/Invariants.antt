@@ -1,3 +1,4 @@
+-- What holds at each turn of the loop in `push_all_behind`.
 use Rattle.std.proofs.Common.{◌≡◌, ◌++◌, ℕ, List, Bor, map, take}
 use Rattle.esr_sheet.specs.Csv.{behind}
 use Rattle.esr_sheet.proofs.csv.push_all_behind.Given as goal

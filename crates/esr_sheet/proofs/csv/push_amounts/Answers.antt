@@ -1,3 +1,4 @@
+-- Why `push_amounts` keeps its contract: the goals that are left to a proof of ours.
 use Rattle.esr_sheet.proofs.csv.push_amounts.Goals as goal
 
 pub returns : goal.returns

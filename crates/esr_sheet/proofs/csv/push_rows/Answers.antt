@@ -1,3 +1,4 @@
+-- Why `push_rows` keeps its contract: the goals that are left to a proof of ours.
 use Rattle.std.proofs.Common.{◌≡◌}
 use Rattle.esr_sheet.specs.Csv.{named_line}
 use Rattle.esr_sheet.specs.Spans.{first_of, last_of}

@@ -1,3 +1,4 @@
+-- What holds at each turn of the loop in `push_rows`.
 use Rattle.std.proofs.Common.{◌≡◌, ◌++◌, take}
 use Rattle.std.specs.List.{flat_map}
 use Rattle.esr_sheet.specs.Csv.{named_line}

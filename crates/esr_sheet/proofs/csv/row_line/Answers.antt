@@ -1,3 +1,4 @@
+-- Why `row_line` keeps its contract: the goals that are left to a proof of ours.
 use Rattle.std.proofs.Common.{◌∷◌, [], decimal}
 use Rattle.esr_sheet.specs.Csv.{amounts, end_word, kind_word, optional}
 use Rattle.esr_sheet.proofs.Texts.{field_is, line_of_parts}

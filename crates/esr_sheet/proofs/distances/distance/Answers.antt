@@ -1,3 +1,4 @@
+-- Why `distance` keeps its contract: the goals that are left to a proof of ours.
 use Rattle.std.proofs.Common.{rules}
 use Rattle.esr_sheet.proofs.Found.{distance_found, distance_missing}
 use Rattle.esr_sheet.proofs.distances.distance.Goals as goal

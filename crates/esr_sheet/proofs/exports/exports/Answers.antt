@@ -1,3 +1,4 @@
+-- Why `exports` keeps its contract: the goals that are left to a proof of ours.
 use Rattle.std.proofs.Common.{◌≡◌, ◌∙◌, ◌≤◌, ◌+◌, ap, arith, map}
 use Rattle.std.specs.List.{range_with_len}
 use Rattle.esr_items.specs.Weights.{weighted}

@@ -1,3 +1,4 @@
+-- Why `replay` keeps its contract: the goals that are left to a proof of ours.
 use Rattle.std.proofs.Common.{◌≡◌, ◌∙◌, ◌≤◌, List, ap, arith, length, take_all}
 use Rattle.esr_history.specs.declared.event.Entry.{Entry}
 use Rattle.esr_sheet.proofs.exports.replay.Goals as goal

@@ -1,3 +1,4 @@
+-- What holds at each turn of the loop in `replay`.
 use Rattle.std.proofs.Common.{◌≡◌}
 use Rattle.esr_explain.specs.Explain.{until}
 use Rattle.esr_sheet.proofs.exports.replay.Given as goal

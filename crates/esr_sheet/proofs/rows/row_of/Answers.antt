@@ -1,3 +1,4 @@
+-- Why `row_of` keeps its contract: the goals that are left to a proof of ours.
 use Rattle.std.proofs.Common.{◌≡◌, ◌∙◌, sym, subst}
 use Rattle.esr_sheet.specs.Entries.{AreTallies}
 use Rattle.esr_sheet.proofs.Rowed.{row_there}

@@ -1,3 +1,4 @@
+-- What holds at each turn of the loop in `rows_beside`.
 use Rattle.std.proofs.Common.{◌≡◌, map}
 use Rattle.std.specs.List.{range_with_len}
 use Rattle.esr_items.specs.Weights.{weighted}

@@ -1,3 +1,4 @@
+-- Why `count` keeps its contract: the goals that are left to a proof of ours.
 use Rattle.std.proofs.Common.{◌≡◌, ◌∙◌, ◌<◌, ◌∷◌, [], ◌++◌, ap, arith, get_or, length, sym, subst, slice_set}
 use Rattle.esr_sheet.specs.declared.tallies.Tally.{Tally}
 use Rattle.esr_sheet.specs.Entries.{AreTallies, counted}

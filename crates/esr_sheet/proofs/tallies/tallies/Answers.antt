@@ -1,3 +1,4 @@
+-- Why `tallies` keeps its contract: the goals that are left to a proof of ours.
 use Rattle.std.proofs.Common.{◌≡◌, ◌∙◌, ◌≤◌, ◌<◌, ◌+◌, ◌^◌, ◌∷◌, [], ◌++◌, List, ap, sym, subst, arith, length, take, Some, slice_get}
 use Rattle.std.proofs.lemmas.List.{length-take-le}
 use Rattle.esr_history.specs.declared.event.Entry.{Entry}

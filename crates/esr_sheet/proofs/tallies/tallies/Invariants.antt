@@ -1,3 +1,4 @@
+-- What holds at each turn of the loop in `tallies`.
 use Rattle.std.proofs.Common.{◌<◌, length, take}
 use Rattle.esr_history.specs.BackLinks.{begun_count}
 use Rattle.esr_sheet.specs.Entries.{AreTallies}

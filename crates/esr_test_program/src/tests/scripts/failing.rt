@@ -84,7 +84,15 @@ fn each_read_of_an_audit_fails_in_turn(rt: HostRuntime) {
     for left in 0..SCRIPT.len() + 1 {
         let mut reader = cut_after(SCRIPT, 1, left);
         let mut writer = Watched::new(Vec::new(alloc));
-        let ended = audit(&rt, alloc, &mut reader, &mut writer, 2, &NoGate, &mut Unobserved);
+        let ended = audit(
+            &rt,
+            alloc,
+            &mut reader,
+            &mut writer,
+            2,
+            &NoGate,
+            &mut Unobserved,
+        );
         assert!(rt; ended == Err(RunFault::Read));
         check_cut(&rt, &reader, &writer);
     }
@@ -99,7 +107,15 @@ fn audit_is_written<R: Abort + Threads + Sync>(
 ) -> bool {
     let mut reader = Watched::new(SCRIPT.as_bytes());
     let mut writer = narrow_until(alloc, 3, left, way);
-    let ended = audit(rt, alloc, &mut reader, &mut writer, 2, &NoGate, &mut Unobserved);
+    let ended = audit(
+        rt,
+        alloc,
+        &mut reader,
+        &mut writer,
+        2,
+        &NoGate,
+        &mut Unobserved,
+    );
     let written = ended == Ok(());
     assert!(rt; written || ended == Err(RunFault::Write));
     assert!(rt; !reader.failed());

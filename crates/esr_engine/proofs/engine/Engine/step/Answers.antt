@@ -1,3 +1,4 @@
+-- Why `Engine::step` keeps its contract: the goals that are left to a proof of ours.
 use Rattle.std.proofs.Common.{◌≡◌, ◌<◌, ◌≤◌, ◌∙◌, ◌+◌, ap, sym, subst, arith, false, length}
 use Rattle.esr_history.specs.declared.event.Reply.{Reply}
 use Rattle.esr_items.specs.Weights.{weighted}

@@ -1,3 +1,4 @@
+-- Why `DrawingTelling::text_of` keeps its contract: the goals that are left to a proof of ours.
 use Rattle.esr_picture.proofs.drawing.DrawingTelling.text_of.Goals as goal
 
 pub returns : goal.returns

@@ -1,3 +1,4 @@
+-- Why `Replay::accept` keeps its contract: the goals that are left to a proof of ours.
 use Rattle.std.proofs.Common.{◌≡◌, ◌∙◌, List, Bool, None, ℤ, ap, sym, subst, length}
 use Rattle.esr_items.specs.Weights.{weighted}
 use Rattle.esr_history.specs.ItemLocks.{ItemLocks, locks_of}

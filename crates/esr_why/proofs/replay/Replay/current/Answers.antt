@@ -1,3 +1,4 @@
+-- Why `Replay::current` keeps its contract: the goals that are left to a proof of ours.
 use Rattle.std.proofs.Common.{◌≡◌, ◌∙◌, ◌<◌, ℤ, ap, sym, subst, length, pos, w64, to_z, of_z}
 use Rattle.std.proofs.lemmas.Int.{to_z-of_z}
 use Rattle.esr_items.specs.Values.{value_at}

@@ -1,3 +1,4 @@
+-- Why `Replay::new` keeps its contract: the goals that are left to a proof of ours.
 use Rattle.std.proofs.Common.{◌≡◌, ◌∙◌, [], All, List, ap, sym, subst, length}
 use Rattle.esr_items.specs.Values.{IsValue}
 use Rattle.esr_history.specs.ItemLocks.{ItemLocks, locks_of}

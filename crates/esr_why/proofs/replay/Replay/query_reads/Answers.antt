@@ -1,3 +1,4 @@
+-- Why `Replay::query_reads` keeps its contract: the goals that are left to a proof of ours.
 use Rattle.std.proofs.Common.{◌≡◌, ◌∙◌, ◌<◌, ap, sym, subst, length}
 use Rattle.esr_history.specs.ItemLocks.{item_locks}
 use Rattle.esr_history.specs.Machine.{Schedule, done}

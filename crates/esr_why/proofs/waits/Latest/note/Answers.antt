@@ -1,3 +1,4 @@
+-- Why `Latest::note` keeps its contract: the goals that are left to a proof of ours.
 use Rattle.std.proofs.Common.{arith}
 use Rattle.esr_why.proofs.Waiting.{latest_none, latest_past, latest_some}
 use Rattle.esr_why.proofs.waits.Latest.note.Goals as goal

@@ -1,3 +1,4 @@
+-- Why `Latest::walk` keeps its contract: the goals that are left to a proof of ours.
 use Rattle.std.proofs.Common.{◌≡◌, ◌∙◌, ap, sym, subst, List, Option, ℕ}
 use Rattle.esr_why.specs.Waits.{AreLatest}
 use Rattle.esr_why.proofs.Waiting.{more_waits}

@@ -1,3 +1,4 @@
+-- What holds at each turn of the loop in `Latest::walk`.
 use Rattle.std.proofs.Common.{◌≡◌, All}
 use Rattle.esr_why.specs.Waits.{IsWaiting}
 use Rattle.esr_why.proofs.waits.Latest.walk.Given as goal

@@ -1,3 +1,4 @@
+-- What holds at each turn of the loop in `Telling::tell_all`.
 use Rattle.std.proofs.Common.{◌≡◌, take}
 use Rattle.esr_why.specs.Replays.{until}
 use Rattle.esr_why.specs.Waits.{AreLatest}
