@@ -54,7 +54,7 @@ impl<'a, R: Clock + Eprint> Meter<'a, R> {
         let Ok(elapsed) = began.elapsed(self.rt) else {
             return;
         };
-        let now = elapsed.as_millis() as u64;
+        let now = u64::try_from(elapsed.as_millis()).unwrap_or(u64::MAX);
         let shown = self.shown.load(Ordering::Relaxed);
         if now < PATIENCE || now < shown.saturating_add(PAUSE) {
             return;
