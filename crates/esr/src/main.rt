@@ -219,14 +219,14 @@ fn do_each<'a, R: Input + Print + Eprint + Files + AllocGlobal + Clock + Threads
     rt: &'a R,
     meter: &Meter<'_, R>,
     job: Job<'a>,
-    words: &'a [&'a str],
+    words: &[&'a str],
 ) -> u8
     requires { HasWorkers (work_of job.task) }
 {
     let mut worst = 0;
     for word in words.iter().skip(2).filter(|word| **word != "--") {
         let one = Job {
-            file: Some(word),
+            file: Some(*word),
             ..job
         };
         let status = do_job(rt, meter, one);

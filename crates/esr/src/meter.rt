@@ -84,13 +84,13 @@ impl<R: Clock + Eprint> Gate for Meter<'_, R> {
 
 /// Tells the lines at fault, and shows how many were read.
 #[derive(Drop)]
-pub struct Watching<'a, 'm, R, E> {
+pub struct Watching<'a, 'm, 'r, R, E> {
     teller: Teller<'a, E>,
-    meter: &'m Meter<'a, R>,
+    meter: &'m Meter<'r, R>,
 }
 
-impl<'a, 'm, R: Clock + Eprint, E: Eprint> Watching<'a, 'm, R, E> {
-    pub fn new(teller: Teller<'a, E>, meter: &'m Meter<'a, R>) -> Watching<'a, 'm, R, E> {
+impl<'a, 'm, 'r, R: Clock + Eprint, E: Eprint> Watching<'a, 'm, 'r, R, E> {
+    pub fn new(teller: Teller<'a, E>, meter: &'m Meter<'r, R>) -> Watching<'a, 'm, 'r, R, E> {
         Watching { teller, meter }
     }
 
@@ -110,7 +110,7 @@ impl<'a, 'm, R: Clock + Eprint, E: Eprint> Watching<'a, 'm, R, E> {
     }
 }
 
-impl<R: Clock + Eprint, E: Eprint> Observer for Watching<'_, '_, R, E> {
+impl<R: Clock + Eprint, E: Eprint> Observer for Watching<'_, '_, '_, R, E> {
     fn see_line(&mut self, number: u64, line: &[u8], answer: &[u8]) {
         if answer.starts_with(b"error ") {
             self.meter.clear();

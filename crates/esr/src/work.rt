@@ -196,7 +196,7 @@ fn conclude<R: Print + Eprint + Clock, W: Write>(
     job: Job<'_>,
     source: Source<'_>,
     ended: Result<(), RunFault>,
-    observer: &Watching<'_, '_, R, R>,
+    observer: &Watching<'_, '_, '_, R, R>,
     output: &Output<W>,
 ) -> u8 {
     match ended {
