@@ -22,7 +22,7 @@ use crate::judging::{Question, check};
 use crate::meter::Meter;
 use crate::open::open_file;
 use crate::work::{Certifying, Running, TellingOf, audit_script, survey_script, work_on};
-use esr_cli::{Format, Job, Task, command};
+use esr_cli::{Format, Job, Progress, Task, command};
 use esr_drive::{NoGate, drive};
 use esr_explain::Explaining;
 use esr_history::Watched;
@@ -65,7 +65,7 @@ fn main(rt: HostRuntime) -> ExitCode {
         Ok(job) => {
             let meter = Meter::new(&rt, job.progress, &rt.stderr());
             let status = match (job.task, job.file) {
-                (Task::Lint, Some(_)) => do_each(&rt, &meter, job, words.as_slice()),
+                (Task::Lint, Some(_)) => lint_each(&rt, &meter, words.as_slice()),
                 _ => do_job(&rt, &meter, job),
             };
             ExitCode::from(status)
@@ -213,23 +213,23 @@ fn drive_file<R: Print + Eprint + AllocGlobal + Threads + Wait + Sync, I: Read +
     }
 }
 
-/// Does a job for each file that is named, one after another. A command that takes several has no option that takes a
-/// value, so the words behind it that are no flags are the files. The status is that of the last that was not done.
-fn do_each<'a, R: Input + Print + Eprint + Files + AllocGlobal + Clock + Threads + Wait + Sync>(
+/// Lists what is wrong in each script that is named, one after another. `lint` has no option that takes a value, so the
+/// words behind it are the files. The status is that of the last that was not clean.
+fn lint_each<'a, R: Input + Print + Eprint + Files + AllocGlobal + Clock + Threads + Wait + Sync>(
     rt: &'a R,
     meter: &Meter<'_, R>,
-    job: Job<'a>,
-    words: &[&'a str],
-) -> u8
-    requires { HasWorkers (work_of job.task) }
-{
+    words: &'a [&'a str],
+) -> u8 {
     let mut worst = 0;
     for word in words.iter().skip(2).filter(|word| **word != "--") {
-        let one = Job {
-            file: Some(*word),
-            ..job
+        let job = Job {
+            task: Task::Lint,
+            file: Some(word),
+            bail: false,
+            progress: Progress::Never,
+            format: Some(Format::Text),
         };
-        let status = do_job(rt, meter, one);
+        let status = do_job(rt, meter, job);
         if status != 0 {
             worst = status;
         }
