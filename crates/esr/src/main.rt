@@ -78,10 +78,10 @@ fn main(rt: HostRuntime) -> ExitCode {
 }
 
 /// Does the job, from the file that is named or standard input to standard output.
-fn do_job<'a, R: Input + Print + Eprint + Files + AllocGlobal + Clock + Threads + Wait + Sync>(
-    rt: &'a R,
+fn do_job<R: Input + Print + Eprint + Files + AllocGlobal + Clock + Threads + Wait + Sync>(
+    rt: &R,
     meter: &Meter<'_, R>,
-    job: Job<'a>,
+    job: Job<'_>,
 ) -> u8
     requires { HasWorkers (work_of job.task) }
 {
@@ -215,10 +215,10 @@ fn drive_file<R: Print + Eprint + AllocGlobal + Threads + Wait + Sync, I: Read +
 
 /// Lists what is wrong in each script that is named, one after another. `lint` has no option that takes a value, so the
 /// words behind it are the files. The status is that of the last that was not clean.
-fn lint_each<'a, R: Input + Print + Eprint + Files + AllocGlobal + Clock + Threads + Wait + Sync>(
-    rt: &'a R,
+fn lint_each<R: Input + Print + Eprint + Files + AllocGlobal + Clock + Threads + Wait + Sync>(
+    rt: &R,
     meter: &Meter<'_, R>,
-    words: &'a [&'a str],
+    words: &[&str],
 ) -> u8 {
     let mut worst = 0;
     for word in words.iter().skip(2).filter(|word| **word != "--") {
