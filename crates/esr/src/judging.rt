@@ -30,12 +30,12 @@ pub struct Question<'a> {
 }
 
 /// Judges a bundle as it is asked for.
-pub fn check<R: Print + Eprint + Files + AllocGlobal + Clock, I: Read + Drop>(
-    rt: &R,
+pub fn check<'a, R: Print + Eprint + Files + AllocGlobal + Clock, I: Read + Drop>(
+    rt: &'a R,
     meter: &Meter<'_, R>,
     source: Source<'_>,
     input: I,
-    question: Question<'_>,
+    question: Question<'a>,
 ) -> u8 {
     match (question.script, question.query) {
         (None, None) => check_alone(rt, source, input, question.verbose),
@@ -92,11 +92,11 @@ fn check_alone<I: Read + Drop>(
 }
 
 /// What a script answers of its query, or the status where it has no such answer.
-fn ask_script<R: Print + Eprint + Files + AllocGlobal + Clock>(
-    rt: &R,
+fn ask_script<'a, R: Print + Eprint + Files + AllocGlobal + Clock>(
+    rt: &'a R,
     meter: &Meter<'_, R>,
-    path: &str,
-    query: &str,
+    path: &'a str,
+    query: &'a str,
 ) -> Result<Asked, u8> {
     let alloc = rt.alloc();
     let file = match open_file(rt, path) {
@@ -122,13 +122,13 @@ fn ask_script<R: Print + Eprint + Files + AllocGlobal + Clock>(
 }
 
 /// Judges a bundle as what a script gives for a query.
-fn check_claim<R: Print + Eprint + Files + AllocGlobal + Clock, I: Read + Drop>(
-    rt: &R,
+fn check_claim<'a, R: Print + Eprint + Files + AllocGlobal + Clock, I: Read + Drop>(
+    rt: &'a R,
     meter: &Meter<'_, R>,
     source: Source<'_>,
     input: I,
-    script: &str,
-    query: &str,
+    script: &'a str,
+    query: &'a str,
     verbose: bool,
 ) -> u8 {
     match ask_script(rt, meter, script, query) {

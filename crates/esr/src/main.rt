@@ -61,11 +61,13 @@ fn main(rt: HostRuntime) -> ExitCode {
             return ExitCode::from(fail(&rt, &"out of memory", 2));
         }
     }
-    match command(alloc, words.as_slice()) {
+    // One borrow for the job and for its files: a second would part what the first holds.
+    let words = words.as_slice();
+    match command(alloc, words) {
         Ok(job) => {
             let meter = Meter::new(&rt, job.progress, &rt.stderr());
             let status = match (job.task, job.file) {
-                (Task::Lint, Some(_)) => lint_each(&rt, &meter, words.as_slice()),
+                (Task::Lint, Some(_)) => lint_each(&rt, &meter, words),
                 _ => do_job(&rt, &meter, job),
             };
             ExitCode::from(status)
@@ -78,10 +80,10 @@ fn main(rt: HostRuntime) -> ExitCode {
 }
 
 /// Does the job, from the file that is named or standard input to standard output.
-fn do_job<R: Input + Print + Eprint + Files + AllocGlobal + Clock + Threads + Wait + Sync>(
-    rt: &R,
+fn do_job<'a, R: Input + Print + Eprint + Files + AllocGlobal + Clock + Threads + Wait + Sync>(
+    rt: &'a R,
     meter: &Meter<'_, R>,
-    job: Job<'_>,
+    job: Job<'a>,
 ) -> u8
     requires { HasWorkers (work_of job.task) }
 {
@@ -215,10 +217,10 @@ fn drive_file<R: Print + Eprint + AllocGlobal + Threads + Wait + Sync, I: Read +
 
 /// Lists what is wrong in each script that is named, one after another. `lint` has no option that takes a value, so the
 /// words behind it are the files. The status is that of the last that was not clean.
-fn lint_each<R: Input + Print + Eprint + Files + AllocGlobal + Clock + Threads + Wait + Sync>(
-    rt: &R,
+fn lint_each<'a, R: Input + Print + Eprint + Files + AllocGlobal + Clock + Threads + Wait + Sync>(
+    rt: &'a R,
     meter: &Meter<'_, R>,
-    words: &[&str],
+    words: &'a [&'a str],
 ) -> u8 {
     let mut worst = 0;
     for word in words.iter().skip(2).filter(|word| **word != "--") {
