@@ -61,13 +61,11 @@ fn main(rt: HostRuntime) -> ExitCode {
             return ExitCode::from(fail(&rt, &"out of memory", 2));
         }
     }
-    // One borrow for the job and for its files: a second would part what the first holds.
-    let words = words.as_slice();
-    match command(alloc, words) {
+    match command(alloc, words.as_slice()) {
         Ok(job) => {
             let meter = Meter::new(&rt, job.progress, &rt.stderr());
             let status = match (job.task, job.file) {
-                (Task::Lint, Some(_)) => lint_each(&rt, &meter, words),
+                (Task::Lint, Some(_)) => lint_each(&rt, &meter, owned.as_slice()),
                 _ => do_job(&rt, &meter, job),
             };
             ExitCode::from(status)
@@ -220,13 +218,13 @@ fn drive_file<R: Print + Eprint + AllocGlobal + Threads + Wait + Sync, I: Read +
 fn lint_each<'a, R: Input + Print + Eprint + Files + AllocGlobal + Clock + Threads + Wait + Sync>(
     rt: &'a R,
     meter: &Meter<'_, R>,
-    words: &'a [&'a str],
+    words: &'a [String],
 ) -> u8 {
     let mut worst = 0;
-    for word in words.iter().skip(2).filter(|word| **word != "--") {
+    for word in words.iter().skip(2).filter(|word| word.as_str() != "--") {
         let job = Job {
             task: Task::Lint,
-            file: Some(word),
+            file: Some(word.as_str()),
             bail: false,
             progress: Progress::Never,
             format: Some(Format::Text),
