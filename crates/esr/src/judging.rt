@@ -32,7 +32,7 @@ pub struct Question<'a> {
 /// Judges a bundle as it is asked for.
 pub fn check<'a, R: Print + Eprint + Files + AllocGlobal + Clock, I: Read + Drop>(
     rt: &'a R,
-    meter: &Meter<'_, R>,
+    shows: bool,
     source: Source<'_>,
     input: I,
     question: Question<'a>,
@@ -40,7 +40,7 @@ pub fn check<'a, R: Print + Eprint + Files + AllocGlobal + Clock, I: Read + Drop
     match (question.script, question.query) {
         (None, None) => check_alone(rt, source, input, question.verbose),
         (Some(script), Some(query)) => {
-            check_claim(rt, meter, source, input, script, query, question.verbose)
+            check_claim(rt, shows, source, input, script, query, question.verbose)
         }
         _ => fail(rt, &"--script and --query go together", 2),
     }
@@ -94,7 +94,7 @@ fn check_alone<I: Read + Drop>(
 /// What a script answers of its query, or the status where it has no such answer.
 fn ask_script<'a, R: Print + Eprint + Files + AllocGlobal + Clock>(
     rt: &'a R,
-    meter: &Meter<'_, R>,
+    shows: bool,
     path: &'a str,
     query: &'a str,
 ) -> Result<Asked, u8> {
@@ -106,7 +106,8 @@ fn ask_script<'a, R: Print + Eprint + Files + AllocGlobal + Clock>(
     let source = Source(Some(path));
     let mut reader = Watched::new(file);
     let teller = Teller::new(rt, alloc, source, When::AtOnce, query);
-    let mut observer = Watching::new(teller, meter);
+    let meter = Meter::new(rt, shows);
+    let mut observer = Watching::new(teller, &meter);
     match ask(alloc, &mut reader, query, &mut observer) {
         Ok(asked) => Ok(asked),
         Err(fault) => {
@@ -124,14 +125,14 @@ fn ask_script<'a, R: Print + Eprint + Files + AllocGlobal + Clock>(
 /// Judges a bundle as what a script gives for a query.
 fn check_claim<'a, R: Print + Eprint + Files + AllocGlobal + Clock, I: Read + Drop>(
     rt: &'a R,
-    meter: &Meter<'_, R>,
+    shows: bool,
     source: Source<'_>,
     input: I,
     script: &'a str,
     query: &'a str,
     verbose: bool,
 ) -> u8 {
-    match ask_script(rt, meter, script, query) {
+    match ask_script(rt, shows, script, query) {
         Ok(asked) => judge_claim(rt, source, input, &asked, query, verbose),
         Err(status) => status,
     }

@@ -19,7 +19,7 @@ mod work;
 
 use crate::fault::{DriveText, RunText};
 use crate::judging::{Question, check};
-use crate::meter::Meter;
+use crate::meter::is_shown;
 use crate::open::open_file;
 use crate::work::{Certifying, Running, TellingOf, audit_script, survey_script, work_on};
 use esr_cli::{Format, Job, Progress, Task, command};
@@ -63,10 +63,10 @@ fn main(rt: HostRuntime) -> ExitCode {
     }
     match command(alloc, words.as_slice()) {
         Ok(job) => {
-            let meter = Meter::new(&rt, job.progress, &rt.stderr());
+            let shows = is_shown(job.progress, &rt.stderr());
             let status = match (job.task, job.file) {
-                (Task::Lint, Some(_)) => lint_each(&rt, &meter, owned.as_slice()),
-                _ => do_job(&rt, &meter, job),
+                (Task::Lint, Some(_)) => lint_each(&rt, shows, owned.as_slice()),
+                _ => do_job(&rt, shows, job),
             };
             ExitCode::from(status)
         }
@@ -80,7 +80,7 @@ fn main(rt: HostRuntime) -> ExitCode {
 /// Does the job, from the file that is named or standard input to standard output.
 fn do_job<'a, R: Input + Print + Eprint + Files + AllocGlobal + Clock + Threads + Wait + Sync>(
     rt: &'a R,
-    meter: &Meter<'_, R>,
+    shows: bool,
     job: Job<'a>,
 ) -> u8
     requires { HasWorkers (work_of job.task) }
@@ -89,9 +89,9 @@ fn do_job<'a, R: Input + Print + Eprint + Files + AllocGlobal + Clock + Threads 
         return fail(rt, &"--format takes text, csv or json", 2);
     }
     match job.file.filter(|file| *file != "-") {
-        None => do_task(rt, meter, job, Source(None), rt.reader()),
+        None => do_task(rt, shows, job, Source(None), rt.reader()),
         Some(path) => match open_file(rt, path) {
-            Ok(file) => do_task(rt, meter, job, Source(Some(path)), file),
+            Ok(file) => do_task(rt, shows, job, Source(Some(path)), file),
             Err(why) => fail(rt, &format_args!("{path}: {why}"), 1),
         },
     }
@@ -102,45 +102,45 @@ fn do_task<
     'a,
     R: Print + Eprint + Files + AllocGlobal + Clock + Threads + Wait + Sync,
     I: Read + Drop,
->(rt: &'a R, meter: &Meter<'_, R>, job: Job<'a>, source: Source<'a>, input: I) -> u8
+>(rt: &'a R, shows: bool, job: Job<'a>, source: Source<'a>, input: I) -> u8
     requires { HasWorkers (work_of job.task) }
 {
     match job.task {
-        Task::Run => work_on(rt, meter, job, source, input, &Running),
+        Task::Run => work_on(rt, shows, job, source, input, &Running),
         Task::Certify { name, steps } => {
             let work = Certifying { name, steps };
-            work_on(rt, meter, job, source, input, &work)
+            work_on(rt, shows, job, source, input, &work)
         }
         Task::Explain { name, prose: true } => {
-            survey_script(rt, meter, job, source, input, &Prose { name })
+            survey_script(rt, shows, job, source, input, &Prose { name })
         }
         Task::Explain { name, prose: false } => match data_of(job.format) {
             Some(data) => {
                 let telling = &ExplanationSheet { data };
                 let work = TellingOf { name, telling };
-                work_on(rt, meter, job, source, input, &work)
+                work_on(rt, shows, job, source, input, &work)
             }
             None => {
                 let telling = &Explaining;
                 let work = TellingOf { name, telling };
-                work_on(rt, meter, job, source, input, &work)
+                work_on(rt, shows, job, source, input, &work)
             }
         },
         Task::Picture { name } => {
             let telling = &Drawing;
             let work = TellingOf { name, telling };
-            work_on(rt, meter, job, source, input, &work)
+            work_on(rt, shows, job, source, input, &work)
         }
-        Task::Page { worst } => survey_script(rt, meter, job, source, input, &Page { worst }),
+        Task::Page { worst } => survey_script(rt, shows, job, source, input, &Page { worst }),
         Task::Audit { workers } => match data_of(job.format) {
-            Some(data) => survey_script(rt, meter, job, source, input, &AuditSheet { data }),
-            None => audit_script(rt, meter, job, source, input, workers),
+            Some(data) => survey_script(rt, shows, job, source, input, &AuditSheet { data }),
+            None => audit_script(rt, shows, job, source, input, workers),
         },
         Task::Ledger => {
             let format = sheet_format(job.format);
-            survey_script(rt, meter, job, source, input, &Ledger { format })
+            survey_script(rt, shows, job, source, input, &Ledger { format })
         }
-        Task::Why { name } => survey_script(rt, meter, job, source, input, &Why { name }),
+        Task::Why { name } => survey_script(rt, shows, job, source, input, &Why { name }),
         Task::Check {
             script,
             query,
@@ -151,7 +151,7 @@ fn do_task<
                 query,
                 verbose,
             };
-            check(rt, meter, source, input, question)
+            check(rt, shows, source, input, question)
         }
         Task::Drive { workers } => drive_file(rt, source, input, workers),
         Task::Lint => list_faults(rt, source, input),
@@ -217,7 +217,7 @@ fn drive_file<R: Print + Eprint + AllocGlobal + Threads + Wait + Sync, I: Read +
 /// words behind it are the files. The status is that of the last that was not clean.
 fn lint_each<'a, R: Input + Print + Eprint + Files + AllocGlobal + Clock + Threads + Wait + Sync>(
     rt: &'a R,
-    meter: &Meter<'_, R>,
+    shows: bool,
     words: &'a [String],
 ) -> u8 {
     let mut worst = 0;
@@ -229,7 +229,7 @@ fn lint_each<'a, R: Input + Print + Eprint + Files + AllocGlobal + Clock + Threa
             progress: Progress::Never,
             format: Some(Format::Text),
         };
-        let status = do_job(rt, meter, job);
+        let status = do_job(rt, shows, job);
         if status != 0 {
             worst = status;
         }

@@ -21,6 +21,15 @@ const PAUSE: u64 = 200;
 /// The clock is read once in so many lines.
 const LINES: u64 = 1_024;
 
+/// Whether progress is shown.
+pub fn is_shown(progress: Progress, terminal: &impl IsTerminal) -> bool {
+    match progress {
+        Progress::AtATerminal => terminal.is_terminal(),
+        Progress::Always => true,
+        Progress::Never => false,
+    }
+}
+
 /// Shows how far a run is.
 #[derive(Drop)]
 pub struct Meter<'a, R> {
@@ -32,12 +41,7 @@ pub struct Meter<'a, R> {
 }
 
 impl<'a, R: Clock + Eprint> Meter<'a, R> {
-    pub fn new(rt: &'a R, progress: Progress, terminal: &impl IsTerminal) -> Meter<'a, R> {
-        let shows = match progress {
-            Progress::AtATerminal => terminal.is_terminal(),
-            Progress::Always => true,
-            Progress::Never => false,
-        };
+    pub fn new(rt: &'a R, shows: bool) -> Meter<'a, R> {
         let began = if shows { Instant::now(rt).ok() } else { None };
         Meter {
             rt,

@@ -97,7 +97,7 @@ impl<T: Telling> Work for TellingOf<'_, T> {
 /// Does some work on a script.
 pub fn work_on<R: Print + Eprint + AllocGlobal + Clock, I: Read + Drop, W: Work>(
     rt: &R,
-    meter: &Meter<'_, R>,
+    shows: bool,
     job: Job<'_>,
     source: Source<'_>,
     input: I,
@@ -107,7 +107,8 @@ pub fn work_on<R: Print + Eprint + AllocGlobal + Clock, I: Read + Drop, W: Work>
     let mut reader = Watched::new(input);
     let mut writer = Watched::new(Output::new(alloc, io::writer(rt), holds_back(job)));
     let teller = Teller::new(rt, alloc, source, when_of(job.task), sought_by(job.task));
-    let mut observer = Watching::new(teller, meter);
+    let meter = Meter::new(rt, shows);
+    let mut observer = Watching::new(teller, &meter);
     let ended = work.work(alloc, &mut reader, &mut writer, &mut observer);
     conclude(rt, job, source, ended, &observer, writer.inner())
 }
@@ -115,7 +116,7 @@ pub fn work_on<R: Print + Eprint + AllocGlobal + Clock, I: Read + Drop, W: Work>
 /// Writes the audit of a script.
 pub fn audit_script<R: Print + Eprint + AllocGlobal + Clock + Threads + Sync, I: Read + Drop>(
     rt: &R,
-    meter: &Meter<'_, R>,
+    shows: bool,
     job: Job<'_>,
     source: Source<'_>,
     input: I,
@@ -127,14 +128,15 @@ pub fn audit_script<R: Print + Eprint + AllocGlobal + Clock + Threads + Sync, I:
     let mut reader = Watched::new(input);
     let mut writer = Watched::new(Output::new(alloc, io::writer(rt), holds_back(job)));
     let teller = Teller::new(rt, alloc, source, When::AtOnce, "");
-    let mut observer = Watching::new(teller, meter);
+    let meter = Meter::new(rt, shows);
+    let mut observer = Watching::new(teller, &meter);
     let ended = audit(
         rt,
         alloc,
         &mut reader,
         &mut writer,
         workers,
-        meter,
+        &meter,
         &mut observer,
     );
     meter.clear();
@@ -144,7 +146,7 @@ pub fn audit_script<R: Print + Eprint + AllocGlobal + Clock + Threads + Sync, I:
 /// Writes a text of what a whole script leads to.
 pub fn survey_script<R: Print + Eprint + AllocGlobal + Clock, I: Read + Drop, S: Survey>(
     rt: &R,
-    meter: &Meter<'_, R>,
+    shows: bool,
     job: Job<'_>,
     source: Source<'_>,
     input: I,
@@ -154,7 +156,8 @@ pub fn survey_script<R: Print + Eprint + AllocGlobal + Clock, I: Read + Drop, S:
     let mut reader = Watched::new(Copied::new(alloc, input));
     let mut writer = Watched::new(Output::new(alloc, io::writer(rt), holds_back(job)));
     let teller = Teller::new(rt, alloc, source, When::AtOnce, "");
-    let mut observer = Watching::new(teller, meter);
+    let meter = Meter::new(rt, shows);
+    let mut observer = Watching::new(teller, &meter);
     match survey(alloc, &mut reader, &mut writer, survey_of, &mut observer) {
         Err(RunFault::NotACommittedQuery) => fail(rt, &nobody(job.task), 1),
         ended => conclude(rt, job, source, ended, &observer, writer.inner()),
