@@ -1,3 +1,6 @@
+-- Why the problem that is gathered stands for its query (`Standing`, `Posed`), and its answer is the audit's, also
+-- in longer histories (`Found`, `Stays`).
+
 pub mod Values
 pub mod Places
 pub mod Costs

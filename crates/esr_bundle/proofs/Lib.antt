@@ -1,3 +1,5 @@
+-- Why the text of a bundle is read back as what it was made of, and each verdict is the one that its bytes deserve.
+
 pub mod Wide
 pub mod Exits
 pub mod Judged

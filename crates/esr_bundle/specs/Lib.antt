@@ -1,3 +1,5 @@
+-- What the bytes of a bundle mean, by their JSON tree, and the verdict on them.
+
 pub mod Fields
 pub mod Bundle
 pub mod Members

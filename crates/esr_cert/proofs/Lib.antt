@@ -1,3 +1,6 @@
+-- Why a certificate shows the least cost (`Least`, `Cut`), and why the tests that look at lists find just what the
+-- definitions say. Solver, audits and bundles use `Sound`, `Least` and `Certified`.
+
 mod Worked
 pub mod Sound
 pub mod Flows

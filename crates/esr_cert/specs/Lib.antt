@@ -1,3 +1,6 @@
+-- Problems, networks, flows and cuts in the textbook's words, and what a certificate has to be. `Views`, `Drafts`,
+-- `Rows` and `Starts` say what contracts see of the lists that hold them.
+
 pub mod Problem
 pub mod Network
 pub mod Flow

@@ -1,3 +1,6 @@
+-- Why each block's session makes the calls of its block in turn, and the text told is that of the engine's one
+-- history.
+
 pub mod Calling
 pub mod Tasks
 pub mod Texts

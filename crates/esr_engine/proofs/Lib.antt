@@ -1,3 +1,6 @@
+-- Why the ends of all that is active always have room, and accounts, reads for update and renewals are what they
+-- are said to be.
+
 pub mod Active
 pub mod Ends
 pub mod Standings

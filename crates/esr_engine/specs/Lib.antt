@@ -1,3 +1,5 @@
+-- What an engine to embed promises: that it is never stuck, and what it says of each transaction.
+
 pub mod Room
 pub mod Accounts
 pub mod Standings

@@ -11,10 +11,9 @@ ghost use Rattle.esr_history.specs.Machine.{blank, done};
 ghost use Rattle.esr_items.specs.Weights.{weighted};
 ghost use Rattle.esr_explain.specs.Explain.{charge_at, charge_line, charge_lines, meeting, name_of_item, named_charge_line, until, verb};
 
-use crate::lent::Lent;
 use esr_core::Machine;
 use esr_history::{Event, History, NoMemory, TxnId};
-use esr_items::{ItemId, Metric, Store, Weighted};
+use esr_items::{ItemId, Lent, Metric, Store, Weighted};
 use esr_report::{Names, name_of_transaction, push_line};
 use std::alloc::{AllocError, Global};
 

@@ -7,7 +7,6 @@
 mod accesses;
 mod charges;
 mod explaining;
-mod lent;
 mod others;
 mod reads;
 mod text;

@@ -1,3 +1,7 @@
+-- Why phases of shortest augmentations end, within the bound, at a maximum flow, and what the source reaches then
+-- is the smallest least set. `SolveLaws`, `MaximumLaws` and `CertificateLaws` are the ends of it; the other modules
+-- carry the search, its labels and its entries.
+
 pub mod Count
 pub mod Distance
 pub mod Labels

@@ -1,3 +1,6 @@
+-- What a solver speaks of: residual networks, augmentations, and the graph of a problem with its entries. `Maximum`
+-- says what it needs of a network, and nothing else of the problem is known to it.
+
 pub mod Words
 pub mod Residual
 pub mod Augmentation

@@ -1,1 +1,3 @@
+-- What the accounts of transactions are to their callers.
+
 pub mod Books

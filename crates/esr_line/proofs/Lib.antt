@@ -1,3 +1,6 @@
+-- Why what is spelled is read back as what it was, and what a search for the next line feed finds. Whoever reads
+-- lines uses them.
+
 pub mod Prefix
 pub mod Cutting
 pub mod Blanks

@@ -1,2 +1,4 @@
+-- How bytes are cut into lines, and the one spelling of each command.
+
 pub mod Lines
 pub mod Command

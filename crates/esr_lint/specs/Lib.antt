@@ -1,0 +1,1 @@
+-- Nothing: what is told of a faulty line is advice, which no contract speaks of.

@@ -1,3 +1,6 @@
+-- Why commit order is a serial order, closed sets are the parts of placements, and the updates near to a query
+-- suffice. `Ordered` and `NearLaws` are used by audits; the other modules carry the walk back over the log.
+
 pub mod Lists
 pub mod Writers
 pub mod Placed

@@ -1,3 +1,6 @@
+-- Placements of a query and the order that they keep. `Placements`, `Near` and `Statements` are what audits rest
+-- on; the other modules say what is found on the way through a log.
+
 pub mod Placements
 pub mod Least
 pub mod Statements

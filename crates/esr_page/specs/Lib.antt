@@ -1,1 +1,3 @@
+-- When bytes are a page.
+
 pub mod Page

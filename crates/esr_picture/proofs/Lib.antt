@@ -1,1 +1,3 @@
+-- How parts of markup make one that is well formed.
+
 pub mod Building

@@ -1,3 +1,6 @@
+-- What a drive file asks for, and the text of what came of it, by its plan and its history. `Drafts`, `Sheets`,
+-- `Tables` and `Readings` are what contracts see of the values on the way.
+
 pub mod Plan
 pub mod Blocks
 pub mod Text

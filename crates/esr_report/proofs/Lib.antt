@@ -1,2 +1,4 @@
+-- Where names are in their table, and how words are joined.
+
 pub mod Positions
 pub mod Joins

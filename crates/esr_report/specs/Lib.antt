@@ -1,3 +1,5 @@
+-- Tables of names, and the bytes of each line of a report.
+
 pub mod Names
 pub mod Lines
 pub mod Subjects

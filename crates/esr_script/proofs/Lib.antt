@@ -1,3 +1,6 @@
+-- Why the loop over lines, with its buffer, its stages and its ends, writes what the definitions say. Only the
+-- bodies of this crate use them.
+
 pub mod Steps
 pub mod Held
 pub mod Replays

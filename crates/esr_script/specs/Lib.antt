@@ -1,3 +1,6 @@
+-- What each subcommand that reads a script may write, by its bytes alone: `Text` for a run, and a module for each
+-- of the others. Lines are passed on from the crate of lines, since the two are read together.
+
 pub use Rattle.esr_line.specs.Lines
 pub use Rattle.esr_line.specs.Command
 pub mod Text

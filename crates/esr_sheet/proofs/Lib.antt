@@ -1,3 +1,5 @@
+-- Why one pass over the log finds every row's columns, and the text is that of just these rows.
+
 pub mod Begun
 pub mod Found
 pub mod Places

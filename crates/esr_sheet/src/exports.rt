@@ -9,10 +9,9 @@ ghost use Rattle.esr_history.specs.Machine.{blank, charges_in, export_in};
 ghost use Rattle.esr_items.specs.Weights.{weighted};
 ghost use Rattle.esr_explain.specs.Explain.{until};
 
-use crate::lent::Lent;
 use esr_core::Machine;
 use esr_history::{History, NoMemory, TxnId};
-use esr_items::{Store, Weighted};
+use esr_items::{Lent, Store, Weighted};
 use std::alloc::{AllocError, Global};
 
 /// A machine that is to make a history again.

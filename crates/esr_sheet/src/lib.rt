@@ -16,7 +16,6 @@ mod format;
 mod json;
 mod kinds;
 mod ledger;
-mod lent;
 mod rows;
 mod spans;
 mod tallies;

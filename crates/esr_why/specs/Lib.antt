@@ -1,3 +1,5 @@
+-- What keeps a blocked line back: the lock and who holds it, what a limit lacks, and rings of waits.
+
 pub mod Locks
 pub mod Notes
 pub mod Replays

@@ -8,7 +8,6 @@
 //! may be blocked at half of them.
 #![tactic(auto)]
 
-mod lent;
 mod replay;
 mod sentences;
 mod shortfall;

@@ -17,10 +17,9 @@ ghost use Rattle.esr_why.specs.Locks.{lock_by};
 ghost use Rattle.esr_why.specs.Notes.{is_query_read, noted, values_noted, HasItem, IsBelowMost, HasRoomFor};
 ghost use Rattle.esr_why.specs.Replays.{IsBeside};
 
-use crate::lent::Lent;
 use esr_core::Machine;
 use esr_history::{Entry, Event, History, Log, NoMemory, TxnId};
-use esr_items::{ItemId, Store, Weighted};
+use esr_items::{ItemId, Lent, Store, Weighted};
 use esr_locks::{LockTable, QueryReads};
 use std::alloc::Global;
 use std::marker::Model;

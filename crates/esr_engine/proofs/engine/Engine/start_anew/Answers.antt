@@ -2,7 +2,7 @@
 use Rattle.std.proofs.Common.{◌∙◌, ap, subst}
 use Rattle.esr_items.specs.Weights.{weighted}
 use Rattle.esr_history.specs.Machine.{Schedule, IsLegal}
-use Rattle.esr_engine.proofs.Renewal.{as_one}
+use Rattle.esr_core.proofs.Renewed.{as_one}
 use Rattle.esr_engine.proofs.engine.Engine.start_anew.Goals as goal
 
 pub returns-clause-serializable : goal.returns-clause-serializable

@@ -1,5 +1,7 @@
 //! A metric that is lent: the machine that makes a history again borrows the history's own.
-use esr_items::{ItemId, Metric, Weighted};
+//!
+//! A copy of the weights was rejected, since it could be refused memory, and every caller would have to say so.
+use crate::metric::{ItemId, Metric, Weighted};
 
 /// The distances of a metric that another owns.
 #[derive(Clone, Copy)]
