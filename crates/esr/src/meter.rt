@@ -91,11 +91,16 @@ impl<R: Clock + Eprint> Gate for Meter<'_, R> {
 pub struct Watching<'a, 'm, 'r, R, E> {
     teller: Teller<'a, E>,
     meter: &'m Meter<'r, R>,
+    lines: u64,
 }
 
 impl<'a, 'm, 'r, R: Clock + Eprint, E: Eprint> Watching<'a, 'm, 'r, R, E> {
     pub fn new(teller: Teller<'a, E>, meter: &'m Meter<'r, R>) -> Watching<'a, 'm, 'r, R, E> {
-        Watching { teller, meter }
+        Watching {
+            teller,
+            meter,
+            lines: 0,
+        }
     }
 
     /// How many lines were at fault.
@@ -105,7 +110,7 @@ impl<'a, 'm, 'r, R: Clock + Eprint, E: Eprint> Watching<'a, 'm, 'r, R, E> {
 
     /// The line after the last one that was answered: where a line ends the run, that one.
     pub fn next_line(&self) -> u64 {
-        self.teller.next_line()
+        self.lines.saturating_add(1)
     }
 
     /// Why there is no committed query of the name that was asked for.
@@ -116,10 +121,12 @@ impl<'a, 'm, 'r, R: Clock + Eprint, E: Eprint> Watching<'a, 'm, 'r, R, E> {
 
 impl<R: Clock + Eprint, E: Eprint> Observer for Watching<'_, '_, '_, R, E> {
     fn see_line(&mut self, number: u64, line: &[u8], answer: &[u8]) {
+        self.lines = number;
+        // The teller is given a line at fault alone, so that each answer is looked at once.
         if answer.starts_with(b"error ") {
             self.meter.clear();
+            self.teller.see_line(number, line, answer);
         }
-        self.teller.see_line(number, line, answer);
         if number % LINES == 0 {
             self.meter.show(&format_args!("line {number}"));
         }
