@@ -78,7 +78,12 @@ fn chain(
 }
 
 /// The pairs that are marked, and some more, ascending.
-fn listed(alloc: Global, draws: &mut Draws, pairs: &Pairs, count: u32) -> Result<Vec<(u32, u32)>> {
+fn list_pairs(
+    alloc: Global,
+    draws: &mut Draws,
+    pairs: &Pairs,
+    count: u32,
+) -> Result<Vec<(u32, u32)>> {
     let mut before = Vec::new(alloc);
     for u in 0..count {
         for v in u.saturating_add(1)..count {
@@ -102,7 +107,7 @@ fn problem(alloc: Global, draws: &mut Draws) -> Result<Problem> {
         let chain = chain(alloc, draws, &mut pairs, item, count)?;
         chains.push(chain)?;
     }
-    let before = listed(alloc, draws, &pairs, count)?;
+    let before = list_pairs(alloc, draws, &pairs, count)?;
     let is_strict = draws.next(4) == 0;
     let must = some_below(alloc, draws, if is_strict { count } else { 0 }, 6)?;
     let mut updates = Vec::new(alloc);
@@ -116,7 +121,7 @@ fn problem(alloc: Global, draws: &mut Draws) -> Result<Problem> {
 }
 
 /// Whether what begins with a draft has the worth and the set of the solver's, and is valid.
-fn compared(alloc: Global, problem: &Problem) -> Result<(bool, DraftOutcome)> {
+fn compare(alloc: Global, problem: &Problem) -> Result<(bool, DraftOutcome)> {
     let Ok(network) = Network::build(alloc, problem) else {
         return Err(anyhow!("out of memory"));
     };
@@ -130,7 +135,7 @@ fn compared(alloc: Global, problem: &Problem) -> Result<(bool, DraftOutcome)> {
     Ok((is_alike, draft))
 }
 
-fn counted(outcomes: Outcomes, draft: DraftOutcome) -> Outcomes {
+fn count_outcome(outcomes: Outcomes, draft: DraftOutcome) -> Outcomes {
     match draft {
         DraftOutcome::Maximum => Outcomes {
             maximum: outcomes.maximum.saturating_add(1),
@@ -157,11 +162,11 @@ pub fn compare(rt: &impl Print, alloc: Global, problems: u64) -> Result<()> {
     };
     for k in 0..problems {
         let problem = problem(alloc, &mut draws)?;
-        let (is_alike, draft) = compared(alloc, &problem)?;
+        let (is_alike, draft) = compare(alloc, &problem)?;
         if !is_alike {
             return Err(anyhow!("problem {k}: another worth or set than the solver's"));
         }
-        outcomes = counted(outcomes, draft);
+        outcomes = count_outcome(outcomes, draft);
     }
     let Outcomes {
         maximum,

@@ -1,17 +1,22 @@
 //! The chart: a column for each committed query, in the order of their commits, with what it was charged, how far off it
 //! was, and its limit where that is not above the chart. Columns are elements of the page and not a picture, so that
-//! they are as wide as there is room, and each is a link with words of its own.
+//! they are as wide as there is room, and each is a link with words of its own. Where a few queries were charged far more
+//! than all others, the chart ends below them, so that the others are seen; a logarithmic scale was rejected, since a bar
+//! would no longer show its amount by its length.
 
 use crate::rows::{Row, Rows};
 use esr_audit::Summary;
-use esr_prose::push_number;
-use std::alloc::AllocError;
+use esr_prose::{push_count, push_number};
+use std::alloc::{AllocError, Global};
 
 /// So many queries have names below their columns.
 const MOST_NAMED: usize = 12;
 
 /// So many columns there are at most.
 const MOST_COLUMNS: usize = 1000;
+
+/// The chart ends at so many times what all but the dearest queries were charged.
+const FARTHEST: u64 = 5;
 
 /// The height of an amount, in thousandths of the chart's.
 fn height(amount: u64, top: u64) -> u64 {
@@ -23,13 +28,14 @@ fn height(amount: u64, top: u64) -> u64 {
     share.unwrap_or(0).min(1000)
 }
 
-/// A bar of such a class.
+/// A bar of such a class, with a torn end where it goes on above the chart.
 fn push_bar(out: &mut String, class: &str, amount: u64, top: u64) -> Result<(), AllocError> {
     let height = height(amount, top);
     let (whole, part) = (height / 10, height % 10);
+    let end = if amount > top { " torn" } else { "" };
     write!(
         out,
-        "<i class='{class}' style='bottom:0;height:{whole}.{part}%'></i>"
+        "<i class='{class}{end}' style='bottom:0;height:{whole}.{part}%'></i>"
     )
 }
 
@@ -82,23 +88,57 @@ fn push_columns(
     Ok(())
 }
 
-/// What the height of the chart stands for: the most that a query was charged, or where none was charged anything, the
-/// highest limit.
-fn top_of(rows: &[Row<'_>]) -> u64 {
-    let charged = rows.iter().map(|row| row.charged).max().unwrap_or(0);
-    if charged > 0 {
-        return charged;
+/// What the queries were charged, ascending.
+fn charges_of(alloc: Global, rows: &[Row<'_>]) -> Result<Vec<u64>, AllocError> {
+    let mut charges = Vec::new(alloc);
+    for row in rows {
+        if row.distance().is_some() {
+            charges.push(row.charged)?;
+        }
     }
-    rows.iter().map(|row| row.limit).max().unwrap_or(0).max(1)
+    charges.sort_unstable();
+    Ok(charges)
 }
 
-/// What the colours mean, and how high the chart is.
-fn push_legend(out: &mut String, top: u64, count: usize) -> Result<(), AllocError> {
+/// The most that a query was charged, a tenth of them left out, and one at least.
+fn usual_charge(charges: &[u64]) -> u64 {
+    let dearest = (charges.len() / 10).max(1);
+    let others = charges.len().saturating_sub(dearest);
+    charges
+        .get(..others)
+        .and_then(<[u64]>::last)
+        .copied()
+        .unwrap_or(0)
+}
+
+/// What the height of the chart stands for: the most that a query was charged; where that is more than so many times
+/// what most of them were, so many times that; where none was charged anything, the highest limit.
+fn top_of(rows: &[Row<'_>], charges: &[u64]) -> u64 {
+    let most = charges.last().copied().unwrap_or(0);
+    let end = usual_charge(charges).saturating_mul(FARTHEST);
+    if end > 0 && most > end {
+        end
+    } else if most > 0 {
+        most
+    } else {
+        rows.iter().map(|row| row.limit).max().unwrap_or(0).max(1)
+    }
+}
+
+/// What the colours mean, how high the chart is, and how many columns go beyond it.
+fn push_legend(out: &mut String, top: u64, charges: &[u64]) -> Result<(), AllocError> {
+    let count = charges.len();
+    let above = charges.iter().filter(|charge| **charge > top).count();
     out.push_str(
         "<p class='key'><span><i class='chg'></i> charged</span> <span><i class='dis'></i> off by</span> <span><i class='lim'></i> limit, where it is not above the chart</span></p>\n<p>The top of the chart stands for ",
     )?;
     push_number(out, top)?;
     out.push('.')?;
+    if above > 0 {
+        out.push_str(" Above it, with a torn end: ")?;
+        push_count(out, above as u64, " query", " queries")?;
+        out.push('.')?;
+    }
     if count > MOST_COLUMNS {
         out.push_str(" It has the first ")?;
         push_number(out, MOST_COLUMNS as u64)?;
@@ -111,6 +151,7 @@ fn push_legend(out: &mut String, top: u64, count: usize) -> Result<(), AllocErro
 
 /// The chart of the committed queries.
 pub fn push_chart(
+    alloc: Global,
     out: &mut String,
     all: &mut Rows<'_>,
     summaries: &[Summary],
@@ -118,7 +159,8 @@ pub fn push_chart(
     if summaries.is_empty() {
         return out.push_str("<p>No query has committed.</p>\n");
     }
-    let top = top_of(&all.rows);
+    let charges = charges_of(alloc, &all.rows)?;
+    let top = top_of(&all.rows, &charges);
     out.push_str("<h2>Committed queries, in the order of their commits</h2>\n")?;
     let class = if summaries.len() > MOST_NAMED {
         "chart many"
@@ -131,5 +173,5 @@ pub fn push_chart(
     )?;
     push_columns(out, all, summaries, top)?;
     out.push_str("</ol></div>\n")?;
-    push_legend(out, top, summaries.len())
+    push_legend(out, top, &charges)
 }

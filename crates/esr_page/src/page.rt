@@ -1,6 +1,8 @@
 //! The page, in its order.
 
-ghost use Rattle.std.specs.Prelude.{IfOk};
+ghost use Rattle.std.specs.Prelude.{◌≡◌, IfOk, map};
+ghost use Rattle.esr_history.specs.Machine.{done};
+ghost use Rattle.esr_history.specs.Operations.{commit_order};
 ghost use Rattle.esr_page.specs.Page.{IsPage};
 
 use crate::chart::push_chart;
@@ -8,7 +10,7 @@ use crate::details::{push_details, tell_farthest};
 use crate::rows::{Row, rows_of};
 use crate::style::{HEAD, SCRIPT};
 use crate::table::push_table;
-use esr_audit::{CommitLists, Summaries, Summary, audit_query, commit_lists};
+use esr_audit::{CommitLists, Summaries, Summary, audit_query_in, commit_lists};
 use esr_history::{History, TxnId};
 use esr_items::Weighted;
 use esr_picture::markup_or_nothing;
@@ -114,7 +116,7 @@ fn body_of(
     let mut out = String::new(alloc);
     out.push_str(HEAD)?;
     push_sums(&mut out, totals_of(&all.rows), found.order.len() as u64)?;
-    push_chart(&mut out, &mut all, &found.summaries)?;
+    push_chart(alloc, &mut out, &mut all, &found.summaries)?;
     push_table(&mut out, &all.rows)?;
     push_details(alloc, &mut out, chronicle, &all.rows, &told)?;
     push_order(&mut out, &chronicle.transactions, &found.order)?;
@@ -141,9 +143,12 @@ fn page_of(
 fn summary_of(
     alloc: Global,
     history: &History<Weighted>,
+    committed: &[TxnId],
     query: TxnId,
-) -> Result<Summary, AllocError> {
-    match audit_query(alloc, history, query) {
+) -> Result<Summary, AllocError>
+    requires { map (λ t. t.0) committed.now ≡ commit_order (done history.now.schedule) }
+{
+    match audit_query_in(alloc, history, committed, query) {
         Ok(finding) => Ok(Summary::from(finding)),
         Err(_) => Err(AllocError),
     }
@@ -153,7 +158,7 @@ fn summary_of(
 fn summarize(alloc: Global, history: &History<Weighted>) -> Result<Summaries, AllocError> {
     let Ok(
         CommitLists {
-            all: _,
+            all,
             updates,
             queries,
         },
@@ -163,7 +168,7 @@ fn summarize(alloc: Global, history: &History<Weighted>) -> Result<Summaries, Al
     };
     let mut summaries = Vec::new(alloc);
     for query in &queries {
-        summaries.push(summary_of(alloc, history, *query)?)?;
+        summaries.push(summary_of(alloc, history, &all, *query)?)?;
     }
     Ok(Summaries {
         order: updates,

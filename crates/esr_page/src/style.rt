@@ -34,6 +34,7 @@ ol.chart{display:flex;align-items:flex-end;list-style:none;margin:0;padding:0 0 
 .chg{background:var(--charged)}
 .dis{background:var(--off)}
 .few .dis{left:25%;right:25%}
+.torn{clip-path:polygon(0 100%,0 8px,25% 0,50% 8px,75% 0,100% 8px,100% 100%)}
 .lim{border-top:2px solid var(--ink)}
 .few .nam{font:12px monospace;text-decoration:underline}
 .many .nam{position:absolute;width:1px;height:1px;overflow:hidden;clip-path:inset(50%);white-space:nowrap}

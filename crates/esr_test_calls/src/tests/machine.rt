@@ -43,7 +43,7 @@ fn event(asked: Asked) -> Event {
 }
 
 /// A machine over one item.
-fn opened(alloc: Global, value: i64) -> Result<Machine<Plain>, NoMemory> {
+fn open(alloc: Global, value: i64) -> Result<Machine<Plain>, NoMemory> {
     let Ok(values) = [value].to_vec(alloc) else {
         return Err(NoMemory);
     };
@@ -54,10 +54,10 @@ fn opened(alloc: Global, value: i64) -> Result<Machine<Plain>, NoMemory> {
 }
 
 /// The same, where one allocation may be refused.
-fn opened_at_last(rt: &impl Abort, alloc: Global, value: i64) -> Machine<Plain> {
-    match opened(alloc, value) {
+fn open_at_last(rt: &impl Abort, alloc: Global, value: i64) -> Machine<Plain> {
+    match open(alloc, value) {
         Ok(machine) => machine,
-        Err(_) => opened(alloc, value).expect(rt, "memory"),
+        Err(_) => open(alloc, value).expect(rt, "memory"),
     }
 }
 
@@ -88,7 +88,7 @@ fn play(rt: &impl Abort, machine: &mut Machine<Plain>, rows: &[(Asked, Reply)]) 
 
 /// Opens a machine over one item, which answers the events so, and imports and exports so much.
 fn plays(rt: &impl Abort, alloc: Global, value: i64, rows: &[(Asked, Reply)], import: u128) {
-    let mut machine = opened_at_last(rt, alloc, value);
+    let mut machine = open_at_last(rt, alloc, value);
     play(rt, &mut machine, rows);
     let totals = Totals {
         import,
@@ -159,7 +159,7 @@ const ABORTED: [(Asked, Reply); 5] = [
 /// No clause can say that an abort finds memory for its entry: a machine that never takes one would be proved.
 #[test]
 fn abort_puts_back(rt: HostRuntime) {
-    let mut machine = opened_at_last(&rt, rt.alloc(), 1);
+    let mut machine = open_at_last(&rt, rt.alloc(), 1);
     play(&rt, &mut machine, &ABORTED);
     assert!(rt; machine.history().items() == 1);
     assert!(rt; machine.close().log().len() == 5);
@@ -176,7 +176,7 @@ fn renew_at_last(m: &mut Machine<Plain>, alloc: Global) -> Result<(), RenewError
 /// A renewal that is always out of memory keeps its contract, and the history would fill up with no way on.
 #[test]
 fn renewed_over_committed_values(rt: HostRuntime) {
-    let mut machine = opened_at_last(&rt, rt.alloc(), 1);
+    let mut machine = open_at_last(&rt, rt.alloc(), 1);
     let m = &mut machine;
     play(
         &rt,
