@@ -2,7 +2,7 @@
 //! bundle; the script is a file, since the bundle may be standard input.
 
 ghost use Rattle.std.specs.Prelude.{◌≡◌, false};
-ghost use Rattle.esr_history.specs.Watch.{failed};
+ghost use Rattle.esr_base.specs.Watch.{failed};
 
 use crate::fail;
 use crate::fault::RunText;

@@ -7,7 +7,7 @@
 #![tactic(auto)]
 
 ghost use Rattle.std.specs.Prelude.{◌≡◌, ◌≤◌, false};
-ghost use Rattle.esr_history.specs.Watch.{failed};
+ghost use Rattle.esr_base.specs.Watch.{failed};
 ghost use Rattle.esr_cli.specs.Job.{work_of, HasWorkers};
 
 mod fault;

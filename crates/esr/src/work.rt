@@ -5,7 +5,7 @@
 //! written only where no line was at fault; a run answers each line as it comes.
 
 ghost use Rattle.std.specs.Prelude.{◌≡◌, ◌≤◌, false};
-ghost use Rattle.esr_history.specs.Watch.{failed};
+ghost use Rattle.esr_base.specs.Watch.{failed};
 
 use crate::fail;
 use crate::fault::RunText;

@@ -1,6 +1,6 @@
 -- A solved problem of a query gives the audit's answer.
 use Rattle.std.proofs.Common.{◌≡◌, ℕ, zero, suc, [], ◌∷◌, map, Option, Some, None, ◌<◌, true, not, eqb, ◌&&◌, List, length, refl, sym, ap, ◌∙◌, arith, All, IsTrue, option_map}
-use Rattle.esr_history.specs.declared.event.TxnId.{TxnId}
+use Rattle.esr_base.specs.declared.numbers.TxnId.{TxnId}
 use Rattle.std.specs.List.{cons_option, filter_map, slice_get, AllByRecursion}
 use Rattle.std.proofs.lemmas.Bool.{and_parts}
 use Rattle.std.proofs.lemmas.List.Elements.{recursion_from_All}

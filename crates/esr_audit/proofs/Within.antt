@@ -6,7 +6,7 @@ use Rattle.std.proofs.lemmas.List.{length-map}
 use Rattle.std.proofs.lemmas.List.Sums.{sum_by-cons, sum_by-le, sum_by-le-sum_by}
 use Rattle.std.proofs.lemmas.List.Elements.{All-contains, All-from_recursion, recursion_from_All}
 use Rattle.esr_items.specs.Values.{value_at, IsValue}
-use Rattle.esr_history.specs.declared.event.TxnId.{TxnId}
+use Rattle.esr_base.specs.declared.numbers.TxnId.{TxnId}
 use Rattle.esr_history.specs.declared.event.Event.{Event}
 use Rattle.esr_history.specs.declared.event.Event.TheVariants.{BeginUpdate, BeginQuery, Read, Write, Commit, Abort}
 use Rattle.esr_history.specs.declared.event.Reply.{Reply}
@@ -24,8 +24,7 @@ use Rattle.esr_order.specs.Chains.{nth}
 use Rattle.esr_order.specs.Orders.{Ordered, IsOrderAmong}
 use Rattle.esr_order.specs.Near.{AreNear, has_written}
 use Rattle.esr_order.proofs.NearLaws.{near_updates}
-use Rattle.esr_items.specs.declared.TheConstants.{MOST_ITEMS}
-use Rattle.esr_history.specs.declared.limits.TheConstants.{MOST_TRANSACTIONS}
+use Rattle.esr_base.specs.declared.limits.TheConstants.{MOST_ITEMS, MOST_TRANSACTIONS}
 use Rattle.esr_cert.specs.declared.range.TheConstants.{MAX_COST}
 use Rattle.esr_cert.specs.Problem.{Chain, Problem, size, greatest, chain_is_in_range, is_in_range, is_sound}
 use Rattle.esr_cert.proofs.Sound.{all_from}

@@ -6,7 +6,7 @@
 ghost use Rattle.std.specs.Prelude.{◌≡◌, ◌<◌, ◌≤◌, ◌∷◌, ◌==◌, ℕ, length, map, All, IfOk, option_map};
 ghost use Rattle.std.specs.List.{list_any};
 ghost use Rattle.esr_items.specs.Values.{IsValue};
-ghost use Rattle.esr_history.specs.declared.limits.TheConstants.{MOST_READS};
+ghost use Rattle.esr_base.specs.declared.limits.TheConstants.{MOST_READS};
 ghost use Rattle.esr_order.specs.Chains as orders;
 ghost use Rattle.esr_order.specs.Orders.{chain_at};
 ghost use Rattle.esr_cert.specs.Views.{chain_of as chain_view};

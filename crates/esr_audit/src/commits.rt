@@ -1,7 +1,7 @@
 //! The transactions that committed: the updates, and the queries, each in commit order. An audit of a whole history
 //! makes these lists once for all its queries.
 ghost use Rattle.std.specs.Prelude.{◌≡◌, ◌≤◌, not, filter, map, All, IfOk, IsTrue, vec_len};
-ghost use Rattle.esr_history.specs.declared.limits.TheConstants.{MOST_TRANSACTIONS};
+ghost use Rattle.esr_base.specs.declared.limits.TheConstants.{MOST_TRANSACTIONS};
 ghost use Rattle.esr_history.specs.Events.{is_query};
 ghost use Rattle.esr_history.specs.Machine.{done};
 ghost use Rattle.esr_history.specs.Operations.{commit_order};

@@ -1,7 +1,7 @@
 -- What workers find, what they keep of it, and how that is put back in the order of the jobs.
 use Rattle.std.specs.Prelude.{◌≡◌, ℕ, ◌<◌, List, length, slice_index_or, map, All, Option, None, IsSome, IfSome, IsTrue, MatchResult, []}
 use Rattle.std.specs.List.{AllZip}
-use Rattle.esr_history.specs.declared.event.TxnId.{TxnId}
+use Rattle.esr_base.specs.declared.numbers.TxnId.{TxnId}
 use Rattle.esr_history.specs.Machine.{Distance, Schedule}
 use Rattle.esr_history.specs.Queries.{is_committed_query}
 use Rattle.esr_audit.specs.declared.finding.Finding.{Finding}

@@ -3,8 +3,7 @@ use Rattle.std.proofs.Common.{List, [], ◌∷◌, suc, get_or, Fits, w32, ◌�
 use Rattle.std.specs.List.{list_all}
 use Rattle.std.proofs.lemmas.Bool.{and_parts, and_from, cases_Bool}
 use Rattle.std.proofs.lemmas.Bool.Decides.{nat_tests}
-use Rattle.esr_items.specs.declared.TheConstants.{MOST_ITEMS}
-use Rattle.esr_history.specs.declared.limits.TheConstants.{MOST_TRANSACTIONS}
+use Rattle.esr_base.specs.declared.limits.TheConstants.{MOST_ITEMS, MOST_TRANSACTIONS}
 use Rattle.esr_cert.specs.Problem.{Problem, size, has_shape, is_in_range, is_sound, chain_is_in_range}
 use Rattle.esr_cert.specs.Faults.{problem_fault}
 use Rattle.esr_cert.specs.declared.problem.BundleFault.TheVariants.{Range}

@@ -2,13 +2,13 @@
 //! what the check says, of the file's own problem; which report that is, it does not say.
 ghost use Rattle.std.specs.Prelude.{◌≡◌, ◌≢◌, ◌⊎◌, ◌↔◌, ◌+◌, ◌++◌, ◌≤◌, ◌<◌, ℕ, List, IsOk, IfOk, IfErr, IsErrOf, IsTrue, false, length, Some};
 ghost use Rattle.std.specs.Io.KnownBytes.{Appends, Consumes, IsAtEnd};
-ghost use Rattle.esr_history.specs.Watch.{inner, failed};
+ghost use Rattle.esr_base.specs.Watch.{inner, failed};
 ghost use Rattle.esr_cert.specs.Faults.{bundle_fault_number};
 ghost use Rattle.esr_bundle.specs.Judge.{IsVerdictOf, IsJudgedBy, verdict_line};
 
 use crate::reading::from_json;
+use esr_base::Watched;
 use esr_cert::{BundleFault, check};
-use esr_history::Watched;
 use std::alloc::{AllocError, Global};
 use std::io::{Read, Write};
 use thiserror::Error;

@@ -9,11 +9,10 @@ ghost use Rattle.esr_cert.specs.Drafts.{drafted_chain, drafted_problem};
 ghost use Rattle.esr_bundle.specs.Drafts.{drafted_certificate};
 
 use crate::draft::CertificateDraft;
+use esr_base::{ItemId, TxnId};
 use esr_cert::{
     BundleFault, Certificate, Chain, ChainDraft, Problem, ProblemDraft, ProblemParts, has_shape,
 };
-use esr_history::TxnId;
-use esr_items::ItemId;
 use std::alloc::Global;
 
 const LARGEST: u64 = 4_294_967_295;

@@ -9,8 +9,8 @@ ghost use Rattle.std.specs.List.{list_all};
 ghost use Rattle.esr_bundle.specs.Members.{with_list, with_number};
 ghost use Rattle.esr_bundle.specs.Reading.{StandsFor};
 
+use esr_base::{NoMemory, TxnId};
 use esr_cert::{Certificate, Chain, Problem};
-use esr_history::{NoMemory, TxnId};
 use serde_json::{Map, Value, json, put};
 use std::alloc::{AllocError, Global};
 

@@ -3,8 +3,8 @@ use Rattle.std.specs.Prelude.{◌≡◌, ◌≢◌, ◌↔◌, ◌*◌, ◌+◌,
 use Rattle.std.proofs.Math.Nat.{one-mul}
 use Rattle.esr_items.specs.Values.{gap}
 use Rattle.esr_items.specs.Weights.{weighted}
-use Rattle.esr_items.specs.declared.metric.ItemId.{ItemId}
-use Rattle.esr_history.specs.declared.event.TxnId.{TxnId}
+use Rattle.esr_base.specs.declared.numbers.ItemId.{ItemId}
+use Rattle.esr_base.specs.declared.numbers.TxnId.{TxnId}
 use Rattle.esr_history.specs.declared.event.Entry.{Entry}
 use Rattle.esr_history.specs.declared.event.Event.{Event}
 use Rattle.esr_history.specs.declared.event.Reply.{Reply}

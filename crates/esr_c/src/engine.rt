@@ -4,7 +4,7 @@
 //! itself.
 
 ghost use Rattle.std.specs.Prelude.{◌⊎◌, ◌<◌, ◌≤◌, All, Any, true, ◌≡◌, ◌≢◌, ◌↔◌, length, is_some, IfOk, IfErr, IsErrOf, None, Some, IsSome, MatchOption};
-ghost use Rattle.esr_items.specs.declared.TheConstants.{MOST_ITEMS};
+ghost use Rattle.esr_base.specs.declared.limits.TheConstants.{MOST_ITEMS};
 ghost use Rattle.esr_items.specs.Values.{IsValue};
 ghost use Rattle.esr_items.specs.Weights.{IsWeight};
 ghost use Rattle.esr_core.specs.Renewed.{has_active, renewed};

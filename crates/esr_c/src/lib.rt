@@ -7,7 +7,7 @@
 //! with the count told where the room is too small, so C frees nothing that the library made.
 #![tactic(auto)]
 
-ghost use Rattle.esr_items.specs.declared.TheConstants.{MOST_ITEMS};
+ghost use Rattle.esr_base.specs.declared.limits.TheConstants.{MOST_ITEMS};
 ghost use Rattle.std.specs.Prelude.{IsSome, All, Any, ◌≡◌, ◌≢◌, ◌↔◌, ◌⊎◌, ◌<◌, ◌≤◌, [], length, None, Some, IfSome, true, false};
 ghost use Rattle.esr_items.specs.Values.{IsValue};
 ghost use Rattle.esr_items.specs.Weights.{IsWeight, weighted};

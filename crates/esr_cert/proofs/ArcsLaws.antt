@@ -7,7 +7,7 @@ use Rattle.esr_cert.specs.declared.problem.Chain as code
 use Rattle.esr_cert.specs.Problem.{Chain, Problem, size, is_sound}
 use Rattle.esr_cert.specs.Network.{arc_at, links, chain_links, back_arc, must_arc, back_arcs, must_arcs, network, Arc}
 use Rattle.esr_cert.specs.Starts.{starts_from, joined, AreStarts}
-use Rattle.esr_history.specs.declared.event.TxnId.{TxnId}
+use Rattle.esr_base.specs.declared.numbers.TxnId.{TxnId}
 use Rattle.esr_cert.specs.Views.{chain_of, problem_of}
 use Rattle.esr_cert.proofs.Sound.{here, there, facts, few, are_few, IsProblem}
 use Rattle.esr_cert.proofs.Matched.{AreWhole, links_length}

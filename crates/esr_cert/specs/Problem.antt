@@ -2,8 +2,7 @@
 -- Updates are named by their positions, and a set of them is a test of positions.
 use Rattle.std.specs.Prelude.{◌≡◌, ℕ, suc, ◌<◌, ◌≤◌, max, List, [], ◌∷◌, length, get_or, Bool, true, not, ◌&&◌, ◌||◌, ◌==◌, nat_lt, nat_le, if◌then◌else◌, map}
 use Rattle.std.specs.List.{list_all, list_any, sum_by}
-use Rattle.esr_items.specs.declared.TheConstants.{MOST_ITEMS}
-use Rattle.esr_history.specs.declared.limits.TheConstants.{MOST_TRANSACTIONS}
+use Rattle.esr_base.specs.declared.limits.TheConstants.{MOST_ITEMS, MOST_TRANSACTIONS}
 use Rattle.esr_cert.specs.declared.range.TheConstants.{MAX_COST}
 
 -- an item that a query read: its writers, ascending, and the cost of each version, of which there is one more

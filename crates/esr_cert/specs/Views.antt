@@ -1,7 +1,7 @@
 -- What contracts see of the values of the code: lists in place of vectors.
 use Rattle.std.specs.Prelude.{ℕ, List, map, Option, Vec}
 use Rattle.std.specs.declared.alloc.Global.{Global}
-use Rattle.esr_history.specs.declared.event.TxnId.{TxnId}
+use Rattle.esr_base.specs.declared.numbers.TxnId.{TxnId}
 use Rattle.esr_cert.specs.Problem as spec
 use Rattle.esr_cert.specs.Certificate as certificates
 use Rattle.esr_cert.specs.declared.problem.Chain.{Chain}

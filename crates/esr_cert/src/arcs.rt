@@ -4,8 +4,7 @@
 //! Where the arcs of each chain begin is a list; the chain of an arc is kept in two bytes an arc, since the solver asks
 //! often: with a binary search there too a solve took 1.4 to 1.7 times as long.
 ghost use Rattle.std.specs.Prelude.{◌≡◌, ◌+◌, ◌^◌, ◌<◌, ◌≤◌, length, map, sum_by, List, true};
-ghost use Rattle.esr_items.specs.declared.TheConstants.{MOST_ITEMS};
-ghost use Rattle.esr_history.specs.declared.limits.TheConstants.{MOST_TRANSACTIONS};
+ghost use Rattle.esr_base.specs.declared.limits.TheConstants.{MOST_ITEMS, MOST_TRANSACTIONS};
 ghost use Rattle.esr_cert.specs.Views.{chain_of, problem_of};
 ghost use Rattle.esr_cert.specs.Network.{arc_at, chain_links, network};
 ghost use Rattle.esr_cert.specs.declared.network.Arc.{Arc};
@@ -15,7 +14,7 @@ ghost use Rattle.esr_cert.specs.Starts.{starts_from, owners_from};
 use crate::network::Arc;
 use crate::problem::Chain;
 use crate::starts::owner_at;
-use esr_history::TxnId;
+use esr_base::TxnId;
 use std::marker::Model;
 
 /// An arc of a chain, by its place there: from the source or a writer to the next writer, or to the sink.

@@ -4,9 +4,10 @@
 //! capacities the costs, so by weak duality a flow is worth at most what a closed set costs. A certificate is a set and
 //! a flow of one worth: it shows that no closed set costs less.
 //!
-//! This is all that a stranger has to trust: where a certificate came from does not matter, and nothing here knows of
-//! histories or solvers. Nodes, arcs, flows and cuts are defined here, since the check speaks of them, and the rows of
-//! residual arcs are laid out here once, for the check and the solver both.
+//! With `esr_base` this is all that a stranger has to trust, and `esr_bundle` where he has a bundle: where a certificate
+//! came from does not matter, and nothing here knows of histories or solvers. Nodes, arcs, flows and cuts are defined
+//! here, since the check speaks of them, and the rows of residual arcs are laid out here once, for the check and the
+//! solver both.
 #![tactic(auto)]
 
 mod arcs;

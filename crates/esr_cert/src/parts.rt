@@ -7,7 +7,7 @@ ghost use Rattle.esr_cert.specs.Drafts.{drafted_chain, drafted_problem};
 use crate::draft::{ChainDraft, ProblemDraft};
 use crate::problem::{Chain, ProblemParts};
 use crate::shape::has_shape;
-use esr_history::TxnId;
+use esr_base::TxnId;
 use std::alloc::{AllocError, Global};
 
 fn numbers_of(alloc: Global, updates: &[TxnId]) -> Result<Vec<u64>, AllocError>

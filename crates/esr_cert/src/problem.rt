@@ -7,7 +7,7 @@
 //! direction.
 
 ghost use Rattle.std.specs.Prelude.{◌≡◌, ◌≢◌, ◌<◌, ◌≤◌, length, map, true, IsOk, IfOk, IfErr, Some, None};
-ghost use Rattle.esr_history.specs.declared.limits.TheConstants.{MOST_TRANSACTIONS};
+ghost use Rattle.esr_base.specs.declared.limits.TheConstants.{MOST_TRANSACTIONS};
 ghost use Rattle.esr_cert.specs.Problem.{size, has_shape, is_sound};
 ghost use Rattle.esr_cert.specs.Faults.{problem_fault, bundle_fault_number};
 ghost use Rattle.esr_cert.specs.Network.{arc_at, network};
@@ -22,8 +22,7 @@ use crate::parts::have_shape;
 use crate::range::is_in_range;
 use crate::rows::{MOST_ARCS, Rows, rows_of};
 use crate::starts::{owners_of, starts_of};
-use esr_history::TxnId;
-use esr_items::ItemId;
+use esr_base::{ItemId, TxnId};
 use std::alloc::{AllocError, Global};
 use std::marker::Model;
 use thiserror::Error;

@@ -7,8 +7,7 @@ ghost use Rattle.esr_cert.specs.Views.{chain_of, posed_by};
 
 use crate::lists::are_below;
 use crate::problem::{Chain, ProblemParts};
-use esr_history::{MOST_READS, MOST_TRANSACTIONS, TxnId};
-use esr_items::{LARGEST_VALUE, LARGEST_WEIGHT, MOST_ITEMS};
+use esr_base::{LARGEST_VALUE, LARGEST_WEIGHT, MOST_ITEMS, MOST_READS, MOST_TRANSACTIONS, TxnId};
 
 /// The largest sum of the greatest cost of each chain: each read of a query is off by at most twice the largest value,
 /// weighed.

@@ -3,7 +3,7 @@ use Rattle.std.proofs.Common.{◌≡◌, ℕ, zero, suc, ◌+◌, ◌<◌, ◌�
 use Rattle.std.proofs.lemmas.List.{take_more, map-append}
 use Rattle.std.proofs.lemmas.List.Elements.{All-push}
 use Rattle.std.proofs.lemmas.List.Sums.{sum_by-cons}
-use Rattle.esr_history.specs.declared.limits.TheConstants.{MOST_ENTRIES}
+use Rattle.esr_base.specs.declared.limits.TheConstants.{MOST_ENTRIES}
 use Rattle.esr_history.specs.declared.event.Reply.{Reply}
 use Rattle.esr_core.specs.declared.machine.StepError.{StepError}
 use Rattle.esr_session.specs.declared.receipt.Receipt.{Receipt}

@@ -3,7 +3,7 @@ use Rattle.std.specs.Prelude.{◌≡◌, List, [], ℕ, Option, Some, Result, Ok
 use Rattle.std.specs.Io.KnownBytes.{Consumes}
 use Rattle.esr_items.specs.Weights.{weighted}
 use Rattle.esr_history.specs.Machine.{Schedule, IsLegal}
-use Rattle.esr_history.specs.Watch.{BeginsWith}
+use Rattle.esr_base.specs.Watch.{BeginsWith}
 use Rattle.esr_session.specs.declared.receipt.Receipt.{Receipt}
 use Rattle.esr_session.specs.Receipts.{Matches}
 use Rattle.esr_plan.specs.declared.fault.DriveFault.{DriveFault}

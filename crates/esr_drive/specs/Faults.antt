@@ -1,7 +1,7 @@
 -- The faults of a drive that neither its reader nor its writer makes.
 use Rattle.std.specs.Prelude.{◌≡◌, ◌≤◌, ◌*◌, ◌==◌, ℕ, List, Bool, true, false, Option, Some, None, Result, Ok, Err, length, sum_by, unwrap_or, if◌then◌else◌}
 use Rattle.std.specs.List.{list_any}
-use Rattle.esr_history.specs.declared.limits.TheConstants.{MOST_ENTRIES}
+use Rattle.esr_base.specs.declared.limits.TheConstants.{MOST_ENTRIES}
 use Rattle.esr_core.specs.declared.machine.StepError.{StepError}
 use Rattle.esr_core.specs.declared.machine.StepError.TheVariants as error
 use Rattle.esr_plan.specs.Plan.{Plan, plan_of}

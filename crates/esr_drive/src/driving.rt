@@ -4,7 +4,7 @@ ghost use Rattle.esr_board.specs.declared.board.TheConstants.{MOST_SEATS};
 ghost use Rattle.std.specs.Prelude.{◌≡◌, ℕ, List, ◌≤◌, ◌↔◌, true, false, None, map, IfOk, IfErr, IfSome, IsErrOf, IsTrue};
 ghost use Rattle.esr_line.specs.Lines.{lines};
 ghost use Rattle.std.specs.Io.KnownBytes.{Appends};
-ghost use Rattle.esr_history.specs.Watch.{inner, failed};
+ghost use Rattle.esr_base.specs.Watch.{inner, failed};
 ghost use Rattle.esr_drive.specs.Drive.{IsDriveBy, IsDriveText};
 ghost use Rattle.esr_plan.specs.Text.{text_of};
 ghost use Rattle.esr_drive.specs.Driven.{IsDriven};

@@ -3,7 +3,7 @@
 
 ghost use Rattle.std.specs.Prelude.{◌≡◌, ◌⊎◌, ◌≤◌, ◌*◌, ◌==◌, [], true, Ok, Some, IfOk, IfErr, All, length, map, vec_len};
 ghost use Rattle.esr_drive.specs.Faults.{is_engine_fault, told_fault, confirmed, worse};
-ghost use Rattle.esr_history.specs.declared.limits.TheConstants.{MOST_ENTRIES};
+ghost use Rattle.esr_base.specs.declared.limits.TheConstants.{MOST_ENTRIES};
 ghost use Rattle.esr_plan.specs.declared.fault.DriveFault.{DriveFault};
 ghost use Rattle.esr_session.specs.Receipts.{count_in};
 ghost use Rattle.esr_drive.specs.Runs.{IsBlockRun, AllPairs};

@@ -8,8 +8,8 @@ use Rattle.std.proofs.lemmas.List.{length_push}
 use Rattle.std.proofs.lemmas.List.Sums.{sum_by-cons, sum_by_push, sum_by-set}
 use Rattle.esr_history.specs.declared.event.Refusal.{Refusal}
 use Rattle.esr_history.specs.declared.event.Refusal.TheVariants.{NoSuchTransaction, AlreadyEnded}
-use Rattle.esr_items.specs.declared.metric.ItemId.{ItemId}
-use Rattle.esr_history.specs.declared.event.TxnId.{TxnId}
+use Rattle.esr_base.specs.declared.numbers.ItemId.{ItemId}
+use Rattle.esr_base.specs.declared.numbers.TxnId.{TxnId}
 use Rattle.esr_history.specs.declared.event.Event.{Event}
 use Rattle.esr_history.specs.declared.event.Reply.{Reply}
 use Rattle.esr_history.specs.declared.event.Event.TheVariants.{BeginUpdate, BeginQuery, Read, Write, Commit, Abort}

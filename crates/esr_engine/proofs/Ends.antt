@@ -7,7 +7,7 @@ use Rattle.esr_order.specs.Scans.{commit_in}
 use Rattle.std.proofs.lemmas.Bool.{false≢true}
 use Rattle.esr_history.specs.declared.back_links.Facts.{Facts}
 use Rattle.esr_history.specs.BackLinks.{accepted_end, ender, is_key, places_from, last_place, facts_by, facts_of}
-use Rattle.esr_history.specs.declared.event.TxnId.{TxnId}
+use Rattle.esr_base.specs.declared.numbers.TxnId.{TxnId}
 use Rattle.esr_history.specs.declared.event.Event.{Event}
 use Rattle.esr_history.specs.declared.event.Entry.{Entry}
 use Rattle.esr_history.specs.declared.event.Event.TheVariants.{BeginUpdate, BeginQuery, Read, Write, Commit, Abort}

@@ -6,8 +6,8 @@ use Rattle.std.proofs.lemmas.Bool.{cases_eq, false≢true, false_from_ne_true, a
 use Rattle.std.proofs.lemmas.Bool.Decides.{nat_tests}
 use Rattle.esr_items.specs.Values.{value_at}
 use Rattle.esr_items.specs.Weights.{weighted}
-use Rattle.esr_items.specs.declared.metric.ItemId.{ItemId}
-use Rattle.esr_history.specs.declared.event.TxnId.{TxnId}
+use Rattle.esr_base.specs.declared.numbers.ItemId.{ItemId}
+use Rattle.esr_base.specs.declared.numbers.TxnId.{TxnId}
 use Rattle.esr_history.specs.declared.event.Event.{Event}
 use Rattle.esr_history.specs.declared.event.Reply.{Reply}
 use Rattle.esr_history.specs.declared.event.Refusal.{Refusal}

@@ -2,9 +2,9 @@
 -- has, and then the read.
 use Rattle.std.specs.Prelude.{◌≡◌, ◌+◌, ◌⊎◌, ◌==◌, ◌&&◌, ℕ, pos, Bool, true, false, nat_lt, length, option_map, unwrap_or, if◌then◌else◌, ⊤}
 use Rattle.esr_items.specs.Weights.{weighted}
-use Rattle.esr_history.specs.declared.limits.TheConstants.{MOST_ENTRIES}
-use Rattle.esr_items.specs.declared.metric.ItemId.{ItemId}
-use Rattle.esr_history.specs.declared.event.TxnId.{TxnId}
+use Rattle.esr_base.specs.declared.limits.TheConstants.{MOST_ENTRIES}
+use Rattle.esr_base.specs.declared.numbers.ItemId.{ItemId}
+use Rattle.esr_base.specs.declared.numbers.TxnId.{TxnId}
 use Rattle.esr_history.specs.declared.event.Event.{Event}
 use Rattle.esr_history.specs.declared.event.Reply.{Reply}
 use Rattle.esr_history.specs.declared.event.Event.TheVariants.{Read, Write}

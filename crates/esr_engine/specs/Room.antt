@@ -1,7 +1,7 @@
 -- When a history has room for an event beside the ends of what is active, and that it is never stuck.
 use Rattle.std.specs.Prelude.{◌≡◌, ◌+◌, ◌-◌, ◌≤◌, ℕ, Bool, true, false, not, ◌&&◌, ◌||◌, nat_le, nat_lt, List, length, count_by}
-use Rattle.esr_history.specs.declared.limits.TheConstants.{MOST_ENTRIES, MOST_TRANSACTIONS}
-use Rattle.esr_history.specs.declared.event.TxnId.{TxnId}
+use Rattle.esr_base.specs.declared.limits.TheConstants.{MOST_ENTRIES, MOST_TRANSACTIONS}
+use Rattle.esr_base.specs.declared.numbers.TxnId.{TxnId}
 use Rattle.esr_history.specs.declared.event.Event.{Event}
 use Rattle.esr_history.specs.declared.event.Reply.{Reply}
 use Rattle.esr_history.specs.declared.event.Event.TheVariants.{BeginUpdate, BeginQuery, Commit, Abort}

@@ -6,9 +6,8 @@
 //! comes where nothing is left is looked up.
 
 ghost use Rattle.std.specs.Prelude.{◌≡◌, ◌+◌, ◌<◌, ◌≤◌, ◌↔◌, true, length, All, IfOk, OnErr, IsErrOf};
-ghost use Rattle.esr_items.specs.declared.TheConstants.{MOST_ITEMS};
+ghost use Rattle.esr_base.specs.declared.limits.TheConstants.{MOST_ENTRIES, MOST_ITEMS, MOST_TRANSACTIONS};
 ghost use Rattle.esr_items.specs.Weights.{IsWeight, weighted};
-ghost use Rattle.esr_history.specs.declared.limits.TheConstants.{MOST_ENTRIES, MOST_TRANSACTIONS};
 ghost use Rattle.esr_history.specs.Events.{is_active};
 ghost use Rattle.esr_history.specs.Machine.{IsLegal, Schedule, done, extended, reply_to};
 ghost use Rattle.esr_history.specs.Queries.{ImportBoundsDistance};

@@ -2,7 +2,7 @@
 //! exactly where it is.
 
 ghost use Rattle.std.specs.Prelude.{◌≡◌, ◌<◌, ◌≤◌, ◌↔◌, ◌⊎◌, [], length, map, All, Any, IsTrue, IfOk, IfErr, IsErrOf};
-ghost use Rattle.esr_items.specs.declared.TheConstants.{MOST_ITEMS};
+ghost use Rattle.esr_base.specs.declared.limits.TheConstants.{MOST_ITEMS};
 ghost use Rattle.esr_items.specs.Values.{IsValue};
 ghost use Rattle.esr_items.specs.Weights.{IsWeight};
 ghost use Rattle.esr_history.specs.Machine.{schedule_of};

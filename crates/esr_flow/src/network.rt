@@ -5,8 +5,8 @@ ghost use Rattle.esr_cert.specs.Network as networks;
 ghost use Rattle.esr_flow.specs.Graph.{net_of, IsGraph};
 
 use crate::graph::Graph;
+use esr_base::NoMemory;
 use esr_cert::Problem;
-use esr_history::NoMemory;
 use std::alloc::Global;
 
 /// The graph of a problem's network.

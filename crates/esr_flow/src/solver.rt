@@ -4,7 +4,7 @@
 //! the same for all of them.
 ghost use Rattle.std.specs.Prelude.{◌≡◌, ℕ, ◌+◌, ◌*◌, ◌≤◌, true, false, Some, None, length, map, sum_by, get_or, IfOk};
 ghost use Rattle.std.specs.List.{concat};
-ghost use Rattle.esr_history.specs.declared.limits.TheConstants.{MOST_TRANSACTIONS};
+ghost use Rattle.esr_base.specs.declared.limits.TheConstants.{MOST_TRANSACTIONS};
 ghost use Rattle.esr_cert.specs.Problem.{size, in_set, IsSmallestLeast};
 ghost use Rattle.esr_cert.specs.Network.{network};
 ghost use Rattle.esr_cert.specs.Flow as flows;
@@ -16,8 +16,8 @@ ghost use Rattle.esr_flow.specs.Certificate.{positions};
 
 use crate::maximum::{DraftOutcome, MaximumFlow, find_maximum, find_swiftly};
 use crate::network::Network;
+use esr_base::NoMemory;
 use esr_cert::{Certificate, Chain, Problem};
-use esr_history::NoMemory;
 use std::alloc::{AllocError, Global};
 
 /// The marked positions, ascending.

@@ -1,7 +1,7 @@
 -- How many there are of what a history keeps, and in what range.
 use Rattle.std.specs.Prelude.{ℕ, ◌≤◌, ◌<◌, length, All, IsTrue}
 use Rattle.esr_items.specs.Values.{IsValue}
-use Rattle.esr_history.specs.declared.limits.TheConstants.{MOST_READS, MOST_TRANSACTIONS}
+use Rattle.esr_base.specs.declared.limits.TheConstants.{MOST_READS, MOST_TRANSACTIONS}
 use Rattle.esr_history.specs.Events.{beginnings, all_reads_of, is_query}
 use Rattle.esr_history.specs.Machine.{Schedule, done}
 use Rattle.esr_history.specs.Operations.{operations}

@@ -6,7 +6,7 @@
 //!
 //! In a table 0 stands for no place and each place for one more, in 32 bits: `reserve` refuses an entry past
 //! 4,294,967,294, as where allocation fails, far above what a machine's history can have.
-ghost use Rattle.esr_items.specs.declared.TheConstants.{MOST_ITEMS};
+ghost use Rattle.esr_base.specs.declared.limits.TheConstants.{MOST_ITEMS};
 ghost use Rattle.std.specs.Prelude.{◌≡◌, ◌+◌, ◌^◌, ◌<◌, ◌≤◌, ◌++◌, ◌∷◌, [], ℕ, List, length, slice_index_or, slice_set, IfOk, OnOk, vec_capacity};
 ghost use Rattle.esr_history.specs.declared.event.Entry.{Entry};
 ghost use Rattle.esr_history.specs.BackLinks.{with_key, txns_after, ends_after, begins_after, IsNumbered, item_of, begun_by, txn_of, key_at, decoded, AreLinks, IsFit, HasRoom, HasRoomToBegin, begun_count, last_place, earlier, facts_of, accepted_item, accepted_txn, item_in, txn_in};

@@ -8,7 +8,8 @@ ghost use Rattle.esr_history.specs.Events.{is_refusal};
 ghost use Rattle.esr_history.specs.Imports.{imported, with_number, AreImports, AreDue};
 ghost use Rattle.esr_history.specs.Machine.{Distance, Schedule, IsLegal, extended, reply_to};
 
-use crate::event::{Entry, Event, TxnId};
+use crate::event::{Entry, Event};
+use esr_base::TxnId;
 use std::alloc::{AllocError, Global};
 
 /// The table before the first transaction.

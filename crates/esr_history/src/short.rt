@@ -9,8 +9,8 @@ ghost use Rattle.esr_history.specs.declared.event.Entry.{Entry};
 ghost use Rattle.esr_history.specs.declared.event.Event.TheVariants.{Read, Write};
 ghost use Rattle.esr_history.specs.Short.{blocked, unpacked, item_id, txn_id, IsWithin};
 
-use crate::event::{Entry, Event, Refusal, Reply, TxnId};
-use esr_items::ItemId;
+use crate::event::{Entry, Event, Refusal, Reply};
+use esr_base::{ItemId, TxnId};
 
 /// What is in the way of a read or a write: the lock of an update, or a limit.
 #[derive(Clone, Copy)]

@@ -2,7 +2,7 @@
 use Rattle.std.proofs.Common.{◌∙◌, sym, ap, arith, ◌≡◌, ℕ, ℤ, ◌+◌, ◌*◌, ◌≤◌, Bool, ◌&&◌, cond, nat_le, List, slice_index_or}
 use Rattle.std.proofs.lemmas.Bool.Decides.{nat_tests}
 use Rattle.std.proofs.Math.Nat.{mul-add, mul-zero, mul-le-mul, mul-le-mul_left, eq_of_mul-eq-mul_left}
-use Rattle.esr_items.specs.declared.metric.TheConstants.{LARGEST_WEIGHT}
+use Rattle.esr_base.specs.declared.limits.TheConstants.{LARGEST_WEIGHT}
 use Rattle.esr_items.specs.Values.{gap, IsValue, largest_distance}
 use Rattle.esr_items.specs.Gaps.{gap-zero, gap-same, gap_comm, gap-triangle, gap-most}
 

@@ -1,7 +1,8 @@
 //! A metric that is lent: the machine that makes a history again borrows the history's own.
 //!
 //! A copy of the weights was rejected, since it could be refused memory, and every caller would have to say so.
-use crate::metric::{ItemId, Metric, Weighted};
+use crate::metric::{Metric, Weighted};
+use esr_base::ItemId;
 
 /// The distances of a metric that another owns.
 #[derive(Clone, Copy)]

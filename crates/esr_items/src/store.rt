@@ -7,11 +7,10 @@
 
 ghost use Rattle.std.specs.Prelude.{◌≡◌, ◌<◌, ◌≤◌, ◌⊎◌, length, map, IfOk, OnOk, IfErr, IsErrOf, All, Any, IsTrue, ◌↔◌, List};
 ghost use Rattle.esr_items.specs.Values.{IsValue, both_versions, committed_at, current_at, current_set, kept, undone, AreValues};
-ghost use Rattle.esr_items.specs.declared.TheConstants.{MOST_ITEMS};
+ghost use Rattle.esr_base.specs.declared.limits.TheConstants.{MOST_ITEMS};
 ghost use Rattle.esr_items.specs.declared.store.Versions.{Versions};
 
-use crate::metric::ItemId;
-use crate::{LARGEST_VALUE, MOST_ITEMS};
+use esr_base::{ItemId, LARGEST_VALUE, MOST_ITEMS};
 use std::alloc::{AllocError, Global};
 use std::marker::Model;
 use thiserror::Error;

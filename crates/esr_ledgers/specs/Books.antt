@@ -1,7 +1,7 @@
 -- The accounts of transactions: what queries have imported and updates have exported.
 use Rattle.std.specs.Prelude.{◌≡◌, ℕ, ◌+◌, ◌<◌, ◌≤◌, ◌^◌, List, [], ◌∷◌, Bool, true, false, not, ◌==◌, nat_lt, Option, None, Some, unwrap_or, find, map, sum_by, All, if◌then◌else◌, option_map}
 use Rattle.std.specs.List.{list_any, AllByRecursion}
-use Rattle.esr_history.specs.declared.event.TxnId.{TxnId}
+use Rattle.esr_base.specs.declared.numbers.TxnId.{TxnId}
 use Rattle.esr_history.specs.Ascending.{IsAscendingBy, placed}
 pub use Rattle.esr_ledgers.specs.declared.account.Account.{Account}
 use Rattle.esr_ledgers.specs.declared.ledgers.Quote.{Quote}

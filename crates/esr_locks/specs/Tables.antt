@@ -1,7 +1,7 @@
 -- The locks on items: who holds them, and what one more lock and a release change.
 use Rattle.std.specs.Prelude.{ℕ, ◌+◌, List, [], Bool, false, not, ◌&&◌, ◌||◌, ◌==◌, None, Some, unwrap_or, filter, slice_index_or, slice_index, min, if◌then◌else◌, option_map}
 use Rattle.std.specs.List.{list_any}
-use Rattle.esr_items.specs.declared.metric.ItemId.{ItemId}
+use Rattle.esr_base.specs.declared.numbers.ItemId.{ItemId}
 use Rattle.esr_history.specs.ItemLocks.{ItemLocks}
 use Rattle.esr_history.specs.Ascending.{placed}
 use Rattle.esr_locks.specs.Modes.{Mode, Read, Write, conflicts}

@@ -7,7 +7,7 @@
 ghost use Rattle.std.specs.Prelude.{◌≡◌, ℕ, ◌<◌, ◌≤◌, ◌==◌, length, filter, find, not, All, IfOk, IfErr, option_map};
 ghost use Rattle.std.specs.List.{list_any, insert, AllByRecursion};
 ghost use Rattle.smallvec.specs.SmallVec.{HasRoomFor};
-ghost use Rattle.esr_history.specs.declared.limits.TheConstants.{MOST_READS};
+ghost use Rattle.esr_base.specs.declared.limits.TheConstants.{MOST_READS};
 ghost use Rattle.esr_history.specs.Ascending.{IsAscendingBy, IsPlaceOf, IsGapFor, placed};
 ghost use Rattle.esr_locks.specs.Rows.{MakesRoom, reader, first_reads, more_reads};
 

@@ -4,7 +4,7 @@
 //! smallest update in the way is the writer or the first reader but the asker.
 
 ghost use Rattle.std.specs.Prelude.{◌≡◌, ℕ, ◌<◌, ◌≤◌, ◌==◌, Bool, false, ◌||◌, ◌&&◌, map, not, All, OnOk, OnErr, unwrap_or, None, if◌then◌else◌, option_map, min, ◌-◌, length};
-ghost use Rattle.esr_history.specs.declared.limits.TheConstants.{MOST_READS};
+ghost use Rattle.esr_base.specs.declared.limits.TheConstants.{MOST_READS};
 ghost use Rattle.esr_history.specs.Ascending.{IsAscendingBy, IsSmallest};
 ghost use Rattle.esr_locks.specs.Modes.{conflicts};
 ghost use Rattle.esr_locks.specs.Rows.{query_and_count, with_lock, has_such, RowOf};

@@ -10,7 +10,7 @@
 
 ghost use Rattle.std.specs.Prelude.{◌≡◌, ℕ, ◌<◌, ◌≤◌, ◌==◌, [], length, map, All, IfOk, OnOk, OnErr, slice_set, true, if◌then◌else◌, option_map};
 ghost use Rattle.std.specs.List.{range_with_len};
-ghost use Rattle.esr_history.specs.declared.limits.TheConstants.{MOST_READS};
+ghost use Rattle.esr_base.specs.declared.limits.TheConstants.{MOST_READS};
 ghost use Rattle.esr_history.specs.Ascending.{IsAscendingBy, IsSmallest};
 ghost use Rattle.esr_locks.specs.Rows.{query_and_count, row_at, held_at, with_lock, has_such, IsTable};
 ghost use Rattle.esr_locks.specs.Tables.{no_locks, locks_at, room_for, has_lock, has_update_lock, has_query_lock, lists_item, keeps_from_reading, keeps_from_writing, with_reader, with_writer, with_query_read, released, Table};

@@ -1,7 +1,7 @@
 -- How many updates a query has.
 use Rattle.std.proofs.Common.{◌≡◌, ℕ, ◌≤◌, List, length, sym, ◌∙◌, ap, arith, map}
 use Rattle.std.proofs.lemmas.List.{length-map}
-use Rattle.esr_history.specs.declared.event.TxnId.{TxnId}
+use Rattle.esr_base.specs.declared.numbers.TxnId.{TxnId}
 use Rattle.esr_history.specs.Machine.{Distance, Schedule, IsLegal}
 use Rattle.esr_history.specs.Queries.{updates_of}
 use Rattle.esr_order.proofs.Ordered.{few_updates}

@@ -4,7 +4,7 @@ use Rattle.std.specs.List.{range_with_len}
 use Rattle.std.proofs.lemmas.Bool.{cases_eq, eq-eqb, ne_eqb}
 use Rattle.std.proofs.lemmas.List.Elements.{All-contains}
 use Rattle.std.proofs.lemmas.List.{drop_more, length-map, length-append, length-set, length-reverse, map-set, reverse-append, get_or-set_same, get_or-set_other, get_or-map}
-use Rattle.esr_history.specs.declared.event.TxnId.{TxnId}
+use Rattle.esr_base.specs.declared.numbers.TxnId.{TxnId}
 use Rattle.esr_history.specs.Machine.{Schedule}
 use Rattle.esr_history.specs.Operations.{Operation, operations}
 use Rattle.esr_history.proofs.Membership.{In, In-Contains, Contains-In, In-append_cases, In-append_left, In-append_right, Pairs, Pairs-append, Pairs-from_all, All-from_pairs, each_at}

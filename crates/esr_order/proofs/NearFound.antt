@@ -2,7 +2,7 @@
 use Rattle.std.proofs.Common.{◌≡◌, ◌≢◌, ℕ, zero, suc, ◌<◌, ◌≤◌, Bool, true, false, List, [], ◌∷◌, length, refl, sym, ◌∙◌, ap, subst, arith, inl, inr, AllPairs, Contains, filter, map, cond}
 use Rattle.std.specs.List.{range_with_len}
 use Rattle.std.proofs.lemmas.List.{length-map}
-use Rattle.esr_history.specs.declared.event.TxnId.{TxnId}
+use Rattle.esr_base.specs.declared.numbers.TxnId.{TxnId}
 use Rattle.esr_history.specs.Machine.{Distance, Schedule, IsLegal}
 use Rattle.esr_history.specs.Serial.{is_before}
 use Rattle.esr_history.specs.Queries.{updates_of, must}

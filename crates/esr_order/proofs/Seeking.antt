@@ -3,7 +3,7 @@ use Rattle.std.proofs.Common.{◌≡◌, ◌≢◌, ◌↔◌, ◌⊎◌, ℕ, z
 use Rattle.std.specs.List.{list_any}
 use Rattle.std.proofs.lemmas.List.{reverse-append}
 use Rattle.std.proofs.lemmas.Bool.{true≢false, and_parts, and_from, or_cases, or_left, or_right, eqb-true, eq-eqb, ne_eqb, false_from_ne_true}
-use Rattle.esr_history.specs.declared.event.TxnId.{TxnId}
+use Rattle.esr_base.specs.declared.numbers.TxnId.{TxnId}
 use Rattle.esr_history.specs.Machine.{Distance, Schedule, IsLegal}
 use Rattle.esr_history.specs.Operations.{Operation, operations}
 use Rattle.esr_history.specs.Serial.{is_before}

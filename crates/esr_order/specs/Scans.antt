@@ -1,6 +1,6 @@
 -- What the entries of a log give, where they are accepted.
 use Rattle.std.specs.Prelude.{◌≡◌, ℕ, List, [], ◌∷◌, Bool, true, false, ◌==◌, Option, None, Some, Contains, is_some, filter, map, nat_lt, slice_get, if◌then◌else◌, option_map}
-use Rattle.esr_history.specs.declared.event.TxnId.{TxnId}
+use Rattle.esr_base.specs.declared.numbers.TxnId.{TxnId}
 use Rattle.esr_history.specs.declared.event.Event.{Event}
 use Rattle.esr_history.specs.declared.event.Event.TheVariants.{BeginQuery, Commit}
 use Rattle.esr_history.specs.declared.event.Entry.{Entry}

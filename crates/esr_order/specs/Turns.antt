@@ -1,6 +1,6 @@
 -- What updates did, one update after another in commit order.
 use Rattle.std.specs.Prelude.{ℕ, List, [], ◌∷◌, ◌++◌, ◌+◌, ◌==◌, filter, map}
-use Rattle.esr_history.specs.declared.event.TxnId.{TxnId}
+use Rattle.esr_base.specs.declared.numbers.TxnId.{TxnId}
 use Rattle.esr_history.specs.Machine.{Schedule}
 use Rattle.esr_history.specs.Operations.{Operation, operations}
 use Rattle.esr_order.specs.Scans.{Access}

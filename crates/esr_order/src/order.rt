@@ -8,7 +8,7 @@
 
 ghost use Rattle.std.specs.Prelude.{◌≡◌, ◌↔◌, ◌<◌, ◌≤◌, ◌*◌, ◌^◌, length, map, filter, ℕ, AllPairs, ◌≢◌, false, IfOk, IsErrOf, option_map};
 ghost use Rattle.std.specs.List.{range_with_len};
-ghost use Rattle.esr_history.specs.declared.limits.TheConstants.{MOST_TRANSACTIONS};
+ghost use Rattle.esr_base.specs.declared.limits.TheConstants.{MOST_TRANSACTIONS};
 ghost use Rattle.esr_history.specs.Queries.{is_committed_query, must};
 ghost use Rattle.esr_order.specs.Chains.{seen_links, nth};
 ghost use Rattle.esr_order.specs.declared.order.OrderError.TheVariants.{NoMemory};

@@ -2,7 +2,7 @@
 
 ghost use Rattle.std.specs.Prelude.{◌≡◌, ◌++◌, ◌+◌, ◌<◌, ◌≤◌, ◌^◌, IfOk, OnOk, Option, option_map, length, map, decimal, string_bytes, codes};
 ghost use Rattle.std.specs.List.{list_all};
-ghost use Rattle.esr_items.specs.declared.TheConstants.{MOST_ITEMS};
+ghost use Rattle.esr_base.specs.declared.limits.TheConstants.{MOST_ITEMS};
 ghost use Rattle.esr_line.specs.Command.{is_letter, is_name_byte, is_name, name_of};
 ghost use Rattle.esr_past.specs.Naming.{numbered, all_numbered, item_names, named, names_in, transaction_names};
 

@@ -1,6 +1,6 @@
 -- Calls, read from the structs that lend their names.
 use Rattle.std.specs.Prelude.{◌≡◌, ℕ, ◌<◌, List, [], ◌∷◌, true, false, Option, length, take, slice_get, slice_index_or, unwrap_or, position, option_and_then}
-use Rattle.esr_history.specs.declared.event.TxnId.{TxnId}
+use Rattle.esr_base.specs.declared.numbers.TxnId.{TxnId}
 use Rattle.esr_history.specs.declared.event.Event.{Event}
 use Rattle.esr_history.specs.declared.event.Event.TheVariants as event
 use Rattle.esr_history.specs.declared.event.Reply.{Reply}

@@ -1,6 +1,6 @@
 -- What a drive file asks for, or the fault of the line at fault.
 use Rattle.std.specs.Prelude.{ℕ, ◌+◌, ◌==◌, ℤ, List, [], ◌∷◌, ◌++◌, not, nat_lt, nat_eq, Option, Some, None, Result, Ok, Err, length, map, codes, unwrap_or, if◌then◌else◌, filter_map, flat_map, bytes_eq}
-use Rattle.esr_items.specs.declared.TheConstants.{MOST_ITEMS}
+use Rattle.esr_base.specs.declared.limits.TheConstants.{MOST_ITEMS}
 use Rattle.esr_items.specs.Values.{is_value}
 use Rattle.esr_items.specs.Weights.{is_weight}
 use Rattle.esr_report.specs.Names.{is_bound}

@@ -1,6 +1,6 @@
 -- A plan as contracts see it.
 use Rattle.std.specs.Prelude.{◌≡◌, ◌≤◌, All, length, map}
-use Rattle.esr_items.specs.declared.TheConstants.{MOST_ITEMS}
+use Rattle.esr_base.specs.declared.limits.TheConstants.{MOST_ITEMS}
 use Rattle.esr_items.specs.Values.{IsValue}
 use Rattle.esr_items.specs.Weights.{IsWeight}
 use Rattle.esr_plan.specs.declared.draft.TheConstants.{MAX_BLOCKS}

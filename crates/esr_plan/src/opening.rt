@@ -1,6 +1,6 @@
 //! The distances of a plan's items, as a machine opens with them: weight 1 where none was given.
 
-ghost use Rattle.esr_items.specs.declared.TheConstants.{MOST_ITEMS};
+ghost use Rattle.esr_base.specs.declared.limits.TheConstants.{MOST_ITEMS};
 ghost use Rattle.std.specs.Prelude.{◌≡◌, ◌≤◌, All, IfOk, length};
 ghost use Rattle.esr_items.specs.Weights.{IsWeight};
 ghost use Rattle.esr_plan.specs.Plan.{weights_of};

@@ -1,6 +1,6 @@
 //! The text of a drive, part by part: items, blocks, what was found of each query, totals.
 
-ghost use Rattle.esr_items.specs.declared.TheConstants.{MOST_ITEMS};
+ghost use Rattle.esr_base.specs.declared.limits.TheConstants.{MOST_ITEMS};
 ghost use Rattle.std.specs.Prelude.{◌≡◌, ◌<◌, ◌≤◌, slice_index_or, ◌++◌, [], OnOk, All, length, map, flat_map};
 ghost use Rattle.esr_items.specs.Weights.{weighted};
 ghost use Rattle.esr_audit.specs.Findings.{IsFinding};

@@ -1,7 +1,7 @@
 -- What a run's last state answers of a query.
 use Rattle.std.proofs.Common.{◌≡◌, ℕ, List, Bool, true, map, sym, ◌∙◌, ap, subst, arith}
 use Rattle.esr_items.specs.Weights.{weighted}
-use Rattle.esr_history.specs.declared.event.TxnId.{TxnId}
+use Rattle.esr_base.specs.declared.numbers.TxnId.{TxnId}
 use Rattle.esr_history.specs.Machine.{Schedule, charges_in, import_in}
 use Rattle.esr_history.specs.Queries.{is_committed_query}
 use Rattle.esr_cert.specs.Views.{certificate_of}

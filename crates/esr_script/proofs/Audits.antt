@@ -1,6 +1,6 @@
 -- What an audit finds is what its line says.
 use Rattle.std.proofs.Common.{◌≡◌, ℕ, List, ◌++◌, Result, Ok, Err, IfOk, OnOk, map, refl, sym, ◌∙◌, ap, true, false, arith, ◌↔◌, IsErrOf, IsOk}
-use Rattle.esr_history.specs.declared.event.TxnId.{TxnId}
+use Rattle.esr_base.specs.declared.numbers.TxnId.{TxnId}
 use Rattle.esr_history.specs.Machine.{Distance, Schedule, charges_in, import_in}
 use Rattle.esr_history.specs.Queries.{is_committed_query}
 use Rattle.esr_cert.specs.Views.{certificate_of}

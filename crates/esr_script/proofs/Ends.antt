@@ -2,7 +2,7 @@
 use Rattle.std.proofs.Common.{◌≡◌, ℕ, List, [], ◌⊎◌, inl, inr, refl, sym, ap, subst, Option, Some, false, Result, Ok, Err, OnOk, IfOk, IfErr, arith, IsErrOf}
 use Rattle.std.specs.Io.KnownBytes.{Appends, Consumes}
 use Rattle.esr_history.specs.Queries.{is_committed_query}
-use Rattle.esr_history.specs.Watch.{BeginsWith}
+use Rattle.esr_base.specs.Watch.{BeginsWith}
 use Rattle.esr_script.specs.declared.fault.RunFault.TheVariants as fault
 use Rattle.esr_script.specs.Text.{ScriptState, transaction_called, final, RunFault}
 use Rattle.esr_telling.specs.declared.asked.Asked.{Asked}

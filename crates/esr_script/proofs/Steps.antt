@@ -6,7 +6,7 @@ use Rattle.esr_script.specs.declared.fault.RunFault.TheVariants.{LineTooLong, To
 use Rattle.esr_line.specs.Lines.{lines, whole_lines, line_len}
 use Rattle.esr_line.specs.declared.limits.TheConstants.{MAX_LINES, MAX_LINE_BYTES}
 use Rattle.esr_script.specs.Text.{ScriptState, start, answer, next_state, state_after, final, Outcome, outcome, outcome_from, outcome_of_lines, behind, stopped, RunFault}
-use Rattle.esr_history.specs.Watch.{BeginsWith}
+use Rattle.esr_base.specs.Watch.{BeginsWith}
 use Rattle.esr_script.specs.Run.{IsWholeText}
 use Rattle.esr_script.specs.Parts.{Progress, Standing}
 use Rattle.esr_line.proofs.Cutting.{lines-line, whole-line, front, behind_front, plain-front, split-front, lines-last, whole-none, Begins, begins}

@@ -2,7 +2,7 @@
 use Rattle.std.specs.Prelude.{◌≡◌, ⊤, ℕ, List, [], Bool, true, false, Option, Some, None, Result, Ok, Err}
 use Rattle.std.specs.Io.KnownBytes.{Consumes}
 use Rattle.esr_history.specs.Queries.{is_committed_query}
-use Rattle.esr_history.specs.Watch.{BeginsWith}
+use Rattle.esr_base.specs.Watch.{BeginsWith}
 use Rattle.esr_script.specs.declared.fault.RunFault.TheVariants as fault
 use Rattle.esr_script.specs.Text.{transaction_called, outcome, final, RunFault}
 

@@ -1,6 +1,6 @@
 -- What the private parts of a run speak of.
 use Rattle.std.specs.Prelude.{◌≡◌, ℕ, List, ◌++◌, Bool, true, false, length, Option, Some, Result, Err}
-use Rattle.esr_history.specs.Watch.{BeginsWith}
+use Rattle.esr_base.specs.Watch.{BeginsWith}
 use Rattle.esr_script.specs.declared.fault.RunFault.TheVariants as fault
 use Rattle.esr_line.specs.Lines.{lines, whole_lines}
 use Rattle.esr_script.specs.Run.{IsRunBy}

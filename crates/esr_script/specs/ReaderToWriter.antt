@@ -1,8 +1,8 @@
 -- A call that goes over an input, from a reader to a writer.
 use Rattle.std.specs.Prelude.{◌≡◌, ℕ, List, Option, Some, Result}
 use Rattle.std.specs.Io.KnownBytes.{Appends}
-use Rattle.esr_history.specs.Watch.{inner, failed}
-use Rattle.esr_history.specs.declared.watched.Watched.{Watched}
+use Rattle.esr_base.specs.Watch.{inner, failed}
+use Rattle.esr_base.specs.declared.watched.Watched.{Watched}
 use Rattle.esr_script.specs.Text.{RunFault}
 use Rattle.esr_script.specs.Parts.{is_read_fault, is_write_fault}
 

@@ -1,7 +1,7 @@
 -- What a run may have written, by how it ended.
 use Rattle.std.specs.Prelude.{◌≡◌, ℕ, ◌≤◌, List, Option, Result, Ok, Err, Some, None, take, length}
 use Rattle.std.specs.Io.KnownBytes.{Consumes}
-use Rattle.esr_history.specs.Watch.{BeginsWith}
+use Rattle.esr_base.specs.Watch.{BeginsWith}
 use Rattle.esr_script.specs.declared.fault.RunFault.TheVariants as fault
 use Rattle.esr_line.specs.Lines.{lines, whole_lines}
 use Rattle.esr_script.specs.Text.{Outcome, outcome, outcome_of_lines, RunFault}

@@ -3,7 +3,7 @@
 //! spelling of an argument is needed.
 
 ghost use Rattle.std.specs.Prelude.{◌≡◌, ℕ, List, Some, false};
-ghost use Rattle.esr_history.specs.Watch.{inner, failed};
+ghost use Rattle.esr_base.specs.Watch.{inner, failed};
 ghost use Rattle.esr_script.specs.Ask.{IsAsked};
 ghost use Rattle.esr_script.specs.Parts.{is_read_fault, is_write_fault};
 

@@ -3,7 +3,7 @@
 
 ghost use Rattle.esr_board.specs.declared.board.TheConstants.{MOST_SEATS};
 ghost use Rattle.std.specs.Prelude.{◌≡◌, ◌≤◌, ℕ, List, Some, false};
-ghost use Rattle.esr_history.specs.Watch.{inner, failed};
+ghost use Rattle.esr_base.specs.Watch.{inner, failed};
 ghost use Rattle.esr_script.specs.Audit.{IsAuditedBy, audit_output};
 ghost use Rattle.esr_script.specs.Parts.{is_read_fault, is_write_fault};
 ghost use Rattle.esr_script.specs.Ends.{IsReachedBy};

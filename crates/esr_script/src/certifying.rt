@@ -7,7 +7,7 @@
 ghost use Rattle.std.specs.Prelude.{◌≡◌, ◌++◌, ◌∷◌, [], true, false, IfOk};
 ghost use Rattle.esr_bundle.specs.Bundle.{bundle};
 ghost use Rattle.esr_cert.specs.Views.{certificate_of};
-ghost use Rattle.esr_history.specs.Watch.{failed};
+ghost use Rattle.esr_base.specs.Watch.{failed};
 ghost use Rattle.esr_script.specs.Certify.{IsBundleLine, IsCertifiedBy};
 ghost use Rattle.esr_script.specs.Replays.{IsLineOf};
 ghost use Rattle.esr_script.specs.ReaderToWriter.{ReadsAndWrites};

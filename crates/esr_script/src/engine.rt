@@ -4,7 +4,7 @@
 //! next: a line that asks for an audit reads the entries that are new, and a script that asks for none pays nothing. What
 //! the index has read stays the beginning of the log, since the machine only adds to it.
 ghost use Rattle.std.specs.Prelude.{◌≡◌, IfOk, OnErr, IsErrOf, false, true, length};
-ghost use Rattle.esr_history.specs.declared.limits.TheConstants.{MOST_ENTRIES};
+ghost use Rattle.esr_base.specs.declared.limits.TheConstants.{MOST_ENTRIES};
 ghost use Rattle.esr_history.specs.Machine.{reply_to, extended};
 ghost use Rattle.esr_history.specs.Totals.{all_imports, all_exports};
 ghost use Rattle.esr_history.specs.Queries.{is_committed_query};

@@ -8,7 +8,7 @@
 ghost use Rattle.esr_line.specs.declared.limits.TheConstants.{MAX_LINE_BYTES};
 ghost use Rattle.std.specs.Prelude.{◌≡◌, ℕ, List, [], ◌++◌, Some, IsErrOf, IfErr, IfOk, false, ◌≤◌, ◌⊎◌, length};
 ghost use Rattle.std.specs.Io.KnownBytes.{Appends, Consumes, IsAtEnd, Keeps};
-ghost use Rattle.esr_history.specs.Watch.{inner, failed, BeginsWith};
+ghost use Rattle.esr_base.specs.Watch.{inner, failed, BeginsWith};
 ghost use Rattle.esr_script.specs.Text.{start};
 ghost use Rattle.esr_script.specs.Parts.{IsHeldRun, is_read_fault, is_write_fault};
 ghost use Rattle.esr_script.specs.Replays.{IsReplay};

@@ -4,7 +4,7 @@
 ghost use Rattle.esr_line.specs.declared.limits.TheConstants.{MAX_LINE_BYTES, INPUT_ROOM};
 ghost use Rattle.std.specs.Prelude.{◌≡◌, ℕ, ◌<◌, ◌≤◌, List, [], ◌++◌, IfOk, IfErr, drop, take, ◌-◌, length, ◌||◌};
 ghost use Rattle.std.specs.Io.KnownBytes.{Consumes, Keeps, IsAtEnd};
-ghost use Rattle.esr_history.specs.Watch.{inner, failed};
+ghost use Rattle.esr_base.specs.Watch.{inner, failed};
 ghost use Rattle.esr_script.specs.Parts.{is_read_fault};
 
 use crate::fault::RunFault;

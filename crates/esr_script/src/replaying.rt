@@ -2,7 +2,7 @@
 //! made and dropped by the code that writes them in a run.
 
 ghost use Rattle.std.specs.Prelude.{◌≡◌, ℕ, List, Some, false};
-ghost use Rattle.esr_history.specs.Watch.{inner, failed};
+ghost use Rattle.esr_base.specs.Watch.{inner, failed};
 ghost use Rattle.esr_script.specs.Text.{final};
 ghost use Rattle.esr_script.specs.Ends.{IsReachedBy};
 ghost use Rattle.esr_script.specs.Parts.{is_read_fault, is_write_fault};

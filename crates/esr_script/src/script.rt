@@ -13,8 +13,7 @@ ghost use Rattle.esr_telling.specs.Ask.{IsAnswered, IsFoundOf, IsRecorded};
 ghost use Rattle.esr_script.specs.Audit.{audit_output};
 ghost use Rattle.esr_history.specs.Queries.{is_committed_query};
 ghost use Rattle.esr_line.specs.Command.{view};
-ghost use Rattle.esr_history.specs.declared.limits.TheConstants.{MOST_ENTRIES};
-ghost use Rattle.esr_items.specs.declared.TheConstants.{MOST_ITEMS};
+ghost use Rattle.esr_base.specs.declared.limits.TheConstants.{MOST_ENTRIES, MOST_ITEMS};
 ghost use Rattle.esr_line.specs.Command as command;
 
 use crate::book::push_audit;

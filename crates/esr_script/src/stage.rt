@@ -2,7 +2,7 @@
 //! closes the items. So no call has a case that cannot come.
 
 ghost use Rattle.esr_board.specs.declared.board.TheConstants.{MOST_SEATS};
-ghost use Rattle.esr_history.specs.declared.limits.TheConstants.{MOST_ENTRIES};
+ghost use Rattle.esr_base.specs.declared.limits.TheConstants.{MOST_ENTRIES};
 ghost use Rattle.std.specs.Prelude.{◌≡◌, ◌≢◌, ◌≤◌, ◌⊎◌, true, false, length, map, IfOk, OnOk, OnErr, IfErr, IsErrOf};
 ghost use Rattle.esr_history.specs.Machine.{reply_to, extended, charges_in, import_in};
 ghost use Rattle.esr_history.specs.Totals.{all_imports, all_exports};

@@ -2,7 +2,7 @@
 //! whatever the telling. After a fault other than a failed write nothing was written.
 
 ghost use Rattle.std.specs.Prelude.{◌≡◌, ℕ, List, IfOk, IfErr, Ok, true, false, Some};
-ghost use Rattle.esr_history.specs.Watch.{inner, failed};
+ghost use Rattle.esr_base.specs.Watch.{inner, failed};
 ghost use Rattle.esr_script.specs.Ends.{IsReachedBy, IsNoQuery, IsToldBy, is_query};
 ghost use Rattle.esr_script.specs.Parts.{is_read_fault, is_write_fault};
 ghost use Rattle.esr_script.specs.ReaderToWriter.{ReadsAndWrites};

@@ -1,6 +1,6 @@
 -- What contracts see of an engine.
 use Rattle.std.specs.Prelude.{◌≡◌, ◌≤◌, ℕ, ℤ, Bool, true, false, List, Err, length}
-use Rattle.esr_history.specs.declared.limits.TheConstants.{MOST_ENTRIES}
+use Rattle.esr_base.specs.declared.limits.TheConstants.{MOST_ENTRIES}
 use Rattle.esr_history.specs.Machine.{Distance, Schedule, IsLegal}
 use Rattle.esr_history.specs.Totals.{all_imports, all_exports}
 use Rattle.esr_core.specs.declared.machine.Totals.{Totals}

@@ -7,7 +7,7 @@
 ghost use Rattle.std.specs.Prelude.{◌≡◌, ◌+◌, ◌↔◌, [], ◌∷◌, ◌++◌, length, Some, None, IfOk, OnOk, OnErr, IsErrOf, IsSomeAnd, ◌≤◌, Option, MatchOption, List};
 ghost use Rattle.esr_history.specs.Machine.{IsLegal, reply_to, extended, Schedule};
 ghost use Rattle.esr_session.specs.Receipts.{IsReceipt, receipt};
-ghost use Rattle.esr_history.specs.declared.limits.TheConstants.{MOST_ENTRIES};
+ghost use Rattle.esr_base.specs.declared.limits.TheConstants.{MOST_ENTRIES};
 ghost use Rattle.esr_session.specs.declared.engine.TheConstants.{SEAL};
 ghost use Rattle.esr_session.specs.declared.receipt.Receipt.{Receipt};
 

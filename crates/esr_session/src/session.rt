@@ -3,7 +3,7 @@
 //! A session knows nothing of its engine between two calls, since others call it too; so its contract speaks of the
 //! receipt that a call leaves, and `step_on`, under the lock, says the rest.
 ghost use Rattle.std.specs.Prelude.{◌≡◌, ◌+◌, ◌<◌, ◌≤◌, List, [], ◌∷◌, ◌++◌, true, length, IfOk, OnErr, IfErr};
-ghost use Rattle.esr_history.specs.declared.limits.TheConstants.{MOST_ENTRIES};
+ghost use Rattle.esr_base.specs.declared.limits.TheConstants.{MOST_ENTRIES};
 ghost use Rattle.esr_session.specs.Receipts.{IsReceipt, AreBlocked, is_blocked, is_block};
 ghost use Rattle.esr_session.specs.declared.receipt.Receipt.{Receipt};
 

@@ -1,7 +1,7 @@
 -- The distance that an audit finds.
 use Rattle.std.proofs.Common.{◌≡◌, ◌∙◌, ℕ, List, Bool, true, false, ap, sym, subst, Some, None, if◌then◌else◌}
 use Rattle.esr_items.specs.Weights.{weighted}
-use Rattle.esr_history.specs.declared.event.TxnId.{TxnId}
+use Rattle.esr_base.specs.declared.numbers.TxnId.{TxnId}
 use Rattle.esr_history.specs.Machine.{Schedule}
 use Rattle.esr_history.specs.Queries.{is_committed_query}
 use Rattle.esr_order.specs.Least.{least_cost}

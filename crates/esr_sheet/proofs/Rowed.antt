@@ -3,7 +3,7 @@ use Rattle.std.proofs.Common.{◌≡◌, ◌≢◌, ℕ, zero, suc, ◌+◌, ◌
 use Rattle.std.proofs.lemmas.Bool.{true≢false}
 use Rattle.std.proofs.lemmas.Option.{same_Some, slice_get-map}
 use Rattle.esr_history.specs.declared.event.Entry.{Entry}
-use Rattle.esr_history.specs.declared.event.TxnId.{TxnId}
+use Rattle.esr_base.specs.declared.numbers.TxnId.{TxnId}
 use Rattle.esr_history.specs.Events.{Beginning, accepted, beginning, beginnings, is_committed, is_query, limit_of}
 use Rattle.esr_history.specs.Machine.{Distance, Schedule, charges_in, done, export_in, import_in, IsLegal}
 use Rattle.esr_history.specs.declared.back_links.Facts.{Facts}

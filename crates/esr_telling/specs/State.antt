@@ -1,7 +1,7 @@
 -- What a run of a script keeps.
 use Rattle.std.specs.Prelude.{ℕ, ◌+◌, List, Bool}
 use Rattle.std.specs.Option.{option_map_or}
-use Rattle.esr_history.specs.declared.event.TxnId.{TxnId}
+use Rattle.esr_base.specs.declared.numbers.TxnId.{TxnId}
 use Rattle.esr_history.specs.Machine.{Schedule}
 use Rattle.esr_report.specs.Names.{position_of}
 

@@ -1,7 +1,7 @@
 -- What an accepted event changes beside the machine.
 use Rattle.std.specs.Prelude.{◌≡◌, ℕ, ℤ, ◌<◌, List, length, map, All, Bool, true, false, slice_set, ⊤}
 use Rattle.esr_items.specs.Values.{IsValue}
-use Rattle.esr_history.specs.declared.limits.TheConstants.{MOST_READS}
+use Rattle.esr_base.specs.declared.limits.TheConstants.{MOST_READS}
 use Rattle.esr_history.specs.declared.event.Event.{Event}
 use Rattle.esr_history.specs.declared.event.Event.TheVariants.{BeginUpdate, BeginQuery, Read, Write, Commit, Abort}
 use Rattle.esr_history.specs.Events.{is_query}

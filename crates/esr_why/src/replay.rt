@@ -10,7 +10,7 @@ ghost use Rattle.esr_items.specs.Values.{IsValue};
 ghost use Rattle.esr_items.specs.Weights.{weighted};
 ghost use Rattle.esr_history.specs.Events.{current_value, is_query, is_update};
 ghost use Rattle.esr_history.specs.Machine.{blank, done, extended, refusal, reply_to, writer, Schedule};
-ghost use Rattle.esr_history.specs.declared.limits.TheConstants.{MOST_READS};
+ghost use Rattle.esr_base.specs.declared.limits.TheConstants.{MOST_READS};
 ghost use Rattle.esr_history.specs.ItemLocks.{item_locks};
 ghost use Rattle.esr_locks.specs.Rows.{query_and_count};
 ghost use Rattle.esr_why.specs.Locks.{lock_by};

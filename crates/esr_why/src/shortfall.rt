@@ -7,7 +7,7 @@
 ghost use Rattle.std.specs.Prelude.{◌≡◌, ◌<◌, ◌≤◌, ◌-◌, ◌*◌, ◌^◌, ◌++◌, true, length, map, filter_map, sum_by, All, IfOk, OnOk};
 ghost use Rattle.esr_items.specs.Values.{IsValue, largest_distance};
 ghost use Rattle.esr_items.specs.Weights.{weighted};
-ghost use Rattle.esr_history.specs.declared.limits.TheConstants.{MOST_READS};
+ghost use Rattle.esr_base.specs.declared.limits.TheConstants.{MOST_READS};
 ghost use Rattle.esr_history.specs.Events.{is_query, is_update, limit_of};
 ghost use Rattle.esr_history.specs.Machine.{done};
 ghost use Rattle.esr_locks.specs.Rows.{query_and_count};

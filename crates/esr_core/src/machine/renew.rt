@@ -4,7 +4,7 @@
 //! of the old one and has room for as many transactions: without it the lists grow again from nothing, and two
 //! histories of 30 MB take turns in the processor's cache. A history owns its metric and does not hand it out, so the
 //! caller gives it anew. An audit rests on a whole history, so there is no call that forgets a part of one.
-ghost use Rattle.esr_items.specs.declared.TheConstants.{MOST_ITEMS};
+ghost use Rattle.esr_base.specs.declared.limits.TheConstants.{MOST_ITEMS};
 ghost use Rattle.std.specs.Prelude.{◌≡◌, ◌<◌, ◌≤◌, ◌↔◌, true, [], length, List, All, IfOk, OnOk, OnErr, IsErrOf};
 ghost use Rattle.std.specs.List.{list_any};
 ghost use Rattle.esr_items.specs.Values.{IsValue};

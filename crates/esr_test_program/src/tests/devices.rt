@@ -1,6 +1,6 @@
 //! Devices that fail, and what is checked of them.
 ghost use Rattle.std.specs.Prelude.{◌≡◌, false};
-ghost use Rattle.esr_history.specs.Watch.{failed};
+ghost use Rattle.esr_base.specs.Watch.{failed};
 
 use esr_history::Watched;
 use std::alloc::Global;

@@ -1,7 +1,7 @@
 -- Why `audit_query` keeps its contract: the goals that are left to a proof of ours.
 use Rattle.std.proofs.Common.{◌≡◌, true, map, inl, inr}
 use Rattle.std.proofs.lemmas.Bool.{cases_Bool, and_parts}
-use Rattle.esr_history.specs.declared.event.TxnId.{TxnId}
+use Rattle.esr_base.specs.declared.numbers.TxnId.{TxnId}
 use Rattle.esr_history.specs.Events.{is_query, is_committed}
 use Rattle.esr_history.specs.Machine.{done}
 use Rattle.esr_history.specs.Queries.{is_committed_query}

@@ -2,7 +2,7 @@
 use Rattle.std.proofs.Common.{◌++◌, ◌∷◌, [], List, map, take, ap, ◌∙◌, sym, subst, All}
 use Rattle.std.proofs.lemmas.List.{map-append, take_more}
 use Rattle.std.proofs.lemmas.List.Elements.{All-push}
-use Rattle.esr_history.specs.declared.event.TxnId.{TxnId}
+use Rattle.esr_base.specs.declared.numbers.TxnId.{TxnId}
 use Rattle.esr_audit.specs.Findings.{IsFinding, IsFindingOf, Finding}
 use Rattle.esr_audit.proofs.audit.findings_of.Goals as goal
 

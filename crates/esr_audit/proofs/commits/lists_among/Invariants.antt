@@ -1,6 +1,6 @@
 -- What holds at each turn of the loop in `lists_among`.
 use Rattle.std.proofs.Common.{◌≡◌, not, take, filter}
-use Rattle.esr_history.specs.declared.event.TxnId.{TxnId}
+use Rattle.esr_base.specs.declared.numbers.TxnId.{TxnId}
 use Rattle.esr_history.specs.Events.{is_query}
 use Rattle.esr_history.specs.Machine.{done}
 use Rattle.esr_audit.proofs.commits.lists_among.Given as goal

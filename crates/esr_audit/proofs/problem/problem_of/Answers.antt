@@ -1,6 +1,6 @@
 -- Why `problem_of` keeps its contract: the goals that are left to a proof of ours.
 use Rattle.std.proofs.Common.{◌≡◌, map, ap, ◌∙◌, sym, subst}
-use Rattle.esr_history.specs.declared.event.TxnId.{TxnId}
+use Rattle.esr_base.specs.declared.numbers.TxnId.{TxnId}
 use Rattle.esr_order.specs.Near.{AreNear}
 use Rattle.esr_cert.specs.Problem.{is_sound}
 use Rattle.esr_cert.specs.Views.{problem_of}

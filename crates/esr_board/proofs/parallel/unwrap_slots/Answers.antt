@@ -2,7 +2,7 @@
 use Rattle.std.proofs.Common.{rules, arith, ◌≡◌, ◌+◌, ◌++◌, [], ◌∷◌, List, take, get_or, get_or-set_other, None, Some, sym, ◌∙◌, subst, Option, IfSome}
 use Rattle.std.specs.List.{AllZip}
 use Rattle.std.proofs.lemmas.List.{take_more, take_all, get_or_default}
-use Rattle.esr_history.specs.declared.event.TxnId.{TxnId}
+use Rattle.esr_base.specs.declared.numbers.TxnId.{TxnId}
 use Rattle.esr_board.specs.Shares.{IsKeptOf, query_of}
 use Rattle.esr_board.proofs.Keeping.{all_zip_push}
 use Rattle.esr_board.proofs.parallel.unwrap_slots.Goals as goal

@@ -1,7 +1,7 @@
 -- Why `judge` keeps its contract: the goals that are left to a proof of ours.
 use Rattle.std.proofs.Common.{◌≤◌, ℕ, List, Some, length, sym, ◌∙◌, subst}
 use Rattle.std.specs.Io.KnownBytes.{Consumes}
-use Rattle.esr_history.specs.Watch.{inner}
+use Rattle.esr_base.specs.Watch.{inner}
 use Rattle.esr_bundle.specs.Judge.{IsVerdictOf}
 use Rattle.esr_bundle.proofs.Verdicts.{all_of}
 use Rattle.esr_bundle.proofs.judging.judge.Goals as goal

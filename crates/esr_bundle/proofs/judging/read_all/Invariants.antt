@@ -1,7 +1,7 @@
 -- What holds at each turn of the loop in `read_all`.
 use Rattle.std.proofs.Common.{◌≡◌, ◌≤◌, ◌-◌, ◌<◌, false, length}
 use Rattle.std.specs.Io.KnownBytes.{Consumes}
-use Rattle.esr_history.specs.Watch.{inner, failed}
+use Rattle.esr_base.specs.Watch.{inner, failed}
 use Rattle.esr_bundle.proofs.judging.read_all.Given as goal
 
 abbrev pub invariant-chunks : goal.invariant-chunks

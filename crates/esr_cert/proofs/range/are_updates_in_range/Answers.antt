@@ -1,7 +1,7 @@
 -- Why `are_updates_in_range` keeps its contract: the goals that are left to a proof of ours.
 use Rattle.std.proofs.Common.{◌&&◌, ◌∙◌, sym, get_or, nat_lt, nat_le, arith}
 use Rattle.std.proofs.lemmas.List.{get_or_default}
-use Rattle.esr_history.specs.declared.limits.TheConstants.{MOST_TRANSACTIONS}
+use Rattle.esr_base.specs.declared.limits.TheConstants.{MOST_TRANSACTIONS}
 use Rattle.esr_cert.proofs.Steps.{list_all_map_yes, list_all_map_no}
 use Rattle.esr_cert.proofs.range.are_updates_in_range.Goals as goal
 

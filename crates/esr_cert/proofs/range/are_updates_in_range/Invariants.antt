@@ -1,7 +1,7 @@
 -- What holds at each turn of the loop in `are_updates_in_range`.
 use Rattle.std.proofs.Common.{◌≡◌, ◌&&◌, nat_lt, nat_le, drop, map}
 use Rattle.std.specs.List.{list_all}
-use Rattle.esr_history.specs.declared.limits.TheConstants.{MOST_TRANSACTIONS}
+use Rattle.esr_base.specs.declared.limits.TheConstants.{MOST_TRANSACTIONS}
 use Rattle.esr_cert.proofs.range.are_updates_in_range.Given as goal
 
 abbrev pub invariant-loop-update : goal.invariant-loop-update

@@ -1,6 +1,6 @@
 -- What holds at each turn of the loop in `is_full`.
 use Rattle.std.proofs.Common.{◌≡◌, ◌+◌, take}
-use Rattle.esr_history.specs.declared.limits.TheConstants.{MOST_ENTRIES}
+use Rattle.esr_base.specs.declared.limits.TheConstants.{MOST_ENTRIES}
 use Rattle.esr_session.specs.Receipts.{count_in}
 use Rattle.esr_drive.proofs.threads.is_full.Given as goal
 

@@ -1,6 +1,6 @@
 -- Why `values_after` keeps its contract: the goals that are left to a proof of ours.
 use Rattle.std.proofs.Common.{◌≡◌, ◌∙◌, flat_map, map, arith, take_all}
-use Rattle.esr_history.specs.declared.event.TxnId.{TxnId}
+use Rattle.esr_base.specs.declared.numbers.TxnId.{TxnId}
 use Rattle.esr_order.specs.Scans.{accesses_in}
 use Rattle.esr_explain.specs.Accesses.{put_all}
 use Rattle.esr_explain.proofs.Accessed.{accesses_valued, left_by, left_in_range, put_update}

@@ -1,7 +1,7 @@
 -- Why `others` keeps its contract: the goals that are left to a proof of ours.
 use Rattle.std.proofs.Common.{◌≡◌, ◌∙◌, Bool, List, ℕ, ap, filter, map, not}
 use Rattle.std.proofs.lemmas.Result.{IfOk-weaker}
-use Rattle.esr_history.specs.declared.event.TxnId.{TxnId}
+use Rattle.esr_base.specs.declared.numbers.TxnId.{TxnId}
 use Rattle.esr_history.specs.Queries.{updates_of}
 use Rattle.esr_history.proofs.Membership.{filter_agree_in}
 use Rattle.esr_order.specs.Placements.{is_among}

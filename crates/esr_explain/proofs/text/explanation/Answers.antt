@@ -1,7 +1,7 @@
 -- Why `explanation` keeps its contract: the goals that are left to a proof of ours.
 use Rattle.std.proofs.Common.{◌≡◌, ◌∙◌, ◌++◌, List, ℕ, ap, codes, map}
 use Rattle.esr_items.specs.Weights.{weighted}
-use Rattle.esr_history.specs.declared.event.TxnId.{TxnId}
+use Rattle.esr_base.specs.declared.numbers.TxnId.{TxnId}
 use Rattle.esr_history.specs.Machine.{charges_in, import_in}
 use Rattle.esr_order.specs.Least.{least_set, least_cost}
 use Rattle.esr_report.specs.Lines.{names_line}

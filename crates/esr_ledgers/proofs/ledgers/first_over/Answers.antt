@@ -1,6 +1,6 @@
 -- Why `first_over` keeps its contract: the goals that are left to a proof of ours.
 use Rattle.std.proofs.Common.{◌∙◌, sym, ap, ℕ, get_or}
-use Rattle.esr_history.specs.declared.event.TxnId.{TxnId}
+use Rattle.esr_base.specs.declared.numbers.TxnId.{TxnId}
 use Rattle.esr_ledgers.specs.Books.{would_pass}
 use Rattle.esr_ledgers.proofs.Finds.{find_first, find_none_more}
 use Rattle.esr_ledgers.proofs.ledgers.first_over.Goals as goal

@@ -1,7 +1,7 @@
 -- Why `import_each` keeps its contract: the goals that are left to a proof of ours.
 use Rattle.std.proofs.Common.{◌≡◌, ◌+◌, ◌<◌, ◌^◌, ◌∙◌, subst, sym, ap, ℕ, get_or, take, Option, unwrap_or, option_map}
 use Rattle.std.proofs.lemmas.List.{take_more}
-use Rattle.esr_history.specs.declared.event.TxnId.{TxnId}
+use Rattle.esr_base.specs.declared.numbers.TxnId.{TxnId}
 use Rattle.esr_ledgers.specs.Books.{account_of, raised, charged_to_queries, Account}
 use Rattle.esr_ledgers.proofs.Books.{account_at_turn, open_by_account, charged_to_queries-push, raised_ascends}
 use Rattle.esr_ledgers.proofs.ledgers.import_each.Goals as goal

@@ -1,6 +1,6 @@
 -- Why `committed` keeps its contract: the goals that are left to a proof of ours.
 use Rattle.std.proofs.Common.{◌∙◌, ap, map, filter_map, slice_get}
-use Rattle.esr_history.specs.declared.event.TxnId.{TxnId}
+use Rattle.esr_base.specs.declared.numbers.TxnId.{TxnId}
 use Rattle.esr_order.specs.Scans.{commit_in}
 use Rattle.esr_order.proofs.Commits.{committed_at}
 use Rattle.esr_order.proofs.scan.committed.Goals as goal

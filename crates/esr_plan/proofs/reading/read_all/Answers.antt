@@ -2,7 +2,7 @@
 use Rattle.std.proofs.Common.{rules, ◌++◌, take, refl, ◌∙◌, arith, is_ok}
 use Rattle.std.proofs.lemmas.Grind.{common_steps}
 use Rattle.std.specs.Io.KnownBytes.{Consumes}
-use Rattle.esr_history.specs.Watch.{inner, failed}
+use Rattle.esr_base.specs.Watch.{inner, failed}
 use Rattle.esr_plan.proofs.Cuts.{mark_grown, taken, whole_fine, read_fault, not_read_error, not_failed}
 use Rattle.esr_plan.proofs.reading.read_all.Goals as goal
 

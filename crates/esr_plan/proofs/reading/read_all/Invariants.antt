@@ -1,7 +1,7 @@
 -- What holds at each turn of the loop in `read_all`.
 use Rattle.std.proofs.Common.{◌≡◌, ◌<◌, false, None, length}
 use Rattle.std.specs.Io.KnownBytes.{Consumes}
-use Rattle.esr_history.specs.Watch.{inner, failed}
+use Rattle.esr_base.specs.Watch.{inner, failed}
 use Rattle.esr_line.specs.Lines.{lines}
 use Rattle.esr_plan.specs.Plan.{cut_fault}
 use Rattle.esr_plan.specs.Readings.{IsMark, rest_from}

@@ -3,7 +3,7 @@ use Rattle.std.proofs.Common.{◌≡◌, ℕ, List, ◌∷◌, ◌++◌, map, sy
 use Rattle.std.proofs.lemmas.Grind.{common_steps}
 use Rattle.std.specs.List.{join_with_byte}
 use Rattle.std.proofs.lemmas.Simd.{map-map}
-use Rattle.esr_history.specs.declared.event.TxnId.{TxnId}
+use Rattle.esr_base.specs.declared.numbers.TxnId.{TxnId}
 use Rattle.esr_report.specs.Names.{name_of_transaction}
 use Rattle.esr_report.specs.Lines.{listed}
 use Rattle.esr_report.proofs.Joins.{one_more, all_joined}

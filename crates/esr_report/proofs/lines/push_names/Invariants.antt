@@ -1,7 +1,7 @@
 -- What holds at each turn of the loop in `push_names`.
 use Rattle.std.proofs.Common.{◌≡◌, ◌++◌, ◌∷◌, map, take}
 use Rattle.std.specs.List.{join_with_byte}
-use Rattle.esr_history.specs.declared.event.TxnId.{TxnId}
+use Rattle.esr_base.specs.declared.numbers.TxnId.{TxnId}
 use Rattle.esr_report.specs.Names.{name_of_transaction}
 use Rattle.esr_report.proofs.lines.push_names.Given as goal
 

@@ -1,6 +1,6 @@
 -- Why `ask` keeps its contract: the goals that are left to a proof of ours.
 use Rattle.std.proofs.Common.{arith}
-use Rattle.esr_history.specs.Watch.{inner}
+use Rattle.esr_base.specs.Watch.{inner}
 use Rattle.esr_script.proofs.Ends.{reached_fault, asked_after}
 use Rattle.esr_script.proofs.asked.ask.Goals as goal
 

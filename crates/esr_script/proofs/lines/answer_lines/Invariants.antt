@@ -1,7 +1,7 @@
 -- What holds at each turn of the loop in `answer_lines`.
 use Rattle.std.proofs.Common.{◌≡◌, ℕ, ◌+◌, ◌-◌, ◌*◌, ◌≤◌, List, ◌++◌, Some, false, length}
 use Rattle.std.specs.Io.KnownBytes.{Appends}
-use Rattle.esr_history.specs.Watch.{inner, failed}
+use Rattle.esr_base.specs.Watch.{inner, failed}
 use Rattle.esr_script.specs.Parts.{Standing}
 use Rattle.esr_script.proofs.lines.answer_lines.Given as goal
 

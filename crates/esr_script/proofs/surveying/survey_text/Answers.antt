@@ -1,7 +1,7 @@
 -- Why `survey_text` keeps its contract: the goals that are left to a proof of ours.
 use Rattle.std.proofs.Common.{IfOk, subst, sym, arith, Vec, ℕ}
 use Rattle.std.specs.declared.alloc.Global.{Global}
-use Rattle.esr_history.specs.Watch.{inner}
+use Rattle.esr_base.specs.Watch.{inner}
 use Rattle.esr_script.specs.Survey.{lower}
 use Rattle.esr_script.specs.Text.{ScriptState}
 use Rattle.esr_script.proofs.Ends.{reached_fault, reached_or_none}

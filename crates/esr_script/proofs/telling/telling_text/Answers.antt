@@ -1,6 +1,6 @@
 -- Why `telling_text` keeps its contract: the goals that are left to a proof of ours.
 use Rattle.std.proofs.Common.{arith}
-use Rattle.esr_history.specs.Watch.{inner}
+use Rattle.esr_base.specs.Watch.{inner}
 use Rattle.esr_script.proofs.Ends.{reached_fault, reached_made}
 use Rattle.esr_script.proofs.telling.telling_text.Goals as goal
 

@@ -2,7 +2,7 @@
 use Rattle.std.proofs.Common.{rules, false, sym, subst, ◌∙◌, ◌≡◌, ◌<◌, ◌++◌, [], ◌∷◌, ℕ, map, length, arith}
 use Rattle.std.proofs.lemmas.List.{get_or_default}
 use Rattle.esr_history.specs.Queries.{is_committed_query}
-use Rattle.esr_history.specs.declared.event.TxnId.{TxnId}
+use Rattle.esr_base.specs.declared.numbers.TxnId.{TxnId}
 use Rattle.esr_audit.specs.Findings.{IsFindingOf}
 use Rattle.esr_board.specs.Shares.{IsKeptOf, query_of}
 use Rattle.esr_board.proofs.Whole.{all_pushed}

@@ -1,6 +1,6 @@
 -- Why `LockTable::items_of` keeps its contract: the goals that are left to a proof of ours.
 use Rattle.std.proofs.Common.{◌≡◌, ℕ, ◌<◌, ◌≤◌, subst, map, length, true, List, arith, []}
-use Rattle.esr_items.specs.declared.metric.ItemId.{ItemId}
+use Rattle.esr_base.specs.declared.numbers.ItemId.{ItemId}
 use Rattle.esr_locks.specs.Rows.{RowOf, held_at}
 use Rattle.esr_locks.specs.Tables.{Table, locks_at, has_lock, lists_item}
 use Rattle.esr_locks.proofs.Tables.{table_listed, table_within, read_list, past_lists}

@@ -1,6 +1,6 @@
 -- Why `Order::near_in` keeps its contract: the goals that are left to a proof of ours.
 use Rattle.std.proofs.Common.{◌∙◌, map, sym, ap, subst}
-use Rattle.esr_history.specs.declared.event.TxnId.{TxnId}
+use Rattle.esr_base.specs.declared.numbers.TxnId.{TxnId}
 use Rattle.esr_order.specs.Near.{AreNear}
 use Rattle.esr_order.specs.Orders.{IsOrderAmong}
 use Rattle.esr_order.proofs.Commits.{updates_are, query_begun}

@@ -1,6 +1,6 @@
 -- Why `Engine::audit` keeps its contract: the goals that are left to a proof of ours.
 use Rattle.std.proofs.Common.{◌≡◌, ◌∙◌, Result, Ok, Err, OnOk, false, is_err, map, length, sym, ap}
-use Rattle.esr_history.specs.declared.event.TxnId.{TxnId}
+use Rattle.esr_base.specs.declared.numbers.TxnId.{TxnId}
 use Rattle.esr_order.proofs.Indexes.{index_whole}
 use Rattle.esr_script.proofs.engine.Engine.audit.Goals as goal
 

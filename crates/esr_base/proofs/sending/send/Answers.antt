@@ -2,8 +2,8 @@
 use Rattle.std.proofs.Common.{◌≡◌, ℕ, List, ◌+◌, ◌-◌, ◌++◌, take, drop, length, sym, ap, ◌∙◌, rules, length-drop, take-append-drop, take_all}
 use Rattle.std.proofs.Math.Seq.{take-add, take-length}
 use Rattle.std.proofs.KnownBytes.{Appends-trans}
-use Rattle.esr_history.specs.Watch.{BeginsWith}
-use Rattle.esr_history.proofs.sending.send.Goals as goal
+use Rattle.esr_base.specs.Watch.{BeginsWith}
+use Rattle.esr_base.proofs.sending.send.Goals as goal
 
 pub loop-sent-preserved : goal.loop-sent-preserved
 loop-sent-preserved g c =

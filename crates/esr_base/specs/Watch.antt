@@ -1,6 +1,6 @@
 -- What a clause reads of a watched reader or writer.
 use Rattle.std.specs.Prelude.{Bool, true, not, ◌&&◌, ◌≡◌, ◌++◌, List, ℕ, nat_eq, Result, Ok, Err}
-use Rattle.esr_history.specs.declared.watched.Watched.{Watched}
+use Rattle.esr_base.specs.declared.watched.Watched.{Watched}
 
 -- `w.inner`, the reader or writer that is watched
 abbrev pub inner : {T : Type 0} → Watched T → T

@@ -8,7 +8,7 @@
 ghost use Rattle.std.specs.Prelude.{◌≡◌, ◌||◌, false, is_err, length};
 ghost use Rattle.std.specs.Io.{ReadsAtMost, WritesAtMost};
 ghost use Rattle.std.specs.Io.KnownBytes.{ReadConsumes, WriteAppends, Keeps};
-ghost use Rattle.esr_history.specs.Watch.{inner, failed, took_none};
+ghost use Rattle.esr_base.specs.Watch.{inner, failed, took_none};
 
 use std::io;
 use std::io::{Read, Write};

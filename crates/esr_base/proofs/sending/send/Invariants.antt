@@ -1,8 +1,8 @@
 -- What holds at each turn of the loop in `send`.
 use Rattle.std.proofs.Common.{◌≡◌, length, ◌-◌, ◌≤◌, take}
 use Rattle.std.specs.Io.KnownBytes.{Appends}
-use Rattle.esr_history.specs.Watch.{inner, failed}
-use Rattle.esr_history.proofs.sending.send.Given as goal
+use Rattle.esr_base.specs.Watch.{inner, failed}
+use Rattle.esr_base.proofs.sending.send.Given as goal
 
 abbrev pub invariant-loop-sent : goal.invariant-loop-sent
 invariant-loop-sent g l = record {

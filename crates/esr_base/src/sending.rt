@@ -4,7 +4,7 @@
 //! just this was written" need a loop over `write` whose failure leaves a prefix.
 ghost use Rattle.std.specs.Prelude.{◌≡◌, ℕ, List, OnOk, OnErr, ◌||◌, is_err};
 ghost use Rattle.std.specs.Io.KnownBytes.{Appends};
-ghost use Rattle.esr_history.specs.Watch.{inner, failed, BeginsWith};
+ghost use Rattle.esr_base.specs.Watch.{inner, failed, BeginsWith};
 
 use crate::watched::Watched;
 use std::io::Write;

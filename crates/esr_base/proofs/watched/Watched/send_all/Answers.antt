@@ -1,7 +1,7 @@
 -- Why `Watched::send_all` keeps its contract: the goals that are left to a proof of ours.
 use Rattle.std.proofs.Common.{ℕ, List, [], Option, None, Some, sym, ◌∙◌, append-nil}
 use Rattle.std.specs.Io.KnownBytes.{Appends, Keeps}
-use Rattle.esr_history.proofs.watched.Watched.send_all.Goals as goal
+use Rattle.esr_base.proofs.watched.Watched.send_all.Goals as goal
 
 -- a flush after the bytes keeps them
 kept : (a b c : Option (List ℕ)) (bs : List ℕ) → Appends a b bs → Keeps b c → Appends a c bs

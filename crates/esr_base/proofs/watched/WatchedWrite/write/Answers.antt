@@ -1,6 +1,6 @@
 -- Why `WatchedWrite::write` keeps its contract: the goals that are left to a proof of ours.
 use Rattle.std.proofs.Common.{rules}
-use Rattle.esr_history.proofs.watched.WatchedWrite.write.Goals as goal
+use Rattle.esr_base.proofs.watched.WatchedWrite.write.Goals as goal
 
 pub returns-then-took_none-clause-watched : goal.returns-then-took_none-clause-watched
 returns-then-took_none-clause-watched g c = search rules

@@ -1,0 +1,9 @@
+//! Numbers of items and of transactions, as types of their own, so that neither is taken for the other.
+
+/// The number of an item, from 0.
+#[derive(Clone, Copy, PartialEq, Eq, Default, Debug)]
+pub struct ItemId(pub u32);
+
+/// The number of a transaction: its place among the accepted begins, from 1.
+#[derive(Clone, Copy, PartialEq, Eq, Debug)]
+pub struct TxnId(pub u32);
