@@ -7,7 +7,9 @@
 #![tactic(auto)]
 
 mod naming;
+mod past;
 mod spelling;
 
 pub use naming::{item_names, transaction_names};
+pub use past::past;
 pub use spelling::script;
