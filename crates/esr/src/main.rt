@@ -8,7 +8,8 @@
 
 ghost use Rattle.std.specs.Prelude.{◌≡◌, ◌≤◌, false};
 ghost use Rattle.esr_history.specs.Watch.{failed};
-ghost use Rattle.esr_cli.specs.Job.{work_of, HasWorkers};
+ghost use Rattle.esr_cli.specs.Job.{work_of, HasWorkers as HasItsWorkers};
+ghost use Rattle.esr_drive.specs.Drive.{HasWorkers};
 
 mod fault;
 mod judging;
@@ -23,7 +24,7 @@ use crate::meter::is_shown;
 use crate::open::open_file;
 use crate::work::{Certifying, Running, TellingOf, audit_script, survey_script, work_on};
 use esr_cli::{Format, Job, Progress, Task, command};
-use esr_drive::{NoGate, drive};
+use esr_drive::{Form, NoGate, drive};
 use esr_explain::Explaining;
 use esr_history::Watched;
 use esr_lint::{KeptLine, Listing, Source};
@@ -83,7 +84,7 @@ fn do_job<'a, R: Input + Print + Eprint + Files + AllocGlobal + Clock + Threads 
     shows: bool,
     job: Job<'a>,
 ) -> u8
-    requires { HasWorkers (work_of job.task) }
+    requires { HasItsWorkers (work_of job.task) }
 {
     if job.format.is_none() {
         return fail(rt, &"--format takes text, csv or json", 2);
@@ -103,7 +104,7 @@ fn do_task<
     R: Print + Eprint + Files + AllocGlobal + Clock + Threads + Wait + Sync,
     I: Read + Drop,
 >(rt: &'a R, shows: bool, job: Job<'a>, source: Source<'a>, input: I) -> u8
-    requires { HasWorkers (work_of job.task) }
+    requires { HasItsWorkers (work_of job.task) }
 {
     match job.task {
         Task::Run => work_on(rt, shows, job, source, input, &Running),
@@ -153,7 +154,14 @@ fn do_task<
             };
             check(rt, shows, source, input, question)
         }
-        Task::Drive { workers } => drive_file(rt, source, input, workers),
+        Task::Drive {
+            workers: _,
+            script: true,
+        } => drive_file(rt, source, input, Form::Script),
+        Task::Drive {
+            workers,
+            script: false,
+        } => drive_file(rt, source, input, Form::Text { workers }),
         Task::Lint => list_faults(rt, source, input),
     }
 }
@@ -181,9 +189,9 @@ fn drive_file<R: Print + Eprint + AllocGlobal + Threads + Wait + Sync, I: Read +
     rt: &R,
     source: Source<'_>,
     input: I,
-    workers: u64,
+    form: Form,
 ) -> u8
-    requires { (1 ≤ workers) × (workers ≤ 64) }
+    requires { HasWorkers form }
 {
     let alloc = rt.alloc();
     // A copy tells on which line a drive file stopped that has not been read whole.
@@ -195,7 +203,7 @@ fn drive_file<R: Print + Eprint + AllocGlobal + Threads + Wait + Sync, I: Read +
         alloc,
         &mut reader,
         &mut writer,
-        workers,
+        form,
         &NoGate,
         &mut kept,
     ) {

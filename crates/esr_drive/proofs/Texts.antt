@@ -16,8 +16,8 @@ use Rattle.esr_plan.specs.Plan.{Plan, plan_of, plan_from, cut_fault, with_line, 
 use Rattle.esr_plan.specs.Sheets.{plan_in, IsSound}
 use Rattle.esr_plan.proofs.Cuts.{IsCut, IsNoneOrCut, all_cut}
 use Rattle.esr_drive.specs.Driven.{IsDriven}
-use Rattle.esr_drive.specs.Drive.{IsDriveText}
-use Rattle.esr_plan.specs.Text.{text_of}
+use Rattle.esr_drive.specs.Drive.{IsDriveText, Tells}
+use Rattle.esr_drive.specs.declared.form.Form.{Form}
 use Rattle.esr_drive.specs.Faults.{IsTextFault, IsEngineFault, CanFill}
 
 all_items : (P : List Call → Type 0) (bs : List (Vec Call Global)) → All (λ b. P b.items) bs → All P (map (λ b. b.items) bs)
@@ -26,10 +26,10 @@ all_items P (b ∷ bs) all zero x lt = all 0 b (omega arith)
 all_items P (b ∷ bs) all (suc i) x lt = all_items P bs (λ j y below. all (suc j) y (omega (arith, below))) i x (omega (arith, lt))
 
 -- the text of what was driven is one of the file
-pub drive_text : (bytes : List ℕ) (s : Sheet) (h : Schedule) (replies : List (List Reply)) (out : List ℕ)
+pub drive_text : (what : Form) (bytes : List ℕ) (s : Sheet) (h : Schedule) (replies : List (List Reply)) (out : List ℕ)
     → plan_of bytes ≡ Ok (plan_in s) → IsSound s → IsDriven s.values.items (weights_of s.weights.items) (map (λ b. b.items) s.blocks.items) h replies
-    → out ≡ text_of (plan_in s) h (all_answers (map (λ b. b.items) s.blocks.items) replies) → IsDriveText bytes out
-drive_text bytes s h replies out planned sound d text = record {
+    → Tells what (plan_in s) h (all_answers (map (λ b. b.items) s.blocks.items) replies) out → IsDriveText what bytes out
+drive_text what bytes s h replies out planned sound d tells = record {
   plan = plan_in s;
   planned = planned;
   is_text = record {
@@ -42,7 +42,7 @@ drive_text bytes s h replies out planned sound d text = record {
     commands = d.commands ∙ map-map (map command_of) (λ (b : Vec Call Global). b.items) s.blocks.items;
     runs = d.runs s.names (all_items (AreResolved s.names) s.blocks.items sound.resolved);
     matching = d.matching;
-    text_is = text;
+    tells = tells;
   };
 }
 

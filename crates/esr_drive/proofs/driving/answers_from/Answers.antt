@@ -1,4 +1,4 @@
--- Why `text_from` keeps its contract: the goals that are left to a proof of ours.
+-- Why `answers_from` keeps its contract: the goals that are left to a proof of ours.
 use Rattle.std.proofs.Common.{◌≡◌, ◌++◌, map, refl, ap, ap₂, ◌∙◌}
 use Rattle.esr_items.specs.Weights.{weighted}
 use Rattle.esr_history.specs.Totals.{all_imports, all_exports}
@@ -7,7 +7,7 @@ use Rattle.esr_plan.specs.Calls.{all_answers}
 use Rattle.esr_plan.specs.Text.{names_of, items_text, blocks_text, findings_text}
 use Rattle.esr_plan.specs.Tables.{names_in}
 use Rattle.esr_drive.proofs.Texts.{four_parts}
-use Rattle.esr_drive.proofs.driving.text_from.Goals as goal
+use Rattle.esr_drive.proofs.driving.answers_from.Goals as goal
 
 pub returns : goal.returns
 returns g c =
