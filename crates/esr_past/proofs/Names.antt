@@ -1,13 +1,14 @@
 -- Names that are spelled: each is a name of a line, and there is one for each item and each transaction.
-use Rattle.std.proofs.Common.{◌≡◌, ℕ, zero, suc, ◌+◌, ◌<◌, ◌≤◌, ◌^◌, List, [], ◌∷◌, Bool, true, false, ◌&&◌, ◌||◌, not, cond, nat_eq, nat_le, Option, Some, None, inl, inr, refl, sym, subst, arith, All, length, map, filter, codes, decimal, slice_index_or}
+use Rattle.std.proofs.Common.{◌≡◌, ℕ, zero, suc, ◌+◌, ◌<◌, ◌≤◌, ◌^◌, List, [], ◌∷◌, ◌++◌, Bool, true, false, ◌&&◌, ◌||◌, not, cond, nat_eq, nat_le, Option, Some, None, inl, inr, refl, ◌∙◌, ap, ap₂, sym, subst, arith, All, length, map, filter, codes, decimal, slice_index_or}
+use Rattle.std.specs.Borrow.{Bor}
 use Rattle.std.specs.List.{list_all, range_with_len, cons_option}
 use Rattle.std.specs.Str.{all_ascii_digits}
 use Rattle.std.specs.Char.{is_ascii_digit}
 use Rattle.std.proofs.lemmas.Bool.{true≢false, and_parts, cases_Bool}
 use Rattle.std.proofs.lemmas.Bool.Decides.{nat_tests}
 use Rattle.std.proofs.lemmas.Fmt.{length-decimal-le}
-use Rattle.std.proofs.lemmas.List.{length-map}
-use Rattle.std.proofs.lemmas.List.FromFn.{length-map-range_with_len, get_or-map-range_with_len}
+use Rattle.std.proofs.lemmas.List.{length-map, map-append}
+use Rattle.std.proofs.lemmas.List.FromFn.{length-map-range_with_len, get_or-map-range_with_len, map-range_with_len_more}
 use Rattle.esr_history.specs.Events.{accepted, beginning_of, beginnings, is_refusal, Beginning}
 use Rattle.esr_history.specs.Machine.{Schedule, done}
 use Rattle.esr_history.specs.declared.event.Entry.{Entry}
@@ -15,8 +16,8 @@ use Rattle.esr_history.specs.declared.event.Event.{Event}
 use Rattle.esr_line.specs.Command.{is_between, is_letter, is_name, is_name_byte, IsName}
 use Rattle.esr_line.proofs.Laws.{all_digits}
 use Rattle.esr_report.specs.Names.{all_distinct}
-use Rattle.esr_past.specs.Again.{AreNames}
-use Rattle.esr_past.specs.Naming.{numbered, all_numbered, are_names, first_names, spelled}
+use Rattle.esr_past.specs.Again.{AreNames, GivesAgain, IsPast}
+use Rattle.esr_past.specs.Naming.{numbered, all_numbered, are_names, first_names, named, spelled}
 
 or_right : (a c : Bool) → c ≡ true → (a || c) ≡ true
 or_right true c h = refl
@@ -68,7 +69,7 @@ spelled_long letter first names = elim (cases_Bool (are_names names)) [
   | inr bad ↦ rw bad (length-map-range_with_len (numbered (letter ∷ [])) first (length names))
 ]
 
-first_long : (count : ℕ) (names : List (List ℕ)) → length (first_names count names) ≡ count
+pub first_long : (count : ℕ) (names : List (List ℕ)) → length (first_names count names) ≡ count
 first_long count names = length-map-range_with_len (λ i. slice_index_or names i []) 0 count
 
 -- there is a name for each item and each transaction, and lines spell it
@@ -93,16 +94,52 @@ fewer_filtered p (e ∷ es) = elim (cases_Bool (p e)) [
   | inr is ↦ rw is (omega (arith, fewer_filtered p es))
 ]
 
+one_found : (o : Option Beginning) (bs : List Beginning) (n : ℕ) → length bs ≤ n → length (cons_option o bs) ≤ n + 1
+one_found None bs n le = omega (arith, le)
+one_found (Some b) bs n le = omega (arith, le)
+
 fewer_found : (es : List Event) → length (beginnings es) ≤ length es
 fewer_found [] = omega arith
-fewer_found (e ∷ es) = go (beginning_of e)
-  where
-    go : (o : Option Beginning) → length (cons_option o (beginnings es)) ≤ length (e ∷ es)
-    go None = omega (arith, fewer_found es)
-    go (Some b) = omega (arith, fewer_found es)
+fewer_found (e ∷ es) = omega (arith, one_found (beginning_of e) (beginnings es) (length es) (fewer_found es))
 
 -- no more begin than there are entries
 pub few_begun : (es : List Entry) → length (beginnings (accepted es)) ≤ length es
 few_begun es =
     let p : Entry → Bool = λ e. not (is_refusal e.reply) in
     omega (arith, fewer_found (accepted es), length-map (filter p es) (λ (e : Entry). e.event), fewer_filtered p es)
+
+-- one more of the names
+pub one_more_name : (names : List (List ℕ)) (words : List (Bor (List ℕ))) (n : ℕ) (w : Bor (List ℕ)) → map (λ word. word.now) words ≡ first_names n names
+    → w.now ≡ slice_index_or names n [] → map (λ word. word.now) (words ++ w ∷ []) ≡ first_names (n + 1) names
+one_more_name names words n w are is =
+    map-append (λ (word : Bor (List ℕ)). word.now) words (w ∷ [])
+    ∙ (ap₂ (λ l x. l ++ x ∷ []) are is ∙ sym (map-range_with_len_more (λ i. slice_index_or names i []) 0 n n (omega arith)))
+
+pub spelled_some : (word : List ℕ) (first : ℕ) (words names : List (List ℕ)) → Some names ≡ named words → names ≡ spelled word first words
+spelled_some word first words names is = go (are_names words) is
+  where
+    go : (b : Bool) → Some names ≡ cond b (Some words) None → names ≡ cond b words (all_numbered word first (length words))
+    go true same = cc
+    go false same = absurd (cc)
+
+pub spelled_none : (word : List ℕ) (first : ℕ) (words numbers : List (List ℕ)) (n : ℕ) → None ≡ named words → n ≡ length words → numbers ≡ all_numbered word first n
+    → numbers ≡ spelled word first words
+spelled_none word first words numbers n is long are = are ∙ ap (all_numbered word first) long ∙ go (are_names words) is
+  where
+    go : (b : Bool) → None ≡ cond b (Some words) None → all_numbered word first (length words) ≡ cond b words (all_numbered word first (length words))
+    go true same = absurd (cc)
+    go false same = refl
+
+-- the script by these tables gives the history again
+pub carried_past : (items transactions xs ts : List (List ℕ)) (n m : ℕ) (h : Schedule) (text : List ℕ) → n ≡ length h.opening → m ≡ length (beginnings (done h))
+    → items ≡ spelled (codes "i") 0 (first_names n xs) → transactions ≡ spelled (codes "t") 1 (first_names m ts)
+    → n < 2 ^ 32 → m + 1 < 2 ^ 32 → (AreNames items transactions h → GivesAgain items transactions h text) → IsPast xs ts h text
+carried_past items transactions xs ts n m h text n_is m_is is are few_items few again =
+    let own : List (List ℕ) = spelled (codes "i") 0 (first_names (length h.opening) xs) in
+    let others : List (List ℕ) = spelled (codes "t") 1 (first_names (length (beginnings (done h))) ts) in
+    let items_are : items ≡ own = is ∙ ap (λ k. spelled (codes "i") 0 (first_names k xs)) n_is in
+    let transactions_are : transactions ≡ others = are ∙ ap (λ k. spelled (codes "t") 1 (first_names k ts)) m_is in
+    let named : AreNames own others h = names_are xs ts h (omega (arith, n_is)) (omega (arith, m_is)) in
+    let good : AreNames items transactions h =
+    subst (λ (l : List (List ℕ)). AreNames l transactions h) (sym items_are) (subst (λ (l : List (List ℕ)). AreNames own l h) (sym transactions_are) named) in
+    subst (λ (l : List (List ℕ)). GivesAgain l others h text) items_are (subst (λ (l : List (List ℕ)). GivesAgain items l h text) transactions_are (again good))

@@ -5,7 +5,7 @@ ghost use Rattle.std.specs.Prelude.{◌≤◌, IfOk, length};
 ghost use Rattle.esr_history.specs.declared.limits.TheConstants.{MOST_ENTRIES};
 ghost use Rattle.esr_past.specs.Again.{IsPast};
 
-use crate::naming::{first_names, spelled};
+use crate::naming::spelled_names;
 use crate::spelling::script;
 use esr_history::History;
 use esr_items::Weighted;
@@ -14,7 +14,8 @@ use std::alloc::{AllocError, Global};
 
 /// The script of a history, by these names of its items and of its transactions, in the order of their numbers. It gives
 /// again what was accepted or blocked.
-pub fn past<I: TransactionNames, T: TransactionNames>(
+#[tactic(auto, using(crate::proofs::Names::few_begun))]
+pub fn named_script<I: TransactionNames, T: TransactionNames>(
     alloc: Global,
     items: &I,
     transactions: &T,
@@ -23,9 +24,9 @@ pub fn past<I: TransactionNames, T: TransactionNames>(
     requires few { length history.now.schedule.entries ≤ MOST_ENTRIES }
     ensures { IfOk result (λ text. IsPast (I.names items.now) (T.names transactions.now) history.now.schedule text.items) }
 {
-    let words = first_names(alloc, items, history.items())?;
-    let items = spelled(alloc, &words, "i", 0)?;
-    let words = first_names(alloc, transactions, history.begun_count() as u32)?;
-    let transactions = spelled(alloc, &words, "t", 1)?;
-    script(alloc, &items, &transactions, history)
+    let item_table = spelled_names(alloc, items, history.items(), "i", 0)?;
+    let begun = history.begun_count() as u32;
+    let transaction_table = spelled_names(alloc, transactions, begun, "t", 1)?;
+    let text = script(alloc, &item_table, &transaction_table, history)?;
+    Ok(text)
 }
