@@ -23,7 +23,7 @@ use esr_board::Gate;
 use esr_history::Watched;
 use esr_items::Store;
 use esr_lint::Observer;
-use esr_past::past;
+use esr_past::named_script;
 use esr_plan::{
     DriveFault, Sheet, begun_names, metric_of, push_blocks, push_items, read_all, sheet_of,
 };
@@ -158,11 +158,7 @@ fn text_from<R: Threads + Sync>(
 }
 
 /// The history that the blocks of a plan left, as a script.
-fn script_from(
-    alloc: Global,
-    sheet: &Sheet<'_>,
-    driven: &Driven,
-) -> Result<Vec<u8>, AllocError>
+fn script_from(alloc: Global, sheet: &Sheet<'_>, driven: &Driven) -> Result<Vec<u8>, AllocError>
     requires driven { IsDriven sheet.now.values.items (weights_of sheet.now.weights.items)
         (map (λ b. b.items) sheet.now.blocks.items) driven.now.history.schedule
         (map (λ r. r.items) driven.now.replies.items) }
@@ -173,7 +169,7 @@ fn script_from(
     let blocks = sheet.blocks.as_slice();
     let replies = driven.replies.as_slice();
     let names = begun_names(alloc, &driven.history, blocks, replies)?;
-    past(alloc, &sheet.names, &names, &driven.history)
+    named_script(alloc, &sheet.names, &names, &driven.history)
 }
 
 /// The answers of the blocks of a plan, what is found of each query, and the totals.
