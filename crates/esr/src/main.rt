@@ -18,7 +18,7 @@ mod open;
 mod output;
 mod work;
 
-use crate::fault::{DriveText, RunText};
+use crate::fault::{DriveText, RunText, line_at_fault};
 use crate::judging::{Question, check};
 use crate::meter::is_shown;
 use crate::open::open_file;
@@ -26,6 +26,7 @@ use crate::work::{Certifying, Running, TellingOf, audit_script, survey_script, w
 use esr_cli::{Format, Job, Progress, Task, command};
 use esr_drive::{Form, NoGate, drive};
 use esr_explain::Explaining;
+use esr_explore::{ExploreFault, Measure, Search, explore};
 use esr_history::Watched;
 use esr_lint::{KeptLine, Listing, Source};
 use esr_page::Page;
@@ -162,6 +163,10 @@ fn do_task<
             workers,
             script: false,
         } => drive_file(rt, source, input, Form::Text { workers }),
+        Task::Explore { seeds, all, worst } => match search_of(seeds, all, worst) {
+            Ok(search) => explore_file(rt, source, input, search),
+            Err(mistake) => fail(rt, &mistake, 2),
+        },
         Task::Lint => list_faults(rt, source, input),
     }
 }
@@ -181,6 +186,56 @@ fn sheet_format(format: Option<Format>) -> esr_sheet::Format {
         Some(Format::Csv) => esr_sheet::Format::Csv,
         Some(Format::Json) => esr_sheet::Format::Json,
         Some(Format::Text) | None => esr_sheet::Format::Text,
+    }
+}
+
+/// So many interleavings are drawn where nobody says how many.
+const SEEDS: u64 = 1_000;
+
+/// What is looked for among interleavings, or what is wrong with the words for it.
+fn search_of(seeds: Option<u64>, all: bool, worst: Option<&str>) -> Result<Search, &'static str> {
+    if all && seeds.is_some() {
+        return Err("--seeds and --all exclude each other");
+    }
+    let seeds = if all {
+        None
+    } else {
+        Some(seeds.unwrap_or(SEEDS))
+    };
+    let Some(name) = worst else {
+        return Ok(Search { seeds, worst: None });
+    };
+    match Measure::named(name) {
+        None => Err("--worst takes import, distance or blocked"),
+        worst => Ok(Search { seeds, worst }),
+    }
+}
+
+/// Runs the blocks of a drive file in many interleavings.
+fn explore_file<R: Print + Eprint + AllocGlobal, I: Read + Drop>(
+    rt: &R,
+    source: Source<'_>,
+    input: I,
+    search: Search,
+) -> u8 {
+    let alloc = rt.alloc();
+    // A copy has the line at fault, and tells on which line a file stopped that has not been read whole.
+    let mut reader = Watched::new(Copied::new(alloc, input));
+    let mut writer = Watched::new(io::writer(rt));
+    match explore(alloc, &mut reader, &mut writer, search) {
+        Ok(()) => 0,
+        Err(ExploreFault::Drive(fault)) => {
+            let read = reader.inner().copy().unwrap_or_default();
+            let line = line_at_fault(read, fault);
+            let text = DriveText {
+                source,
+                fault,
+                line,
+                read,
+            };
+            fail(rt, &text, 1)
+        }
+        Err(fault) => fail(rt, &format_args!("{source}{fault}"), 1),
     }
 }
 
