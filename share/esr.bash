@@ -3,7 +3,7 @@ _esr() {
     local word=${COMP_WORDS[COMP_CWORD]} command=${COMP_WORDS[1]-} options=
     local script="--bail --progress --no-progress --help"
     if [ "$COMP_CWORD" -eq 1 ]; then
-        mapfile -t COMPREPLY < <(compgen -W "run audit ledger why explain picture page certify check lint drive help --help --version" -- "$word")
+        mapfile -t COMPREPLY < <(compgen -W "run audit ledger why explain picture page certify check lint drive explore help --help --version" -- "$word")
         return
     fi
     case $command in
@@ -13,12 +13,17 @@ _esr() {
         certify) options="$script --steps" ;;
         audit) options="$script --workers --format" ;;
         ledger) options="$script --format" ;;
-        drive) options="--workers --help" ;;
+        drive) options="--workers --as-script --help" ;;
+        explore) options="--seeds --all --worst --help" ;;
         check) options="--script --query --verbose --help" ;;
         lint) options="--help" ;;
     esac
     if [ "${COMP_WORDS[COMP_CWORD - 1]}" = --format ]; then
         mapfile -t COMPREPLY < <(compgen -W "text csv json" -- "$word")
+        return
+    fi
+    if [ "$command" = explore ] && [ "${COMP_WORDS[COMP_CWORD - 1]}" = --worst ]; then
+        mapfile -t COMPREPLY < <(compgen -W "import distance blocked" -- "$word")
         return
     fi
     case $word in

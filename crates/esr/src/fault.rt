@@ -46,6 +46,15 @@ pub struct DriveText<'a> {
     pub read: &'a [u8],
 }
 
+/// The first line at fault, where one is.
+pub fn line_at_fault(read: &[u8], fault: DriveFault) -> &[u8] {
+    let DriveFault::BadScript { line: number, .. } = fault else {
+        return &[];
+    };
+    let mut lines = read.split(|byte| *byte == b'\n');
+    lines.nth(number.saturating_sub(1) as usize).unwrap_or(&[])
+}
+
 /// The number of the first line that is too long.
 fn long_line(read: &[u8]) -> u64 {
     let lines = read.split(|byte| *byte == b'\n');

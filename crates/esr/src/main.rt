@@ -8,7 +8,8 @@
 
 ghost use Rattle.std.specs.Prelude.{◌≡◌, ◌≤◌, false};
 ghost use Rattle.esr_base.specs.Watch.{failed};
-ghost use Rattle.esr_cli.specs.Job.{work_of, HasWorkers};
+ghost use Rattle.esr_cli.specs.Job.{work_of, HasWorkers as HasItsWorkers};
+ghost use Rattle.esr_drive.specs.Drive.{HasWorkers};
 
 mod fault;
 mod judging;
@@ -17,14 +18,15 @@ mod open;
 mod output;
 mod work;
 
-use crate::fault::{DriveText, RunText};
+use crate::fault::{DriveText, RunText, line_at_fault};
 use crate::judging::{Question, check};
 use crate::meter::is_shown;
 use crate::open::open_file;
 use crate::work::{Certifying, Running, TellingOf, audit_script, survey_script, work_on};
 use esr_cli::{Format, Job, Progress, Task, command};
-use esr_drive::{NoGate, drive};
+use esr_drive::{Form, NoGate, drive};
 use esr_explain::Explaining;
+use esr_explore::{ExploreFault, Measure, Search, explore};
 use esr_history::Watched;
 use esr_lint::{KeptLine, Listing, Source};
 use esr_page::Page;
@@ -83,7 +85,7 @@ fn do_job<'a, R: Input + Print + Eprint + Files + AllocGlobal + Clock + Threads 
     shows: bool,
     job: Job<'a>,
 ) -> u8
-    requires { HasWorkers (work_of job.task) }
+    requires { HasItsWorkers (work_of job.task) }
 {
     if job.format.is_none() {
         return fail(rt, &"--format takes text, csv or json", 2);
@@ -103,7 +105,7 @@ fn do_task<
     R: Print + Eprint + Files + AllocGlobal + Clock + Threads + Wait + Sync,
     I: Read + Drop,
 >(rt: &'a R, shows: bool, job: Job<'a>, source: Source<'a>, input: I) -> u8
-    requires { HasWorkers (work_of job.task) }
+    requires { HasItsWorkers (work_of job.task) }
 {
     match job.task {
         Task::Run => work_on(rt, shows, job, source, input, &Running),
@@ -153,7 +155,18 @@ fn do_task<
             };
             check(rt, shows, source, input, question)
         }
-        Task::Drive { workers } => drive_file(rt, source, input, workers),
+        Task::Drive {
+            workers: _,
+            script: true,
+        } => drive_file(rt, source, input, Form::Script),
+        Task::Drive {
+            workers,
+            script: false,
+        } => drive_file(rt, source, input, Form::Text { workers }),
+        Task::Explore { seeds, all, worst } => match search_of(seeds, all, worst) {
+            Ok(search) => explore_file(rt, source, input, search),
+            Err(mistake) => fail(rt, &mistake, 2),
+        },
         Task::Lint => list_faults(rt, source, input),
     }
 }
@@ -176,14 +189,64 @@ fn sheet_format(format: Option<Format>) -> esr_sheet::Format {
     }
 }
 
+/// So many interleavings are drawn where nobody says how many.
+const SEEDS: u64 = 1_000;
+
+/// What is looked for among interleavings, or what is wrong with the words for it.
+fn search_of(seeds: Option<u64>, all: bool, worst: Option<&str>) -> Result<Search, &'static str> {
+    if all && seeds.is_some() {
+        return Err("--seeds and --all exclude each other");
+    }
+    let seeds = if all {
+        None
+    } else {
+        Some(seeds.unwrap_or(SEEDS))
+    };
+    let Some(name) = worst else {
+        return Ok(Search { seeds, worst: None });
+    };
+    match Measure::named(name) {
+        None => Err("--worst takes import, distance or blocked"),
+        worst => Ok(Search { seeds, worst }),
+    }
+}
+
+/// Runs the blocks of a drive file in many interleavings.
+fn explore_file<R: Print + Eprint + AllocGlobal, I: Read + Drop>(
+    rt: &R,
+    source: Source<'_>,
+    input: I,
+    search: Search,
+) -> u8 {
+    let alloc = rt.alloc();
+    // A copy has the line at fault, and tells on which line a file stopped that has not been read whole.
+    let mut reader = Watched::new(Copied::new(alloc, input));
+    let mut writer = Watched::new(io::writer(rt));
+    match explore(alloc, &mut reader, &mut writer, search) {
+        Ok(()) => 0,
+        Err(ExploreFault::Drive(fault)) => {
+            let read = reader.inner().copy().unwrap_or_default();
+            let line = line_at_fault(read, fault);
+            let text = DriveText {
+                source,
+                fault,
+                line,
+                read,
+            };
+            fail(rt, &text, 1)
+        }
+        Err(fault) => fail(rt, &format_args!("{source}{fault}"), 1),
+    }
+}
+
 /// Runs a drive file.
 fn drive_file<R: Print + Eprint + AllocGlobal + Threads + Wait + Sync, I: Read + Drop>(
     rt: &R,
     source: Source<'_>,
     input: I,
-    workers: u64,
+    form: Form,
 ) -> u8
-    requires { (1 ≤ workers) × (workers ≤ 64) }
+    requires { HasWorkers form }
 {
     let alloc = rt.alloc();
     // A copy tells on which line a drive file stopped that has not been read whole.
@@ -195,7 +258,7 @@ fn drive_file<R: Print + Eprint + AllocGlobal + Threads + Wait + Sync, I: Read +
         alloc,
         &mut reader,
         &mut writer,
-        workers,
+        form,
         &NoGate,
         &mut kept,
     ) {

@@ -104,6 +104,9 @@ audit_shape = built_leaf spec.audit.top
 abbrev pub drive_shape : Shape
 drive_shape = built_leaf spec.drive.top
 
+abbrev pub explore_shape : Shape
+explore_shape = built_leaf spec.explore.top
+
 abbrev pub lint_shape : Shape
 lint_shape = built_leaf spec.lint.top
 
@@ -146,6 +149,10 @@ audit_is = record { met = refl; fine = refl; found = refl }
 pub drive_is : IsNameOf (codes "drive") drive_shape
 unfolding clap_on_literals
 drive_is = record { met = refl; fine = refl; found = refl }
+
+pub explore_is : IsNameOf (codes "explore") explore_shape
+unfolding clap_on_literals
+explore_is = record { met = refl; fine = refl; found = refl }
 
 pub lint_is : IsNameOf (codes "lint") lint_shape
 unfolding clap_on_literals

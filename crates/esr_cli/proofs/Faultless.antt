@@ -14,7 +14,7 @@ use Rattle.clap.specs.Takes.{is_given}
 use Rattle.clap.specs.Faults.{check_fault, defaults_fault, entered_fault, fault_of, is_simple_and_free, level_fault, settle_fault, values_fault, walk_fault}
 use Rattle.clap.proofs.OnLiterals.{clap_on_literals}
 use Rattle.esr_cli.specs.Job as asked
-use Rattle.esr_cli.specs.Program.{audit, bail_rule, certify, drive, explain, file_rule, format_rule, name_rule, named, no_progress_rule, page, program, progress_rule, workers_rule, worst_rule}
+use Rattle.esr_cli.specs.Program.{as_script_rule, audit, bail_rule, certify, drive, explain, file_rule, format_rule, name_rule, named, no_progress_rule, page, program, progress_rule, workers_rule, worst_rule}
 use Rattle.esr_cli.specs.Job.{HasWorkers, Request, Work, flag_in, number_in, request_in, request_of, requested, count_in, work_in, work_of}
 use Rattle.esr_cli.specs.declared.Job.{Job}
 use Rattle.esr_cli.proofs.Entered.{audit_shape, certify_shape, drive_shape, explain_shape, page_shape}
@@ -60,6 +60,9 @@ format = filled format_rule
 
 abbrev workers : Rule
 workers = filled workers_rule
+
+abbrev as_script : Rule
+as_script = filled as_script_rule
 
 abbrev worst : Rule
 worst = filled worst_rule
@@ -216,9 +219,9 @@ drive_served words none =
     let held = (walk drive_shape.rules [] nothing_held words).held in
     let given = has_text (codes "workers") (is_unsigned_in 1 64) rows
     (level_good (codes "workers") (is_unsigned_in 1 64) drive_shape words
-    (other_fit _ _ _ refl, (workers_fit, (other_fit _ _ _ refl, tt))) none)
-    (default_there workers (codes "4") [] (help_flag ∷ []) (with_default (settled drive_shape.rules held).rows file) refl) in
-    count_served (codes "workers") asked.drive rows given.text (λ n low high. (low, high)) given.one given.passes
+    (other_fit _ _ _ refl, (workers_fit, (other_fit _ _ _ refl, (other_fit _ _ _ refl, tt)))) none)
+    (default_there workers (codes "4") [] (as_script ∷ help_flag ∷ []) (with_default (settled drive_shape.rules held).rows file) refl) in
+    count_served (codes "workers") (λ n. asked.drive n (flag_in (codes "as-script") rows)) rows given.text (λ n low high. (low, high)) given.one given.passes
 
 -- the program and its commands as they are built
 abbrev shell : App
@@ -243,7 +246,7 @@ served = (
             inr page_served,
             (
               inr (λ words none. tt),
-              (inr (λ words none. tt), (inr audit_served, (inr drive_served, (inr (λ words none. tt), (inl refl, tt))))),
+              (inr (λ words none. tt), (inr audit_served, (inr drive_served, (inr (λ words none. tt), (inr (λ words none. tt), (inl refl, tt)))))),
             ),
           ),
         ),

@@ -21,7 +21,7 @@ use Rattle.esr_cli.specs.Job.{SpellsWork, IsCall, IsCount, IsFile, IsPlainWord, 
 use Rattle.esr_cli.specs.declared.Job.{Job}
 use Rattle.esr_cli.specs.declared.Format.TheVariants.{Text as Plain}
 use Rattle.esr_cli.specs.declared.Progress.TheVariants.{AtATerminal}
-use Rattle.esr_cli.proofs.Entered.{IsNameOf, audit_is, audit_shape, certify_is, certify_shape, check_is, check_shape, drive_is, drive_shape, explain_is, explain_shape, fault_behind, ledger_is, ledger_shape, lint_is, lint_shape, page_is, page_shape, picture_is, picture_shape, rows_behind, run_is, run_shape, why_is, why_shape}
+use Rattle.esr_cli.proofs.Entered.{IsNameOf, audit_is, audit_shape, certify_is, certify_shape, check_is, check_shape, drive_is, drive_shape, explain_is, explain_shape, explore_is, explore_shape, fault_behind, ledger_is, ledger_shape, lint_is, lint_shape, page_is, page_shape, picture_is, picture_shape, rows_behind, run_is, run_shape, why_is, why_shape}
 use Rattle.esr_cli.proofs.Leads.{IsOperand, Leads, at_end, behind_operand, fault_at, finished_well, own_fault_is, rows_are, then_operand, then_word}
 use Rattle.esr_cli.proofs.Faultless.{number}
 
@@ -83,6 +83,16 @@ with_number option text = record {
 abbrev with_bail : Shape → (option text : Text) → Walk
 with_bail s option text = record {
   held = record { rows = (walked s.rules [] (with_number option text) (codes "--bail")).held.rows; pending = None; skip = 0 };
+  waiting = idle;
+  position = 1;
+  is_trailing = false;
+  stopped = None;
+}
+
+-- the same behind a number of workers and `--as-script`
+abbrev with_script : Text → Walk
+with_script text = record {
+  held = record { rows = (walked drive_shape.rules [] (with_number (codes "workers") text) (codes "--as-script")).held.rows; pending = None; skip = 0 };
   waiting = idle;
   position = 1;
   is_trailing = false;
@@ -232,19 +242,44 @@ audit_counted text true (Some file) is passes plain =
     (then_word audit_shape _ _ (behind_operand audit_shape.rules (with_bail audit_shape (codes "workers") text) file) _ _ refl refl (then_operand audit_shape _ (behind_operand audit_shape.rules (with_bail audit_shape (codes "workers") text) file) _ _ is refl refl refl
     (then_word audit_shape (with_number (codes "workers") text) (with_bail audit_shape (codes "workers") text) (behind_operand audit_shape.rules (with_bail audit_shape (codes "workers") text) file) _ _ refl (rw passes refl) (then_operand audit_shape (with_bail audit_shape (codes "workers") text) (behind_operand audit_shape.rules (with_bail audit_shape (codes "workers") text) file) _ _ (file_operand file plain) refl refl refl (at_end audit_shape (behind_operand audit_shape.rules (with_bail audit_shape (codes "workers") text) file)))))) refl (counted asked.audit text (Some file) true passes)
 
-drive : (file : Option Text) → IsFile file → AreTaken (codes "drive" ∷ file_words file) (plainly (asked.drive 4) file false)
+drive : (script : Bool) (file : Option Text) → IsFile file → AreTaken (codes "drive" ∷ (flag_words script (codes "--as-script") ++ file_words file)) (plainly (asked.drive 4 script) file false)
 unfolding clap_on_literals
-drive None plain =
-    behind (codes "drive") drive_shape drive_is ([]) _ (plainly (asked.drive 4) None false) (at_end drive_shape _) refl refl
-drive (Some file) plain =
-    behind (codes "drive") drive_shape drive_is (file ∷ []) _ (plainly (asked.drive 4) (Some file) false) (then_operand drive_shape _ _ _ _ (file_operand file plain) refl refl refl (at_end drive_shape _)) refl refl
+drive false None plain =
+    behind (codes "drive") drive_shape drive_is ([]) _ (plainly (asked.drive 4 false) None false) (at_end drive_shape _) refl refl
+drive false (Some file) plain =
+    behind (codes "drive") drive_shape drive_is (file ∷ []) _ (plainly (asked.drive 4 false) (Some file) false) (then_operand drive_shape _ _ _ _ (file_operand file plain) refl refl refl (at_end drive_shape _)) refl refl
+drive true None plain =
+    behind (codes "drive") drive_shape drive_is (codes "--as-script" ∷ []) _ (plainly (asked.drive 4 true) None false) (then_word drive_shape _ _ _ _ _ refl refl (at_end drive_shape _)) refl refl
+drive true (Some file) plain =
+    behind (codes "drive") drive_shape drive_is (codes "--as-script" ∷ file ∷ []) _ (plainly (asked.drive 4 true) (Some file) false) (then_word drive_shape _ _ _ _ _ refl refl (then_operand drive_shape _ _ _ _ (file_operand file plain) refl refl refl (at_end drive_shape _))) refl refl
 
-drive_counted : (text : Text) (file : Option Text) → IsOperand text → is_unsigned_in 1 64 text ≡ true → IsFile file → AreTaken (codes "drive" ∷ codes "--workers" ∷ text ∷ file_words file) (plainly (asked.drive (digits_value 10 (without_leading_plus text))) file false)
+-- work of a number of workers, written as a script or not
+counted_drive : (script : Bool) (text : Text) (file : Option Text) → is_unsigned_in 1 64 text ≡ true
+    → option_map {U = Request} (λ work. plainly work file false) (option_map (λ n. asked.drive n script) (number_in text))
+    ≡ Some (plainly (asked.drive (digits_value 10 (without_leading_plus text)) script) file false)
+counted_drive script text file passes = rw (number text passes).0 refl
+
+drive_counted : (script : Bool) (text : Text) (file : Option Text) → IsOperand text → is_unsigned_in 1 64 text ≡ true → IsFile file → AreTaken (codes "drive" ∷ codes "--workers" ∷ text ∷ (flag_words script (codes "--as-script") ++ file_words file)) (plainly (asked.drive (digits_value 10 (without_leading_plus text)) script) file false)
 unfolding clap_on_literals
-drive_counted text None is passes plain =
-    behind (codes "drive") drive_shape drive_is (codes "--workers" ∷ text ∷ []) (behind_operand drive_shape.rules (walked drive_shape.rules [] (walk_from nothing_held) (codes "--workers")) text) (plainly (asked.drive (digits_value 10 (without_leading_plus text))) None false) (then_word drive_shape _ _ _ _ _ refl refl (then_operand drive_shape _ _ _ _ is refl refl refl (at_end drive_shape _))) (finished_well drive_shape (behind_operand drive_shape.rules (walked drive_shape.rules [] (walk_from nothing_held) (codes "--workers")) text) (rw passes refl) refl) (counted asked.drive text None false passes)
-drive_counted text (Some file) is passes plain =
-    behind (codes "drive") drive_shape drive_is (codes "--workers" ∷ text ∷ file ∷ []) (behind_operand drive_shape.rules (behind_operand drive_shape.rules (walked drive_shape.rules [] (walk_from nothing_held) (codes "--workers")) text) file) (plainly (asked.drive (digits_value 10 (without_leading_plus text))) (Some file) false) (then_word drive_shape _ _ _ _ _ refl refl (then_operand drive_shape _ _ _ _ is refl refl refl (then_operand drive_shape _ _ _ _ (file_operand file plain) refl refl (rw passes refl) (at_end drive_shape _)))) refl (counted asked.drive text (Some file) false passes)
+drive_counted false text None is passes plain =
+    behind (codes "drive") drive_shape drive_is (codes "--workers" ∷ text ∷ []) (behind_operand drive_shape.rules (walked drive_shape.rules [] (walk_from nothing_held) (codes "--workers")) text) (plainly (asked.drive (digits_value 10 (without_leading_plus text)) false) None false) (then_word drive_shape _ _ _ _ _ refl refl (then_operand drive_shape _ _ _ _ is refl refl refl (at_end drive_shape _))) (finished_well drive_shape (behind_operand drive_shape.rules (walked drive_shape.rules [] (walk_from nothing_held) (codes "--workers")) text) (rw passes refl) refl) (counted_drive false text None passes)
+drive_counted false text (Some file) is passes plain =
+    behind (codes "drive") drive_shape drive_is (codes "--workers" ∷ text ∷ file ∷ []) (behind_operand drive_shape.rules (behind_operand drive_shape.rules (walked drive_shape.rules [] (walk_from nothing_held) (codes "--workers")) text) file) (plainly (asked.drive (digits_value 10 (without_leading_plus text)) false) (Some file) false) (then_word drive_shape _ _ _ _ _ refl refl (then_operand drive_shape _ _ _ _ is refl refl refl (then_operand drive_shape _ _ _ _ (file_operand file plain) refl refl (rw passes refl) (at_end drive_shape _)))) refl (counted_drive false text (Some file) passes)
+drive_counted true text None is passes plain =
+    behind (codes "drive") drive_shape drive_is (codes "--workers" ∷ text ∷ codes "--as-script" ∷ []) (with_script text) (plainly (asked.drive (digits_value 10 (without_leading_plus text)) true) None false) (then_word drive_shape _ _ _ _ _ refl refl (then_operand drive_shape _ _ _ _ is refl refl refl (then_word drive_shape _ (with_script text) _ _ _ refl (rw passes refl) (at_end drive_shape _)))) refl (counted_drive true text None passes)
+drive_counted true text (Some file) is passes plain =
+    behind (codes "drive") drive_shape drive_is (codes "--workers" ∷ text ∷ codes "--as-script" ∷ file ∷ []) (behind_operand drive_shape.rules (with_script text) file) (plainly (asked.drive (digits_value 10 (without_leading_plus text)) true) (Some file) false) (then_word drive_shape _ _ _ _ _ refl refl (then_operand drive_shape _ _ _ _ is refl refl refl (then_word drive_shape _ (with_script text) _ _ _ refl (rw passes refl) (then_operand drive_shape _ _ _ _ (file_operand file plain) refl refl refl (at_end drive_shape _))))) refl (counted_drive true text (Some file) passes)
+
+explore : (all : Bool) (file : Option Text) → IsFile file → AreTaken (codes "explore" ∷ (flag_words all (codes "--all") ++ file_words file)) (plainly (asked.explore None all None) file false)
+unfolding clap_on_literals
+explore false None plain =
+    behind (codes "explore") explore_shape explore_is ([]) _ (plainly (asked.explore None false None) None false) (at_end explore_shape _) refl refl
+explore false (Some file) plain =
+    behind (codes "explore") explore_shape explore_is (file ∷ []) _ (plainly (asked.explore None false None) (Some file) false) (then_operand explore_shape _ _ _ _ (file_operand file plain) refl refl refl (at_end explore_shape _)) refl refl
+explore true None plain =
+    behind (codes "explore") explore_shape explore_is (codes "--all" ∷ []) _ (plainly (asked.explore None true None) None false) (then_word explore_shape _ _ _ _ _ refl refl (at_end explore_shape _)) refl refl
+explore true (Some file) plain =
+    behind (codes "explore") explore_shape explore_is (codes "--all" ∷ file ∷ []) _ (plainly (asked.explore None true None) (Some file) false) (then_word explore_shape _ _ _ _ _ refl refl (then_operand explore_shape _ _ _ _ (file_operand file plain) refl refl refl (at_end explore_shape _))) refl refl
 
 lint : (file : Option Text) → IsFile file → AreTaken (codes "lint" ∷ file_words file) (plainly asked.lint file false)
 unfolding clap_on_literals
@@ -297,9 +332,12 @@ taken words (asked.page n) file bail (own, count, (named, call)) =
 taken words (asked.audit n) file bail (own, workers, (named, call)) =
     called words _ _ call (with_count (codes "--workers") 4 n own (λ own n. AreTaken (codes "audit" ∷ (own ++ (flag_words bail (codes "--bail") ++ file_words file))) (plainly (asked.audit n) file bail)) workers (audit bail file named)
     (λ text passes. audit_counted text bail file (plain_operand text (plain_number text passes)) passes named))
-taken words (asked.drive n) file bail (own, workers, (named, none, call)) =
-    rw none (called words _ _ call (with_count (codes "--workers") 4 n own (λ own n. AreTaken (codes "drive" ∷ (own ++ file_words file)) (plainly (asked.drive n) file false)) workers (drive file named)
-    (λ text passes. drive_counted text file (plain_operand text (plain_number text passes)) passes named)))
+taken words (asked.drive n script) file bail (own, workers, (named, none, call)) =
+    rw none (called words _ _ call (with_count (codes "--workers") 4 n own (λ own n. AreTaken (codes "drive" ∷ (own ++ flag_words script (codes "--as-script") ++ file_words file)) (plainly (asked.drive n script) file false)) workers (drive script file named)
+    (λ text passes. drive_counted script text file (plain_operand text (plain_number text passes)) passes named)))
+taken words (asked.explore None all None) file bail (named, none, call) = rw none (called words _ _ call (explore all file named))
+taken words (asked.explore (Some seeds) all worst) file bail spells = absurd spells
+taken words (asked.explore None all (Some worst)) file bail spells = absurd spells
 taken words asked.ledger file bail (named, call) = called words _ _ call (ledger bail file named)
 taken words (asked.why None) file bail (named, call) = called words _ _ call (why bail file named)
 taken words (asked.why (Some name)) file bail spells = absurd spells

@@ -22,7 +22,8 @@ pub data Work : Type 0 where
   picture : Text → Work
   page : ℕ → Work
   audit : ℕ → Work
-  drive : ℕ → Work
+  drive : ℕ → (script : Bool) → Work
+  explore : (seeds : Option ℕ) → (all : Bool) → (worst : Option Text) → Work
   ledger : Work
   why : Option Text → Work
   lint : Work
@@ -45,7 +46,8 @@ work_of (task.Explain name prose) = explain name.now prose
 work_of (task.Picture name) = picture name.now
 work_of (task.Page worst) = page worst
 work_of (task.Audit workers) = audit workers
-work_of (task.Drive workers) = drive workers
+work_of (task.Drive workers script) = drive workers script
+work_of (task.Explore seeds all worst) = explore seeds all (option_map (λ by. by.now) worst)
 work_of task.Ledger = ledger
 work_of (task.Why name) = why (option_map (λ n. n.now) name)
 work_of task.Lint = lint
@@ -62,7 +64,7 @@ request_of job = record {
 -- 1 to 64 workers, where any work
 abbrev pub HasWorkers : Work → Type 0
 HasWorkers (audit workers) = (1 ≤ workers) × (workers ≤ 64)
-HasWorkers (drive workers) = (1 ≤ workers) × (workers ≤ 64)
+HasWorkers (drive workers script) = (1 ≤ workers) × (workers ≤ 64)
 HasWorkers _ = ⊤
 
 abbrev pub bool_of : Text → Option Bool
@@ -110,6 +112,13 @@ count_in option rows = option_and_then number_in (one_of option rows)
 abbrev pub workers_in : List Row → Option ℕ
 workers_in = count_in (codes "workers")
 
+abbrev pub drive_in : List Row → Option Work
+drive_in rows = option_map (λ workers. drive workers (flag_in (codes "as-script") rows)) (workers_in rows)
+
+-- which interleavings are tried, and which is written
+abbrev pub explore_in : List Row → Work
+explore_in rows = explore (count_in (codes "seeds") rows) (flag_in (codes "all") rows) (first_of (codes "worst") rows)
+
 -- what a subcommand and its matches ask for
 abbrev pub work_in : Text → List Row → Option Work
 work_in name rows =
@@ -120,11 +129,12 @@ work_in name rows =
     else (if bytes_eq name (codes "picture") then option_map picture (first_of (codes "NAME") rows)
     else (if bytes_eq name (codes "page") then option_map page (count_in (codes "worst") rows)
     else (if bytes_eq name (codes "audit") then option_map audit (workers_in rows)
-    else (if bytes_eq name (codes "drive") then option_map drive (workers_in rows)
+    else (if bytes_eq name (codes "drive") then drive_in rows
+    else (if bytes_eq name (codes "explore") then Some (explore_in rows)
     else (if bytes_eq name (codes "ledger") then Some ledger
     else (if bytes_eq name (codes "why") then Some (why (first_of (codes "NAME") rows))
     else (if bytes_eq name (codes "lint") then Some lint
-    else None))))))))))
+    else None)))))))))))
 
 -- the work, with what else is asked for
 abbrev pub requested : List Row → Work → Request
@@ -203,8 +213,11 @@ SpellsWork (page worst) r words =
     × SpellsScript (codes "page") options [] r words
 SpellsWork (audit workers) r words =
     (options : List Text) × IsWorkers workers options × SpellsScript (codes "audit") options [] r words
-SpellsWork (drive workers) r words =
-    (options : List Text) × IsWorkers workers options × SpellsReader (codes "drive") options r words
+SpellsWork (drive workers script) r words =
+    (options : List Text) × IsWorkers workers options
+    × SpellsReader (codes "drive") (options ++ flag_words script (codes "--as-script")) r words
+SpellsWork (explore None all None) r words =
+    SpellsReader (codes "explore") (flag_words all (codes "--all")) r words
 SpellsWork ledger r words = SpellsScript (codes "ledger") [] [] r words
 SpellsWork (why None) r words = SpellsScript (codes "why") [] [] r words
 SpellsWork lint r words = SpellsReader (codes "lint") [] r words

@@ -37,6 +37,24 @@ worst_rule = record (new_rule (codes "worst")) {
   defaults = codes "10" ∷ [];
 }
 
+-- how many interleavings are tried, where not all are
+abbrev pub seeds_rule : Rule
+seeds_rule = record (new_rule (codes "seeds")) {
+  long = Some (codes "seeds");
+  value_names = 1;
+  parser = Some (Unsigned 1 100000);
+}
+
+abbrev pub all_rule : Rule
+all_rule = record (new_rule (codes "all")) { long = Some (codes "all"); action = Some SetTrue }
+
+-- what the worst interleaving is the worst by
+abbrev pub worst_by_rule : Rule
+worst_by_rule = record (new_rule (codes "worst")) { long = Some (codes "worst"); value_names = 1 }
+
+abbrev pub as_script_rule : Rule
+as_script_rule = record (new_rule (codes "as-script")) { long = Some (codes "as-script"); action = Some SetTrue }
+
 abbrev pub bail_rule : Rule
 bail_rule = record (new_rule (codes "bail")) { long = Some (codes "bail"); action = Some SetTrue }
 
@@ -100,7 +118,11 @@ abbrev pub audit : App
 audit = with_rule (with_rule (scripted (new_app (codes "audit"))) workers_rule) format_rule
 
 abbrev pub drive : App
-drive = with_rule (reading (new_app (codes "drive"))) workers_rule
+drive = with_rule (with_rule (reading (new_app (codes "drive"))) workers_rule) as_script_rule
+
+abbrev pub explore : App
+explore =
+    with_rule (with_rule (with_rule (reading (new_app (codes "explore"))) seeds_rule) all_rule) worst_by_rule
 
 abbrev pub lint : App
 lint = with_rule (new_app (codes "lint")) files_rule
@@ -128,5 +150,5 @@ tables = with_subcommand (with_subcommand queries ledger.top) why.top
 
 abbrev pub program : App
 program =
-    with_subcommand (with_subcommand (with_subcommand tables audit.top) drive.top)
+    with_subcommand (with_subcommand (with_subcommand (with_subcommand tables audit.top) drive.top) explore.top)
     lint.top

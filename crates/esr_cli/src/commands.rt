@@ -7,7 +7,7 @@
 ghost use Rattle.std.specs.Prelude.{◌≡◌, IfOk, codes, false};
 ghost use Rattle.clap.specs.Words.{App, app_of, new_app, with_rule, with_subcommand, rule_of};
 ghost use Rattle.clap.specs.declared.builder.command.Command.TheViews.{out-Command};
-ghost use Rattle.esr_cli.specs.Program.{audit, bail_rule, certify, check, drive, esr, explain, file_rule, files_rule, format_rule, ledger, lint, name_rule, named, no_progress_rule, of_rule, page, program, progress_rule, prose_rule, queries, query_rule, reading, script_rule, scripted, scripts, steps_rule, tables, verbose_rule, why, workers_rule, worst_rule};
+ghost use Rattle.esr_cli.specs.Program.{all_rule, as_script_rule, audit, bail_rule, certify, check, drive, esr, explain, explore, file_rule, files_rule, format_rule, ledger, lint, name_rule, named, no_progress_rule, of_rule, page, program, progress_rule, prose_rule, queries, query_rule, reading, script_rule, scripted, scripts, seeds_rule, steps_rule, tables, verbose_rule, why, workers_rule, worst_by_rule, worst_rule};
 
 use crate::help;
 use clap::{Arg, ArgAction, Command, value_parser};
@@ -123,6 +123,51 @@ fn workers<'a>(alloc: Global) -> Arg<'a>
         .value_parser(value_parser!(u64).range(1..=64))
         .default_value("4")
         .help("How many threads audit, 1 to 64")
+}
+
+/// `--as-script`
+fn as_script<'a>(alloc: Global) -> Arg<'a>
+    ensures rule { rule_of result ≡ as_script_rule }
+    ensures local { result.global ≡ false }
+{
+    Arg::new(alloc, "as-script")
+        .long("as-script")
+        .action(ArgAction::SetTrue)
+        .help("Writes what happened as a script, which gives it again")
+}
+
+/// `--seeds N`
+fn seeds<'a>(alloc: Global) -> Arg<'a>
+    ensures rule { rule_of result ≡ seeds_rule }
+    ensures local { result.global ≡ false }
+{
+    Arg::new(alloc, "seeds")
+        .long("seeds")
+        .value_name("N")
+        .value_parser(value_parser!(u64).range(1..=100_000))
+        .help("How many interleavings are drawn, 1 to 100000; 1000 where no number is given")
+}
+
+/// `--all`
+fn all<'a>(alloc: Global) -> Arg<'a>
+    ensures rule { rule_of result ≡ all_rule }
+    ensures local { result.global ≡ false }
+{
+    Arg::new(alloc, "all")
+        .long("all")
+        .action(ArgAction::SetTrue)
+        .help("Tries all interleavings, of which there may be 100000")
+}
+
+/// `--worst MEASURE`
+fn worst_by<'a>(alloc: Global) -> Arg<'a>
+    ensures rule { rule_of result ≡ worst_by_rule }
+    ensures local { result.global ≡ false }
+{
+    Arg::new(alloc, "worst")
+        .long("worst")
+        .value_name("MEASURE")
+        .help("Writes the worst interleaving as a script: by import, distance or blocked")
 }
 
 /// `--progress`
@@ -328,15 +373,26 @@ fn audit<'a>(alloc: Global) -> Result<Command<'a>, AllocError>
     taking(taking(command, workers(alloc)), format(alloc))
 }
 
-/// `drive [--workers W] [FILE]`
+/// `drive [--workers W] [--as-script] [FILE]`
 fn drive<'a>(alloc: Global) -> Result<Command<'a>, AllocError>
     ensures app { IfOk result (λ c. app_of c ≡ drive) }
     ensures local { IfOk result (λ c. (out-Command c).has_globals ≡ false) }
 {
     let about = "Runs the sessions of a drive file, each on a thread";
+    let command = reading(alloc, plain(alloc, "drive", about, help::DRIVE));
+    taking(taking(command, workers(alloc)), as_script(alloc))
+}
+
+/// `explore [--seeds N | --all] [--worst MEASURE] [FILE]`
+fn explore<'a>(alloc: Global) -> Result<Command<'a>, AllocError>
+    ensures app { IfOk result (λ c. app_of c ≡ explore) }
+    ensures local { IfOk result (λ c. (out-Command c).has_globals ≡ false) }
+{
+    let about = "Tries interleavings of the sessions of a drive file";
+    let command = reading(alloc, plain(alloc, "explore", about, help::EXPLORE));
     taking(
-        reading(alloc, plain(alloc, "drive", about, help::DRIVE)),
-        workers(alloc),
+        taking(taking(command, seeds(alloc)), all(alloc)),
+        worst_by(alloc),
     )
 }
 
@@ -405,5 +461,6 @@ pub fn program<'a>(alloc: Global) -> Result<Command<'a>, AllocError>
 {
     let commands = with(tables(alloc)?, audit(alloc))?;
     let commands = with(commands, drive(alloc))?;
+    let commands = with(commands, explore(alloc))?;
     with(commands, lint(alloc))
 }

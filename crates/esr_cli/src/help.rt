@@ -112,6 +112,20 @@ For example:
   committed u
   totals import 0 export 0 entries 3";
 
+pub const EXPLORE: &str =
+    "It runs the sessions of a drive file on one thread, one line after another, in many
+interleavings: drawn ones, or all. It writes for each session how often its lines
+were blocked, and for each query the worst and the middle import and distance.
+
+Which limit does a report need? Give it a large one, and look at the worst import.
+
+For example:
+
+  $ printf 'item a 1\nsession\nbegin q query 0\nread q a\ncommit q\n' | esr explore --all
+  interleavings 1 of 1
+  session 0 blocked worst 0 middle 0 gave up 0
+  query q committed 1 import worst 0 middle 0 distance worst 0 middle 0";
+
 pub const LEDGER: &str =
     "It writes a row for each transaction that began, in order: its number, name and
 kind, its limit, what it was charged and what is left, how many reads and writes

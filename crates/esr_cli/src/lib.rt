@@ -12,7 +12,7 @@ ghost use Rattle.clap.specs.Words.{subcommand_of, subcommand_rows_of, FailsBy};
 ghost use Rattle.clap.specs.Walk.{texts};
 ghost use Rattle.clap.specs.declared.error.kind.ErrorKind.TheVariants.{OutOfMemory};
 ghost use Rattle.esr_cli.specs.Program.{program};
-ghost use Rattle.esr_cli.specs.Job.{certify_in, check_in, count_in, explain_in, flag_in, format_in, format_named, progress_in, request_in, request_of, work_in, work_of, HasWorkers, Spells};
+ghost use Rattle.esr_cli.specs.Job.{certify_in, check_in, count_in, drive_in, explain_in, explore_in, flag_in, format_in, format_named, progress_in, request_in, request_of, work_in, work_of, HasWorkers, Spells};
 
 mod commands;
 mod help;
@@ -60,9 +60,18 @@ pub enum Task<'a> {
         workers: u64,
     },
     /// Runs the sessions of a drive file, and audits with so many workers, 1 to
-    /// 64.
+    /// 64; or writes the history that came as a script.
     Drive {
         workers: u64,
+        script: bool,
+    },
+    /// Runs the blocks of a drive file on one thread, interleaved in all ways or
+    /// by so many seeds, and tells what came of them; or writes the worst one as
+    /// a script, by what it is the worst.
+    Explore {
+        seeds: Option<u64>,
+        all: bool,
+        worst: Option<&'a str>,
     },
     /// Runs a script without writing its lines, and writes a row for each of its
     /// transactions.
@@ -196,6 +205,26 @@ fn check_task<'a>(given: &ArgMatches<'a>) -> Task<'a>
     }
 }
 
+fn drive_task<'a>(given: &ArgMatches<'a>) -> Option<Task<'a>>
+    ensures { option_map work_of result ≡ drive_in (rows_of (found_of given.now)) }
+{
+    let workers = count(given, "workers")?;
+    Some(Task::Drive {
+        workers,
+        script: flag(given, "as-script"),
+    })
+}
+
+fn explore_task<'a>(given: &ArgMatches<'a>) -> Task<'a>
+    ensures { work_of result ≡ explore_in (rows_of (found_of given.now)) }
+{
+    Task::Explore {
+        seeds: count(given, "seeds"),
+        all: flag(given, "all"),
+        worst: text(given, "worst"),
+    }
+}
+
 fn task_of<'a>(name: &str, given: &ArgMatches<'a>) -> Option<Task<'a>>
     ensures { option_map work_of result ≡ work_in name.now (rows_of (found_of given.now)) }
 {
@@ -213,9 +242,8 @@ fn task_of<'a>(name: &str, given: &ArgMatches<'a>) -> Option<Task<'a>>
         "audit" => Some(Task::Audit {
             workers: count(given, "workers")?,
         }),
-        "drive" => Some(Task::Drive {
-            workers: count(given, "workers")?,
-        }),
+        "drive" => drive_task(given),
+        "explore" => Some(explore_task(given)),
         "ledger" => Some(Task::Ledger),
         "why" => Some(Task::Why {
             name: text(given, "NAME"),

@@ -1,6 +1,7 @@
 -- From the parts of a drive to its text.
-use Rattle.std.proofs.Common.{◌≡◌, ℕ, zero, suc, All, arith, ◌+◌, ◌⊎◌, length, sum_by, refl, inl, inr, List, [], ◌∷◌, ◌++◌, map, Option, Some, None, Result, Ok, Err, Vec, Global, ap, sym, subst, ◌∙◌}
+use Rattle.std.proofs.Common.{◌≡◌, ℕ, zero, suc, All, arith, ◌+◌, ◌⊎◌, length, sum_by, refl, inl, inr, List, [], ◌∷◌, ◌++◌, map, Option, Some, None, Result, Ok, Err, IfOk, Vec, Global, ap, sym, subst, ◌∙◌}
 use mathlib.Core.List.{map-map}
+use Rattle.std.specs.declared.alloc.AllocError.{AllocError}
 use Rattle.std.proofs.lemmas.List.{length-map}
 use Rattle.std.proofs.lemmas.List.Sums.{sum_by-cons}
 use Rattle.esr_history.specs.declared.event.Reply.{Reply}
@@ -16,8 +17,12 @@ use Rattle.esr_plan.specs.Plan.{Plan, plan_of, plan_from, cut_fault, with_line, 
 use Rattle.esr_plan.specs.Sheets.{plan_in, IsSound}
 use Rattle.esr_plan.proofs.Cuts.{IsCut, IsNoneOrCut, all_cut}
 use Rattle.esr_drive.specs.Driven.{IsDriven}
-use Rattle.esr_drive.specs.Drive.{IsDriveText}
-use Rattle.esr_plan.specs.Text.{text_of}
+use Rattle.esr_drive.specs.Drive.{IsDriveText, Tells}
+use Rattle.esr_drive.specs.declared.form.Form.{Form}
+use Rattle.esr_drive.specs.declared.form.Form.TheVariants as form
+use Rattle.esr_past.specs.Again.{IsPast}
+use Rattle.esr_plan.specs.Blocks.{Answered}
+use Rattle.esr_plan.specs.Text.{names_of, text_of}
 use Rattle.esr_drive.specs.Faults.{IsTextFault, IsEngineFault, CanFill}
 
 all_items : (P : List Call → Type 0) (bs : List (Vec Call Global)) → All (λ b. P b.items) bs → All P (map (λ b. b.items) bs)
@@ -25,11 +30,20 @@ all_items P [] all i x lt = absurd (omega (arith, lt))
 all_items P (b ∷ bs) all zero x lt = all 0 b (omega arith)
 all_items P (b ∷ bs) all (suc i) x lt = all_items P bs (λ j y below. all (suc j) y (omega (arith, below))) i x (omega (arith, lt))
 
+-- a text of the form that was asked for
+pub text_told : (what : Form) (workers : ℕ) (p : Plan) (h : Schedule) (blocks : List (List Answered)) (r : Result (Vec ℕ Global) AllocError) → what ≡ form.Text workers
+    → IfOk r (λ out. out.items ≡ text_of p h blocks) → IfOk r (λ out. Tells what p h blocks out.items)
+text_told what workers p h blocks r is told = subst (λ (w : Form). IfOk r (λ out. Tells w p h blocks out.items)) (sym is) told
+
+pub history_told : (what : Form) (p : Plan) (h : Schedule) (blocks : List (List Answered)) (r : Result (Vec ℕ Global) AllocError) → what ≡ form.Script
+    → IfOk r (λ out. IsPast p.names (names_of h blocks) h out.items) → IfOk r (λ out. Tells what p h blocks out.items)
+history_told what p h blocks r is told = subst (λ (w : Form). IfOk r (λ out. Tells w p h blocks out.items)) (sym is) told
+
 -- the text of what was driven is one of the file
-pub drive_text : (bytes : List ℕ) (s : Sheet) (h : Schedule) (replies : List (List Reply)) (out : List ℕ)
+pub drive_text : (what : Form) (bytes : List ℕ) (s : Sheet) (h : Schedule) (replies : List (List Reply)) (out : List ℕ)
     → plan_of bytes ≡ Ok (plan_in s) → IsSound s → IsDriven s.values.items (weights_of s.weights.items) (map (λ b. b.items) s.blocks.items) h replies
-    → out ≡ text_of (plan_in s) h (all_answers (map (λ b. b.items) s.blocks.items) replies) → IsDriveText bytes out
-drive_text bytes s h replies out planned sound d text = record {
+    → Tells what (plan_in s) h (all_answers (map (λ b. b.items) s.blocks.items) replies) out → IsDriveText what bytes out
+drive_text what bytes s h replies out planned sound d tells = record {
   plan = plan_in s;
   planned = planned;
   is_text = record {
@@ -42,7 +56,7 @@ drive_text bytes s h replies out planned sound d text = record {
     commands = d.commands ∙ map-map (map command_of) (λ (b : Vec Call Global). b.items) s.blocks.items;
     runs = d.runs s.names (all_items (AreResolved s.names) s.blocks.items sound.resolved);
     matching = d.matching;
-    text_is = text;
+    tells = tells;
   };
 }
 

@@ -15,6 +15,7 @@ use Rattle.esr_session.specs.Receipts.{is_blocked, entry_of}
 use Rattle.esr_session.proofs.Good.{good_matches}
 use Rattle.esr_plan.specs.Blocks.{Answered, IsRun, AreRuns, start, more}
 use Rattle.esr_drive.specs.Drive.{IsDriveText}
+use Rattle.esr_drive.specs.declared.form.Form.TheVariants as form
 
 none : (P : Receipt → Type 0) → All P []
 none P k d lt = absurd (omega (arith, lt))
@@ -119,7 +120,7 @@ runs6 = more answers5 (r0 ∷ r1 ∷ r2 ∷ r3 ∷ r4 ∷ []) (commit q) r5.even
 abbrev entries : List Entry
 entries = entry_of r0 ∷ entry_of r1 ∷ entry_of r2 ∷ entry_of r3 ∷ entry_of r4 ∷ entry_of r5 ∷ []
 
-drive_of_one_block : IsDriveText
+drive_of_one_block : IsDriveText (form.Text 1)
     (codes "item a 0\nsession\nbegin u update 0\nwrite u a 5\ncommit u\nbegin q query 0\nread q a\ncommit q\n")
     (codes "item a 0\nsession 0\nbegun u 1\nwrote u a 5\ncommitted u\nbegun q 2\nq a 5\ncommitted q\naudit q distance 0 import 0 before u\ntotals import 0 export 0 entries 6\n")
 unfolding digits
@@ -141,6 +142,6 @@ drive_of_one_block = record {
     commands = refl;
     runs = (runs6, tt);
     matching = good_matches entries (receipts ∷ []) (((refl, omega arith, refl), ((refl, omega arith, refl), ((refl, omega arith, refl), ((refl, omega arith, refl), ((refl, omega arith, refl), ((refl, omega arith, refl), tt)))))), tt) (omega arith);
-    text_is = refl;
+    tells = refl;
   };
 }

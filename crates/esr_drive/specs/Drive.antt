@@ -1,21 +1,36 @@
 -- What a drive may write, by the file that it read.
-use Rattle.std.specs.Prelude.{◌≡◌, List, [], ℕ, Option, Some, Result, Ok, Err, map}
+use Rattle.std.specs.Prelude.{◌≡◌, ◌≤◌, List, [], ℕ, Option, Some, Result, Ok, Err, map}
 use Rattle.std.specs.Io.KnownBytes.{Consumes}
 use Rattle.esr_items.specs.Weights.{weighted}
 use Rattle.esr_history.specs.Machine.{Schedule, IsLegal}
 use Rattle.esr_base.specs.Watch.{BeginsWith}
+use Rattle.esr_board.specs.declared.board.TheConstants.{MOST_SEATS}
 use Rattle.esr_session.specs.declared.receipt.Receipt.{Receipt}
 use Rattle.esr_session.specs.Receipts.{Matches}
 use Rattle.esr_plan.specs.declared.fault.DriveFault.{DriveFault}
 use Rattle.esr_plan.specs.declared.fault.DriveFault.TheVariants as fault
 use Rattle.esr_plan.specs.Plan.{Plan, plan_of, weights_of}
 use Rattle.esr_plan.specs.Blocks.{Answered, AreBlocks, commands_of}
-use Rattle.esr_plan.specs.Text.{text_of}
+use Rattle.esr_plan.specs.Text.{names_of, text_of}
+use Rattle.esr_past.specs.Again.{IsPast}
+use Rattle.esr_drive.specs.declared.form.Form.{Form}
+use Rattle.esr_drive.specs.declared.form.Form.TheVariants as form
 use Rattle.esr_drive.specs.Faults.{CanFill}
 
--- Each command of the plan has a run of receipts, which match one legal history over the plan's items, and the text is
--- that of the last replies, the findings and the totals of this history.
-pub record IsTextOf (p : Plan) (text : List ℕ) : Type 0 where
+-- as many workers as may audit, where any do
+abbrev pub HasWorkers : Form → Type 0
+HasWorkers (form.Text workers) = (1 ≤ workers) × (workers ≤ MOST_SEATS)
+HasWorkers form.Script = Unit {0}
+
+-- what a text tells of a history and the last replies: these, the findings and the totals; or the history itself, as a
+-- script that gives it again, by the names of the plan
+abbrev pub Tells : Form → Plan → Schedule → List (List Answered) → List ℕ → Type 0
+Tells (form.Text workers) p h blocks text = text ≡ text_of p h blocks
+Tells form.Script p h blocks text = IsPast p.names (names_of h blocks) h text
+
+-- Each command of the plan has a run of receipts, which match one legal history over the plan's items, and the text tells
+-- of this history.
+pub record IsTextOf (what : Form) (p : Plan) (text : List ℕ) : Type 0 where
   pub history : Schedule
   pub blocks : List (List Answered)
   pub receipts : List (List Receipt)
@@ -25,24 +40,24 @@ pub record IsTextOf (p : Plan) (text : List ℕ) : Type 0 where
   pub commands : map commands_of blocks ≡ p.blocks
   pub runs : AreBlocks p.names blocks receipts
   pub matching : Matches history.entries receipts
-  pub text_is : text ≡ text_of p history blocks
+  pub tells : Tells what p history blocks text
 
 -- the text is one of this file
-pub record IsDriveText (bytes : List ℕ) (text : List ℕ) : Type 0 where
+pub record IsDriveText (what : Form) (bytes : List ℕ) (text : List ℕ) : Type 0 where
   pub plan : Plan
   pub planned : plan_of bytes ≡ Ok plan
-  pub is_text : IsTextOf plan text
+  pub is_text : IsTextOf what plan text
 
 -- A drive that was given the input, left these bytes of it and ended so wrote this.
-abbrev pub IsDriveBy : List ℕ → Option (List ℕ) → Result (Unit {0}) DriveFault → List ℕ → Type 0
-IsDriveBy input left (Ok done) written = Consumes (Some input) left input × IsDriveText input written
-IsDriveBy input left (Err fault.Read) written = written ≡ []
-IsDriveBy input left (Err fault.Write) written = (text : List ℕ) × IsDriveText input text × BeginsWith text written
-IsDriveBy input left (Err fault.LineTooLong) written = (written ≡ []) × (plan_of input ≡ Err fault.LineTooLong)
-IsDriveBy input left (Err fault.NoMemory) written = written ≡ []
-IsDriveBy input left (Err fault.HistoryFull) written =
+abbrev pub IsDriveBy : Form → List ℕ → Option (List ℕ) → Result (Unit {0}) DriveFault → List ℕ → Type 0
+IsDriveBy what input left (Ok done) written = Consumes (Some input) left input × IsDriveText what input written
+IsDriveBy what input left (Err fault.Read) written = written ≡ []
+IsDriveBy what input left (Err fault.Write) written = (text : List ℕ) × IsDriveText what input text × BeginsWith text written
+IsDriveBy what input left (Err fault.LineTooLong) written = (written ≡ []) × (plan_of input ≡ Err fault.LineTooLong)
+IsDriveBy what input left (Err fault.NoMemory) written = written ≡ []
+IsDriveBy what input left (Err fault.HistoryFull) written =
     (written ≡ []) × ((p : Plan) × (plan_of input ≡ Ok p) × CanFill p.blocks)
-IsDriveBy input left (Err fault.TooManyLines) written = (written ≡ []) × (plan_of input ≡ Err fault.TooManyLines)
-IsDriveBy input left (Err (fault.BadScript line error)) written =
+IsDriveBy what input left (Err fault.TooManyLines) written = (written ≡ []) × (plan_of input ≡ Err fault.TooManyLines)
+IsDriveBy what input left (Err (fault.BadScript line error)) written =
     (written ≡ []) × (plan_of input ≡ Err (fault.BadScript line error))
-IsDriveBy input left (Err fault.Close) written = (written ≡ []) × ((p : Plan) × (plan_of input ≡ Ok p))
+IsDriveBy what input left (Err fault.Close) written = (written ≡ []) × ((p : Plan) × (plan_of input ≡ Ok p))

@@ -7,9 +7,11 @@
 mod driven;
 mod driving;
 mod findings;
+mod form;
 mod run;
 mod threads;
 
 pub use driving::drive;
 pub use esr_board::{Gate, NoGate};
 pub use esr_plan::DriveFault;
+pub use form::Form;

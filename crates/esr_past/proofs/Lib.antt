@@ -6,3 +6,4 @@ pub mod Tables
 pub mod Texts
 pub mod Feeds
 pub mod Again
+pub mod Names

@@ -1,6 +1,6 @@
 -- That the script of a history gives the history again: what it declares and asks for, by the names that it uses, and how
 -- that is answered.
-use Rattle.std.specs.Prelude.{◌≡◌, ◌≤◌, ℕ, ℤ, ◌+◌, List, [], ◌∷◌, Bool, true, false, Option, Some, None, length, map, filter, option_map, option_and_then}
+use Rattle.std.specs.Prelude.{◌≡◌, ◌≤◌, ℕ, ℤ, ◌+◌, List, [], ◌∷◌, Bool, true, false, Option, Some, None, codes, length, map, filter, option_map, option_and_then}
 use Rattle.std.specs.List.{All, filter_map, range_with_len}
 use Rattle.esr_items.specs.Values.{value_at}
 use Rattle.esr_items.specs.Weights.{weight_of, weighted}
@@ -14,6 +14,7 @@ use Rattle.esr_line.specs.Command.{Command, item, weighted_item, begin_update, b
 use Rattle.esr_line.specs.Lines.{lines}
 use Rattle.esr_report.specs.Names.{position_of}
 use Rattle.esr_past.specs.Lines.{is_kept, name_of_item}
+use Rattle.esr_past.specs.Naming.{first_names, spelled}
 
 -- what the lines of a text stand for, of the commands that stand for something
 abbrev pub found_in : {X : Type 0} → (Command → Option X) → List ℕ → List X
@@ -65,3 +66,10 @@ pub record GivesAgain (items transactions : List (List ℕ)) (h : Schedule) (tex
   pub items_declared : found_in declared_by text ≡ map (declared items h) (range_with_len 0 (length h.opening))
   pub events_asked : found_in (event_of items transactions) text ≡ map (λ e. e.event) (kept h).entries
   pub same_answers : IsLegal weighted (kept h)
+
+-- The text gives the history again, by these names, where lines spell them and none comes twice; else by numbers: items
+-- or transactions, as the case may be.
+abbrev pub IsPast : (items transactions : List (List ℕ)) → Schedule → List ℕ → Type 0
+IsPast items transactions h text =
+    GivesAgain (spelled (codes "i") 0 (first_names (length h.opening) items))
+    (spelled (codes "t") 1 (first_names (length (beginnings (done h))) transactions)) h text

@@ -1,5 +1,5 @@
 -- The names of items and transactions: numbers with a letter, or those of a text that has one on each line.
-use Rattle.std.specs.Prelude.{ℕ, List, [], ◌++◌, Bool, ◌&&◌, Option, Some, None, map, length, codes, decimal, nat_eq, cond}
+use Rattle.std.specs.Prelude.{ℕ, List, [], ◌++◌, Bool, ◌&&◌, Option, Some, None, map, length, codes, decimal, nat_eq, cond, slice_index_or}
 use Rattle.std.specs.List.{list_all, range_with_len, slice_split}
 use Rattle.esr_line.specs.Command.{is_name}
 use Rattle.esr_report.specs.Names.{all_distinct}
@@ -28,6 +28,14 @@ named words = cond (are_names words) (Some words) None
 abbrev pub item_names : ℕ → List ℕ → Option (List (List ℕ))
 item_names count [] = Some (all_numbered (codes "i") 0 count)
 item_names count text = cond (nat_eq (length (names_in text)) count) (named (names_in text)) None
+
+-- the names that so many have, and no letters for those who have none
+abbrev pub first_names : ℕ → List (List ℕ) → List (List ℕ)
+first_names count names = map (λ i. slice_index_or names i []) (range_with_len 0 count)
+
+-- names as they are, where lines spell them and none comes twice; else the word with numbers from a first one on
+abbrev pub spelled : List ℕ → ℕ → List (List ℕ) → List (List ℕ)
+spelled word first names = cond (are_names names) names (all_numbered word first (length names))
 
 -- so many transactions are named by numbers
 abbrev pub transaction_names : ℕ → List (List ℕ)

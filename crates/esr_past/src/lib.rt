@@ -6,8 +6,10 @@
 //! it.
 #![tactic(auto)]
 
+mod by_names;
 mod naming;
 mod spelling;
 
+pub use by_names::named_script;
 pub use naming::{item_names, transaction_names};
 pub use spelling::script;

@@ -1,12 +1,12 @@
 //! The names of items and transactions: numbers with a letter, or those of a text that has one on each line.
 
-ghost use Rattle.std.specs.Prelude.{◌≡◌, ◌++◌, ◌+◌, ◌<◌, ◌≤◌, ◌^◌, IfOk, OnOk, Option, option_map, length, map, decimal, string_bytes, codes};
+ghost use Rattle.std.specs.Prelude.{◌≡◌, ◌++◌, ◌+◌, ◌<◌, ◌≤◌, ◌^◌, [], IfOk, OnOk, Option, option_map, length, map, decimal, slice_index_or, string_bytes, codes};
 ghost use Rattle.std.specs.List.{list_all};
 ghost use Rattle.esr_base.specs.declared.limits.TheConstants.{MOST_ITEMS};
 ghost use Rattle.esr_line.specs.Command.{is_letter, is_name_byte, is_name, name_of};
-ghost use Rattle.esr_past.specs.Naming.{numbered, all_numbered, item_names, named, names_in, transaction_names};
+ghost use Rattle.esr_past.specs.Naming.{numbered, all_numbered, first_names, item_names, named, names_in, spelled, transaction_names};
 
-use esr_report::Names;
+use esr_report::{Names, TransactionNames};
 use std::alloc::{AllocError, Global};
 use std::str::from_utf8;
 
@@ -93,7 +93,7 @@ fn name(word: &[u8]) -> Option<&str>
 
 /// A table of these names, or none where one is no name or comes twice.
 fn table(alloc: Global, words: &[&[u8]]) -> Result<Option<Names>, AllocError>
-    requires few { length words.now ≤ MOST_ITEMS }
+    requires few { length words.now < 2 ^ 32 }
     ensures { IfOk result (λ found. found ≡ named (map (λ word. word.now) words.now)) }
 {
     let mut names = Names::new(alloc);
@@ -127,4 +127,64 @@ pub fn item_names(alloc: Global, text: &[u8], count: u32) -> Result<Option<Names
         return Ok(None);
     }
     table(alloc, &words)
+}
+
+/// The name at a position, no letters where there is none.
+fn name_at<N: TransactionNames>(names: &N, position: u32) -> &str
+    ensures { result.now ≡ slice_index_or (N.names names.now) position [] }
+{
+    match names.name_at(position) {
+        Some(name) => name,
+        None => "",
+    }
+}
+
+/// The names that so many have, and no letters for those who have none.
+#[tactic(auto, using(crate::proofs::Names::one_more_name))]
+fn first_names<'a, N: TransactionNames>(
+    alloc: Global,
+    names: &'a N,
+    count: u32,
+) -> Result<Vec<&'a [u8]>, AllocError>
+    ensures { IfOk result (λ words. map (λ word. word.now) words.items ≡ first_names count (N.names names.entry.now)) }
+{
+    let mut words = Vec::new(alloc);
+    for i in 0..count {
+        let name = name_at(names, i);
+        words.push(name.as_bytes())?;
+    }
+    Ok(words)
+}
+
+/// A table of these names, where lines spell them and none comes twice; else of the word with numbers from a first one
+/// on.
+#[tactic(auto, using(crate::proofs::Names::spelled_some, crate::proofs::Names::spelled_none))]
+fn spelled(alloc: Global, words: &[&[u8]], word: &str, first: u32) -> Result<Names, AllocError>
+    requires room { first + length words.now < 2 ^ 32 }
+    ensures { IfOk result (λ names. names ≡ spelled word.now first (map (λ word. word.now) words.now)) }
+{
+    let found = table(alloc, words)?;
+    match found {
+        Some(names) => Ok(names),
+        None => {
+            let numbers = all_numbered(alloc, word, first, words.len() as u32)?;
+            Ok(numbers)
+        }
+    }
+}
+
+/// A table of the names that so many have, as lines can spell them.
+pub fn spelled_names<N: TransactionNames>(
+    alloc: Global,
+    names: &N,
+    count: u32,
+    word: &str,
+    first: u32,
+) -> Result<Names, AllocError>
+    requires room { first + count < 2 ^ 32 }
+    ensures { IfOk result (λ table. table ≡ spelled word.now first (first_names count (N.names names.now))) }
+{
+    let words = first_names(alloc, names, count)?;
+    let table = spelled(alloc, &words, word, first)?;
+    Ok(table)
 }

@@ -9,7 +9,7 @@ use std::process::Abort;
 type Words = &'static [&'static str];
 
 /// Words of the command line, and the work that each line asks for.
-static TASKS: [(Words, Task<'static>); 22] = [
+static TASKS: [(Words, Task<'static>); 25] = [
     // `run` takes no name: it answers every line.
     (&["esr", "run"], Task::Run),
     // `check` takes no name: a bundle is of one query.
@@ -109,11 +109,46 @@ static TASKS: [(Words, Task<'static>); 22] = [
         Task::Audit { workers: 64 },
     ),
     // Where a drive asks for no workers, there are four as well.
-    (&["esr", "drive"], Task::Drive { workers: 4 }),
+    (
+        &["esr", "drive"],
+        Task::Drive {
+            workers: 4,
+            script: false,
+        },
+    ),
     // A drive takes workers between the bounds, like an audit.
     (
         &["esr", "drive", "--workers", "7"],
-        Task::Drive { workers: 7 },
+        Task::Drive {
+            workers: 7,
+            script: false,
+        },
+    ),
+    // The history that came may be written instead.
+    (
+        &["esr", "drive", "--as-script"],
+        Task::Drive {
+            workers: 4,
+            script: true,
+        },
+    ),
+    // Interleavings are drawn, so many where nobody says how many.
+    (
+        &["esr", "explore"],
+        Task::Explore {
+            seeds: None,
+            all: false,
+            worst: None,
+        },
+    ),
+    // The most that may be drawn.
+    (
+        &["esr", "explore", "--seeds", "100000", "--worst", "import"],
+        Task::Explore {
+            seeds: Some(100_000),
+            all: false,
+            worst: Some("import"),
+        },
     ),
     // A ledger is of a whole script.
     (&["esr", "ledger"], Task::Ledger),

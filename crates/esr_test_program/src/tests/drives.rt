@@ -4,7 +4,7 @@
 mod failing;
 
 use crate::tests::devices::check_written;
-use esr_drive::{DriveFault, NoGate, drive};
+use esr_drive::{DriveFault, Form, NoGate, drive};
 use esr_history::Watched;
 use esr_lint::Unobserved;
 
@@ -264,7 +264,7 @@ fn files_give_their_texts(rt: HostRuntime) {
             rt.alloc(),
             &mut reader,
             &mut writer,
-            1,
+            Form::Text { workers: 1 },
             &NoGate,
             &mut Unobserved,
         );
@@ -297,7 +297,7 @@ fn two_blocks_begin_in_one_of_two_orders(rt: HostRuntime) {
             rt.alloc(),
             &mut reader,
             &mut writer,
-            workers,
+            Form::Text { workers },
             &NoGate,
             &mut Unobserved,
         );

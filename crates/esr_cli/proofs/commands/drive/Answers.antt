@@ -1,10 +1,11 @@
 -- Why `drive` keeps its contract: the goals that are left to a proof of ours.
 use Rattle.std.proofs.Common.{codes}
-use Rattle.clap.specs.Words.{new_app}
+use Rattle.clap.specs.Words.{new_app, with_rule}
 use Rattle.esr_cli.specs.Program as spec
 use Rattle.esr_cli.proofs.commands.drive.Goals as goal
 
 pub returns-clause-app : goal.returns-clause-app
 returns-clause-app c =
-    let reads = c.reading.ensures.app (new_app (codes "drive")) c.plain.ensures.app in
-    rw c.workers.ensures.rule at (c.taking.ensures.app (spec.reading (new_app (codes "drive"))) reads)
+    let reads = c.reading-command.ensures.app (new_app (codes "drive")) c.plain.ensures.app in
+    let workers = rw c.workers.ensures.rule at (c.taking.ensures.app (spec.reading (new_app (codes "drive"))) reads) in
+    rw c.as_script.ensures.rule at (c.taking-2.ensures.app _ workers)

@@ -1,7 +1,7 @@
 //! Readers and writers that fail, and readers that do not end.
 
 use crate::tests::devices::{Way, check_cut, cut_after, narrow_until};
-use esr_drive::{DriveFault, NoGate, drive};
+use esr_drive::{DriveFault, Form, NoGate, drive};
 use esr_history::Watched;
 use esr_lint::Unobserved;
 use std::io;
@@ -41,7 +41,7 @@ fn a_failed_read_leaves_nothing_written(rt: HostRuntime) {
             alloc,
             &mut reader,
             &mut writer,
-            1,
+            Form::Text { workers: 1 },
             &NoGate,
             &mut Unobserved,
         );
@@ -62,7 +62,7 @@ fn a_failed_write_ends_the_text(rt: HostRuntime) {
             alloc,
             &mut reader,
             &mut writer,
-            1,
+            Form::Text { workers: 1 },
             &NoGate,
             &mut Unobserved,
         );
@@ -89,7 +89,7 @@ fn a_stream_without_end_is_not_read_to_its_end(rt: HostRuntime) {
             rt.alloc(),
             &mut reader,
             &mut writer,
-            1,
+            Form::Text { workers: 1 },
             &NoGate,
             &mut Unobserved,
         );

@@ -1,0 +1,12 @@
+-- Why `explore` keeps its contract: the goals that are left to a proof of ours.
+use Rattle.std.proofs.Common.{codes}
+use Rattle.clap.specs.Words.{new_app, with_rule}
+use Rattle.esr_cli.specs.Program as spec
+use Rattle.esr_cli.proofs.commands.explore.Goals as goal
+
+pub returns-clause-app : goal.returns-clause-app
+returns-clause-app c =
+    let reads = c.reading-command.ensures.app (new_app (codes "explore")) c.plain.ensures.app in
+    let seeds = rw c.seeds.ensures.rule at (c.taking.ensures.app (spec.reading (new_app (codes "explore"))) reads) in
+    let all = rw c.all.ensures.rule at (c.taking-2.ensures.app _ seeds) in
+    rw c.worst_by.ensures.rule at (c.taking-3.ensures.app _ all)

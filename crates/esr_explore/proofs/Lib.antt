@@ -1,0 +1,4 @@
+-- Why what came of a run is what its turns make of the blocks, and what is told of it is of that history.
+
+pub mod Turning
+pub mod Telling

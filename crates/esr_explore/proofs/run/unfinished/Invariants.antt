@@ -1,0 +1,10 @@
+-- What holds at each turn of the loop in `unfinished`.
+use Rattle.std.proofs.Common.{◌≡◌, ◌≤◌, ◌<◌, ℕ, [], length, map, slice_index_or}
+use Rattle.esr_explore.specs.Turns.{fresh}
+use Rattle.esr_explore.proofs.run.unfinished.Given as goal
+
+-- the blocks so far have no line left
+abbrev pub invariant-loop-block : goal.invariant-loop-block
+invariant-loop-block l =
+    (k : ℕ) → l.from ≤ k → k < l.block
+    → length (slice_index_or l.runners k fresh).replies ≡ length (slice_index_or (map (λ b. b.items) l.blocks) k [])

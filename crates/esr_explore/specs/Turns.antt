@@ -1,0 +1,93 @@
+-- A run of blocks on one thread: at each turn one of them gives its next line.
+use Rattle.std.specs.Prelude.{◌≡◌, ℕ, ◌+◌, ◌<◌, ◌-◌, ◌^◌, ℤ, List, [], ◌∷◌, ◌++◌, Bool, false, ◌&&◌, Option, Some, None, cond, is_some, length, map, min, nat_lt, option_map, slice_get, slice_index_or, slice_set}
+use Rattle.std.specs.List.{fold, range_with_len}
+use Rattle.esr_items.specs.Weights.{weighted}
+use Rattle.esr_history.specs.declared.event.Event.{Event}
+use Rattle.esr_history.specs.declared.event.Reply.{Reply}
+use Rattle.esr_history.specs.declared.event.Reply.TheVariants.{Refused}
+use Rattle.esr_history.specs.Machine.{Schedule, extended, reply_to, schedule_of}
+use Rattle.esr_history.specs.Refusals.{refusal_named}
+use Rattle.esr_plan.specs.declared.call.Call.{Call}
+use Rattle.esr_plan.specs.Calls.{event_by}
+
+-- refused for what a transaction holds
+abbrev pub is_blocked : Reply → Bool
+is_blocked (Refused why) = is_some (refusal_named why)
+is_blocked _ = false
+
+-- a block that is run: the last replies to its lines, how often the next one was given, and how often a line was blocked
+pub record RunnerView : Type 0 where
+  pub replies : List Reply
+  pub tries : ℕ
+  pub blocked : ℕ
+
+abbrev pub fresh : RunnerView
+fresh = record { replies = []; tries = 0; blocked = 0 }
+
+-- what a number of 64 bits can count
+abbrev pub capped : ℕ → ℕ
+capped n = min n (2 ^ 64 - 1)
+
+-- whether the line is given again: it was blocked, and given fewer than 100 times
+abbrev pub is_again : Reply → RunnerView → Bool
+is_again reply s = is_blocked reply && nat_lt (s.tries + 1) 100
+
+-- the block after a reply to its next line
+abbrev pub noted : Reply → RunnerView → RunnerView
+noted reply s = record {
+  replies = cond (is_again reply s) s.replies (s.replies ++ reply ∷ []);
+  tries = cond (is_again reply s) (s.tries + 1) 0;
+  blocked = cond (is_blocked reply) (capped (s.blocked + 1)) s.blocked;
+}
+
+-- the event of the next line, where one is left
+abbrev pub next_event : List Call → RunnerView → Option Event
+next_event calls s = option_map (event_by s.replies) (slice_get calls (length s.replies))
+
+-- the history and the block after its turn
+abbrev pub history_after : Option Event → Schedule → Schedule
+history_after None h = h
+history_after (Some e) h = extended h e (reply_to weighted h e)
+
+abbrev pub runner_after : Option Event → Schedule → RunnerView → RunnerView
+runner_after None h s = s
+runner_after (Some e) h s = noted (reply_to weighted h e) s
+
+-- all blocks, and the history that they make
+pub record Stage : Type 0 where
+  pub history : Schedule
+  pub blocks : List RunnerView
+
+abbrev pub stage : Schedule → List RunnerView → Stage
+stage h runners = record { history = h; blocks = runners }
+
+abbrev pub turn_of : List Call → ℕ → Stage → Option RunnerView → Stage
+turn_of calls block before None = before
+turn_of calls block before (Some s) = record {
+  history = history_after (next_event calls s) before.history;
+  blocks = slice_set before.blocks block (runner_after (next_event calls s) before.history s);
+}
+
+-- the turn of a block
+abbrev pub turn : List (List Call) → Stage → ℕ → Stage
+turn blocks before block = turn_of (slice_index_or blocks block []) block before (slice_get before.blocks block)
+
+abbrev pub begun : List ℤ → List ℕ → List (List Call) → Stage
+begun opening weights blocks =
+    record { history = schedule_of opening weights []; blocks = map (λ _. fresh) (range_with_len 0 (length blocks)) }
+
+-- these turns, one after another
+abbrev pub turns : List (List Call) → Stage → List ℕ → Stage
+turns blocks before order = fold (turn blocks) before order
+
+-- each block has given each of its lines
+abbrev pub AreDone : List (List Call) → List RunnerView → Type 0
+AreDone blocks runners =
+    (length runners ≡ length blocks)
+    × ((k : ℕ) → k < length blocks → length (slice_index_or runners k fresh).replies ≡ length (slice_index_or blocks k []))
+
+-- The blocks took their turns in this order, and then in some other until each had given each of its lines; this came.
+pub record IsRun (opening : List ℤ) (weights : List ℕ) (blocks : List (List Call)) (order : List ℕ) (end : Stage) : Type 0 where
+  pub rest : List ℕ
+  pub came : end ≡ turns blocks (begun opening weights blocks) (order ++ rest)
+  pub done : AreDone blocks end.blocks

@@ -1,0 +1,164 @@
+//! From a drive file to what is written of its runs.
+
+ghost use Rattle.std.specs.Prelude.{◌≡◌, ◌≤◌, ℕ, List, false, IfOk, length, map};
+ghost use Rattle.esr_base.specs.declared.limits.TheConstants.{MOST_ENTRIES};
+ghost use Rattle.esr_past.specs.Again.{IsPast};
+ghost use Rattle.esr_plan.specs.declared.draft.TheConstants.{MAX_BLOCKS};
+ghost use Rattle.esr_plan.specs.Plan.{weights_of};
+ghost use Rattle.esr_explore.specs.Tales.{IsTale};
+ghost use Rattle.esr_explore.specs.Turns.{AreDone};
+ghost use Rattle.esr_base.specs.Watch.{failed};
+ghost use Rattle.esr_plan.specs.Sheets.{IsSound};
+
+use crate::measure::Measure;
+use crate::query::{Query, queries_of};
+use crate::report::{push_blocks, push_head, push_query};
+use crate::run::{Run, run};
+use crate::runner::Runner;
+use crate::summary::worst_of;
+use crate::tale::{Tale, tell};
+use crate::ways::{ExploreFault, Ways, all_ways, line_counts};
+use esr_history::{Reply, Watched};
+use esr_past::named_script;
+use esr_plan::{DriveFault, Sheet, begun_names, read_all, sheet_of};
+use esr_turns::count_orders;
+use std::alloc::{AllocError, Global};
+use std::io::{Read, Write};
+
+/// What is looked for: in which orders, and which run is written.
+#[derive(Clone, Copy, Debug, PartialEq, Eq)]
+pub struct Search {
+    /// How many orders are drawn, or none where all are gone through.
+    pub seeds: Option<u64>,
+    /// What the run that is written as a script is the worst by; none where the summary is written.
+    pub worst: Option<Measure>,
+}
+
+/// Reads a drive file to its end, runs its blocks on one thread in many orders, and writes what came of them.
+pub fn explore<I: Read, O: Write>(
+    alloc: Global,
+    reader: &mut Watched<I>,
+    writer: &mut Watched<O>,
+    search: Search,
+) -> Result<(), ExploreFault>
+    requires reader { failed reader.old ≡ false }
+    requires writer { failed writer.old ≡ false }
+{
+    let bytes = match read_all(alloc, reader) {
+        Ok(bytes) => bytes,
+        Err(fault) => return Err(ExploreFault::Drive(fault)),
+    };
+    let sheet = match sheet_of(alloc, &bytes) {
+        Ok(sheet) => sheet,
+        Err(fault) => return Err(ExploreFault::Drive(fault)),
+    };
+    let out = text_of(alloc, &sheet, search)?;
+    match writer.send_all(&out) {
+        Ok(()) => Ok(()),
+        Err(_) => Err(ExploreFault::Drive(DriveFault::Write)),
+    }
+}
+
+/// The orders that are gone through.
+fn ways_of(alloc: Global, counts: &[u32], seeds: Option<u64>) -> Result<Ways, ExploreFault>
+    requires { length counts.now ≤ MAX_BLOCKS }
+{
+    match seeds {
+        Some(seeds) => Ok(Ways::Drawn { seeds }),
+        None => all_ways(alloc, counts),
+    }
+}
+
+/// What is told of the run with an order.
+fn tale_of(
+    alloc: Global,
+    sheet: &Sheet<'_>,
+    queries: &[Query<'_>],
+    order: &[u8],
+) -> Result<Tale, ExploreFault>
+    requires { IsSound sheet.now }
+    ensures { IfOk result (λ tale. IsTale sheet.now.values.items (weights_of sheet.now.weights.items)
+        (map (λ b. b.items) sheet.now.blocks.items) queries.now order.now tale) }
+{
+    let run = run(alloc, sheet, order)?;
+    let tale = tell(alloc, &run, queries)?;
+    Ok(tale)
+}
+
+/// What is told of the run with each order.
+fn tales_of(
+    alloc: Global,
+    sheet: &Sheet<'_>,
+    queries: &[Query<'_>],
+    ways: &Ways,
+    counts: &[u32],
+) -> Result<Vec<Tale>, ExploreFault>
+    requires { IsSound sheet.now }
+{
+    let mut tales = Vec::new(alloc);
+    for number in 0..ways.count() {
+        let order = ways.order(alloc, counts, number)?;
+        let tale = tale_of(alloc, sheet, queries, &order)?;
+        if tales.push(tale).is_err() {
+            return Err(ExploreFault::Drive(DriveFault::NoMemory));
+        }
+    }
+    Ok(tales)
+}
+
+/// What is written of the runs that these tales are of.
+fn report_of(
+    alloc: Global,
+    queries: &[Query<'_>],
+    tales: &[Tale],
+    counts: &[u32],
+) -> Result<Vec<u8>, AllocError> {
+    let mut out = Vec::new(alloc);
+    push_head(&mut out, tales.len() as u64, count_orders(counts))?;
+    push_blocks(alloc, &mut out, tales, counts.len())?;
+    for place in 0..queries.len() {
+        push_query(alloc, &mut out, tales, place, queries[place])?;
+    }
+    Ok(out)
+}
+
+/// The replies of each block.
+fn replies_of(alloc: Global, runners: Vec<Runner>) -> Result<Vec<Vec<Reply>>, AllocError>
+    ensures { IfOk result (λ replies. map (λ r. r.items) replies.items ≡ map (λ r. r.replies) runners.items) }
+{
+    let mut replies = Vec::new(alloc);
+    for runner in runners {
+        replies.push(runner.into_replies())?;
+    }
+    Ok(replies)
+}
+
+/// The history of a run, as a script.
+fn script_of(alloc: Global, sheet: &Sheet<'_>, run: Run) -> Result<Vec<u8>, AllocError>
+    requires done { AreDone (map (λ b. b.items) sheet.now.blocks.items) run.runners.items }
+    requires most { length run.history.schedule.entries ≤ MOST_ENTRIES }
+    ensures { IfOk result (λ out. (names : List (List ℕ))
+        × IsPast sheet.now.names names run.history.schedule out.items) }
+{
+    let Run { history, runners } = run;
+    let replies = replies_of(alloc, runners)?;
+    let names = begun_names(alloc, &history, sheet.blocks.as_slice(), replies.as_slice())?;
+    named_script(alloc, &sheet.names, &names, &history)
+}
+
+/// What is written of the runs of a plan.
+fn text_of(alloc: Global, sheet: &Sheet<'_>, search: Search) -> Result<Vec<u8>, ExploreFault>
+    requires { IsSound sheet.now }
+{
+    let counts = line_counts(alloc, sheet.blocks.as_slice())?;
+    let queries = queries_of(alloc, sheet.blocks.as_slice())?;
+    let ways = ways_of(alloc, &counts, search.seeds)?;
+    let tales = tales_of(alloc, sheet, &queries, &ways, &counts)?;
+    match search.worst {
+        None => Ok(report_of(alloc, &queries, &tales, &counts)?),
+        Some(measure) => {
+            let order = ways.order(alloc, &counts, worst_of(&tales, measure))?;
+            Ok(script_of(alloc, sheet, run(alloc, sheet, &order)?)?)
+        }
+    }
+}

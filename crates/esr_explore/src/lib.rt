@@ -1,0 +1,21 @@
+//! Many runs of the blocks of a drive file on one thread: in all orders of their lines, or in drawn ones, and what came
+//! of them.
+//!
+//! A drive shows what threads did once. Here each run is a list of turns and nothing else, so that it can be had again,
+//! and all of them can be gone through. What is told of a run is of a legal history, in which each entry answers the
+//! next line of a block.
+#![tactic(auto)]
+
+mod exploring;
+mod measure;
+mod query;
+mod report;
+mod run;
+mod runner;
+mod summary;
+mod tale;
+mod ways;
+
+pub use exploring::{Search, explore};
+pub use measure::Measure;
+pub use ways::{ExploreFault, MOST_LINES};

@@ -1,0 +1,198 @@
+//! A run of the blocks of a plan on one thread: at each turn one of them gives its next line.
+//!
+//! A line that is blocked is given again at a later turn of its block, up to 100 times in all, as a drive does it; then
+//! its last answer counts. An order has as many turns as there are lines, and blocked lines take some of them: what is
+//! left over is given by all blocks in rounds.
+
+ghost use Rattle.std.specs.Prelude.{◌≡◌, ℕ, List, [], ◌<◌, ◌≤◌, IfOk, IfNone, OnOk, length, map, slice_index_or};
+ghost use Rattle.std.specs.List.{range_with_len};
+ghost use Rattle.esr_items.specs.Weights.{weighted};
+ghost use Rattle.esr_base.specs.declared.limits.TheConstants.{MOST_ENTRIES};
+ghost use Rattle.esr_history.specs.Machine.{IsLegal};
+ghost use Rattle.esr_plan.specs.Plan.{weights_of};
+ghost use Rattle.esr_plan.specs.Sheets.{IsSound};
+ghost use Rattle.esr_explore.specs.Turns.{AreDone, IsRun, begun, fresh, history_after, runner_after, next_event, stage, turn, turns};
+
+use crate::runner::Runner;
+use esr_core::{Machine, StepError};
+use esr_history::{Event, History};
+use esr_items::{Store, Weighted};
+use esr_plan::{Call, DriveFault, Sheet, event_of, metric_of};
+use std::alloc::{AllocError, Global};
+
+/// What came of a run: the history, and for each block what came of its lines.
+#[derive(Drop)]
+pub struct Run {
+    pub history: History<Weighted>,
+    pub runners: Vec<Runner>,
+}
+
+/// The event of the next line of a block, where one is left.
+fn next_event(calls: &[Call<'_>], runner: &Runner) -> Option<Event>
+    ensures { result ≡ next_event calls.now runner.now }
+{
+    let replies = runner.replies();
+    match calls.get(replies.len()) {
+        Some(call) => Some(event_of(replies, *call)),
+        None => None,
+    }
+}
+
+/// Lets a block give its next line, if one is left.
+fn take_turn(
+    machine: &mut Machine<Weighted>,
+    calls: &[Call<'_>],
+    runner: &mut Runner,
+) -> Result<(), StepError>
+    ensures machine { OnOk result (machine.new ≡ history_after (next_event calls.now runner.old) machine.old) }
+    ensures runner { OnOk result
+        (runner.new ≡ runner_after (next_event calls.now runner.old) machine.old runner.old) }
+{
+    let Some(event) = next_event(calls, runner) else {
+        return Ok(());
+    };
+    match machine.step(event) {
+        Ok(reply) => match runner.note(reply) {
+            Ok(()) => Ok(()),
+            Err(_) => Err(StepError::NoMemory),
+        },
+        Err(error) => Err(error),
+    }
+}
+
+/// The turn of a block.
+fn turn(
+    machine: &mut Machine<Weighted>,
+    blocks: &[Vec<Call<'_>>],
+    runners: &mut Vec<Runner>,
+    block: usize,
+) -> Result<(), StepError>
+    requires { length runners.old.items ≤ length blocks.now }
+    ensures stage { OnOk result (stage machine.new runners.new.items
+        ≡ turn (map (λ b. b.items) blocks.now) (stage machine.old runners.old.items) block) }
+    ensures len { length runners.new.items ≡ length runners.old.items }
+{
+    if block >= runners.len() {
+        return Ok(());
+    }
+    take_turn(machine, blocks[block].as_slice(), &mut runners[block])
+}
+
+/// The turns of an order.
+fn take_turns(
+    machine: &mut Machine<Weighted>,
+    blocks: &[Vec<Call<'_>>],
+    runners: &mut Vec<Runner>,
+    order: &[u8],
+) -> Result<(), StepError>
+    requires { length runners.old.items ≤ length blocks.now }
+    ensures stage { OnOk result (stage machine.new runners.new.items
+        ≡ turns (map (λ b. b.items) blocks.now) (stage machine.old runners.old.items) order.now) }
+    ensures len { length runners.new.items ≡ length runners.old.items }
+{
+    for block in order {
+        turn(machine, blocks, runners, *block as usize)?;
+    }
+    Ok(())
+}
+
+/// Blocks that have given no line.
+fn fresh_runners(alloc: Global, count: usize) -> Result<Vec<Runner>, AllocError>
+    ensures { IfOk result (λ runners. runners.items ≡ map (λ _. fresh) (range_with_len 0 count)) }
+{
+    let mut runners = Vec::new(alloc);
+    for _block in 0..count {
+        runners.push(Runner::new(alloc))?;
+    }
+    Ok(runners)
+}
+
+/// The first block from a number on that has a line left.
+fn unfinished(blocks: &[Vec<Call<'_>>], runners: &[Runner], from: usize) -> Option<usize>
+    requires { length runners.now ≡ length blocks.now }
+    ensures { IfNone result ((k : ℕ) → from ≤ k → k < length blocks.now
+        → length (slice_index_or runners.now k fresh).replies
+        ≡ length (slice_index_or (map (λ b. b.items) blocks.now) k [])) }
+{
+    for block in from..runners.len() {
+        if blocks[block].len() != runners[block].replies().len() {
+            return Some(block);
+        }
+    }
+    None
+}
+
+/// The block that has the next turn of a round: the first from a number on that has a line left, or else the first of
+/// all.
+fn next_in_round(blocks: &[Vec<Call<'_>>], runners: &[Runner], from: usize) -> Option<usize>
+    requires { length runners.now ≡ length blocks.now }
+    ensures { IfNone result (AreDone (map (λ b. b.items) blocks.now) runners.now) }
+{
+    match unfinished(blocks, runners, from) {
+        Some(block) => Some(block),
+        None => unfinished(blocks, runners, 0),
+    }
+}
+
+/// Gives what is left of the blocks, in rounds.
+fn finish(
+    machine: &mut Machine<Weighted>,
+    blocks: &[Vec<Call<'_>>],
+    runners: &mut Vec<Runner>,
+) -> Result<(), StepError>
+    requires { length runners.old.items ≡ length blocks.now }
+    ensures stage { OnOk result ((rest : List ℕ) × (stage machine.new runners.new.items
+        ≡ turns (map (λ b. b.items) blocks.now) (stage machine.old runners.old.items) rest)) }
+    ensures done { OnOk result (AreDone (map (λ b. b.items) blocks.now) runners.new.items) }
+{
+    let mut from = 0;
+    for _turn in 0..u64::MAX {
+        let Some(block) = next_in_round(blocks, runners, from) else {
+            return Ok(());
+        };
+        turn(machine, blocks, runners, block)?;
+        from = block.saturating_add(1);
+    }
+    Err(StepError::NoMemory)
+}
+
+/// A machine with the items of a plan.
+fn machine_of(alloc: Global, sheet: &Sheet<'_>) -> Result<Machine<Weighted>, DriveFault>
+    requires { IsSound sheet.now }
+    ensures { IfOk result (λ m. m ≡ (begun sheet.now.values.items (weights_of sheet.now.weights.items)
+        (map (λ b. b.items) sheet.now.blocks.items)).history) }
+{
+    let items = Store::of_valid(alloc, &sheet.values)?;
+    let metric = metric_of(alloc, sheet.weights.as_slice())?;
+    let machine = Machine::new(alloc, items, metric)?;
+    Ok(machine)
+}
+
+/// The fault of a run.
+fn fault_of(error: StepError) -> DriveFault {
+    match error {
+        StepError::HistoryFull => DriveFault::HistoryFull,
+        _ => DriveFault::NoMemory,
+    }
+}
+
+/// Runs the blocks of a plan: in this order, and what it leaves over in rounds.
+pub fn run(alloc: Global, sheet: &Sheet<'_>, order: &[u8]) -> Result<Run, DriveFault>
+    requires { IsSound sheet.now }
+    ensures run { IfOk result (λ r. IsRun sheet.now.values.items (weights_of sheet.now.weights.items)
+        (map (λ b. b.items) sheet.now.blocks.items) order.now (stage r.history.schedule r.runners.items)) }
+    ensures legal { IfOk result (λ r. IsLegal weighted r.history.schedule) }
+    ensures most { IfOk result (λ r. length r.history.schedule.entries ≤ MOST_ENTRIES) }
+{
+    let blocks = sheet.blocks.as_slice();
+    let mut machine = machine_of(alloc, sheet)?;
+    let mut runners = fresh_runners(alloc, blocks.len())?;
+    if let Err(error) = take_turns(&mut machine, blocks, &mut runners, order) {
+        return Err(fault_of(error));
+    }
+    if let Err(error) = finish(&mut machine, blocks, &mut runners) {
+        return Err(fault_of(error));
+    }
+    let history = machine.close();
+    Ok(Run { history, runners })
+}

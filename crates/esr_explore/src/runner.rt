@@ -1,0 +1,94 @@
+//! A block that is being run.
+
+ghost use Rattle.std.specs.Prelude.{◌≡◌, OnOk};
+ghost use Rattle.esr_explore.specs.Turns.{fresh, is_blocked, noted};
+
+use esr_history::Reply;
+use std::alloc::{AllocError, Global};
+use std::marker::Model;
+
+/// The most times that a line is given.
+const TRIES: u32 = 100;
+
+/// A block that is being run: the last replies to its lines, how often the next one was given, and how often a line was
+/// blocked.
+#[derive(Drop)]
+pub struct Runner {
+    replies: Vec<Reply>,
+    tries: u32,
+    blocked: u64,
+}
+
+impl Model for Runner {
+    ghost use Rattle.esr_explore.specs.Turns.{RunnerView};
+
+    ghost Value = { RunnerView };
+
+    ghost view = { λ r. record { replies = r.replies.items; tries = r.tries; blocked = r.blocked } };
+}
+
+/// Whether a line was refused for what a transaction holds.
+pub fn is_blocked(reply: Reply) -> bool
+    ensures { result ≡ is_blocked reply }
+{
+    match reply {
+        Reply::Refused(why) => why.named().is_some(),
+        _ => false,
+    }
+}
+
+impl Runner {
+    /// A block that has given no line.
+    pub fn new(alloc: Global) -> Runner
+        ensures { result ≡ fresh }
+    {
+        Runner {
+            replies: Vec::new(alloc),
+            tries: 0,
+            blocked: 0,
+        }
+    }
+
+    /// The last replies to its lines so far.
+    pub fn replies(&self) -> &[Reply]
+        ensures { result.now ≡ self.now.replies }
+    {
+        self.replies.as_slice()
+    }
+
+    /// How often a line was blocked.
+    pub fn blocked(&self) -> u64
+        ensures { result ≡ self.now.blocked }
+    {
+        self.blocked
+    }
+
+    /// The replies, without the rest.
+    pub fn into_replies(self) -> Vec<Reply>
+        ensures { result.items ≡ self.replies }
+    {
+        let Runner {
+            replies,
+            tries: _,
+            blocked: _,
+        } = self;
+        replies
+    }
+
+    /// Takes down the reply to the next line.
+    pub fn note(&mut self, reply: Reply) -> Result<(), AllocError>
+        ensures { OnOk result (self.new ≡ noted reply self.old) }
+    {
+        let blocked = is_blocked(reply);
+        if blocked {
+            self.blocked = self.blocked.saturating_add(1);
+        }
+        if blocked && self.tries < TRIES - 1 {
+            self.tries += 1;
+            return Ok(());
+        }
+        self.tries = 0;
+        self.replies.push(reply)?;
+        Ok(())
+    }
+}

@@ -1,0 +1,125 @@
+//! What is told of one run: the import and the distance of each query that committed, and how often the lines of each
+//! block were blocked.
+
+ghost use Rattle.std.specs.Prelude.{◌≡◌, ◌<◌, ◌≤◌, IfOk, OnOk, length, map, take};
+ghost use Rattle.esr_items.specs.Weights.{weighted};
+ghost use Rattle.esr_base.specs.declared.limits.TheConstants.{MOST_ENTRIES};
+ghost use Rattle.esr_explore.specs.Turns.{stage};
+ghost use Rattle.esr_explore.specs.Tales.{AreTold, IsTold, IsTaleOf, number_of};
+
+use crate::measure::Measure;
+use crate::query::Query;
+use crate::run::Run;
+use crate::runner::{Runner, is_blocked};
+use esr_audit::{AuditError, audit_query};
+use esr_history::{History, Reply, TxnId};
+use esr_items::Weighted;
+use std::alloc::{AllocError, Global};
+
+/// What a committed query was charged, and how far it was from a serial order.
+#[derive(Clone, Copy, Debug, PartialEq, Eq)]
+pub struct Told {
+    pub import: u64,
+    pub distance: u64,
+}
+
+impl Told {
+    /// The number that a run is measured by.
+    pub fn by(self, measure: Measure) -> u64 {
+        match measure {
+            Measure::Import => self.import,
+            Measure::Distance => self.distance,
+            Measure::Blocked => 0,
+        }
+    }
+}
+
+/// What is told of a run.
+#[derive(Drop)]
+pub struct Tale {
+    /// Of each query of the file, where it committed.
+    pub told: Vec<Option<Told>>,
+    /// How often the lines of each block were blocked.
+    pub blocked: Vec<u64>,
+    /// How many lines of each block were given up.
+    pub given_up: Vec<u64>,
+}
+
+/// The number that a query's begin was given, 0 where it was refused.
+fn number_of(runners: &[Runner], query: Query<'_>) -> TxnId
+    ensures { result.0 ≡ number_of runners.now query.entry.block query.entry.place }
+{
+    let Some(runner) = runners.get(query.block) else {
+        return TxnId(0);
+    };
+    match runner.replies().get(query.place) {
+        Some(Reply::Begun(number)) => *number,
+        _ => TxnId(0),
+    }
+}
+
+/// What is told of a transaction, if it is a query that committed.
+fn told_of(
+    alloc: Global,
+    history: &History<Weighted>,
+    number: TxnId,
+) -> Result<Option<Told>, AllocError>
+    ensures { IfOk result (IsTold history.now.schedule number.0) }
+{
+    match audit_query(alloc, history, number) {
+        Ok(finding) => Ok(Some(Told {
+            import: finding.import,
+            distance: finding.distance,
+        })),
+        Err(AuditError::NotACommittedQuery) => Ok(None),
+        Err(_) => Err(AllocError),
+    }
+}
+
+/// What is told of these queries.
+fn all_told(
+    alloc: Global,
+    run: &Run,
+    queries: &[Query<'_>],
+) -> Result<Vec<Option<Told>>, AllocError>
+    ensures { IfOk result (λ told. AreTold run.now.history.schedule run.now.runners.items queries.now told.items) }
+{
+    let mut told = Vec::new(alloc);
+    for query in queries {
+        let number = number_of(&run.runners, *query);
+        told.push(told_of(alloc, &run.history, number)?)?;
+    }
+    Ok(told)
+}
+
+/// How often the lines of each block were blocked.
+fn all_blocked(alloc: Global, runners: &[Runner]) -> Result<Vec<u64>, AllocError>
+    ensures { IfOk result (λ v. v.items ≡ map (λ r. r.blocked) runners.now) }
+{
+    let mut counts = Vec::new(alloc);
+    for runner in runners {
+        counts.push(runner.blocked())?;
+    }
+    Ok(counts)
+}
+
+/// How many lines of each block were given up.
+fn all_given_up(alloc: Global, runners: &[Runner]) -> Result<Vec<u64>, AllocError> {
+    let mut counts = Vec::new(alloc);
+    for runner in runners {
+        let lost = runner.replies().iter().filter(|reply| is_blocked(**reply));
+        counts.push(lost.count() as u64)?;
+    }
+    Ok(counts)
+}
+
+/// What is told of a run.
+pub fn tell(alloc: Global, run: &Run, queries: &[Query<'_>]) -> Result<Tale, AllocError>
+    ensures { IfOk result (λ tale. IsTaleOf (stage run.now.history.schedule run.now.runners.items) queries.now tale) }
+{
+    Ok(Tale {
+        told: all_told(alloc, run, queries)?,
+        blocked: all_blocked(alloc, &run.runners)?,
+        given_up: all_given_up(alloc, &run.runners)?,
+    })
+}

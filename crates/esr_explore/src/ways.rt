@@ -1,0 +1,139 @@
+//! The orders that are gone through: all of them, or so many drawn ones.
+
+ghost use Rattle.std.specs.Prelude.{◌≡◌, ℕ, List, ◌<◌, ◌≤◌, IfOk, IfSome, length, map};
+ghost use Rattle.std.specs.List.{Contains};
+ghost use Rattle.esr_plan.specs.declared.draft.TheConstants.{MAX_BLOCKS};
+ghost use Rattle.esr_plan.specs.declared.fault.DriveFault.TheVariants.{NoMemory};
+ghost use Rattle.esr_turns.specs.Orders.{IsOrder};
+ghost use Rattle.esr_explore.specs.declared.ways.ExploreFault.TheVariants.{Drive};
+
+use esr_plan::{Call, DriveFault};
+use esr_turns::{MOST_ORDERS, all_orders, count_orders, draw_order};
+use std::alloc::{AllocError, Global};
+use std::fmt;
+
+/// The most lines in blocks where all orders are gone through.
+pub const MOST_LINES: usize = 1_000;
+
+/// Why nothing was told.
+#[derive(Clone, Copy, Debug, PartialEq, Eq)]
+pub enum ExploreFault {
+    /// The file is at fault, or the engine, a device or memory, as for a drive.
+    Drive(DriveFault),
+    /// There are more orders than are gone through: so many, where they can be told.
+    TooManyOrders(Option<u64>),
+    /// There are more lines in blocks than where all orders are gone through.
+    TooManyLinesInBlocks,
+    /// No run has what the worst one is looked for by: no query committed.
+    NoQuery,
+}
+
+impl From<DriveFault> for ExploreFault {
+    ghost from_gives = { λ f e. e ≡ Drive f };
+
+    fn from(fault: DriveFault) -> ExploreFault {
+        ExploreFault::Drive(fault)
+    }
+}
+
+impl From<AllocError> for ExploreFault {
+    ghost from_gives = { λ _ e. e ≡ Drive NoMemory };
+
+    fn from(_error: AllocError) -> ExploreFault {
+        ExploreFault::Drive(DriveFault::NoMemory)
+    }
+}
+
+impl fmt::Display for ExploreFault {
+    fn fmt<W: fmt::Write>(&self, f: &mut fmt::Formatter<W>) -> fmt::Result {
+        match *self {
+            ExploreFault::Drive(fault) => write!(f, "{fault}"),
+            ExploreFault::TooManyOrders(Some(count)) => write!(
+                f,
+                "{count} interleavings: 100,000 are the most for --all; --seeds draws some"
+            ),
+            ExploreFault::TooManyOrders(None) => f.write_str(
+                "more than 10^18 interleavings: 100,000 are the most for --all; --seeds draws some",
+            ),
+            ExploreFault::TooManyLinesInBlocks => f.write_str(
+                "more than 1,000 lines in blocks: too many for --all; --seeds draws some",
+            ),
+            ExploreFault::NoQuery => f.write_str("no query committed in any interleaving"),
+        }
+    }
+}
+
+/// The orders that are gone through.
+#[derive(Drop)]
+pub enum Ways {
+    All(Vec<Vec<u8>>),
+    Drawn { seeds: u64 },
+}
+
+/// How many lines each block has.
+pub fn line_counts(alloc: Global, blocks: &[Vec<Call<'_>>]) -> Result<Vec<u32>, AllocError>
+    ensures { IfOk result (λ counts. length counts.items ≡ length blocks.now) }
+{
+    let mut counts = Vec::new(alloc);
+    for block in blocks {
+        let lines = u32::try_from(block.len()).unwrap_or(u32::MAX);
+        counts.push(lines)?;
+    }
+    Ok(counts)
+}
+
+/// How many lines there are in all.
+pub fn sum_of(counts: &[u32]) -> usize {
+    let mut sum = 0usize;
+    for count in counts {
+        sum = sum.saturating_add(*count as usize);
+    }
+    sum
+}
+
+/// Whether all of so many orders are gone through.
+fn is_few(count: Option<u64>) -> bool {
+    match count {
+        Some(count) => count <= MOST_ORDERS as u64,
+        None => false,
+    }
+}
+
+/// All orders of blocks with so many lines, if they are few enough.
+pub fn all_ways(alloc: Global, counts: &[u32]) -> Result<Ways, ExploreFault>
+    requires { length counts.now ≤ MAX_BLOCKS }
+{
+    let turns = sum_of(counts);
+    let count = count_orders(counts);
+    if turns > MOST_LINES {
+        return Err(ExploreFault::TooManyLinesInBlocks);
+    }
+    if !is_few(count) {
+        return Err(ExploreFault::TooManyOrders(count));
+    }
+    match all_orders(alloc, counts, turns)? {
+        Some(orders) => Ok(Ways::All(orders)),
+        None => Err(ExploreFault::TooManyOrders(count)),
+    }
+}
+
+impl Ways {
+    /// How many orders are gone through.
+    pub fn count(&self) -> u64 {
+        match self {
+            Ways::All(orders) => orders.len() as u64,
+            Ways::Drawn { seeds } => *seeds,
+        }
+    }
+
+    /// The order with a number.
+    pub fn order(&self, alloc: Global, counts: &[u32], number: u64) -> Result<Vec<u8>, AllocError> {
+        match self {
+            Ways::All(orders) => match orders.get(number as usize) {
+                Some(order) => Vec::from_slice(alloc, order),
+                None => Ok(Vec::new(alloc)),
+            },
+            Ways::Drawn { seeds: _ } => draw_order(alloc, counts, number),
+        }
+    }
+}

@@ -1,0 +1,30 @@
+-- The orders in which blocks take their turns, as lists of block numbers.
+use Rattle.std.specs.Prelude.{◌≡◌, ℕ, zero, suc, ◌==◌, List, [], ◌∷◌, ◌++◌, cond, length, flat_map, count_by, nat_lt, slice_index_or}
+use Rattle.std.specs.List.{range_with_len}
+
+-- how often a block stands in an order
+abbrev pub turns_of : ℕ → List ℕ → ℕ
+turns_of block order = count_by (λ b. b == block) order
+
+-- how many lines a block has
+abbrev pub lines_of : List ℕ → ℕ → ℕ
+lines_of counts block = slice_index_or counts block 0
+
+-- so many turns, of which each block has as many as it has lines
+abbrev pub IsOrder : List ℕ → ℕ → List ℕ → Type 0
+IsOrder counts turns order =
+    (length order ≡ turns) × ((block : ℕ) → turns_of block order ≡ lines_of counts block)
+
+-- the order with one more turn of a block, where that has a line left
+abbrev pub longer_by : List ℕ → List ℕ → ℕ → List (List ℕ)
+longer_by counts order block =
+    cond (nat_lt (turns_of block order) (lines_of counts block)) ((order ++ block ∷ []) ∷ []) []
+
+-- the same of each block
+abbrev pub longer : List ℕ → List ℕ → List (List ℕ)
+longer counts order = flat_map (longer_by counts order) (range_with_len 0 (length counts))
+
+-- what so many first turns may be
+abbrev pub first_turns : List ℕ → ℕ → List (List ℕ)
+first_turns counts zero = [] ∷ []
+first_turns counts (suc turns) = flat_map (longer counts) (first_turns counts turns)
