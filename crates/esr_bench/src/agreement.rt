@@ -121,7 +121,7 @@ fn problem(alloc: Global, draws: &mut Draws) -> Result<Problem> {
 }
 
 /// Whether what begins with a draft has the worth and the set of the solver's, and is valid.
-fn compare(alloc: Global, problem: &Problem) -> Result<(bool, DraftOutcome)> {
+fn compare_certificates(alloc: Global, problem: &Problem) -> Result<(bool, DraftOutcome)> {
     let Ok(network) = Network::build(alloc, problem) else {
         return Err(anyhow!("out of memory"));
     };
@@ -162,7 +162,7 @@ pub fn compare(rt: &impl Print, alloc: Global, problems: u64) -> Result<()> {
     };
     for k in 0..problems {
         let problem = problem(alloc, &mut draws)?;
-        let (is_alike, draft) = compare(alloc, &problem)?;
+        let (is_alike, draft) = compare_certificates(alloc, &problem)?;
         if !is_alike {
             return Err(anyhow!("problem {k}: another worth or set than the solver's"));
         }
