@@ -12,3 +12,4 @@ mod reads;
 mod text;
 
 pub use explaining::Explaining;
+pub use text::explanation;
