@@ -5,7 +5,7 @@ ghost use Rattle.esr_items.specs.Weights.{weighted};
 ghost use Rattle.esr_sheet.specs.Csv.{ledger_csv};
 ghost use Rattle.esr_sheet.specs.Rows.{rows_of};
 ghost use Rattle.esr_sheet.specs.Spans.{first_of, last_of};
-ghost use Rattle.esr_sheet.specs.Written.{IsLedger};
+ghost use Rattle.esr_sheet.specs.Written.{IsLedger, IsLedgerOf};
 ghost use Rattle.esr_telling.specs.Ask.{IsRecorded};
 ghost use Rattle.esr_telling.specs.State.{ScriptState};
 
@@ -13,8 +13,11 @@ use crate::csv::push_ledger;
 use crate::format::Format;
 use crate::json::ledger_json;
 use crate::rows::{Row, rows_of};
-use crate::spans::{Spans, spans_of};
+use crate::spans::{Spans, spans_in, spans_of};
 use crate::text::ledger_text;
+use esr_history::History;
+use esr_items::Weighted;
+use esr_report::Names;
 use esr_telling::{Chronicle, Survey};
 use std::alloc::{AllocError, Global};
 
@@ -28,17 +31,33 @@ pub struct Ledger {
 /// A ledger as CSV.
 fn ledger_csv(
     alloc: Global,
-    chronicle: &Chronicle<'_>,
+    history: &History<Weighted>,
+    transactions: &Names,
     rows: &[Row],
     spans: &Spans,
 ) -> Result<Vec<u8>, AllocError>
-    requires { rows.now ≡ rows_of weighted chronicle.now.history.schedule }
-    ensures { IfOk result (λ text. text.items ≡ ledger_csv weighted chronicle.now.history.schedule
-        chronicle.now.transactions (first_of spans.now) (last_of spans.now)) }
+    requires { rows.now ≡ rows_of weighted history.now.schedule }
+    ensures { IfOk result (λ text. text.items ≡ ledger_csv weighted history.now.schedule
+        transactions.now (first_of spans.now) (last_of spans.now)) }
 {
     let mut out = Vec::new(alloc);
-    push_ledger(&mut out, &chronicle.transactions, rows, spans)?;
+    push_ledger(&mut out, transactions, rows, spans)?;
     Ok(out)
+}
+
+/// The ledger of a history that came from no script, as CSV. Its lines are those of the script that gives it again.
+pub fn history_ledger(
+    alloc: Global,
+    history: &History<Weighted>,
+    transactions: &Names,
+) -> Result<Vec<u8>, AllocError>
+    ensures { IfOk result (λ text. IsLedgerOf history.now.schedule transactions.now text.items) }
+{
+    let Ok(rows) = rows_of(alloc, history) else {
+        return Err(AllocError);
+    };
+    let spans = spans_in(alloc, history)?;
+    ledger_csv(alloc, history, transactions, &rows, &spans)
 }
 
 /// The ledger of a script in this form.
@@ -51,7 +70,13 @@ fn text_in(alloc: Global, chronicle: &Chronicle<'_>, format: Format) -> Result<V
     let spans = spans_of(alloc, chronicle)?;
     match format {
         Format::Text => ledger_text(alloc, &chronicle.transactions, &rows, &spans),
-        Format::Csv => ledger_csv(alloc, chronicle, &rows, &spans),
+        Format::Csv => ledger_csv(
+            alloc,
+            &chronicle.history,
+            &chronicle.transactions,
+            &rows,
+            &spans,
+        ),
         Format::Json => ledger_json(alloc, &chronicle.transactions, &rows, &spans),
     }
 }

@@ -25,4 +25,4 @@ mod words;
 pub use audits::AuditSheet;
 pub use explanations::ExplanationSheet;
 pub use format::{Data, Format};
-pub use ledger::Ledger;
+pub use ledger::{Ledger, history_ledger};

@@ -1,11 +1,12 @@
 //! From which line of the script to which a transaction goes. The history knows no lines: the script is read once more
-//! for them, and no clause says which they are.
+//! for them, or they are counted for the script that the history would have. No clause says which they are.
 
 ghost use Rattle.std.specs.Prelude.{◌≡◌};
 ghost use Rattle.esr_sheet.specs.Spans.{first_of, last_of};
 
 use crate::tallies::txn_of;
-use esr_history::{Entry, Refusal, Reply, TxnId};
+use esr_history::{Entry, History, Refusal, Reply, TxnId};
+use esr_items::Weighted;
 use esr_prose::lines_of_entries;
 use esr_telling::Chronicle;
 use std::alloc::{AllocError, Global};
@@ -65,15 +66,34 @@ impl Spans {
     }
 }
 
+/// Spans of a history of which no line is known.
+fn nowhere(alloc: Global, history: &History<Weighted>) -> Result<Spans, AllocError> {
+    let count = history.begun_count().saturating_add(1);
+    Ok(Spans(vec![in alloc; NOWHERE; count]?))
+}
+
 /// The spans of the transactions of a script.
 pub fn spans_of(alloc: Global, chronicle: &Chronicle<'_>) -> Result<Spans, AllocError> {
     let history = &chronicle.history;
     let lines = lines_of_entries(alloc, chronicle.script, &chronicle.transactions, history)?;
-    let count = history.begun_count().saturating_add(1);
-    let mut spans = Spans(vec![in alloc; NOWHERE; count]?);
+    let mut spans = nowhere(alloc, history)?;
     for (place, line) in lines.iter().enumerate() {
         if let Some(entry) = history.log().get(place) {
             spans.note(entry, *line);
+        }
+    }
+    Ok(spans)
+}
+
+/// The spans of the transactions of a history that came from no script, in the script that gives it again: that has a
+/// line for each item, and one for each entry that was accepted or blocked.
+pub fn spans_in(alloc: Global, history: &History<Weighted>) -> Result<Spans, AllocError> {
+    let mut spans = nowhere(alloc, history)?;
+    let mut line = history.items();
+    for place in 0..history.log().len() {
+        if let Some(entry) = history.log().get(place) {
+            line = line.saturating_add(u32::from(!is_mistaken(entry.reply)));
+            spans.note(entry, line);
         }
     }
     Ok(spans)
