@@ -247,6 +247,57 @@ static void past(void) {
     esr_close(&engine);
 }
 
+/* Whether a text begins so, and has a 0 nowhere. */
+static bool begins(const uint8_t *bytes, size_t length, const char *head) {
+    return length >= strlen(head) && memcmp(bytes, head, strlen(head)) == 0 && memchr(bytes, 0, length) == NULL;
+}
+
+/* A report between the halves of a transfer: its explanation to the byte, its picture as one element, and the ledger. */
+static void told(void) {
+    static const int64_t opening[2] = {500, 1500};
+    static const char explained[] =
+        "read checking 400 nearest 500 off 100\nread savings 1500 nearest 1500 off 0\n"
+        "charge read t1 checking amount 100 step 4 import left 100 of 200 export left 100 of 200\n"
+        "charge write t1 savings amount 100 step 6 import left 0 of 200 export left 0 of 200\n"
+        "before -\nafter t1\ndistance 100 import 200\n";
+    static const char rows[] = "number,name,kind,limit,charged,left,reads,writes,blocked_by_lock,blocked_by_import,blocked_by_export,end,"
+                               "distance,first_line,last_line\n"
+                               "1,t1,update,200,200,0,0,2,0,0,0,committed,,3,9\n2,t2,query,200,200,0,2,0,0,0,0,committed,100,4,10\n";
+    static const uint8_t names[] = "checking\nsavings";
+    static uint8_t bytes[20000];
+    esr_engine engine = ESR_CLOSED;
+    esr_reply reply;
+    size_t length = 7;
+    WANT(esr_explain(&engine, 2, names, 0, bytes, sizeof bytes, &length), ESR_IS_CLOSED);
+    WANT(esr_open(&engine, opening, 2), ESR_DONE);
+    begun(esr_begin_update(&engine, 200, &reply), &reply, 1);
+    begun(esr_begin_query(&engine, 200, false, &reply), &reply, 2);
+    answered(esr_write(&engine, 1, 0, 400, &reply), &reply, ESR_WROTE);
+    value(esr_read(&engine, 2, 0, &reply), &reply, 400);
+    value(esr_read(&engine, 2, 1, &reply), &reply, 1500);
+    answered(esr_write(&engine, 1, 1, 1600, &reply), &reply, ESR_WROTE);
+    answered(esr_commit(&engine, 1, &reply), &reply, ESR_COMMITTED);
+    WANT(esr_explain(&engine, 2, names, 0, bytes, sizeof bytes, &length), ESR_NOT_A_COMMITTED_QUERY);
+    WANT(esr_picture(&engine, 1, names, 0, bytes, sizeof bytes, &length), ESR_NOT_A_COMMITTED_QUERY);
+    WANT(length, 7);
+    answered(esr_commit(&engine, 2, &reply), &reply, ESR_COMMITTED);
+    WANT(esr_explain(&engine, 2, names, 5, bytes, sizeof bytes, &length), ESR_BAD_NAMES);
+    WANT(esr_explain(&engine, 2, names, sizeof names - 1, bytes, 10, &length), ESR_TOO_SMALL);
+    WANT(length, sizeof explained - 1);
+    WANT(bytes[0], 0);
+    WANT(esr_explain(&engine, 2, names, sizeof names - 1, bytes, sizeof bytes, &length), ESR_DONE);
+    WANT(length, sizeof explained - 1);
+    WANT(memcmp(bytes, explained, length), 0);
+    WANT(esr_picture(&engine, 2, names, sizeof names - 1, bytes, sizeof bytes, &length), ESR_DONE);
+    WANT(begins(bytes, length, "<svg"), true);
+    WANT(memcmp(bytes + length - 7, "</svg>\n", 7), 0);
+    WANT(esr_ledger(&engine, bytes, 10, &length), ESR_TOO_SMALL);
+    WANT(esr_ledger(&engine, bytes, sizeof bytes, &length), ESR_DONE);
+    WANT(length, sizeof rows - 1);
+    WANT(memcmp(bytes, rows, length), 0);
+    esr_close(&engine);
+}
+
 /* The words of each status and refusal are there, and no two are alike but where they say the same. */
 static void texts(void) {
     WANT(strcmp(esr_status_text(ESR_HISTORY_FULL), "history full"), 0);
@@ -263,6 +314,7 @@ int main(void) {
     for_update();
     many();
     past();
+    told();
     texts();
     day(&engine);
     audit(&engine);

@@ -71,7 +71,7 @@ enum {
     ESR_NOT_BEGUN = 3,             /* esr_account_of: there is no such transaction */
     ESR_WEIGHT_OUT_OF_RANGE = 4,   /* esr_open_weighted: a weight of 0, or above 1,000 */
     ESR_BAD_NAMES = 5,             /* a text: not a name for each item, or one that is none, or one twice */
-    ESR_NOT_A_COMMITTED_QUERY = 6, /* esr_audit, esr_bundle */
+    ESR_NOT_A_COMMITTED_QUERY = 6, /* esr_audit, esr_bundle, esr_explain, esr_picture */
     ESR_TOO_SMALL = 7,             /* there is not room for all; the count is told, but not by esr_do */
     ESR_NO_SUCH_EVENT = 8,         /* esr_do: an event of no kind */
     ESR_HISTORY_FULL = 12,         /* an event: there is no room for it beside the ends of what is active */
@@ -207,6 +207,19 @@ esr_status esr_bundle(const esr_engine *engine, uint32_t query, uint8_t *bytes, 
  * another reason has no line: it has changed nothing, and may be of a number that no line spells. */
 esr_status esr_history_script(const esr_engine *engine, const uint8_t *names, size_t length, uint8_t *bytes, size_t room,
                               size_t *count);
+
+/* What happened to a committed query, as `esr explain` tells it of that script: each read beside the value of the nearest
+ * serial placement, each charge with the update that made it, and the sums; and as `esr picture` draws it, as one SVG. A
+ * `step` is an entry of the history, counted from 1, refusals among them. Each call makes the audit anew. */
+esr_status esr_explain(const esr_engine *engine, uint32_t query, const uint8_t *names, size_t length, uint8_t *bytes,
+                       size_t room, size_t *count);
+esr_status esr_picture(const esr_engine *engine, uint32_t query, const uint8_t *names, size_t length, uint8_t *bytes,
+                       size_t room, size_t *count);
+
+/* The ledger of the history so far, as `esr ledger --format csv` writes it of that script: below a line of the names of
+ * the fields a line for each transaction, with its limit, what was charged and is left of it, how often it read, wrote and
+ * was blocked, how it ended, and of a committed query how far off it was. It audits each committed query. */
+esr_status esr_ledger(const esr_engine *engine, uint8_t *bytes, size_t room, size_t *count);
 
 /* The verdict on a bundle, as `esr check` gives it. It needs no engine. */
 esr_status esr_check(const uint8_t *bytes, size_t length, esr_verdict *verdict);

@@ -72,6 +72,9 @@ static int day(void) {
     WANT(esr_bundle(&engine, 2, bytes, sizeof bytes, &length), ESR_DONE);
     WANT(esr_check(bytes, length, &verdict), ESR_DONE);
     WANT(esr_history_script(&engine, bytes, 0, text, sizeof text, &length), ESR_DONE);
+    WANT(esr_explain(&engine, 2, bytes, 0, text, sizeof text, &length), ESR_DONE);
+    WANT(esr_picture(&engine, 2, bytes, 0, text, sizeof text, &length), ESR_DONE);
+    WANT(esr_ledger(&engine, text, sizeof text, &length), ESR_DONE);
     WANT(esr_bundle(&engine, 2, bytes, sizeof bytes, &length), ESR_DONE);
     WANT(esr_totals_of(&engine, &totals), ESR_DONE);
     WANT(esr_renew(&engine), ESR_DONE);

@@ -40,6 +40,9 @@ static void closed(esr_engine *engine) {
     WANT(esr_audit(engine, 1, before, 1, &finding), ESR_IS_CLOSED);
     WANT(esr_bundle(engine, 1, bytes, 1, &count), ESR_IS_CLOSED);
     WANT(esr_history_script(engine, bytes, 0, bytes, 1, &count), ESR_IS_CLOSED);
+    WANT(esr_explain(engine, 1, bytes, 0, bytes, 1, &count), ESR_IS_CLOSED);
+    WANT(esr_picture(engine, 1, bytes, 0, bytes, 1, &count), ESR_IS_CLOSED);
+    WANT(esr_ledger(engine, bytes, 1, &count), ESR_IS_CLOSED);
     WANT(esr_do(engine, &event, 1, &reply, 0, false, &count), ESR_IS_CLOSED);
     WANT(esr_renew(engine), ESR_IS_CLOSED);
     WANT(esr_renew_aborting(engine), ESR_IS_CLOSED);

@@ -1,5 +1,6 @@
--- The machine words of a handle, and events answered one after another. Only the exports use them.
+-- The machine words of a handle, events answered one after another, and what is told of a query. Only the exports use them.
 
 pub mod Words
 pub mod ForUpdate
 pub mod InTurn
+pub mod Explained

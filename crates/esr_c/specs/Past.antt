@@ -1,9 +1,12 @@
--- The past of an engine as text: its script, which goes into a room of the caller's.
+-- The past of an engine as text, which goes into a room of the caller's.
 use Rattle.std.specs.Prelude.{◌≡◌, ◌⊎◌, ℕ, List, Option, Some, length, take}
+use Rattle.esr_items.specs.Weights.{weighted}
 use Rattle.esr_history.specs.Machine.{Schedule}
 use Rattle.esr_engine.specs.Room.{begun}
 use Rattle.esr_past.specs.Naming.{item_names, transaction_names}
 use Rattle.esr_past.specs.Lines.{script}
+use Rattle.esr_explain.specs.Explain.{explanation}
+use Rattle.esr_sheet.specs.Written as sheet
 
 -- the names that a text gives to the items of a history
 abbrev pub names_of : Schedule → List ℕ → Option (List (List ℕ))
@@ -22,6 +25,19 @@ IsScriptOf h names text =
     (items : List (List ℕ)) × (names_of h names ≡ Some items)
     × (text ≡ script items (transaction_names (begun h)) h)
 
--- the statuses of a script
+-- the explanation of a query of a history, in which items have the names of a text
+abbrev pub IsExplanationOf : Schedule → ℕ → List ℕ → List ℕ → Type 0
+IsExplanationOf h q names text =
+    (items : List (List ℕ)) × (names_of h names ≡ Some items)
+    × (text ≡ explanation weighted h items (transaction_names (begun h)) q)
+
+-- the ledger of a history
+abbrev pub IsLedgerOf : Schedule → List ℕ → Type 0
+IsLedgerOf h text = sheet.IsLedgerOf h (transaction_names (begun h)) text
+
+-- the statuses of a script, and of what is told of a query
 abbrev pub IsScriptStatus : ℕ → Type 0
 IsScriptStatus n = (n ≡ 0) ⊎ ((n ≡ 5) ⊎ ((n ≡ 7) ⊎ ((n ≡ 13) ⊎ (n ≡ 14))))
+
+abbrev pub IsTellingStatus : ℕ → Type 0
+IsTellingStatus n = IsScriptStatus n ⊎ (n ≡ 6)

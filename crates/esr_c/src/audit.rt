@@ -104,8 +104,9 @@ fn numbers(alloc: Global, txns: &[TxnId]) -> Result<Vec<u32>, AllocError>
 }
 
 /// The audit of a query, or why there is none.
-fn find(alloc: Global, engine: &mut Engine, query: u32) -> Result<Finding, Status>
+pub(crate) fn find(alloc: Global, engine: &mut Engine, query: u32) -> Result<Finding, Status>
     ensures same { engine.new ≡ engine.old }
+    ensures query { IfOk result (λ f. f.query.0 ≡ query) }
     ensures ok { IfOk result (IsFindingOf weighted engine.old query) }
     ensures refused { IsErrOf result Status.NotACommittedQuery ↔ (is_committed_query engine.old query ≡ false) }
     ensures err { IfErr result (λ e. (e ≡ Status.NotACommittedQuery) ⊎ (e ≡ Status.NoMemory)) }

@@ -19,7 +19,8 @@ ghost use Rattle.esr_history.specs.Totals.{IsWithinLimits};
 ghost use Rattle.esr_core.specs.Renewed.{has_active, renewed};
 ghost use Rattle.esr_engine.specs.Room.{NeverStuck, counts_of};
 ghost use Rattle.esr_c.specs.Many.{AreAnswered, IsAnsweredStatus, IsEnd};
-ghost use Rattle.esr_c.specs.Past.{IsScriptOf, IsScriptStatus, IsTextIn, IsTextLong, names_of};
+ghost use Rattle.esr_picture.specs.Picture.{IsSvg};
+ghost use Rattle.esr_c.specs.Past.{IsExplanationOf, IsLedgerOf, IsScriptOf, IsScriptStatus, IsTellingStatus, IsTextIn, IsTextLong, names_of};
 ghost use Rattle.esr_c.specs.Answers.{opened, IsEventCall, IsForUpdateCall, IsTotal, IsAccount, IsFound, IsCounted, IsBundleIn, IsBundleLong, AreValuesIn, GoesOn, IsSound, IsOpenStatus, IsWeightedOpenStatus, IsRenewStatus, IsValuesStatus, IsAuditStatus, IsVerdictIn};
 
 mod account;
@@ -30,6 +31,7 @@ mod loose;
 mod many;
 mod past;
 mod reply;
+mod telling;
 mod verdict;
 
 pub use account::EsrAccount;
@@ -43,9 +45,10 @@ use esr_history::{Event, TxnId};
 use esr_items::ItemId;
 pub use many::EsrEvent;
 use many::answer_all;
-use past::show_script;
+use past::{show_ledger, show_script};
 pub use reply::EsrReply;
 use std::alloc::Global;
+use telling::{show_explanation, show_picture};
 pub use verdict::EsrVerdict;
 use verdict::show_verdict;
 
@@ -428,6 +431,100 @@ pub extern "C" fn esr_history_script(
         return Status::Closed.number();
     };
     let status = show_script(alloc, &inner, names, bytes, count);
+    *engine = open_with(inner);
+    status.number()
+}
+
+/// The explanation of a committed query, for which there is room in `bytes`: what it read, beside the values of the nearest
+/// placement, each charge to it, and the sums. Items and transactions are named as in the script of the history.
+///
+/// 0, or 5 where the text has not a name for each item, 6 where the transaction is no committed query, 7 where it has more
+/// bytes than there is room, 13 where an allocation failed, 14 where the engine is closed. With 0 and 7 `count` tells how
+/// many bytes it has.
+#[unsafe(no_mangle)]
+pub extern "C" fn esr_explain(
+    alloc: Global,
+    engine: &mut EsrEngine,
+    query: u32,
+    names: &[u8],
+    bytes: &mut [u8],
+    count: &mut usize,
+) -> u32
+    ensures status { IsTellingStatus result }
+    ensures closed { result ≡ 14 ↔ (engine.old.held.history ≡ None) }
+    ensures refused { IfSome engine.old.held.history (λ h. (result ≡ 6) ↔ (is_committed_query h query ≡ false)) }
+    ensures same { engine.new.held.history ≡ engine.old.held.history }
+    ensures bad { result ≡ 5 → IfSome engine.old.held.history (λ h. names_of h names.now ≡ None) }
+    ensures explanation { result ≡ 0 → IfSome engine.old.held.history
+        (λ h. IsTextIn (IsExplanationOf h query names.now) count.new bytes.new) }
+    ensures small { result ≡ 7 → (length bytes.old < count.new)
+        × IfSome engine.old.held.history (λ h. IsTextLong (IsExplanationOf h query names.now) count.new) }
+    ensures kept { result ≢ 0 → bytes.new ≡ bytes.old }
+    ensures untold { result ≢ 0 → result ≢ 7 → count.new ≡ count.old }
+{
+    let Some(mut inner) = out_of(alloc, engine) else {
+        return Status::Closed.number();
+    };
+    let status = show_explanation(alloc, &mut inner, query, names, bytes, count);
+    *engine = open_with(inner);
+    status.number()
+}
+
+/// The same as a picture: one SVG, of which each element is closed.
+#[unsafe(no_mangle)]
+pub extern "C" fn esr_picture(
+    alloc: Global,
+    engine: &mut EsrEngine,
+    query: u32,
+    names: &[u8],
+    bytes: &mut [u8],
+    count: &mut usize,
+) -> u32
+    ensures status { IsTellingStatus result }
+    ensures closed { result ≡ 14 ↔ (engine.old.held.history ≡ None) }
+    ensures refused { IfSome engine.old.held.history (λ h. (result ≡ 6) ↔ (is_committed_query h query ≡ false)) }
+    ensures same { engine.new.held.history ≡ engine.old.held.history }
+    ensures bad { result ≡ 5 → IfSome engine.old.held.history (λ h. names_of h names.now ≡ None) }
+    ensures picture { result ≡ 0 → IsTextIn IsSvg count.new bytes.new }
+    ensures small { result ≡ 7 → (length bytes.old < count.new) × IsTextLong IsSvg count.new }
+    ensures kept { result ≢ 0 → bytes.new ≡ bytes.old }
+    ensures untold { result ≢ 0 → result ≢ 7 → count.new ≡ count.old }
+{
+    let Some(mut inner) = out_of(alloc, engine) else {
+        return Status::Closed.number();
+    };
+    let status = show_picture(alloc, &mut inner, query, names, bytes, count);
+    *engine = open_with(inner);
+    status.number()
+}
+
+/// The ledger of the history so far as CSV, for which there is room in `bytes`: a row for each transaction, with its limit
+/// and charges, how often it was blocked, how it ended, and how far off a committed query was. Transactions are named as in
+/// the script of the history, whose lines the last two fields count.
+///
+/// 0, or 7 where it has more bytes than there is room, 13 where an allocation failed, 14 where the engine is closed. With 0
+/// and 7 `count` tells how many bytes it has.
+#[unsafe(no_mangle)]
+pub extern "C" fn esr_ledger(
+    alloc: Global,
+    engine: &mut EsrEngine,
+    bytes: &mut [u8],
+    count: &mut usize,
+) -> u32
+    ensures status { IsValuesStatus result }
+    ensures closed { result ≡ 14 ↔ (engine.old.held.history ≡ None) }
+    ensures same { engine.new.held.history ≡ engine.old.held.history }
+    ensures ledger { result ≡ 0 → IfSome engine.old.held.history
+        (λ h. IsTextIn (IsLedgerOf h) count.new bytes.new) }
+    ensures small { result ≡ 7 → (length bytes.old < count.new)
+        × IfSome engine.old.held.history (λ h. IsTextLong (IsLedgerOf h) count.new) }
+    ensures kept { result ≢ 0 → bytes.new ≡ bytes.old }
+    ensures untold { result ≢ 0 → result ≢ 7 → count.new ≡ count.old }
+{
+    let Some(inner) = out_of(alloc, engine) else {
+        return Status::Closed.number();
+    };
+    let status = show_ledger(alloc, &inner, bytes, count);
     *engine = open_with(inner);
     status.number()
 }

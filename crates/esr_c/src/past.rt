@@ -1,20 +1,21 @@
-//! The past of an engine as text: its script.
+//! The past of an engine as text: its script and its ledger.
 
 ghost use Rattle.std.specs.Prelude.{◌≡◌, ◌≢◌, ◌⊎◌, ◌<◌, Some, None, length, IfOk, IfErr, IsErrOf};
 ghost use Rattle.esr_engine.specs.Room.{begun};
 ghost use Rattle.esr_past.specs.Naming.{transaction_names};
-ghost use Rattle.esr_c.specs.Answers.{status_number};
-ghost use Rattle.esr_c.specs.Past.{IsScriptOf, IsScriptStatus, IsTextIn, IsTextLong, names_of};
+ghost use Rattle.esr_c.specs.Answers.{IsValuesStatus, status_number};
+ghost use Rattle.esr_c.specs.Past.{IsLedgerOf, IsScriptOf, IsScriptStatus, IsTextIn, IsTextLong, names_of};
 
 use crate::audit::hand_out;
 use crate::engine::Status;
 use esr_engine::Engine;
 use esr_past::{item_names, script, transaction_names};
 use esr_report::Names;
+use esr_sheet::history_ledger;
 use std::alloc::Global;
 
 /// The names of the items of an engine.
-fn items(alloc: Global, engine: &Engine, names: &[u8]) -> Result<Names, Status>
+pub(crate) fn items(alloc: Global, engine: &Engine, names: &[u8]) -> Result<Names, Status>
     ensures ok { IfOk result (λ items. names_of engine.now names.now ≡ Some items) }
     ensures bad { IsErrOf result Status.BadNames → names_of engine.now names.now ≡ None }
     ensures err { IfErr result (λ e. (e ≡ Status.BadNames) ⊎ (e ≡ Status.NoMemory)) }
@@ -28,7 +29,7 @@ fn items(alloc: Global, engine: &Engine, names: &[u8]) -> Result<Names, Status>
 
 /// The names of the transactions of an engine: their numbers.
 #[tactic(auto, using(esr_history::proofs::WithinRanges::legal_begins))]
-fn transactions(alloc: Global, engine: &Engine) -> Result<Names, Status>
+pub(crate) fn transactions(alloc: Global, engine: &Engine) -> Result<Names, Status>
     ensures ok { IfOk result (λ transactions. transactions ≡ transaction_names (begun engine.now)) }
     ensures err { IfErr result (λ e. e ≡ Status.NoMemory) }
 {
@@ -71,6 +72,38 @@ pub(crate) fn show_script(
     ensures untold { result ≢ Status.Done → result ≢ Status.TooSmall → count.new ≡ count.old }
 {
     match script_text(alloc, engine, names) {
+        Ok(text) => hand_out(bytes, count, &text),
+        Err(why) => why,
+    }
+}
+
+/// The ledger of an engine's history, or why there is none.
+fn ledger_text(alloc: Global, engine: &Engine) -> Result<Vec<u8>, Status>
+    ensures ok { IfOk result (λ text. IsLedgerOf engine.now text.items) }
+    ensures err { IfErr result (λ e. e ≡ Status.NoMemory) }
+{
+    let transactions = transactions(alloc, engine)?;
+    match history_ledger(alloc, engine.history(), &transactions) {
+        Ok(text) => Ok(text),
+        Err(_) => Err(Status::NoMemory),
+    }
+}
+
+pub(crate) fn show_ledger(
+    alloc: Global,
+    engine: &Engine,
+    bytes: &mut [u8],
+    count: &mut usize,
+) -> Status
+    ensures known { IsValuesStatus (status_number result) }
+    ensures open { result ≢ Status.Closed }
+    ensures ledger { result ≡ Status.Done → IsTextIn (IsLedgerOf engine.now) count.new bytes.new }
+    ensures small { result ≡ Status.TooSmall → (length bytes.old < count.new)
+        × IsTextLong (IsLedgerOf engine.now) count.new }
+    ensures kept { result ≢ Status.Done → bytes.new ≡ bytes.old }
+    ensures untold { result ≢ Status.Done → result ≢ Status.TooSmall → count.new ≡ count.old }
+{
+    match ledger_text(alloc, engine) {
         Ok(text) => hand_out(bytes, count, &text),
         Err(why) => why,
     }

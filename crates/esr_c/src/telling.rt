@@ -1,0 +1,156 @@
+//! What is told of a committed query: its explanation and its picture, by the names that the script of the history has.
+//!
+//! Both tell what an audit found, and are made of the engine's own history, so that nobody has to run the script for them.
+
+ghost use Rattle.std.specs.Prelude.{◌≡◌, ◌≢◌, ◌↔◌, ◌⊎◌, ◌<◌, false, None, length, IfOk, IfErr, IsErrOf};
+ghost use Rattle.esr_items.specs.Weights.{weighted};
+ghost use Rattle.esr_history.specs.Queries.{is_committed_query};
+ghost use Rattle.esr_audit.specs.Findings.{IsFindingOf};
+ghost use Rattle.esr_explain.specs.Explain.{explanation};
+ghost use Rattle.esr_picture.specs.Picture.{IsSvg};
+ghost use Rattle.esr_c.specs.Answers.{status_number};
+ghost use Rattle.esr_c.specs.Past.{IsExplanationOf, IsTellingStatus, IsTextIn, IsTextLong, names_of};
+
+use crate::audit::{find, hand_out};
+use crate::engine::Status;
+use crate::past::{items, transactions};
+use esr_audit::Finding;
+use esr_engine::Engine;
+use esr_explain::explanation;
+use esr_history::History;
+use esr_items::Weighted;
+use esr_picture::picture;
+use esr_prose::Audited;
+use esr_report::Names;
+use std::alloc::Global;
+
+/// The explanation of a query of which this was found, or why there is none.
+fn explain(
+    alloc: Global,
+    items: &Names,
+    transactions: &Names,
+    engine: &Engine,
+    finding: &Finding,
+    query: u32,
+) -> Result<Vec<u8>, Status>
+    requires finding { IsFindingOf weighted engine.now query finding.now }
+    requires query { finding.now.query.0 ≡ query }
+    ensures ok { IfOk result (λ text. text.items ≡ explanation weighted engine.now items.now transactions.now query) }
+    ensures err { IfErr result (λ e. e ≡ Status.NoMemory) }
+{
+    match explanation(alloc, items, transactions, engine.history(), finding) {
+        Ok(text) => Ok(text),
+        Err(_) => Err(Status::NoMemory),
+    }
+}
+
+/// The explanation of a query, or why there is none.
+fn explanation_text(
+    alloc: Global,
+    engine: &mut Engine,
+    query: u32,
+    names: &[u8],
+) -> Result<Vec<u8>, Status>
+    ensures same { engine.new ≡ engine.old }
+    ensures ok { IfOk result (λ text. IsExplanationOf engine.old query names.now text.items) }
+    ensures refused { IsErrOf result Status.NotACommittedQuery ↔ (is_committed_query engine.old query ≡ false) }
+    ensures bad { IsErrOf result Status.BadNames → names_of engine.old names.now ≡ None }
+    ensures err { IfErr result (λ e. (e ≡ Status.NotACommittedQuery) ⊎ ((e ≡ Status.BadNames) ⊎ (e ≡ Status.NoMemory))) }
+{
+    let found = find(alloc, engine, query)?;
+    let items = items(alloc, engine, names)?;
+    let transactions = transactions(alloc, engine)?;
+    explain(alloc, &items, &transactions, engine, &found, query)
+}
+
+/// The bytes of the picture of a query, or why there is none.
+fn draw<'a>(
+    alloc: Global,
+    items: &'a Names,
+    transactions: &'a Names,
+    history: &'a History<Weighted>,
+    finding: &'a Finding,
+) -> Result<Vec<u8>, Status>
+    ensures ok { IfOk result (λ text. IsSvg text.items) }
+    ensures err { IfErr result (λ e. e ≡ Status.NoMemory) }
+{
+    let audited = Audited {
+        items,
+        transactions,
+        history,
+        finding,
+    };
+    match picture(alloc, &audited) {
+        Ok(text) => Ok(text.into_bytes()),
+        Err(_) => Err(Status::NoMemory),
+    }
+}
+
+/// The picture of a query, or why there is none.
+fn picture_text(
+    alloc: Global,
+    engine: &mut Engine,
+    query: u32,
+    names: &[u8],
+) -> Result<Vec<u8>, Status>
+    ensures same { engine.new ≡ engine.old }
+    ensures ok { IfOk result (λ text. IsSvg text.items) }
+    ensures refused { IsErrOf result Status.NotACommittedQuery ↔ (is_committed_query engine.old query ≡ false) }
+    ensures bad { IsErrOf result Status.BadNames → names_of engine.old names.now ≡ None }
+    ensures err { IfErr result (λ e. (e ≡ Status.NotACommittedQuery) ⊎ ((e ≡ Status.BadNames) ⊎ (e ≡ Status.NoMemory))) }
+{
+    let found = find(alloc, engine, query)?;
+    let items = items(alloc, engine, names)?;
+    let transactions = transactions(alloc, engine)?;
+    draw(alloc, &items, &transactions, engine.history(), &found)
+}
+
+pub(crate) fn show_explanation(
+    alloc: Global,
+    engine: &mut Engine,
+    query: u32,
+    names: &[u8],
+    bytes: &mut [u8],
+    count: &mut usize,
+) -> Status
+    ensures same { engine.new ≡ engine.old }
+    ensures known { IsTellingStatus (status_number result) }
+    ensures open { result ≢ Status.Closed }
+    ensures refused { (result ≡ Status.NotACommittedQuery) ↔ (is_committed_query engine.old query ≡ false) }
+    ensures bad { result ≡ Status.BadNames → names_of engine.old names.now ≡ None }
+    ensures explanation { result ≡ Status.Done
+        → IsTextIn (IsExplanationOf engine.old query names.now) count.new bytes.new }
+    ensures small { result ≡ Status.TooSmall → (length bytes.old < count.new)
+        × IsTextLong (IsExplanationOf engine.old query names.now) count.new }
+    ensures kept { result ≢ Status.Done → bytes.new ≡ bytes.old }
+    ensures untold { result ≢ Status.Done → result ≢ Status.TooSmall → count.new ≡ count.old }
+{
+    match explanation_text(alloc, engine, query, names) {
+        Ok(text) => hand_out(bytes, count, &text),
+        Err(why) => why,
+    }
+}
+
+pub(crate) fn show_picture(
+    alloc: Global,
+    engine: &mut Engine,
+    query: u32,
+    names: &[u8],
+    bytes: &mut [u8],
+    count: &mut usize,
+) -> Status
+    ensures same { engine.new ≡ engine.old }
+    ensures known { IsTellingStatus (status_number result) }
+    ensures open { result ≢ Status.Closed }
+    ensures refused { (result ≡ Status.NotACommittedQuery) ↔ (is_committed_query engine.old query ≡ false) }
+    ensures bad { result ≡ Status.BadNames → names_of engine.old names.now ≡ None }
+    ensures picture { result ≡ Status.Done → IsTextIn IsSvg count.new bytes.new }
+    ensures small { result ≡ Status.TooSmall → (length bytes.old < count.new) × IsTextLong IsSvg count.new }
+    ensures kept { result ≢ Status.Done → bytes.new ≡ bytes.old }
+    ensures untold { result ≢ Status.Done → result ≢ Status.TooSmall → count.new ≡ count.old }
+{
+    match picture_text(alloc, engine, query, names) {
+        Ok(text) => hand_out(bytes, count, &text),
+        Err(why) => why,
+    }
+}
