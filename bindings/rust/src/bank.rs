@@ -17,11 +17,9 @@ use crate::{
 };
 use std::{
     cell::Cell,
-    collections::{HashMap, HashSet, hash_map::RandomState},
+    collections::{HashMap, HashSet},
     fmt,
-    hash::{BuildHasher, Hasher},
     sync::{Condvar, Mutex, MutexGuard, PoisonError},
-    thread,
 };
 
 /// Where no more entries are left nothing begins until the bank has been renewed: what is active has room to go on.
@@ -182,11 +180,7 @@ impl BankBuilder {
         }
         Ok(Bank {
             names: self.names,
-            patience: self.patience.unwrap_or(Patience {
-                tries: 1_000,
-                attempts: 64,
-                ..Patience::default()
-            }),
+            patience: self.patience.unwrap_or_else(Patience::among_rings),
             shared: Mutex::new(Shared {
                 engine: Engine::open_weighted(&self.opening, &self.weights)?,
                 active: HashSet::new(),
@@ -253,6 +247,30 @@ impl Closing<'_> {
     /// `NoMemory`.
     pub fn script(&mut self) -> Result<String, Error> {
         self.engine.script(&in_order(self.names))
+    }
+
+    /// What happened to one of the reports: see [`Bank::explain`].
+    ///
+    /// # Errors
+    /// `NotACommittedQuery`, `NoMemory`.
+    pub fn explain(&mut self, report: Txn) -> Result<String, Error> {
+        self.engine.explain(report, &in_order(self.names))
+    }
+
+    /// Its picture: see [`Bank::picture`].
+    ///
+    /// # Errors
+    /// `NotACommittedQuery`, `NoMemory`.
+    pub fn picture(&mut self, report: Txn) -> Result<String, Error> {
+        self.engine.picture(report, &in_order(self.names))
+    }
+
+    /// The ledger of the whole history: see [`Bank::ledger`].
+    ///
+    /// # Errors
+    /// `NoMemory`.
+    pub fn ledger(&mut self) -> Result<String, Error> {
+        self.engine.ledger()
     }
 }
 
@@ -344,7 +362,7 @@ impl Bank {
                 (Some(why), _) if attempt >= self.patience.attempts => return Err(why.into()),
                 (Some(_), _) => self.wait_for_end(handle.give_up()),
             }
-            self.pause(attempt);
+            self.patience.wait(attempt);
         }
     }
 
@@ -449,15 +467,22 @@ impl Bank {
         )
     }
 
+    /// The lock, while the history has the report.
+    fn lock_with(&self, report: Report) -> Result<MutexGuard<'_, Shared>, Error> {
+        let shared = self.lock();
+        if report.renewals == shared.renewals {
+            Ok(shared)
+        } else {
+            Err(Error::NotACommittedQuery)
+        }
+    }
+
     /// The audit of a report that ended without one.
     ///
     /// # Errors
     /// `NotACommittedQuery` where the bank has been renewed since. `NoMemory`.
     pub fn audit(&self, report: Report) -> Result<Finding, Error> {
-        let mut shared = self.lock();
-        if report.renewals != shared.renewals {
-            return Err(Error::NotACommittedQuery);
-        }
+        let mut shared = self.lock_with(report)?;
         let finding = shared.engine.audit(report.query)?;
         shared.due.retain(|due| *due != report.query);
         Ok(finding)
@@ -481,6 +506,46 @@ impl Bank {
     /// `NoMemory`.
     pub fn script(&self) -> Result<String, Error> {
         self.lock().engine.script(&in_order(&self.names))
+    }
+
+    /// What happened to a report, as `esr explain` tells it of that script: each read beside the value of the nearest
+    /// serial placement, and each charge with the update that made it.
+    ///
+    /// ```
+    /// use esr::{Bank, Error};
+    ///
+    /// let bank = Bank::builder().item("checking", 500).open()?;
+    /// let (_, report) = bank.report_unaudited(0, |report| report.read("checking"))?;
+    /// assert_eq!(
+    ///     bank.explain(report)?,
+    ///     "read checking 500 nearest 500 off 0\nbefore -\nafter -\ndistance 0 import 0\n"
+    /// );
+    /// assert!(bank.picture(report)?.starts_with("<svg"));
+    /// # Ok::<(), Error>(())
+    /// ```
+    ///
+    /// # Errors
+    /// Those of [`audit`](Bank::audit).
+    pub fn explain(&self, report: Report) -> Result<String, Error> {
+        let mut shared = self.lock_with(report)?;
+        shared.engine.explain(report.query, &in_order(&self.names))
+    }
+
+    /// The audit of a report as a picture: one SVG.
+    ///
+    /// # Errors
+    /// Those of [`audit`](Bank::audit).
+    pub fn picture(&self, report: Report) -> Result<String, Error> {
+        let mut shared = self.lock_with(report)?;
+        shared.engine.picture(report.query, &in_order(&self.names))
+    }
+
+    /// The ledger of the history since the last renewal as CSV, a line for each transaction: see [`Engine::ledger`].
+    ///
+    /// # Errors
+    /// `NoMemory`.
+    pub fn ledger(&self) -> Result<String, Error> {
+        self.lock().engine.ledger()
     }
 
     /// The committed value of an item.
@@ -510,18 +575,8 @@ impl Bank {
                 return;
             }
             drop(shared);
-            self.pause(round);
+            self.patience.wait(round);
         }
-    }
-
-    /// A little longer each time, up to 64 pauses, and not quite the same for each thread.
-    fn pause(&self, round: u32) {
-        if round < 4 {
-            return thread::yield_now();
-        }
-        let most = self.patience.pause.saturating_mul(1 << (round - 4).min(6));
-        let draw = RandomState::new().build_hasher().finish();
-        thread::sleep(most.saturating_mul(8 + (draw % 8) as u32) / 16);
     }
 }
 
@@ -577,7 +632,7 @@ impl<'a> Handle<'a> {
                 Err(why @ (Error::Deadlock | Error::HistoryFull)) => return Err(self.stop_for(why)),
                 answer => return answer,
             }
-            self.bank.pause(round);
+            self.bank.patience.wait(round);
         }
     }
 

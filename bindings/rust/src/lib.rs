@@ -42,13 +42,15 @@
 
 mod bank;
 mod event;
+mod patience;
 mod sys;
 mod transact;
 mod waits;
 
 pub use bank::{Bank, BankBuilder, BankQuery, BankUpdate, Closing, Report};
 pub use event::{Account, Counts, Error, Event, Finding, Refusal, Reply, Standing, Totals, Txn};
-pub use transact::{Patience, Update, transact};
+pub use patience::Patience;
+pub use transact::{Update, transact};
 
 use std::fmt;
 
@@ -479,6 +481,75 @@ impl Engine {
         Ok(text(bytes))
     }
 
+    /// What a call tells of a query, by these names of the items.
+    fn told(&mut self, call: sys::Telling, query: Txn, names: &[&str]) -> Result<String, Error> {
+        let names = names.join("\n");
+        // SAFETY: the pointers and the lengths are those of two lists.
+        let bytes = listed(0, 4_096, |bytes, room, count| unsafe {
+            let (raw, length) = (&mut self.raw, names.len());
+            call(raw, query.0, names.as_ptr(), length, bytes, room, count)
+        })?;
+        Ok(text(bytes))
+    }
+
+    /// What happened to a committed query, as `esr explain` tells it: each read beside the value of the nearest serial
+    /// placement, each charge with the update that made it, and the sums. Items are called as in
+    /// [`script`](Engine::script).
+    ///
+    /// ```
+    /// let mut engine = esr::Engine::open(&[500])?;
+    /// let query = engine.begin_query(0)?;
+    /// engine.read(query, 0)?;
+    /// engine.commit(query)?;
+    /// let read = "read checking 500 nearest 500 off 0\n";
+    /// assert!(engine.explain(query, &["checking"])?.starts_with(read));
+    /// # Ok::<(), esr::Error>(())
+    /// ```
+    ///
+    /// # Errors
+    /// `NotACommittedQuery`, `BadNames`, `NoMemory`.
+    pub fn explain(&mut self, query: Txn, names: &[&str]) -> Result<String, Error> {
+        self.told(sys::esr_explain, query, names)
+    }
+
+    /// The audit of a committed query as a picture, as `esr picture` draws it: one SVG. Items are called as in
+    /// [`script`](Engine::script).
+    ///
+    /// ```
+    /// let mut engine = esr::Engine::open(&[500])?;
+    /// let query = engine.begin_query(0)?;
+    /// engine.read(query, 0)?;
+    /// engine.commit(query)?;
+    /// assert!(engine.picture(query, &[])?.starts_with("<svg"));
+    /// # Ok::<(), esr::Error>(())
+    /// ```
+    ///
+    /// # Errors
+    /// Those of [`explain`](Engine::explain).
+    pub fn picture(&mut self, query: Txn, names: &[&str]) -> Result<String, Error> {
+        self.told(sys::esr_picture, query, names)
+    }
+
+    /// The ledger of the history so far as CSV, as `esr ledger` writes it: below a line of the names of the fields a line
+    /// for each transaction, with its limit, its charges, how it ended, and how far off a committed query was.
+    ///
+    /// ```
+    /// let mut engine = esr::Engine::open(&[500])?;
+    /// engine.begin_update(200)?;
+    /// assert!(engine.ledger()?.contains("\n1,t1,update,200,0,200,"));
+    /// # Ok::<(), esr::Error>(())
+    /// ```
+    ///
+    /// # Errors
+    /// `NoMemory`.
+    pub fn ledger(&mut self) -> Result<String, Error> {
+        // SAFETY: the pointer and the length are those of one list.
+        let bytes = listed(0, 4_096, |bytes, room, count| unsafe {
+            sys::esr_ledger(&mut self.raw, bytes, room, count)
+        })?;
+        Ok(text(bytes))
+    }
+
     /// Goes on from the committed values with an empty history, in which transactions are numbered from 1 again. A
     /// history ends at [`MOST_ENTRIES`] and at [`MOST_TRANSACTIONS`]: then let what is active end, audit what is of
     /// interest, and renew.
@@ -492,7 +563,7 @@ impl Engine {
     /// The same from every state: what is active is aborted.
     ///
     /// # Errors
-    /// `NoMemory`: then nothing has changed but that some may have been aborted.
+    /// `NoMemory`: then nothing has changed, and what was active still is.
     pub fn renew_aborting(&mut self) -> Result<(), Error> {
         done(sys::esr_renew_aborting(&mut self.raw))
     }

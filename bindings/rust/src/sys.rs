@@ -65,6 +65,17 @@ pub(crate) struct Event {
     pub value: i64,
 }
 
+/// A call that tells of a query: its number, the names of the items, and the room for the text.
+pub(crate) type Telling = unsafe extern "C" fn(
+    engine: &mut Engine,
+    query: u32,
+    names: *const u8,
+    length: usize,
+    bytes: *mut u8,
+    room: usize,
+    count: &mut usize,
+) -> u32;
+
 // A call without lists is safe: references promise what `esr.h` asks, and no call has a further condition. A list
 // crosses as a pointer and a length.
 unsafe extern "C" {
@@ -137,6 +148,30 @@ unsafe extern "C" {
         engine: &mut Engine,
         names: *const u8,
         length: usize,
+        bytes: *mut u8,
+        room: usize,
+        count: &mut usize,
+    ) -> u32;
+    pub(crate) fn esr_explain(
+        engine: &mut Engine,
+        query: u32,
+        names: *const u8,
+        length: usize,
+        bytes: *mut u8,
+        room: usize,
+        count: &mut usize,
+    ) -> u32;
+    pub(crate) fn esr_picture(
+        engine: &mut Engine,
+        query: u32,
+        names: *const u8,
+        length: usize,
+        bytes: *mut u8,
+        room: usize,
+        count: &mut usize,
+    ) -> u32;
+    pub(crate) fn esr_ledger(
+        engine: &mut Engine,
         bytes: *mut u8,
         room: usize,
         count: &mut usize,

@@ -1,38 +1,7 @@
 //! Updates over an engine that threads share under a lock.
 
-use crate::{Engine, Error, Event, Reply, Txn};
-use std::{
-    sync::{Mutex, MutexGuard, PoisonError},
-    thread,
-    time::Duration,
-};
-
-/// How often what is blocked is tried again, and how long is waited before: twice as long each time.
-#[derive(Clone, Copy, PartialEq, Eq, Debug)]
-pub struct Patience {
-    /// How often an event is given, at most.
-    pub tries: u32,
-    /// How often the whole update is begun, at most. Of two updates that block one another, one has to begin anew.
-    pub attempts: u32,
-    /// How long is waited after the first try.
-    pub pause: Duration,
-}
-
-impl Default for Patience {
-    fn default() -> Patience {
-        Patience {
-            tries: 8,
-            attempts: 16,
-            pause: Duration::from_micros(20),
-        }
-    }
-}
-
-impl Patience {
-    fn wait(self, round: u32) {
-        thread::sleep(self.pause.saturating_mul(1 << round.min(10)));
-    }
-}
+use crate::{Engine, Error, Event, Patience, Reply, Txn};
+use std::sync::{Mutex, MutexGuard, PoisonError};
 
 /// No panic leaves a call half done, so a lock that one has poisoned is taken all the same.
 fn lock(engine: &Mutex<Engine>) -> MutexGuard<'_, Engine> {

@@ -73,6 +73,34 @@ fn lists_longer_than_the_first_room() {
     assert_eq!(engine.values().unwrap().len(), 4096);
 }
 
+/// A report between the halves of a transfer: its explanation to the byte, its picture and its row; and why there is none.
+#[test]
+fn a_report_is_explained() {
+    let mut engine = Engine::open(&[500, 1500]).unwrap();
+    let transfer = engine.begin_update(200).unwrap();
+    let report = engine.begin_query(200).unwrap();
+    engine.write(transfer, 0, 400).unwrap();
+    engine.read(report, 0).unwrap();
+    let names = ["checking", "savings"];
+    assert_eq!(
+        engine.explain(report, &names),
+        Err(Error::NotACommittedQuery)
+    );
+    engine.commit(report).unwrap();
+    engine.commit(transfer).unwrap();
+    assert_eq!(engine.explain(report, &names[..1]), Err(Error::BadNames));
+    assert_eq!(
+        engine.explain(report, &names).unwrap(),
+        "read checking 400 nearest 500 off 100\n\
+         charge read t1 checking amount 100 step 4 import left 100 of 200 export left 100 of 200\n\
+         before -\nafter t1\ndistance 100 import 100\n"
+    );
+    let picture = engine.picture(report, &names).unwrap();
+    assert!(picture.starts_with("<svg") && picture.ends_with("</svg>\n"));
+    let row = "2,t2,query,200,100,100,1,0,0,0,0,committed,100,4,7";
+    assert_eq!(engine.ledger().unwrap().lines().nth(2), Some(row));
+}
+
 #[test]
 fn transact_gives_up_and_aborts() {
     let bank = Mutex::new(Engine::open(&[0]).unwrap());
