@@ -10,7 +10,7 @@ import random
 import re
 import threading
 import time
-from dataclasses import dataclass
+from dataclasses import dataclass, field
 from types import TracebackType
 from typing import Callable, Dict, Iterable, List, Mapping, Optional, Set, Tuple, Type, TypeVar
 
@@ -32,12 +32,13 @@ WORDS = {
     10: "the import limit",
     11: "the export limit",
 }
+NOT_COMMITTED = "only a report that has committed is audited"
 T = TypeVar("T")
 
 
 @dataclass(frozen=True)
 class Finding:
-    """What an audit finds of a report."""
+    """What an audit finds of a report. A notebook shows it as a picture, as long as the report's history is there."""
 
     distance: int
     """How far what it read was from the nearest serial placement."""
@@ -45,6 +46,14 @@ class Finding:
     """What it imported: at least the distance."""
     before: Tuple[int, ...]
     """The updates before that placement, in the order of their commits."""
+    _query: "Query" = field(repr=False, compare=False)
+
+    def explain(self) -> str:
+        """What happened to the report: see `Query.explain`."""
+        return self._query.explain()
+
+    def _repr_svg_(self) -> Optional[str]:
+        return self._query._repr_svg_()
 
 
 class _Waits:
@@ -167,17 +176,25 @@ class Bank:
         of the items, or `i0`, `i1` where one is no name of scripts (a letter, and up to 15 letters, digits or underscores);
         transactions are `t1`, `t2`."""
         with self._lock:
-            return self._text(c.library.esr_history_script)
+            return self._text(c.library.esr_history_script, self._names, len(self._names)).decode()
 
-    def _text(self, call: Callable[..., int], *words: int) -> str:
+    def ledger(self) -> str:
+        """The ledger of the history since the last renewal, as CSV: below a line of the names of the fields a line for each
+        transaction, with its limit, its charges, how it ended, and how far off a committed report was."""
+        with self._lock:
+            return self._text(c.library.esr_ledger).decode()
+
+    def _text(self, call: Callable[..., int], *words: object) -> bytes:
         """A text that a call writes, at its second try where the first room was too small. The lock is held."""
         count, room = ctypes.c_size_t(), 16384
         while True:
             text = (ctypes.c_uint8 * room)()
-            status = call(self._engine, *words, self._names, len(self._names), text, room, count)
+            status = call(self._engine, *words, text, room, count)
+            if status == c.NOT_A_COMMITTED_QUERY:
+                raise EsrError(NOT_COMMITTED)
             if status != c.TOO_SMALL:
                 self._check(status)
-                return bytes(text[: count.value]).decode()
+                return bytes(text[: count.value])
             room = count.value
 
     def due(self) -> List["Query"]:
@@ -401,22 +418,34 @@ class Query(_Transaction):
             before = (ctypes.c_uint32 * room)()
             status = c.library.esr_audit(self._bank._engine, self.number, before, room, found)
             if status == c.NOT_A_COMMITTED_QUERY:
-                raise EsrError("only a report that has committed is audited")
+                raise EsrError(NOT_COMMITTED)
             if status != c.TOO_SMALL:
                 self._bank._check(status)
-                return Finding(found.distance, found.imported, tuple(before[: found.count]))
+                return Finding(found.distance, found.imported, tuple(before[: found.count]), self)
             room = found.count
 
     def bundle(self) -> bytes:
         """Its audit as JSON, which `esr check` judges without this engine."""
-        count, room = ctypes.c_size_t(), 4096
+        return self._told(c.library.esr_bundle)
+
+    def explain(self) -> str:
+        """What happened to it, as `esr explain` tells it of the bank's `script()`: each read beside the value of the nearest
+        serial placement, each charge with the update that made it, and the sums."""
+        return self._told(c.library.esr_explain, self._bank._names, len(self._bank._names)).decode()
+
+    def picture(self) -> str:
+        """Its audit as a picture, as `esr picture` draws it: one SVG."""
+        return self._told(c.library.esr_picture, self._bank._names, len(self._bank._names)).decode()
+
+    def _repr_svg_(self) -> Optional[str]:
+        """What a notebook shows: nothing where it has not committed, or its history is gone."""
+        try:
+            return self.picture()
+        except EsrError:
+            return None
+
+    def _told(self, call: Callable[..., int], *words: object) -> bytes:
         with self._bank._lock:
             if self._bank.renewals != self._renewals:
                 raise EsrError("the history of this report is gone")
-            while True:
-                text = (ctypes.c_uint8 * room)()
-                status = c.library.esr_bundle(self._bank._engine, self.number, text, room, count)
-                if status != c.TOO_SMALL:
-                    self._bank._check(status)
-                    return bytes(text[: count.value])
-                room = count.value
+            return self._bank._text(call, self.number, *words)

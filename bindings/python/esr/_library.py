@@ -51,7 +51,7 @@ def _path() -> str:
 
 def _load() -> ctypes.CDLL:
     library = ctypes.CDLL(_path())
-    engine = POINTER(Engine)
+    engine, text = POINTER(Engine), (POINTER(c_uint8), c_size_t, POINTER(c_size_t))
     declared = {
         "esr_open_weighted": [engine, POINTER(c_int64), c_size_t, POINTER(c_uint32), c_size_t],
         "esr_begin_update": [engine, c_uint64, POINTER(Reply)],
@@ -66,8 +66,11 @@ def _load() -> ctypes.CDLL:
         "esr_account_of": [engine, c_uint32, POINTER(Account)],
         "esr_values": [engine, POINTER(c_int64), c_size_t, POINTER(c_size_t)],
         "esr_audit": [engine, c_uint32, POINTER(c_uint32), c_size_t, POINTER(Finding)],
-        "esr_bundle": [engine, c_uint32, POINTER(c_uint8), c_size_t, POINTER(c_size_t)],
-        "esr_history_script": [engine, c_char_p, c_size_t, POINTER(c_uint8), c_size_t, POINTER(c_size_t)],
+        "esr_bundle": [engine, c_uint32, *text],
+        "esr_history_script": [engine, c_char_p, c_size_t, *text],
+        "esr_explain": [engine, c_uint32, c_char_p, c_size_t, *text],
+        "esr_picture": [engine, c_uint32, c_char_p, c_size_t, *text],
+        "esr_ledger": [engine, *text],
         "esr_do": [engine, POINTER(Event), c_size_t, POINTER(Reply), c_size_t, c_bool, POINTER(c_size_t)],
         "esr_renew": [engine],
     }

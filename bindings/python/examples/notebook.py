@@ -54,3 +54,13 @@ with bank.report(0) as count:
     pieces = sum(count.read(article) + count.read(f"{article}_sold") for article in ARTICLES)
 print("pieces in the end:", pieces, "off by", count.finding.distance)
 print("each count was off by no more than its finding says:", all(f.distance <= f.charged for f in findings))
+
+# %% One that was off, told and drawn: a notebook shows the finding as its picture.
+with bank.update(2) as sale:
+    sale.add("plums", -1)
+    with bank.report(2) as count:
+        pieces = sum(count.read(article) + count.read(f"{article}_sold") for article in ARTICLES)
+    sale.add("plums_sold", 1)
+print(f"{pieces} in the middle of a sale: {count.finding.explain().splitlines()[-1]}")
+print(next(line for line in count.finding.explain().splitlines() if line.startswith("charge")))
+print("drawn:", count.finding._repr_svg_()[:4] + "..>", "rows of the ledger:", bank.ledger().count("\n") - 1)

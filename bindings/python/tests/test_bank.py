@@ -1,8 +1,13 @@
 """The Python package as threads use it. ESR_SOAK_SECONDS says how long the soak runs: two seconds where it is not set."""
 
+import contextlib
+import csv
 import doctest
+import io
 import json
 import os
+import random
+import subprocess
 import threading
 import time
 import unittest
@@ -11,8 +16,28 @@ import esr
 from esr import Bank, Blocked, Deadlock, EsrError, OutOfRange, Refused, UnknownItem
 
 
+PROGRAM = os.environ.get("ESR_PROGRAM")
+LEDGER = [("t1", "100", "committed", ""), ("t2", "100", "committed", "100")]
+
+
 def two_accounts(**words):
     return Bank({"checking": 500, "savings": 1500}, **words)
+
+
+def busy_day(draw):
+    """Four updates and three reports that go on side by side, of which some are blocked; the bank, and the reports."""
+    names = [f"account{n}" for n in range(5)]
+    bank = Bank({name: 1000 for name in names}, weights={names[0]: 3}, patience=0)
+    with contextlib.ExitStack() as active:
+        updates = [active.enter_context(bank.update(200)) for _ in range(4)]
+        reports = [active.enter_context(bank.report(150, strict=n == 1)) for n in range(3)]
+        for _ in range(80):
+            with contextlib.suppress(Blocked, Deadlock):
+                if draw.randrange(2):
+                    draw.choice(updates).add(draw.choice(names), draw.randrange(-9, 10))
+                else:
+                    draw.choice(reports).read(draw.choice(names))
+    return bank, reports
 
 
 def together(*bodies):
@@ -67,6 +92,43 @@ class Banks(unittest.TestCase):
             "begin t2 query 200\nread t2 checking\ncommit t2\n",
         )
         self.assertEqual(Bank({"my savings": 1}).script(), "item i0 1\n")
+
+    def test_a_report_is_explained_and_drawn(self):
+        """To the byte, by the names of the items; a notebook shows the picture, and nothing where there is none."""
+        bank = two_accounts()
+        with bank.update(200) as transfer:
+            transfer.write("checking", 400)
+            with bank.report(200) as report:
+                report.read("checking")
+                self.assertIsNone(report._repr_svg_())
+            transfer.write("savings", 1600)
+        told = (
+            "read checking 400 nearest 500 off 100\n"
+            "charge read t1 checking amount 100 step 4 import left 100 of 200 export left 100 of 200\n"
+            "before -\nafter t1\ndistance 100 import 100\n"
+        )
+        self.assertEqual((report.explain(), report.finding.explain()), (told, told))
+        picture = report.finding._repr_svg_()
+        self.assertEqual(picture, report.picture())
+        self.assertTrue(picture.startswith("<svg") and picture.endswith("</svg>\n") and "checking" in picture)
+        rows = list(csv.DictReader(io.StringIO(bank.ledger())))
+        self.assertEqual([(row["name"], row["charged"], row["end"], row["distance"]) for row in rows], LEDGER)
+        with self.assertRaises(EsrError):
+            esr.Query(bank, 0, False).explain()
+
+    @unittest.skipUnless(PROGRAM, "ESR_PROGRAM names no program")
+    def test_the_program_tells_the_same(self):
+        """Explanations, pictures and the ledger are to the byte those of the program over the history's script."""
+        for seed in range(20):
+            bank, reports = busy_day(random.Random(seed))
+
+            def told(*words, script=bank.script()):
+                return subprocess.run([PROGRAM, *words], input=script, capture_output=True, text=True, check=True).stdout
+
+            self.assertEqual(bank.ledger(), told("ledger", "--format", "csv"))
+            for report in reports:
+                name = f"t{report.number}"
+                self.assertEqual((report.explain(), report.picture()), (told("explain", name), told("picture", name)))
 
     def test_reads_in_one_call(self):
         """The values are in the order of the names; what is blocked is tried again, and the rest read behind it."""
@@ -168,8 +230,10 @@ class Banks(unittest.TestCase):
                 update.add("hits", 1)
         self.assertEqual((bank.renewals, seen, bank["hits"]), (1, [0], 65_535))
         self.assertEqual(report.finding.distance, 0)
-        with self.assertRaises(EsrError):
-            report.bundle()
+        self.assertIsNone(report.finding._repr_svg_())
+        for tell in (report.bundle, report.explain, report.finding.explain):
+            with self.assertRaises(EsrError):
+                tell()
 
     def test_a_soak_loses_nothing(self):
         """Eight threads move money and read sums: none is off by more than it imported, and nothing is missing."""
