@@ -3,4 +3,4 @@
 pub mod Words
 pub mod ForUpdate
 pub mod InTurn
-pub mod Telling
+pub mod Explained

@@ -8,7 +8,7 @@ use Rattle.esr_telling.specs.Ask.{IsRecorded}
 use Rattle.esr_telling.specs.State.{ScriptState}
 use Rattle.esr_sheet.specs.declared.format.Format.TheVariants.{Csv}
 use Rattle.esr_sheet.specs.Csv.{ledger_csv}
-use Rattle.esr_sheet.specs.Written.{IsLedger}
+use Rattle.esr_sheet.specs.Written.{IsLedger, IsLedgerOf}
 
 pub ledger_told : (s : ScriptState) (c : Chronicle) → IsRecorded s c → (first last : ℕ → ℕ) (text : List ℕ)
     → text ≡ ledger_csv weighted c.history.schedule c.transactions first last → IsLedger Csv s text
@@ -30,3 +30,9 @@ pub csv_told : {T E : Type 0} (items : T → List ℕ) (s : ScriptState) (c : Ch
     → IfOk r (λ v. items v ≡ ledger_csv weighted c.history.schedule c.transactions first last) → IfOk r (λ v. IsLedger Csv s (items v))
 csv_told items s c recorded first last (Ok v) is = ledger_told s c recorded first last (items v) is
 csv_told items s c recorded first last (Err e) is = tt
+
+-- the same of a history
+pub csv_of : {T E : Type 0} (items : T → List ℕ) (h : Schedule) (names : List (List ℕ)) (first last : ℕ → ℕ) (r : Result T E)
+    → IfOk r (λ v. items v ≡ ledger_csv weighted h names first last) → IfOk r (λ v. IsLedgerOf h names (items v))
+csv_of items h names first last (Ok v) is = (first, last, is)
+csv_of items h names first last (Err e) is = tt

@@ -1,5 +1,5 @@
 -- Why `explain` keeps its contract: the goals that are left to a proof of ours.
-use Rattle.esr_c.proofs.Telling.{explained}
+use Rattle.esr_c.proofs.Explained.{explained}
 use Rattle.esr_c.proofs.telling.explain.Goals as goal
 
 pub returns-in-Ok-clause-ok : goal.returns-in-Ok-clause-ok
