@@ -13,7 +13,7 @@ ghost use Rattle.esr_plan.specs.Sheets.{IsSound};
 use crate::measure::Measure;
 use crate::query::{Query, queries_of};
 use crate::report::{push_blocks, push_head, push_query};
-use crate::run::{Run, run};
+use crate::run::{Run, run_order};
 use crate::runner::Runner;
 use crate::summary::worst_of;
 use crate::tale::{Tale, tell};
@@ -80,7 +80,7 @@ fn tale_of(
     ensures { IfOk result (λ tale. IsTale sheet.now.values.items (weights_of sheet.now.weights.items)
         (map (λ b. b.items) sheet.now.blocks.items) queries.now order.now tale) }
 {
-    let run = run(alloc, sheet, order)?;
+    let run = run_order(alloc, sheet, order)?;
     let tale = tell(alloc, &run, queries)?;
     Ok(tale)
 }
@@ -158,7 +158,7 @@ fn text_of(alloc: Global, sheet: &Sheet<'_>, search: Search) -> Result<Vec<u8>, 
         None => Ok(report_of(alloc, &queries, &tales, &counts)?),
         Some(measure) => {
             let order = ways.order(alloc, &counts, worst_of(&tales, measure))?;
-            Ok(script_of(alloc, sheet, run(alloc, sheet, &order)?)?)
+            Ok(script_of(alloc, sheet, run_order(alloc, sheet, &order)?)?)
         }
     }
 }

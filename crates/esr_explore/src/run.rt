@@ -177,7 +177,7 @@ fn fault_of(error: StepError) -> DriveFault {
 }
 
 /// Runs the blocks of a plan: in this order, and what it leaves over in rounds.
-pub fn run(alloc: Global, sheet: &Sheet<'_>, order: &[u8]) -> Result<Run, DriveFault>
+pub fn run_order(alloc: Global, sheet: &Sheet<'_>, order: &[u8]) -> Result<Run, DriveFault>
     requires { IsSound sheet.now }
     ensures run { IfOk result (λ r. IsRun sheet.now.values.items (weights_of sheet.now.weights.items)
         (map (λ b. b.items) sheet.now.blocks.items) order.now (stage r.history.schedule r.runners.items)) }
