@@ -22,4 +22,5 @@ pub mod FillLaws
 pub mod GraphLaws
 pub mod SumLaws
 pub mod ReachLaws
+pub mod PassLaws
 pub mod CertificateLaws

@@ -1,6 +1,9 @@
 -- Marks of nodes that the source reaches in the residual network, not all of them yet, and when they are all.
-use Rattle.std.specs.Prelude.{◌≡◌, ℕ, ◌<◌, Bool, true, List, length}
-use Rattle.esr_cert.specs.Network.{Network}
+use Rattle.std.specs.Prelude.{◌≡◌, ℕ, ◌+◌, ◌-◌, ◌<◌, ◌≤◌, Bool, true, List, length, get_or}
+use Rattle.esr_cert.specs.declared.problem.Chain.{Chain}
+use Rattle.esr_cert.specs.Problem.{Problem}
+use Rattle.esr_cert.specs.Network.{Network, arc_at}
+use Rattle.esr_cert.specs.Starts.{starts_from}
 use Rattle.esr_cert.specs.Steps.{arc_of, start}
 use Rattle.esr_flow.specs.Words.{Arc, ResidualArc}
 use Rattle.esr_flow.specs.Residual.{finish, IsResidual, IsPath}
@@ -21,3 +24,15 @@ IsKeptOver arcs flow marks i =
 -- so do all residual steps
 abbrev pub IsKept : List Arc → List ℕ → List Bool → Type 0
 IsKept arcs flow marks = (i : ℕ) → i < length arcs → IsKeptOver arcs flow marks i
+
+-- the arcs of a chain begin at a number, and those between its writers lead from each to the next
+pub record HasLinks (arcs : List Arc) (chain : Chain) (begin : ℕ) : Type 0 where
+  pub inside : begin + length chain.costs.items ≤ length arcs
+  pub from : (j : ℕ) → 0 < j → j < length chain.writers.items
+      → (arc_at arcs (begin + j)).from ≡ get_or chain.writers.items (j - 1) 0
+  pub to : (j : ℕ) → 0 < j → j < length chain.writers.items
+      → (arc_at arcs (begin + j)).to ≡ get_or chain.writers.items j 0
+
+-- the number of the first arc that is not one of a chain
+abbrev pub first_back : Problem → ℕ
+first_back p = get_or (starts_from 0 p.chains) (length p.chains) 0

@@ -1,0 +1,7 @@
+-- Why `first_back_of` keeps its contract: the goals that are left to a proof of ours.
+use Rattle.std.proofs.Common.{arith, ap, length}
+use Rattle.esr_flow.proofs.PassLaws.{count_is}
+use Rattle.esr_flow.proofs.reach.first_back_of.Goals as goal
+
+pub returns : goal.returns
+returns c = omega (arith, c.requires.count, count_is c.args.graph.now.problem.now c.must.ensures.sound, ap length c.must.ensures.list, ap length c.before-2.ensures.list)
