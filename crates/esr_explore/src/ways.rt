@@ -127,7 +127,9 @@ impl Ways {
     }
 
     /// The order with a number.
-    pub fn order(&self, alloc: Global, counts: &[u32], number: u64) -> Result<Vec<u8>, AllocError> {
+    pub fn order(&self, alloc: Global, counts: &[u32], number: u64) -> Result<Vec<u8>, AllocError>
+        requires { length counts.now ≤ MAX_BLOCKS }
+    {
         match self {
             Ways::All(orders) => match orders.get(number as usize) {
                 Some(order) => Vec::from_slice(alloc, order),
