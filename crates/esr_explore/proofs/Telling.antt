@@ -24,4 +24,4 @@ told_more h rs seen queries i d number told new t within are seen_is number_is i
     let more : AreTold h rs (take i queries ++ q ∷ []) (told ++ t ∷ []) =
     one_more h rs (take i queries) told q t are (subst (λ (n : ℕ). IsTold h n t) own is) in
     subst (AreTold h rs (take (i + 1) queries)) (sym new_is)
-        (subst (λ (qs : List Query). AreTold h rs qs (told ++ t ∷ [])) (sym (take_more queries i d within)) more)
+    (subst (λ (qs : List Query). AreTold h rs qs (told ++ t ∷ [])) (sym (take_more queries i d within)) more)

@@ -1,10 +1,8 @@
 //! The orders that are gone through: all of them, or so many drawn ones.
 
-ghost use Rattle.std.specs.Prelude.{◌≡◌, ℕ, List, ◌<◌, ◌≤◌, IfOk, IfSome, length, map};
-ghost use Rattle.std.specs.List.{Contains};
+ghost use Rattle.std.specs.Prelude.{◌≡◌, ◌≤◌, IfOk, length};
 ghost use Rattle.esr_plan.specs.declared.draft.TheConstants.{MAX_BLOCKS};
 ghost use Rattle.esr_plan.specs.declared.fault.DriveFault.TheVariants.{NoMemory};
-ghost use Rattle.esr_turns.specs.Orders.{IsOrder};
 ghost use Rattle.esr_explore.specs.declared.ways.ExploreFault.TheVariants.{Drive};
 
 use esr_plan::{Call, DriveFault};

@@ -10,8 +10,10 @@ loop-turn-preserved c =
     let rest = c.loop-turn.invariant.1.0 in
     let block = c.in-Some.block in (
       c.turn.ensures.len ∙ c.loop-turn.invariant.0,
-      (rest ++ block ∷ [],
+      (
+        rest ++ block ∷ [],
         c.in_ok-turn.ensures.stage
-        ∙ (ap (λ (s : Stage). turn blocks s block) c.loop-turn.invariant.1.1
-        ∙ sym (then_turn blocks (stage c.args.machine.now c.args.runners.now.items) rest block))),
+            ∙ (ap (λ (s : Stage). turn blocks s block) c.loop-turn.invariant.1.1
+            ∙ sym (then_turn blocks (stage c.args.machine.now c.args.runners.now.items) rest block)),
+      ),
     )

@@ -24,7 +24,7 @@ returns-clause-run c =
     let same : seen ≡ blocks = ap (λ bs. map (λ b. b.items) bs) c.as_slice-blocks.ensures.value in
     let many : length c.as_slice-blocks.result.now ≡ length blocks = sym (length-map c.as_slice-blocks.result.now (λ b. b.items)) ∙ ap length same in
     ran opening weights blocks seen c.args.order.now (stage c.in_ok-machine.machine c.in_ok-runners.runners.items)
-        (stage c.take_turns.new.machine c.take_turns.new.runners.items) c.finish.new.machine c.close-history.result.schedule c.finish.new.runners.items
-        same
-        (started opening weights blocks c.in_ok-machine.machine c.in_ok-runners.runners.items (length c.as_slice-blocks.result.now) c.in_ok-machine.ensures c.in_ok-runners.ensures many)
-        c.in_default.ensures.stage c.in_default-finish.ensures.stage c.in_default-finish.ensures.done c.close-history.ensures.schedule
+    (stage c.take_turns.new.machine c.take_turns.new.runners.items) c.finish.new.machine c.close-history.result.schedule c.finish.new.runners.items
+    same
+    (started opening weights blocks c.in_ok-machine.machine c.in_ok-runners.runners.items (length c.as_slice-blocks.result.now) c.in_ok-machine.ensures c.in_ok-runners.ensures many)
+    c.in_default.ensures.stage c.in_default-finish.ensures.stage c.in_default-finish.ensures.done c.close-history.ensures.schedule
