@@ -93,7 +93,8 @@ fn tales_of(
     ways: &Ways,
     counts: &[u32],
 ) -> Result<Vec<Tale>, ExploreFault>
-    requires { IsSound sheet.now }
+    requires sound { IsSound sheet.now }
+    requires few { length counts.now ≤ MAX_BLOCKS }
 {
     let mut tales = Vec::new(alloc);
     for number in 0..ways.count() {
@@ -143,7 +144,8 @@ fn script_of(alloc: Global, sheet: &Sheet<'_>, run: Run) -> Result<Vec<u8>, Allo
     let Run { history, runners } = run;
     let replies = replies_of(alloc, runners)?;
     let names = begun_names(alloc, &history, sheet.blocks.as_slice(), replies.as_slice())?;
-    named_script(alloc, &sheet.names, &names, &history)
+    let text = named_script(alloc, &sheet.names, &names, &history)?;
+    Ok(text)
 }
 
 /// What is written of the runs of a plan.

@@ -1,7 +1,5 @@
 //! The queries that a plan begins, in the order of the file.
 
-ghost use Rattle.std.specs.Prelude.{◌≡◌};
-
 use esr_plan::{Call, Kind};
 use std::alloc::{AllocError, Global};
 

@@ -1,9 +1,7 @@
 //! What is told of one run: the import and the distance of each query that committed, and how often the lines of each
 //! block were blocked.
 
-ghost use Rattle.std.specs.Prelude.{◌≡◌, ◌<◌, ◌≤◌, IfOk, OnOk, length, map, take};
-ghost use Rattle.esr_items.specs.Weights.{weighted};
-ghost use Rattle.esr_base.specs.declared.limits.TheConstants.{MOST_ENTRIES};
+ghost use Rattle.std.specs.Prelude.{◌≡◌, IfOk, map};
 ghost use Rattle.esr_explore.specs.Turns.{stage};
 ghost use Rattle.esr_explore.specs.Tales.{AreTold, IsTold, IsTaleOf, number_of};
 

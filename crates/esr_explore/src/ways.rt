@@ -1,10 +1,8 @@
 //! The orders that are gone through: all of them, or so many drawn ones.
 
-ghost use Rattle.std.specs.Prelude.{◌≡◌, ℕ, List, ◌<◌, ◌≤◌, IfOk, IfSome, length, map};
-ghost use Rattle.std.specs.List.{Contains};
+ghost use Rattle.std.specs.Prelude.{◌≡◌, ◌≤◌, IfOk, length};
 ghost use Rattle.esr_plan.specs.declared.draft.TheConstants.{MAX_BLOCKS};
 ghost use Rattle.esr_plan.specs.declared.fault.DriveFault.TheVariants.{NoMemory};
-ghost use Rattle.esr_turns.specs.Orders.{IsOrder};
 ghost use Rattle.esr_explore.specs.declared.ways.ExploreFault.TheVariants.{Drive};
 
 use esr_plan::{Call, DriveFault};
@@ -127,7 +125,9 @@ impl Ways {
     }
 
     /// The order with a number.
-    pub fn order(&self, alloc: Global, counts: &[u32], number: u64) -> Result<Vec<u8>, AllocError> {
+    pub fn order(&self, alloc: Global, counts: &[u32], number: u64) -> Result<Vec<u8>, AllocError>
+        requires { length counts.now ≤ MAX_BLOCKS }
+    {
         match self {
             Ways::All(orders) => match orders.get(number as usize) {
                 Some(order) => Vec::from_slice(alloc, order),
