@@ -26,10 +26,10 @@ IsScriptOf h names text =
     × (text ≡ script items (transaction_names (begun h)) h)
 
 -- the explanation of a query of a history, in which items have the names of a text
-abbrev pub IsExplanationOf : Schedule → ℕ → List ℕ → List ℕ → Type 0
-IsExplanationOf h q names text =
-    (items : List (List ℕ)) × (names_of h names ≡ Some items)
-    × (text ≡ explanation weighted h items (transaction_names (begun h)) q)
+pub record IsExplanationOf (h : Schedule) (q : ℕ) (names text : List ℕ) : Type 0 where
+  pub items : List (List ℕ)
+  pub named : names_of h names ≡ Some items
+  pub text_is : text ≡ explanation weighted h items (transaction_names (begun h)) q
 
 -- the ledger of a history
 abbrev pub IsLedgerOf : Schedule → List ℕ → Type 0

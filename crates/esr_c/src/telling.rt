@@ -60,7 +60,10 @@ fn explanation_text(
     let found = find(alloc, engine, query)?;
     let items = items(alloc, engine, names)?;
     let transactions = transactions(alloc, engine)?;
-    explain(alloc, &items, &transactions, engine, &found, query)
+    match explain(alloc, &items, &transactions, engine, &found, query) {
+        Ok(text) => Ok(text),
+        Err(_) => Err(Status::NoMemory),
+    }
 }
 
 /// The bytes of the picture of a query, or why there is none.
@@ -102,7 +105,10 @@ fn picture_text(
     let found = find(alloc, engine, query)?;
     let items = items(alloc, engine, names)?;
     let transactions = transactions(alloc, engine)?;
-    draw(alloc, &items, &transactions, engine.history(), &found)
+    match draw(alloc, &items, &transactions, engine.history(), &found) {
+        Ok(text) => Ok(text),
+        Err(_) => Err(Status::NoMemory),
+    }
 }
 
 pub(crate) fn show_explanation(
