@@ -105,7 +105,7 @@ class Banks(unittest.TestCase):
         told = (
             "read checking 400 nearest 500 off 100\n"
             "charge read t1 checking amount 100 step 4 import left 100 of 200 export left 100 of 200\n"
-            "before -\nafter t1\ndistance 100 import 100\n"
+            "before -\nafter -\ndistance 100 import 100\n"
         )
         self.assertEqual((report.explain(), report.finding.explain()), (told, told))
         picture = report.finding._repr_svg_()

@@ -93,7 +93,7 @@ fn a_report_is_explained() {
         engine.explain(report, &names).unwrap(),
         "read checking 400 nearest 500 off 100\n\
          charge read t1 checking amount 100 step 4 import left 100 of 200 export left 100 of 200\n\
-         before -\nafter t1\ndistance 100 import 100\n"
+         before -\nafter -\ndistance 100 import 100\n"
     );
     let picture = engine.picture(report, &names).unwrap();
     assert!(picture.starts_with("<svg") && picture.ends_with("</svg>\n"));
