@@ -25,8 +25,8 @@ impl Default for Patience {
     /// For [`transact`](crate::transact), which finds no rings of waiters: so an update gives up soon, and begins anew.
     fn default() -> Patience {
         Patience {
-            tries: 16,
-            attempts: 16,
+            tries: 64,
+            attempts: 256,
             pause: Duration::from_micros(20),
         }
     }
