@@ -1,5 +1,5 @@
 -- The orders in which blocks take their turns, as lists of block numbers.
-use Rattle.std.specs.Prelude.{◌≡◌, ℕ, zero, suc, ◌==◌, List, [], ◌∷◌, ◌++◌, cond, length, flat_map, count_by, nat_lt, slice_index_or}
+use Rattle.std.specs.Prelude.{◌≡◌, ◌<◌, ◌≤◌, ℕ, zero, suc, ◌==◌, List, [], ◌∷◌, ◌++◌, cond, length, flat_map, count_by, nat_lt, slice_index_or}
 use Rattle.std.specs.List.{range_with_len}
 
 -- how often a block stands in an order
@@ -28,3 +28,7 @@ longer counts order = flat_map (longer_by counts order) (range_with_len 0 (lengt
 abbrev pub first_turns : List ℕ → ℕ → List (List ℕ)
 first_turns counts zero = [] ∷ []
 first_turns counts (suc turns) = flat_map (longer counts) (first_turns counts turns)
+
+-- after some of so many turns there are more ways to have begun than a bound
+abbrev pub AreMany : List ℕ → ℕ → ℕ → Type 0
+AreMany counts turns most = (k : ℕ) × (k ≤ turns) × (most < length (first_turns counts k))

@@ -1,8 +1,8 @@
 //! All orders.
 
-ghost use Rattle.std.specs.Prelude.{◌≡◌, ℕ, List, ◌+◌, ◌<◌, ◌≤◌, ◌^◌, ◌==◌, ◌∷◌, [], ◌++◌, IfOk, IfSome, OnOk, count_by, length, map, flat_map};
+ghost use Rattle.std.specs.Prelude.{◌≡◌, ℕ, List, ◌+◌, ◌<◌, ◌≤◌, ◌^◌, ◌==◌, ◌∷◌, [], ◌++◌, IfOk, IfNone, IfSome, OnOk, count_by, length, map, flat_map};
 ghost use Rattle.std.specs.List.{Contains};
-ghost use Rattle.esr_turns.specs.Orders.{IsOrder, first_turns, longer, longer_by, turns_of};
+ghost use Rattle.esr_turns.specs.Orders.{AreMany, IsOrder, first_turns, longer, longer_by, turns_of};
 
 use std::alloc::{AllocError, Global};
 
@@ -90,8 +90,8 @@ fn no_turns(alloc: Global) -> Result<Vec<Vec<u8>>, AllocError>
     Ok(orders)
 }
 
-/// All orders in which blocks of so many lines each take so many turns in all, in ascending order; none where they are
-/// more than may be made. No order is left out.
+/// All orders in which blocks of so many lines each take so many turns in all, in ascending order. No order is left out; there
+/// is no list where what orders begin with comes to more than 100,000.
 pub fn all_orders(
     alloc: Global,
     counts: &[u32],
@@ -102,6 +102,7 @@ pub fn all_orders(
         map (λ o. o.items) orders.items ≡ first_turns counts.now turns)) }
     ensures every { IfOk result (λ found. IfSome found (λ orders. (order : List ℕ) → IsOrder counts.now turns order
         → Contains (map (λ o. o.items) orders.items) order)) }
+    ensures many { IfOk result (λ found. IfNone found (AreMany counts.now turns MOST_ORDERS)) }
 {
     let mut orders = no_turns(alloc)?;
     for _turn in 0..turns {
