@@ -52,6 +52,6 @@ fits_position : (n : ℕ) → Fits w32 n → is_position n ≡ true
 fits_position n h = let l : n < 4294967296 = omega arith in grind (arith, nat_tests)
 
 -- numbers of 32 bits
-pub fitting : (xs : List ℕ) → ((i : ℕ) → Fits w32 (get_or xs i 0)) → list_all is_position xs ≡ true
-fitting [] h = refl
-fitting (x ∷ xs) h = and_from (is_position x) (list_all is_position xs) (fits_position x (h 0)) (fitting xs (λ i. h (suc i)))
+pub all_positions : (xs : List ℕ) → ((i : ℕ) → Fits w32 (get_or xs i 0)) → list_all is_position xs ≡ true
+all_positions [] h = refl
+all_positions (x ∷ xs) h = and_from (is_position x) (list_all is_position xs) (fits_position x (h 0)) (all_positions xs (λ i. h (suc i)))

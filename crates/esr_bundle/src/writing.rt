@@ -170,7 +170,7 @@ fn certificate(alloc: Global, certificate: &Certificate) -> Result<Value, AllocE
 }
 
 /// A list of numbers of 32 bits, each of which is a position.
-fn fitting(list: &[u32]) -> &[u32]
+fn as_positions(list: &[u32]) -> &[u32]
     ensures list { result.now ≡ list.now }
     ensures fits { list_all is_position list.now ≡ true }
 {
@@ -196,7 +196,7 @@ pub fn to_json(
     ensures stands { IfOk result (λ v. StandsFor v.items (Ok (problem.now, views.certificate_of certificate.now))) }
 {
     let _sound = problem.updates(); // brings the invariant into the proof
-    let _fits = fitting(&certificate.set); // and that the set has numbers of 32 bits
+    let _fits = as_positions(&certificate.set); // and that the set has numbers of 32 bits
     let tree = tree(alloc, problem, certificate)?;
     Ok(tree.to_vec(alloc)?)
 }
