@@ -17,12 +17,13 @@ finding says afterwards by how much it was.
     Finding(distance=0, charged=0, before=(1,))
 """
 
-from ._bank import Bank, Finding, Query, Update
+from ._bank import Bank, Counts, Finding, Query, Update
 from ._errors import Blocked, Deadlock, EsrError, HistoryFull, OutOfRange, Refused, UnknownItem
 
 __all__ = [
     "Bank",
     "Blocked",
+    "Counts",
     "Deadlock",
     "EsrError",
     "Finding",

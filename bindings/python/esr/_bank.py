@@ -1,11 +1,15 @@
 """A bank: an engine with named items, shared by threads.
 
-A lock is taken for each call, so other threads go on in between. What is blocked is tried again after a pause, for
-`patience` seconds; a transaction that is the youngest of a ring of waiters is given up at once. When the history is
-nearly full nothing begins until all that is active has ended, and the engine is renewed then.
+A lock is taken for each call, so other threads go on in between. What is blocked is tried again after a pause, as long as
+patience lasts; a transaction that is the youngest of a ring of waiters is given up at once. When the history is nearly
+full nothing begins until all that is active has ended, and the engine is renewed then.
+
+Patience is a time: how long a transaction waits for others in all, over every attempt at it. A count of tries would be
+used up at once where whoever is waited for is not let run meanwhile, as happens on a machine that is busy.
 """
 
 import ctypes
+import math
 import random
 import re
 import threading
@@ -32,13 +36,49 @@ WORDS = {
     10: "the import limit",
     11: "the export limit",
 }
+YIELDS = 4
+"""How many rounds of waiting only let others run: an item that many change is free again at once."""
+PAUSE = 20e-6
+"""The first pause behind these, in seconds."""
+DOUBLINGS = 8
+"""How often the pause is doubled: up to 5 milliseconds."""
+ROUND = 0.01
+"""In so long everybody who waits has tried again."""
+SHARE = 0.05
+"""How many seconds the first attempt waits for one event. Each attempt waits twice as long as the one before."""
 NOT_COMMITTED = "only a report that has committed is audited"
 T = TypeVar("T")
 
 
 @dataclass(frozen=True)
+class Counts:
+    """What a history has, and what is left of it beside the ends of what is active."""
+
+    entries: int
+    """How many events were answered, refusals among them."""
+    transactions: int
+    """How many transactions have begun."""
+    active: int
+    """How many of them have not ended."""
+    entries_left: int
+    """How many more events may be answered."""
+    transactions_left: int
+    """How many more transactions may begin."""
+
+
+@dataclass(frozen=True)
 class Finding:
-    """What an audit finds of a report. A notebook shows it as a picture, as long as the report's history is there."""
+    """What an audit finds of a report. A notebook shows it as a picture, as long as the report's history is there.
+
+    >>> bank = Bank({"checking": 500})
+    >>> with bank.report(100) as report:
+    ...     report.read("checking")
+    500
+    >>> report.finding
+    Finding(distance=0, charged=0, before=())
+    >>> print(report.finding.explain().splitlines()[0])
+    read checking 500 nearest 500 off 0
+    """
 
     distance: int
     """How far what it read was from the nearest serial placement."""
@@ -49,11 +89,42 @@ class Finding:
     _query: "Query" = field(repr=False, compare=False)
 
     def explain(self) -> str:
-        """What happened to the report: see `Query.explain`."""
+        """What happened to the report, as long as its history is there: see `Query.explain`."""
         return self._query.explain()
 
     def _repr_svg_(self) -> Optional[str]:
         return self._query._repr_svg_()
+
+
+class _Waiting:
+    """What is left of a transaction's patience, over all its attempts.
+
+    Whoever waits holds what others may wait for. So an attempt that can be begun anew waits for an event only for its share,
+    then is aborted, and is begun anew once those who wait for it have had the time to notice. The share doubles from attempt
+    to attempt: where two wait for each other and nobody tells them, one gives up soon, and where somebody is slow a later
+    attempt waits long enough.
+    """
+
+    def __init__(self, left: float, share: float = math.inf) -> None:
+        self.left = left
+        self.share = share
+
+    def sleep(self, most: float) -> float:
+        """Waits, not quite as long as others do. How long it was."""
+        begun = time.monotonic()
+        time.sleep(max(0.0, min(most * (0.5 + random.random() / 2), self.left)))
+        waited = time.monotonic() - begun
+        self.left -= waited
+        return waited
+
+    def pause(self, count: int) -> float:
+        """Waits a little, longer in each round. How long it was."""
+        return self.sleep(0.0 if count < YIELDS else PAUSE * 2 ** min(count - YIELDS, DOUBLINGS))
+
+    def pause_for_attempt(self) -> None:
+        """Waits until others have tried again, before the next attempt."""
+        self.sleep(min(self.share, ROUND))
+        self.share *= 2
 
 
 class _Waits:
@@ -91,8 +162,16 @@ class Bank:
     """Items with names and opening values, and transactions over them. A difference of an item counts as often as its
     weight says, 1 to 1,000; once where none is given.
 
+    `patience` is how many seconds a transaction waits for others, in all: then it is told that it is blocked.
+
     `before_renewal` is called with the bank when a history is about to be gone: `due()` has the reports that were not
     audited yet. It must begin nothing.
+
+    >>> def audit(bank):
+    ...     print([report.finding for report in bank.due()])
+    >>> bank = Bank({"phones": 15, "money": 0}, weights={"phones": 900}, patience=5, before_renewal=audit)
+    >>> bank["phones"]
+    15
     """
 
     def __init__(
@@ -100,7 +179,7 @@ class Bank:
         items: Mapping[str, int],
         *,
         weights: Mapping[str, int] = {},
-        patience: float = 1.0,
+        patience: float = 10.0,
         before_renewal: Optional[Callable[["Bank"], None]] = None,
     ) -> None:
         self._numbers = {name: number for number, name in enumerate(items)}
@@ -130,41 +209,69 @@ class Bank:
 
     def update(self, limit: int) -> "Update":
         """An update that may export up to `limit`, for a `with` statement: it commits at the end, and is aborted by an
-        exception."""
+        exception.
+
+        >>> bank = Bank({"checking": 500})
+        >>> with bank.update(200) as update:
+        ...     update.add("checking", -100)
+        400
+        """
         return Update(self, limit)
 
     def report(self, limit: int, *, strict: bool = False) -> "Query":
-        """A query that may import up to `limit`, for a `with` statement: at the end it commits and `finding` is there."""
+        """A query that may import up to `limit`, for a `with` statement: at the end it commits and `finding` is there. The
+        audit of a strict one places it behind all that had committed when it began.
+
+        >>> bank = Bank({"checking": 500})
+        >>> with bank.report(200, strict=True) as report:
+        ...     report.read("checking")
+        500
+        >>> report.finding.distance
+        0
+        """
         return Query(self, limit, strict)
 
-    def transact(self, limit: int, body: Callable[["Update"], T], *, attempts: int = 64) -> T:
-        """Runs `body` in an update, and anew in another where it was given up."""
-        age = None
-        for attempt in range(attempts):
-            update = Update(self, limit, age)
+    def transact(self, limit: int, body: Callable[["Update"], T]) -> T:
+        """Runs `body` in an update, and anew in another where it was given up: as the youngest of a ring, or since it was
+        blocked for some time. The last reason is raised once patience has ended.
+
+        >>> bank = Bank({"checking": 500})
+        >>> bank.transact(200, lambda update: update.add("checking", -100))
+        400
+        """
+        waiting, age = _Waiting(self._patience, SHARE), None
+        while True:
+            update = Update(self, limit, waiting, age)
             try:
                 with update:
                     age = update._age
                     return body(update)
             except (Blocked, Deadlock, HistoryFull) as why:
-                if attempt + 1 == attempts:
-                    raise
                 if isinstance(why, Deadlock):
-                    self._wait_for_end(why.other)
-                time.sleep(random.random() * min(2**attempt, 64) * 20e-6)
-        raise ValueError("attempts has to be at least 1")
+                    self._wait_for_end(why.other, update._renewals, waiting)
+                elif isinstance(why, HistoryFull):
+                    waiting.left -= waiting.share
+                else:
+                    waiting.pause_for_attempt()
+                if waiting.left <= 0:
+                    raise
 
-    def _wait_for_end(self, txn: int) -> None:
+    def _wait_for_end(self, txn: int, renewals: int, waiting: _Waiting) -> None:
         """Waits until a transaction has ended, as long as patience lasts."""
-        until, renewals = time.monotonic() + self._patience, self.renewals
-        while time.monotonic() < until:
+        count = 0
+        while waiting.left > 0:
             with self._lock:
                 if txn not in self._active or self.renewals != renewals:
                     return
-            time.sleep(50e-6)
+            waiting.pause(count)
+            count += 1
 
     def __getitem__(self, name: str) -> int:
-        """The committed value of an item."""
+        """The committed value of an item.
+
+        >>> Bank({"checking": 500})["checking"]
+        500
+        """
         number = self._number_of(name)
         values, count = (ctypes.c_int64 * len(self._numbers))(), ctypes.c_size_t()
         with self._lock:
@@ -174,13 +281,24 @@ class Bank:
     def script(self) -> str:
         """The history since the last renewal as a script of `esr run`: each entry that was accepted or blocked, by the names
         of the items, or `i0`, `i1` where one is no name of scripts (a letter, and up to 15 letters, digits or underscores);
-        transactions are `t1`, `t2`."""
+        transactions are `t1`, `t2`.
+
+        >>> print(Bank({"checking": 500}).script(), end="")
+        item checking 500
+        """
         with self._lock:
             return self._text(c.library.esr_history_script, self._names, len(self._names)).decode()
 
     def ledger(self) -> str:
         """The ledger of the history since the last renewal, as CSV: below a line of the names of the fields a line for each
-        transaction, with its limit, its charges, how it ended, and how far off a committed report was."""
+        transaction, with its limit, its charges, how it ended, and how far off a committed report was.
+
+        >>> bank = Bank({"checking": 500})
+        >>> with bank.update(200) as update:
+        ...     update.write("checking", 400)
+        >>> print(bank.ledger().splitlines()[1])
+        1,t1,update,200,0,200,0,1,0,0,0,committed,,2,4
+        """
         with self._lock:
             return self._text(c.library.esr_ledger).decode()
 
@@ -198,17 +316,45 @@ class Bank:
             room = count.value
 
     def due(self) -> List["Query"]:
-        """The reports of this history that have committed and were not audited."""
+        """The reports of this history that have committed and were not audited.
+
+        >>> bank = Bank({"checking": 500})
+        >>> with bank.report(0) as report:
+        ...     report.read("checking")
+        500
+        >>> [report.finding.distance for report in bank.due()], bank.due()
+        ([0], [])
+        """
         with self._lock:
             return list(self._due)
 
     @property
     def imported(self) -> int:
-        """What all reports of this history have imported."""
+        """What all reports of this history have imported.
+
+        >>> Bank({"checking": 500}).imported
+        0
+        """
         totals = c.Totals()
         with self._lock:
             self._check(c.library.esr_totals_of(self._engine, totals))
         return totals.high << 64 | totals.low
+
+    @property
+    def counts(self) -> Counts:
+        """What the history since the last renewal has, and what is left of it.
+
+        >>> Bank({"checking": 500}).counts
+        Counts(entries=0, transactions=0, active=0, entries_left=1000000, transactions_left=65535)
+        """
+        with self._lock:
+            counts = self._counts()
+        return Counts(counts.entries, counts.transactions, counts.active, counts.entries_left, counts.transactions_left)
+
+    def _counts(self) -> c.Counts:
+        counts = c.Counts()
+        self._check(c.library.esr_counts_of(self._engine, counts))
+        return counts
 
     def _account(self, txn: int) -> c.Account:
         account = c.Account()
@@ -231,15 +377,18 @@ class Bank:
             raise EsrError(f"status {status}")
 
     def _is_nearly_full(self) -> bool:
-        counts = c.Counts()
-        self._check(c.library.esr_counts_of(self._engine, counts))
+        counts = self._counts()
         return not counts.transactions_left or counts.entries_left <= NEARLY_FULL
 
-    def _make_room(self) -> None:
+    def _make_room(self, waiting: _Waiting) -> None:
         """Waits until the history has room, and renews it where nobody else does. The lock is held."""
         while self._is_nearly_full():
             if self._active:
-                self._ended.wait()
+                if waiting.left <= 0:
+                    raise HistoryFull("the history has no room until all that is active has ended")
+                begun = time.monotonic()
+                self._ended.wait(waiting.left)
+                waiting.left -= time.monotonic() - begun
                 continue
             if self._before_renewal:
                 self._before_renewal(self)
@@ -263,12 +412,13 @@ class Bank:
 
     def _begin(self, transaction: "_Transaction", call: Callable[..., int], *words: int) -> None:
         with self._lock:
-            self._make_room()
+            self._make_room(transaction._waiting)
             reply = self._answer(call, *words)
             if reply.kind == c.REFUSED:
                 raise OutOfRange(WORDS[reply.refusal])
             self._active.add(reply.txn)
             transaction.number = reply.txn
+            transaction._renewals = self.renewals
             if transaction._age is None:
                 self._bodies += 1
                 transaction._age = self._bodies
@@ -283,9 +433,8 @@ class Bank:
 
     def _step(self, transaction: "_Transaction", events: Callable[[], c.Reply]) -> c.Reply:
         """Gives events under one lock until one is refused, and all of them again after a pause where that may pass."""
-        txn = transaction.number
-        until = time.monotonic() + self._patience
-        pause = 20e-6
+        txn, waiting = transaction.number, transaction._waiting
+        count, waited = 0, 0.0
         while True:
             with self._lock:
                 if txn in self._waits.given_up:
@@ -299,28 +448,44 @@ class Bank:
                     raise Refused(*refusal)
                 if reply.txn != txn:
                     self._waits.begin(txn, transaction._age or 0, reply.txn)
-            if time.monotonic() > until:
+            if waiting.left <= 0 or waited >= waiting.share:
+                with self._lock:
+                    self._waits.end(txn)
                 raise Blocked(*refusal)
-            time.sleep(pause * (0.5 + random.random()))
-            pause = min(2 * pause, 2e-3)
+            waited += waiting.pause(count)
+            count += 1
 
 
 class _Transaction:
     """What updates and queries have in common: each is ended by the `with` statement that began it."""
 
-    def __init__(self, bank: Bank, age: Optional[int] = None) -> None:
+    def __init__(self, bank: Bank, waiting: Optional[_Waiting] = None, age: Optional[int] = None) -> None:
         self._bank = bank
+        self._waiting = waiting or _Waiting(bank._patience)
         self._age = age
+        self._renewals = 0
         self.number = 0
         """Its number in the history, from 1, once it has begun."""
 
     def read(self, name: str) -> int:
-        """Reads an item."""
+        """Reads an item.
+
+        >>> bank = Bank({"checking": 500})
+        >>> with bank.report(0) as report:
+        ...     report.read("checking")
+        500
+        """
         bank, item = self._bank, self._bank._number_of(name)
         return bank._step(self, lambda: bank._answer(c.library.esr_read, self.number, item)).value
 
     def read_all(self, names: Iterable[str]) -> List[int]:
-        """Reads items in one call, so that nothing comes between them, but where one is blocked and tried again."""
+        """Reads items in one call, so that nothing comes between them, but where one is blocked and tried again.
+
+        >>> bank = Bank({"checking": 500, "savings": 1500})
+        >>> with bank.report(0) as report:
+        ...     report.read_all(["savings", "checking"])
+        [1500, 500]
+        """
         bank = self._bank
         values: List[int] = []
         reads = [c.Event(c.READ, self.number, bank._number_of(name), 0, 0) for name in names]
@@ -336,16 +501,29 @@ class _Transaction:
 
     @property
     def charged(self) -> int:
-        """What it was charged so far: what a report has read is off by at most that."""
+        """What it was charged so far: what a report has read is off by at most that.
+
+        >>> bank = Bank({"checking": 500})
+        >>> with bank.report(100) as report:
+        ...     report.read("checking"), report.charged
+        (500, 0)
+        """
         with self._bank._lock:
             return self._bank._account(self.number).charged
 
 
 class Update(_Transaction):
-    """An update: see `Bank.update`."""
+    """An update: see `Bank.update`.
 
-    def __init__(self, bank: Bank, limit: int, age: Optional[int] = None) -> None:
-        super().__init__(bank, age)
+    >>> bank = Bank({"checking": 500})
+    >>> with bank.update(0) as update:
+    ...     update.write("checking", update.read("checking") - 100)
+    >>> update.number, bank["checking"]
+    (1, 400)
+    """
+
+    def __init__(self, bank: Bank, limit: int, waiting: Optional[_Waiting] = None, age: Optional[int] = None) -> None:
+        super().__init__(bank, waiting, age)
         self._limit = limit
 
     def __enter__(self) -> "Update":
@@ -356,7 +534,14 @@ class Update(_Transaction):
         self._bank._end(self.number, c.library.esr_abort if kind else c.library.esr_commit)
 
     def write(self, name: str, value: int) -> None:
-        """Writes an item."""
+        """Writes an item.
+
+        >>> bank = Bank({"checking": 500})
+        >>> with bank.update(0) as update:
+        ...     update.write("checking", 400)
+        >>> bank["checking"]
+        400
+        """
         bank, item = self._bank, self._bank._number_of(name)
         if not -(2**63) <= value < 2**63:
             raise Refused(5, WORDS[5], 0)
@@ -364,7 +549,13 @@ class Update(_Transaction):
 
     def add(self, name: str, more: int) -> int:
         """Adds to an item and answers its new value. It takes the write lock before it reads, so that two that add to one
-        item never wait in a ring."""
+        item never wait in a ring.
+
+        >>> bank = Bank({"checking": 500})
+        >>> with bank.update(0) as update:
+        ...     update.add("checking", -100)
+        400
+        """
         bank, item = self._bank, self._bank._number_of(name)
         total = 0
 
@@ -381,17 +572,23 @@ class Update(_Transaction):
 
 
 class Query(_Transaction):
-    """A report: see `Bank.report`."""
+    """A report: see `Bank.report`.
+
+    >>> bank = Bank({"checking": 500})
+    >>> with bank.report(100) as report:
+    ...     report.read("checking")
+    500
+    >>> report.picture()[:4], report.bundle()[:1]
+    ('<svg', b'{')
+    """
 
     def __init__(self, bank: Bank, limit: int, strict: bool) -> None:
         super().__init__(bank)
         self._limit, self._strict = limit, strict
-        self._renewals = 0
         self._finding: Optional[Finding] = None
 
     def __enter__(self) -> "Query":
         self._bank._begin(self, c.library.esr_begin_query, self._limit, self._strict)
-        self._renewals = self._bank.renewals
         return self
 
     def __exit__(self, kind: Optional[Type[BaseException]], error: object, trace: Optional[TracebackType]) -> None:
@@ -402,7 +599,15 @@ class Query(_Transaction):
 
     @property
     def finding(self) -> Finding:
-        """Its audit, made when it is first asked for. That has to be before its history is renewed."""
+        """Its audit, made when it is first asked for. That has to be before its history is renewed.
+
+        >>> bank = Bank({"checking": 500})
+        >>> with bank.report(100) as report:
+        ...     report.read("checking")
+        500
+        >>> report.finding.charged
+        0
+        """
         bank = self._bank
         with bank._lock:
             if self._finding is None:
@@ -425,16 +630,38 @@ class Query(_Transaction):
             room = found.count
 
     def bundle(self) -> bytes:
-        """Its audit as JSON, which `esr check` judges without this engine."""
+        """Its audit as JSON, which `esr check` judges without this engine.
+
+        >>> import json
+        >>> with Bank({"checking": 500}).report(0) as report:
+        ...     report.read("checking")
+        500
+        >>> json.loads(report.bundle())["certificate"]["worth"]
+        0
+        """
         return self._told(c.library.esr_bundle)
 
     def explain(self) -> str:
         """What happened to it, as `esr explain` tells it of the bank's `script()`: each read beside the value of the nearest
-        serial placement, each charge with the update that made it, and the sums."""
+        serial placement, each charge with the update that made it, and the sums.
+
+        >>> with Bank({"checking": 500}).report(0) as report:
+        ...     report.read("checking")
+        500
+        >>> print(report.explain().splitlines()[-1])
+        distance 0 import 0
+        """
         return self._told(c.library.esr_explain, self._bank._names, len(self._bank._names)).decode()
 
     def picture(self) -> str:
-        """Its audit as a picture, as `esr picture` draws it: one SVG."""
+        """Its audit as a picture, as `esr picture` draws it: one SVG.
+
+        >>> with Bank({"checking": 500}).report(0) as report:
+        ...     report.read("checking")
+        500
+        >>> report.picture().splitlines()[-1]
+        '</svg>'
+        """
         return self._told(c.library.esr_picture, self._bank._names, len(self._bank._names)).decode()
 
     def _repr_svg_(self) -> Optional[str]:

@@ -1,6 +1,8 @@
 """A notebook as a script: a shop sells while somebody counts the stock, and looks afterwards how far off the count was.
 
     $ python3 examples/notebook.py
+
+What it writes stands in notebook.out beside it.
 """
 
 import random
@@ -55,12 +57,18 @@ with bank.report(0) as count:
 print("pieces in the end:", pieces, "off by", count.finding.distance)
 print("each count was off by no more than its finding says:", all(f.distance <= f.charged for f in findings))
 
-# %% One that was off, told and drawn: a notebook shows the finding as its picture.
+# %% The next day, with full shelves. One count that was off, told and drawn: a notebook shows the finding as its picture.
+with bank.update(0) as morning:
+    for article in ARTICLES:
+        morning.write(article, 100)
+        morning.write(f"{article}_sold", 0)
 with bank.update(2) as sale:
     sale.add("plums", -1)
     with bank.report(2) as count:
         pieces = sum(count.read(article) + count.read(f"{article}_sold") for article in ARTICLES)
     sale.add("plums_sold", 1)
 print(f"{pieces} in the middle of a sale: {count.finding.explain().splitlines()[-1]}")
-print(next(line for line in count.finding.explain().splitlines() if line.startswith("charge")))
-print("drawn:", count.finding._repr_svg_()[:4] + "..>", "rows of the ledger:", bank.ledger().count("\n") - 1)
+print(next(line for line in count.finding.explain().splitlines() if line.startswith("read plums ")))
+print("drawn:", count.finding._repr_svg_()[:4] + "..>")
+row = bank.ledger().splitlines()[count.number].split(",")
+print("its row in the ledger:", row[2], "charged", row[4], "of", row[3])

@@ -1,5 +1,6 @@
 """The Python package as threads use it. ESR_SOAK_SECONDS says how long the soak runs: two seconds where it is not set."""
 
+import collections
 import contextlib
 import csv
 import doctest
@@ -61,7 +62,8 @@ def together(*bodies):
 
 def load_tests(loader, tests, pattern):
     """The examples of the documentation are tests too."""
-    tests.addTests(doctest.DocTestSuite(esr))
+    for module in (esr, esr._bank, esr._errors):
+        tests.addTests(doctest.DocTestSuite(module))
     return tests
 
 
@@ -216,6 +218,52 @@ class Banks(unittest.TestCase):
         self.assertLess(time.monotonic() - begun, 5)
         self.assertEqual((bank["checking"], bank["savings"], len(runs)), (502, 1502, 3))
 
+    def test_a_ring_that_nobody_finds_is_left(self):
+        """A report that waits behind its own limit for an update which waits for that report: the update is begun anew."""
+        bank, has_written, has_read, runs = two_accounts(), threading.Event(), threading.Event(), []
+
+        def move(update):
+            runs.append(update.number)
+            update.add("checking", -100)
+            has_written.set()
+            has_read.wait()
+            update.add("savings", 100)
+
+        def look():
+            has_written.wait()
+            with bank.report(50) as report:
+                total = report.read("savings")
+                has_read.set()
+                total += report.read("checking")
+            self.assertEqual(total, 2000)
+
+        together(lambda: bank.transact(1_000, move), look)
+        self.assertEqual((len(runs) > 1, bank["checking"], bank["savings"]), (True, 400, 1600))
+
+    def test_patience_ends(self):
+        """Whoever is in the way longer than that is named, and nothing stays active; whoever is slow is waited for."""
+        bank, runs = two_accounts(patience=0.3), []
+        with bank.update(0) as holder:
+            holder.write("checking", 1)
+            begun = time.monotonic()
+            with self.assertRaises(Blocked) as caught:
+                bank.transact(0, lambda update: runs.append(update.number) or update.add("checking", 1))
+            self.assertGreaterEqual(time.monotonic() - begun, 0.3)
+            self.assertEqual((caught.exception.other, len(runs) > 1), (holder.number, True))
+        bank, has_written = two_accounts(), threading.Event()
+
+        def hold():
+            with bank.update(0) as holder:
+                holder.write("checking", 1)
+                has_written.set()
+                time.sleep(0.3)
+
+        def add():
+            has_written.wait()
+            self.assertEqual(bank.transact(0, lambda update: update.add("checking", 1)), 2)
+
+        together(hold, add)
+
     def test_a_bank_renews_itself(self):
         """65,535 transactions and one more: the report that is due is looked at before its history is gone."""
         seen = []
@@ -236,16 +284,23 @@ class Banks(unittest.TestCase):
                 tell()
 
     def test_a_soak_loses_nothing(self):
-        """Eight threads move money and read sums: none is off by more than it imported, and nothing is missing."""
+        """Eight threads move money and read sums: no sum is off by more than it imported, every transfer that was told
+        committed is in the accounts and no other, and no thread is stuck."""
         names = [f"account{n}" for n in range(16)]
-        bank = Bank({name: 1000 for name in names})
-        end = time.monotonic() + float(os.environ.get("ESR_SOAK_SECONDS", "2"))
+        bank, change = Bank({name: 1000 for name in names}), collections.Counter()
+        end, counts = time.monotonic() + float(os.environ.get("ESR_SOAK_SECONDS", "2")), collections.Counter()
 
         def client(seed):
+            mine = collections.Counter()
             while time.monotonic() < end:
                 seed = seed * 1_103_515_245 + 12_345 & 0x7FFFFFFF
                 source, target = names[seed >> 8 & 15], names[seed >> 16 & 15]
                 bank.transact(100_000, lambda update: (update.add(source, -10), update.add(target, 10)))
+                mine[source] -= 10
+                mine[target] += 10
+                mine["transfers"] += 1
+            with bank._lock:
+                change.update(mine)
 
         def clerk():
             while time.monotonic() < end:
@@ -254,9 +309,12 @@ class Banks(unittest.TestCase):
                 finding = report.finding
                 self.assertLessEqual(abs(total - 16_000), finding.distance)
                 self.assertLessEqual(finding.distance, finding.charged)
+                counts["reports"] += 1
 
         together(*[lambda seed=seed: client(seed) for seed in range(1, 8)], clerk)
-        self.assertEqual(sum(bank[name] for name in names), 16_000)
+        self.assertLess(time.monotonic(), end + 10)
+        self.assertEqual({name: bank[name] for name in names}, {name: 1000 + change[name] for name in names})
+        print(f"{change['transfers']} transfers, {counts['reports']} reports, {bank.renewals} renewals")
 
 
 if __name__ == "__main__":

@@ -15,10 +15,10 @@ fn teller(bank: &Mutex<Engine>, mut random: u32) -> Result<(), Error> {
         let from = random / 65_536 % ACCOUNTS;
         let to = (from + 1 + random / 1_024 % (ACCOUNTS - 1)) % ACCOUNTS;
         transact(bank, LIMIT, Patience::default(), |update| {
-            let taken = update.read(from)? - 10;
+            let taken = update.read_for_update(from)? - 10;
             update.write(from, taken)?;
             thread::sleep(Duration::from_micros(20)); // as long as the money is nowhere
-            let given = update.read(to)? + 10;
+            let given = update.read_for_update(to)? + 10;
             update.write(to, given)
         })?;
     }

@@ -1,5 +1,6 @@
 //! A ledger service: clients send transfers from threads of their own, of which some are refused for want of money, while
-//! a clerk reads the sum of all accounts, waits for nobody, and says how far off each sum may be.
+//! a clerk reads the sum of all accounts, waits for nobody, and says how far off each sum may be. What it writes stands in
+//! ledger.out beside it.
 
 use esr::{Bank, Error, Finding};
 use std::{
@@ -83,13 +84,13 @@ fn main() -> Result<(), Error> {
         clerk.join().expect("the clerk does not panic")
     });
     let (sum, finding) = sum(&bank)?;
-    println!("in the end {sum}, {finding}");
-    println!("no sum was off by more than its audit told, at most {worst}");
+    println!("in the end {sum}, off by {}", finding.distance);
+    println!("no sum was off by more than its audit told");
     let refused = refused.into_inner().unwrap();
-    let most = refused.iter().max();
     println!(
-        "{} transfers were refused, with {most:?} at most in the account",
-        refused.len()
+        "most in an account at a refusal: {:?}",
+        refused.iter().max()
     );
+    eprintln!("{} refusals, sums off by {worst} at most", refused.len());
     Ok(())
 }

@@ -1,8 +1,8 @@
 //! A bank: an engine that threads share, whose items have names, and which begins anew before its history is full.
 //!
 //! One lock is taken for each call of a transaction, and not for the whole of it, so others go on in between. What is
-//! blocked is tried again after a pause; who waits for whom is kept beside the engine, and of a ring of waiters the
-//! youngest is given up at once. Once the history is nearly full nothing begins; when the last active transaction has
+//! blocked is tried again after a pause, as long as its patience lasts; who waits for whom is kept beside the engine, and
+//! of a ring of waiters the youngest is given up at once. Once the history is nearly full nothing begins; when the last active transaction has
 //! ended, whoever wants to begin renews the engine.
 //!
 //! Each transaction is ended by the value that stands for it, also where a body fails or panics, so the count of active
@@ -12,7 +12,8 @@
 //! each commit, and they are slower together than one alone; a short sleep costs nobody else anything.
 
 use crate::{
-    Engine, Error, Event, Finding, MOST_ENTRIES, Patience, Refusal, Reply, Txn,
+    Counts, Engine, Error, Event, Finding, MOST_ENTRIES, Patience, Refusal, Reply, Totals, Txn,
+    patience::{Rounds, Waiting},
     waits::{Age, Waits},
 };
 use std::{
@@ -20,12 +21,20 @@ use std::{
     collections::{HashMap, HashSet},
     fmt,
     sync::{Condvar, Mutex, MutexGuard, PoisonError},
+    time::Instant,
 };
 
 /// Where no more entries are left nothing begins until the bank has been renewed: what is active has room to go on.
 const NEARLY_FULL: u64 = MOST_ENTRIES / 10;
 
 /// A committed report, by which it can be audited until the bank is renewed.
+///
+/// ```
+/// let bank = esr::Bank::builder().item("checking", 500).open()?;
+/// let (value, report) = bank.report_unaudited(0, |report| report.read("checking"))?;
+/// assert_eq!((value, bank.audit(report)?.distance), (500, 0));
+/// # Ok::<(), esr::Error>(())
+/// ```
 #[derive(Clone, Copy, PartialEq, Eq, Hash, Debug)]
 pub struct Report {
     renewals: u64,
@@ -109,6 +118,12 @@ pub struct Bank {
 }
 
 /// The items of a bank that is to be opened, and what it does when it is renewed.
+///
+/// ```
+/// let builder = esr::Bank::builder().item("checking", 500).weighted_item("phones", 15, 900);
+/// assert_eq!(builder.open()?.value("phones")?, 15);
+/// # Ok::<(), esr::Error>(())
+/// ```
 #[must_use]
 #[derive(Default)]
 pub struct BankBuilder {
@@ -122,12 +137,25 @@ pub struct BankBuilder {
 
 impl BankBuilder {
     /// An item, with its opening value.
+    ///
+    /// ```
+    /// let bank = esr::Bank::builder().item("checking", 500).open()?;
+    /// assert_eq!(bank.value("checking")?, 500);
+    /// # Ok::<(), esr::Error>(())
+    /// ```
     pub fn item(self, name: impl Into<String>, value: i64) -> BankBuilder {
         self.weighted_item(name, value, 1)
     }
 
     /// An item of which each difference counts as often as its weight says, 1 to 1,000: so limits can be amounts of
     /// money where items are pieces.
+    ///
+    /// ```
+    /// // 15 phones at 900: a sale of one is a change of 900
+    /// let bank = esr::Bank::builder().weighted_item("phones", 15, 900).open()?;
+    /// bank.transact(900, |sale| sale.add("phones", -1))?;
+    /// # Ok::<(), esr::Error>(())
+    /// ```
     pub fn weighted_item(
         mut self,
         name: impl Into<String>,
@@ -141,7 +169,15 @@ impl BankBuilder {
         self
     }
 
-    /// How often what is blocked is tried again.
+    /// How long a transaction waits for others, in all, before its caller is told: see [`Patience`].
+    ///
+    /// ```
+    /// use esr::{Bank, Patience};
+    /// use std::time::Duration;
+    ///
+    /// let bank = Bank::builder().item("checking", 500).patience(Patience::of(Duration::from_secs(1))).open()?;
+    /// # Ok::<(), esr::Error>(())
+    /// ```
     pub fn patience(mut self, patience: Patience) -> BankBuilder {
         self.patience = Some(patience);
         self
@@ -172,6 +208,13 @@ impl BankBuilder {
 
     /// Opens the bank.
     ///
+    /// ```
+    /// use esr::{Bank, Error};
+    ///
+    /// let twice = Bank::builder().item("checking", 500).item("checking", 1500).open();
+    /// assert_eq!(twice.err(), Some(Error::NameTwice));
+    /// ```
+    ///
     /// # Errors
     /// `NameTwice`, `TooManyItems`, `ValueOutOfRange`, `WeightOutOfRange`, `NoMemory`.
     pub fn open(self) -> Result<Bank, Error> {
@@ -180,7 +223,7 @@ impl BankBuilder {
         }
         Ok(Bank {
             names: self.names,
-            patience: self.patience.unwrap_or_else(Patience::among_rings),
+            patience: self.patience.unwrap_or_default(),
             shared: Mutex::new(Shared {
                 engine: Engine::open_weighted(&self.opening, &self.weights)?,
                 active: HashSet::new(),
@@ -212,6 +255,17 @@ fn in_order(names: &HashMap<String, u32>) -> Vec<&str> {
 }
 
 /// A history that is about to be renewed: nothing is active, and its reports can be audited for the last time.
+///
+/// ```
+/// let bank = esr::Bank::builder()
+///     .item("hits", 0)
+///     .before_renewal(|closing| {
+///         let explained = closing.due().to_vec().into_iter().map(|report| closing.explain(report));
+///         println!("{:?}", explained.collect::<Result<Vec<_>, _>>());
+///     })
+///     .open()?;
+/// # Ok::<(), esr::Error>(())
+/// ```
 pub struct Closing<'a> {
     engine: &'a mut Engine,
     names: &'a HashMap<String, u32>,
@@ -220,12 +274,34 @@ pub struct Closing<'a> {
 
 impl Closing<'_> {
     /// The committed reports that were not audited when they ended.
+    ///
+    /// ```
+    /// let bank = esr::Bank::builder()
+    ///     .item("hits", 0)
+    ///     .before_renewal(|closing| {
+    ///         println!("{} reports are due", closing.due().len());
+    ///     })
+    ///     .open()?;
+    /// # Ok::<(), esr::Error>(())
+    /// ```
     #[must_use]
     pub fn due(&self) -> &[Txn] {
         self.due
     }
 
     /// The audit of one of them.
+    ///
+    /// ```
+    /// let bank = esr::Bank::builder()
+    ///     .item("hits", 0)
+    ///     .before_renewal(|closing| {
+    ///         for report in closing.due().to_vec() {
+    ///             println!("{}", closing.audit(report).expect("it has committed"));
+    ///         }
+    ///     })
+    ///     .open()?;
+    /// # Ok::<(), esr::Error>(())
+    /// ```
     ///
     /// # Errors
     /// `NotACommittedQuery`, `NoMemory`.
@@ -235,6 +311,19 @@ impl Closing<'_> {
 
     /// Its bundle, which `esr check` judges.
     ///
+    /// ```
+    /// let bank = esr::Bank::builder()
+    ///     .item("hits", 0)
+    ///     .before_renewal(|closing| {
+    ///         for report in closing.due().to_vec() {
+    ///             let bundle = closing.bundle(report).expect("it has committed");
+    ///             println!("{}", String::from_utf8_lossy(&bundle));
+    ///         }
+    ///     })
+    ///     .open()?;
+    /// # Ok::<(), esr::Error>(())
+    /// ```
+    ///
     /// # Errors
     /// `NotACommittedQuery`, `NoMemory`.
     pub fn bundle(&mut self, report: Txn) -> Result<Vec<u8>, Error> {
@@ -242,6 +331,16 @@ impl Closing<'_> {
     }
 
     /// The whole history as a script: see [`Bank::script`].
+    ///
+    /// ```
+    /// let bank = esr::Bank::builder()
+    ///     .item("hits", 0)
+    ///     .before_renewal(|closing| {
+    ///         println!("{}", closing.script().expect("memory for it"));
+    ///     })
+    ///     .open()?;
+    /// # Ok::<(), esr::Error>(())
+    /// ```
     ///
     /// # Errors
     /// `NoMemory`.
@@ -251,6 +350,18 @@ impl Closing<'_> {
 
     /// What happened to one of the reports: see [`Bank::explain`].
     ///
+    /// ```
+    /// let bank = esr::Bank::builder()
+    ///     .item("hits", 0)
+    ///     .before_renewal(|closing| {
+    ///         for report in closing.due().to_vec() {
+    ///             println!("{}", closing.explain(report).expect("it has committed"));
+    ///         }
+    ///     })
+    ///     .open()?;
+    /// # Ok::<(), esr::Error>(())
+    /// ```
+    ///
     /// # Errors
     /// `NotACommittedQuery`, `NoMemory`.
     pub fn explain(&mut self, report: Txn) -> Result<String, Error> {
@@ -259,6 +370,18 @@ impl Closing<'_> {
 
     /// Its picture: see [`Bank::picture`].
     ///
+    /// ```
+    /// let bank = esr::Bank::builder()
+    ///     .item("hits", 0)
+    ///     .before_renewal(|closing| {
+    ///         for report in closing.due().to_vec() {
+    ///             println!("{}", closing.picture(report).expect("it has committed"));
+    ///         }
+    ///     })
+    ///     .open()?;
+    /// # Ok::<(), esr::Error>(())
+    /// ```
+    ///
     /// # Errors
     /// `NotACommittedQuery`, `NoMemory`.
     pub fn picture(&mut self, report: Txn) -> Result<String, Error> {
@@ -266,6 +389,16 @@ impl Closing<'_> {
     }
 
     /// The ledger of the whole history: see [`Bank::ledger`].
+    ///
+    /// ```
+    /// let bank = esr::Bank::builder()
+    ///     .item("hits", 0)
+    ///     .before_renewal(|closing| {
+    ///         println!("{}", closing.ledger().expect("memory for it"));
+    ///     })
+    ///     .open()?;
+    /// # Ok::<(), esr::Error>(())
+    /// ```
     ///
     /// # Errors
     /// `NoMemory`.
@@ -276,6 +409,11 @@ impl Closing<'_> {
 
 impl Bank {
     /// A bank without items, to which they are added.
+    ///
+    /// ```
+    /// let bank = esr::Bank::builder().item("checking", 500).item("savings", 1500).open()?;
+    /// # Ok::<(), esr::Error>(())
+    /// ```
     pub fn builder() -> BankBuilder {
         BankBuilder::default()
     }
@@ -291,14 +429,18 @@ impl Bank {
     }
 
     /// Waits until the history has room, and renews it where nobody else does.
-    fn with_room(&self) -> Result<MutexGuard<'_, Shared>, Error> {
+    fn with_room(&self, waiting: &mut Waiting) -> Result<MutexGuard<'_, Shared>, Error> {
         let mut shared = self.lock();
         while shared.is_nearly_full() {
             if shared.active.is_empty() {
                 self.renew_now(&mut shared)?;
+            } else if waiting.left().is_zero() {
+                return Err(Error::HistoryFull);
             } else {
-                let waited = self.ended.wait(shared);
-                shared = waited.unwrap_or_else(PoisonError::into_inner);
+                let begun = Instant::now();
+                let waited = self.ended.wait_timeout(shared, waiting.left());
+                shared = waited.unwrap_or_else(PoisonError::into_inner).0;
+                waiting.spend(begun.elapsed());
             }
         }
         Ok(shared)
@@ -321,8 +463,13 @@ impl Bank {
     }
 
     /// Begins a transaction, as old as its first attempt where it is begun anew.
-    fn begin(&self, event: Event, age: Option<Age>) -> Result<Handle<'_>, Error> {
-        let mut shared = self.with_room()?;
+    fn begin(
+        &self,
+        event: Event,
+        age: Option<Age>,
+        mut waiting: Waiting,
+    ) -> Result<Handle<'_>, Error> {
+        let mut shared = self.with_room(&mut waiting)?;
         let txn = match shared.engine.step(event)? {
             Reply::Begun(txn) => txn,
             Reply::Refused(why) => return Err(Error::Refused(why)),
@@ -337,6 +484,7 @@ impl Bank {
             bank: self,
             txn,
             age,
+            waiting,
             stop: None,
             is_active: true,
         })
@@ -349,28 +497,37 @@ impl Bank {
         mut body: impl FnMut(&mut Handle<'_>) -> Result<T, E>,
         end: impl Fn(Handle<'_>, T) -> Result<R, Error>,
     ) -> Result<R, E> {
-        let mut attempt = 0;
+        let mut waiting = Waiting::watched(self.patience);
         let mut age = None;
         loop {
-            let mut handle = self.begin(event, age)?;
+            let mut handle = self.begin(event, age, waiting)?;
             age = Some(handle.age);
             let answer = body(&mut handle);
-            attempt += 1;
-            match (handle.stop, answer) {
+            let why = match (handle.stop, answer) {
                 (None, Ok(value)) => return end(handle, value).map_err(E::from),
                 (None, Err(error)) => return Err(error),
-                (Some(why), _) if attempt >= self.patience.attempts => return Err(why.into()),
-                (Some(_), _) => self.wait_for_end(handle.give_up()),
+                (Some(why), _) => why,
+            };
+            waiting = handle.waiting;
+            // (as long as the handle is active nobody renews)
+            let renewals = self.renewals();
+            let waited_for = handle.give_up();
+            match (why, waited_for) {
+                (Error::Deadlock, Some(txn)) => self.wait_for_end(txn, renewals, &mut waiting),
+                (Error::HistoryFull, _) => waiting.spend_share(),
+                _ => _ = waiting.pause_for_attempt(),
             }
-            self.patience.wait(attempt);
+            if waiting.left().is_zero() {
+                return Err(why.into());
+            }
         }
     }
 
-    /// Runs an update: begins it, runs the body, and commits. What is blocked is tried again; where the update has to be
-    /// given up, because it is the youngest of a ring or its patience has ended, it is aborted and the body runs anew. An
-    /// error of the body aborts the update and is answered, and so does a panic.
+    /// Runs an update: begins it, runs the body, and commits. What is blocked is tried again; where the update is the
+    /// youngest of a ring, or was blocked for some time, it is aborted and the body runs anew, until its patience has
+    /// ended. An error of the body aborts the update and is answered, and so does a panic.
     ///
-    /// A body calls no method of the bank itself: it would wait for its own end.
+    /// A body begins nothing else in the bank, on which it would wait for its own end.
     ///
     /// ```
     /// use esr::{Bank, Error};
@@ -398,7 +555,7 @@ impl Bank {
     /// ```
     ///
     /// # Errors
-    /// The body's own, and where it was given up too often the last reason: `Deadlock`, `Refused`, `HistoryFull`.
+    /// The body's own, and once its [`Patience`] has ended the last reason: `Deadlock`, `Refused`, `HistoryFull`.
     pub fn transact<T, E: From<Error>>(
         &self,
         limit: u64,
@@ -412,6 +569,13 @@ impl Bank {
     }
 
     /// Runs a report: begins a query, runs the body, commits, and audits it. It is begun anew as an update is.
+    ///
+    /// ```
+    /// let bank = esr::Bank::builder().item("checking", 500).open()?;
+    /// let (value, finding) = bank.report(100, |report| report.read("checking"))?;
+    /// assert_eq!((value, finding.distance), (500, 0));
+    /// # Ok::<(), esr::Error>(())
+    /// ```
     ///
     /// # Errors
     /// Those of [`transact`](Bank::transact).
@@ -427,6 +591,14 @@ impl Bank {
 
     /// The same for a strict report, whose audit places it behind all that had committed when it began.
     ///
+    /// ```
+    /// let bank = esr::Bank::builder().item("checking", 500).open()?;
+    /// bank.transact(0, |update| update.write("checking", 400))?;
+    /// let (value, finding) = bank.strict_report(100, |report| report.read("checking"))?;
+    /// assert_eq!((value, finding.distance, finding.before.len()), (400, 0, 1));
+    /// # Ok::<(), esr::Error>(())
+    /// ```
+    ///
     /// # Errors
     /// Those of [`transact`](Bank::transact).
     pub fn strict_report<T, E: From<Error>>(
@@ -440,6 +612,13 @@ impl Bank {
     }
 
     /// Runs a report whose audit is due later: by [`audit`](Bank::audit), or before the bank is renewed.
+    ///
+    /// ```
+    /// let bank = esr::Bank::builder().item("checking", 500).open()?;
+    /// let (value, report) = bank.report_unaudited(100, |report| report.read("checking"))?;
+    /// println!("{value}, off by {}", bank.audit(report)?.distance);
+    /// # Ok::<(), esr::Error>(())
+    /// ```
     ///
     /// # Errors
     /// Those of [`transact`](Bank::transact).
@@ -478,6 +657,13 @@ impl Bank {
     }
 
     /// The audit of a report that ended without one.
+    ///
+    /// ```
+    /// let bank = esr::Bank::builder().item("checking", 500).open()?;
+    /// let (_, report) = bank.report_unaudited(100, |report| report.read("checking"))?;
+    /// assert_eq!(bank.audit(report)?.to_string(), "distance 0 import 0 before -");
+    /// # Ok::<(), esr::Error>(())
+    /// ```
     ///
     /// # Errors
     /// `NotACommittedQuery` where the bank has been renewed since. `NoMemory`.
@@ -533,6 +719,13 @@ impl Bank {
 
     /// The audit of a report as a picture: one SVG.
     ///
+    /// ```
+    /// let bank = esr::Bank::builder().item("checking", 500).open()?;
+    /// let (_, report) = bank.report_unaudited(100, |report| report.read("checking"))?;
+    /// assert!(bank.picture(report)?.starts_with("<svg"));
+    /// # Ok::<(), esr::Error>(())
+    /// ```
+    ///
     /// # Errors
     /// Those of [`audit`](Bank::audit).
     pub fn picture(&self, report: Report) -> Result<String, Error> {
@@ -542,13 +735,52 @@ impl Bank {
 
     /// The ledger of the history since the last renewal as CSV, a line for each transaction: see [`Engine::ledger`].
     ///
+    /// ```
+    /// let bank = esr::Bank::builder().item("checking", 500).open()?;
+    /// bank.transact(200, |update| update.add("checking", -100))?;
+    /// assert!(bank.ledger()?.contains("\n1,t1,update,200,0,200,"));
+    /// # Ok::<(), esr::Error>(())
+    /// ```
+    ///
     /// # Errors
     /// `NoMemory`.
     pub fn ledger(&self) -> Result<String, Error> {
         self.lock().engine.ledger()
     }
 
+    /// What the history since the last renewal has, and what is left of it.
+    ///
+    /// ```
+    /// let bank = esr::Bank::builder().item("checking", 500).open()?;
+    /// bank.transact(0, |update| update.add("checking", -100))?;
+    /// let counts = bank.counts();
+    /// assert_eq!((counts.transactions, counts.active), (1, 0));
+    /// # Ok::<(), esr::Error>(())
+    /// ```
+    #[must_use]
+    pub fn counts(&self) -> Counts {
+        self.lock().engine.counts()
+    }
+
+    /// What has been imported since the last renewal, and how many entries there are.
+    ///
+    /// ```
+    /// let bank = esr::Bank::builder().item("checking", 500).open()?;
+    /// assert_eq!(bank.totals().import, 0);
+    /// # Ok::<(), esr::Error>(())
+    /// ```
+    #[must_use]
+    pub fn totals(&self) -> Totals {
+        self.lock().engine.totals()
+    }
+
     /// The committed value of an item.
+    ///
+    /// ```
+    /// let bank = esr::Bank::builder().item("checking", 500).open()?;
+    /// assert_eq!(bank.value("checking")?, 500);
+    /// # Ok::<(), esr::Error>(())
+    /// ```
     ///
     /// # Errors
     /// `Refused` where no item has that name. `NoMemory`.
@@ -558,25 +790,27 @@ impl Bank {
     }
 
     /// How often the bank has been renewed.
+    ///
+    /// ```
+    /// let bank = esr::Bank::builder().item("checking", 500).open()?;
+    /// assert_eq!(bank.renewals(), 0);
+    /// # Ok::<(), esr::Error>(())
+    /// ```
     #[must_use]
     pub fn renewals(&self) -> u64 {
         self.lock().renewals
     }
 
+    /// Whether a transaction of the history that had been renewed so often has ended.
+    fn has_ended(&self, txn: Txn, renewals: u64) -> bool {
+        let shared = self.lock();
+        shared.renewals != renewals || !shared.active.contains(&txn)
+    }
+
     /// Waits until a transaction has ended, as long as patience lasts.
-    fn wait_for_end(&self, txn: Option<Txn>) {
-        let Some(txn) = txn else {
-            return;
-        };
-        let renewals = self.lock().renewals;
-        for round in 0..self.patience.tries {
-            let shared = self.lock();
-            if shared.renewals != renewals || !shared.active.contains(&txn) {
-                return;
-            }
-            drop(shared);
-            self.patience.wait(round);
-        }
+    fn wait_for_end(&self, txn: Txn, renewals: u64, waiting: &mut Waiting) {
+        let mut rounds = Rounds::default();
+        while !self.has_ended(txn, renewals) && waiting.pause(&mut rounds) {}
     }
 }
 
@@ -603,6 +837,7 @@ struct Handle<'a> {
     bank: &'a Bank,
     txn: Txn,
     age: Age,
+    waiting: Waiting,
     /// Why it has to be given up, once it has. Nothing is answered from then on.
     stop: Option<Error>,
     is_active: bool,
@@ -618,13 +853,12 @@ impl<'a> Handle<'a> {
         if let Some(why) = self.stop {
             return Err(why);
         }
-        let mut round = 0;
+        let mut rounds = Rounds::default();
         loop {
             let answer = events(&mut self.bank.lock());
-            round += 1;
             match answer {
                 Ok(Reply::Refused(why)) if why.may_pass_later() => {
-                    if round >= self.bank.patience.tries {
+                    if !self.waiting.pause_for_event(&mut rounds) {
                         return Err(self.stop_for(Error::Refused(why)));
                     }
                 }
@@ -632,7 +866,6 @@ impl<'a> Handle<'a> {
                 Err(why @ (Error::Deadlock | Error::HistoryFull)) => return Err(self.stop_for(why)),
                 answer => return answer,
             }
-            self.bank.patience.wait(round);
         }
     }
 
@@ -721,12 +954,29 @@ impl Drop for Handle<'_> {
 }
 
 /// An update that [`Bank::transact`] has begun.
+///
+/// ```
+/// let bank = esr::Bank::builder().item("checking", 500).open()?;
+/// let told = bank.transact(0, |update: &mut esr::BankUpdate| {
+///     let before = update.read("checking")?;
+///     Ok::<_, esr::Error>((before, update.add("checking", -100)?))
+/// })?;
+/// assert_eq!(told, (500, 400));
+/// # Ok::<(), esr::Error>(())
+/// ```
 pub struct BankUpdate<'h, 'b> {
     handle: &'h mut Handle<'b>,
 }
 
 impl BankUpdate<'_, '_> {
     /// Reads an item.
+    ///
+    /// ```
+    /// let bank = esr::Bank::builder().item("checking", 500).open()?;
+    /// let read = bank.transact(0, |update| update.read("checking"))?;
+    /// assert_eq!(read, 500);
+    /// # Ok::<(), esr::Error>(())
+    /// ```
     ///
     /// # Errors
     /// `Refused` where no item has that name. `Deadlock`, `HistoryFull`, and `Refused` where it stayed blocked: then the
@@ -736,6 +986,13 @@ impl BankUpdate<'_, '_> {
     }
 
     /// Writes an item.
+    ///
+    /// ```
+    /// let bank = esr::Bank::builder().item("checking", 500).open()?;
+    /// bank.transact(0, |update| update.write("checking", 400))?;
+    /// assert_eq!(bank.value("checking")?, 400);
+    /// # Ok::<(), esr::Error>(())
+    /// ```
     ///
     /// # Errors
     /// Those of [`read`](BankUpdate::read), and `Refused` where the value is out of range.
@@ -750,6 +1007,12 @@ impl BankUpdate<'_, '_> {
 
     /// Adds to an item, and answers its new value. It takes the write lock before it reads, so two updates that add to
     /// one item never wait for each other in a ring.
+    ///
+    /// ```
+    /// let bank = esr::Bank::builder().item("checking", 500).open()?;
+    /// assert_eq!(bank.transact(0, |update| update.add("checking", -100))?, 400);
+    /// # Ok::<(), esr::Error>(())
+    /// ```
     ///
     /// # Errors
     /// Those of [`write`](BankUpdate::write).
@@ -772,6 +1035,16 @@ impl BankUpdate<'_, '_> {
     }
 
     /// What the update has exported so far.
+    ///
+    /// ```
+    /// let bank = esr::Bank::builder().item("checking", 500).open()?;
+    /// let exported = bank.transact(100, |update| {
+    ///     update.add("checking", -100)?;
+    ///     Ok::<_, esr::Error>(update.charged())
+    /// })?;
+    /// assert_eq!(exported, 0); // no report has read beside it
+    /// # Ok::<(), esr::Error>(())
+    /// ```
     #[must_use]
     pub fn charged(&self) -> u64 {
         self.handle.charged()
@@ -787,12 +1060,28 @@ impl fmt::Debug for BankUpdate<'_, '_> {
 }
 
 /// A query that a report of a [`Bank`] has begun.
+///
+/// ```
+/// let bank = esr::Bank::builder().item("checking", 500).open()?;
+/// let (told, _) = bank.report(100, |report: &mut esr::BankQuery| {
+///     let value = report.read("checking")?;
+///     Ok::<_, esr::Error>(format!("{value}, off by at most {}", report.charged()))
+/// })?;
+/// assert_eq!(told, "500, off by at most 0");
+/// # Ok::<(), esr::Error>(())
+/// ```
 pub struct BankQuery<'h, 'b> {
     handle: &'h mut Handle<'b>,
 }
 
 impl BankQuery<'_, '_> {
     /// Reads an item.
+    ///
+    /// ```
+    /// let bank = esr::Bank::builder().item("checking", 500).open()?;
+    /// assert_eq!(bank.report(100, |report| report.read("checking"))?.0, 500);
+    /// # Ok::<(), esr::Error>(())
+    /// ```
     ///
     /// # Errors
     /// Those of [`BankUpdate::read`], and `Refused` at the 1,001st read.
@@ -801,6 +1090,16 @@ impl BankQuery<'_, '_> {
     }
 
     /// What the report has imported so far: what it has read is off by at most that.
+    ///
+    /// ```
+    /// let bank = esr::Bank::builder().item("checking", 500).open()?;
+    /// let (so_far, _) = bank.report(100, |report| {
+    ///     report.read("checking")?;
+    ///     Ok::<_, esr::Error>(report.charged())
+    /// })?;
+    /// assert_eq!(so_far, 0);
+    /// # Ok::<(), esr::Error>(())
+    /// ```
     #[must_use]
     pub fn charged(&self) -> u64 {
         self.handle.charged()

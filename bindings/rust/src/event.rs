@@ -14,6 +14,12 @@ pub struct Txn(pub(crate) u32);
 
 impl Txn {
     /// The number.
+    ///
+    /// ```
+    /// let mut engine = esr::Engine::open(&[500])?;
+    /// assert_eq!(engine.begin_query(0)?.number(), 1);
+    /// # Ok::<(), esr::Error>(())
+    /// ```
     #[must_use]
     pub fn number(self) -> u32 {
         self.0
@@ -27,7 +33,17 @@ impl fmt::Display for Txn {
 }
 
 /// What a program asks of an engine.
+///
+/// ```
+/// use esr::{Engine, Event, Reply};
+///
+/// let mut engine = Engine::open(&[500])?;
+/// let txn = engine.begin_query(0)?;
+/// assert_eq!(engine.step(Event::Read { txn, item: 0 })?, Reply::Value(500));
+/// # Ok::<(), esr::Error>(())
+/// ```
 #[derive(Clone, Copy, PartialEq, Eq, Debug)]
+#[non_exhaustive]
 pub enum Event {
     /// Begins an update that may export up to `limit`.
     BeginUpdate {
@@ -71,6 +87,18 @@ pub enum Event {
 }
 
 /// What an engine answers.
+///
+/// ```
+/// use esr::{Engine, Event, Reply};
+///
+/// let mut engine = Engine::open(&[500])?;
+/// match engine.step(Event::BeginUpdate { limit: 0 })? {
+///     Reply::Begun(txn) => println!("it is {txn}"),
+///     Reply::Refused(why) => println!("{why}"),
+///     _ => unreachable!("no other reply to a begin"),
+/// }
+/// # Ok::<(), esr::Error>(())
+/// ```
 #[derive(Clone, Copy, PartialEq, Eq, Debug)]
 #[non_exhaustive]
 pub enum Reply {
@@ -89,6 +117,15 @@ pub enum Reply {
 }
 
 /// Why an event is refused. The refusal stands in the history, and changed nothing else.
+///
+/// ```
+/// use esr::{Engine, Error, Refusal};
+///
+/// let mut engine = Engine::open(&[500])?;
+/// let txn = engine.begin_query(0)?;
+/// assert_eq!(engine.write(txn, 0, 400), Err(Error::Refused(Refusal::QueryMayNotWrite)));
+/// # Ok::<(), esr::Error>(())
+/// ```
 #[derive(Clone, Copy, PartialEq, Eq, Debug)]
 #[non_exhaustive]
 pub enum Refusal {
@@ -118,6 +155,10 @@ pub enum Refusal {
 
 impl Refusal {
     /// Whether the same event may be answered otherwise once another transaction has ended.
+    ///
+    /// ```
+    /// assert!(!esr::Refusal::NoSuchItem.may_pass_later());
+    /// ```
     #[must_use]
     pub fn may_pass_later(self) -> bool {
         matches!(
@@ -152,6 +193,11 @@ impl fmt::Display for Refusal {
 impl error::Error for Refusal {}
 
 /// Why a call is not done. The engine has not changed, but that a refusal stands in its history.
+///
+/// ```
+/// let told = esr::Engine::open(&[10_i64.pow(13)]).map(drop);
+/// assert_eq!(told, Err(esr::Error::ValueOutOfRange));
+/// ```
 #[derive(Clone, Copy, PartialEq, Eq, Debug)]
 #[non_exhaustive]
 pub enum Error {
@@ -211,6 +257,13 @@ impl error::Error for Error {
 }
 
 /// What has been imported and exported, which is the same, and how many entries the history has.
+///
+/// ```
+/// let mut engine = esr::Engine::open(&[500])?;
+/// let totals = engine.totals();
+/// assert_eq!((totals.import, totals.entries), (0, 0));
+/// # Ok::<(), esr::Error>(())
+/// ```
 #[derive(Clone, Copy, PartialEq, Eq, Debug)]
 #[non_exhaustive]
 pub struct Totals {
@@ -221,6 +274,14 @@ pub struct Totals {
 }
 
 /// What a history has, and what is left of it beside the ends of what is active.
+///
+/// ```
+/// let mut engine = esr::Engine::open(&[500])?;
+/// engine.begin_update(0)?;
+/// let counts = engine.counts();
+/// assert_eq!((counts.entries, counts.active, counts.transactions_left), (1, 1, 65_534));
+/// # Ok::<(), esr::Error>(())
+/// ```
 #[derive(Clone, Copy, PartialEq, Eq, Debug)]
 #[non_exhaustive]
 pub struct Counts {
@@ -237,6 +298,13 @@ pub struct Counts {
 }
 
 /// How a transaction stands.
+///
+/// ```
+/// let mut engine = esr::Engine::open(&[500])?;
+/// let txn = engine.begin_update(0)?;
+/// assert_eq!(engine.account(txn)?.standing, esr::Standing::Active);
+/// # Ok::<(), esr::Error>(())
+/// ```
 #[derive(Clone, Copy, PartialEq, Eq, Debug)]
 #[non_exhaustive]
 pub enum Standing {
@@ -249,6 +317,13 @@ pub enum Standing {
 }
 
 /// What is known of a transaction at any time. What a query has read so far is off by at most what it was charged.
+///
+/// ```
+/// let mut engine = esr::Engine::open(&[500])?;
+/// let report = engine.begin_query(100)?;
+/// println!("{}, off by at most {}", engine.read(report, 0)?, engine.account(report)?.charged);
+/// # Ok::<(), esr::Error>(())
+/// ```
 #[derive(Clone, Copy, PartialEq, Eq, Debug)]
 #[non_exhaustive]
 pub struct Account {
@@ -263,6 +338,16 @@ pub struct Account {
 }
 
 /// What an audit finds of a committed query.
+///
+/// ```
+/// let mut engine = esr::Engine::open(&[500])?;
+/// let report = engine.begin_query(100)?;
+/// engine.read(report, 0)?;
+/// engine.commit(report)?;
+/// let finding = engine.audit(report)?;
+/// assert_eq!((finding.distance, finding.import, finding.before.len()), (0, 0, 0));
+/// # Ok::<(), esr::Error>(())
+/// ```
 #[derive(Clone, PartialEq, Eq, Debug)]
 #[non_exhaustive]
 pub struct Finding {

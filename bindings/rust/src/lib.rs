@@ -55,16 +55,42 @@ pub use transact::{Update, transact};
 use std::fmt;
 
 /// The most items of an engine.
+///
+/// ```
+/// assert!(esr::Engine::open(&[0; esr::MOST_ITEMS]).is_ok());
+/// assert!(esr::Engine::open(&[0; esr::MOST_ITEMS + 1]).is_err());
+/// ```
 pub const MOST_ITEMS: usize = 4_096;
 
 /// The most entries of a history. One is kept free for the end of each active transaction: what has no room beside these
 /// is answered `HistoryFull`, and a commit or an abort always goes through.
+///
+/// ```
+/// let mut engine = esr::Engine::open(&[500])?;
+/// assert_eq!(engine.counts().entries_left, esr::MOST_ENTRIES);
+/// # Ok::<(), esr::Error>(())
+/// ```
 pub const MOST_ENTRIES: u64 = 1_000_000;
 
 /// The most transactions of a history: after them a begin is answered `HistoryFull` until [`Engine::renew`].
+///
+/// ```
+/// let mut engine = esr::Engine::open(&[500])?;
+/// assert_eq!(engine.counts().transactions_left, u64::from(esr::MOST_TRANSACTIONS));
+/// # Ok::<(), esr::Error>(())
+/// ```
 pub const MOST_TRANSACTIONS: u32 = 65_535;
 
 /// An engine. It is closed where it is dropped.
+///
+/// ```
+/// let mut engine = esr::Engine::open(&[500])?;
+/// let update = engine.begin_update(0)?;
+/// engine.write(update, 0, 400)?;
+/// engine.commit(update)?;
+/// assert_eq!(engine.values()?, [400]);
+/// # Ok::<(), esr::Error>(())
+/// ```
 pub struct Engine {
     raw: sys::Engine,
 }
@@ -185,6 +211,12 @@ fn listed<T: Copy>(
 impl Engine {
     /// An engine over items with these values.
     ///
+    /// ```
+    /// let mut engine = esr::Engine::open(&[500])?;
+    /// assert_eq!(engine.values()?, [500]);
+    /// # Ok::<(), esr::Error>(())
+    /// ```
+    ///
     /// # Errors
     /// `TooManyItems`, `ValueOutOfRange`, `NoMemory`.
     pub fn open(opening: &[i64]) -> Result<Engine, Error> {
@@ -227,6 +259,16 @@ impl Engine {
     }
 
     /// Answers an event. A refusal is an answer too.
+    ///
+    /// ```
+    /// use esr::{Engine, Event, Refusal, Reply};
+    ///
+    /// let mut engine = Engine::open(&[500])?;
+    /// let txn = engine.begin_update(0)?;
+    /// assert_eq!(engine.step(Event::Read { txn, item: 0 })?, Reply::Value(500));
+    /// assert_eq!(engine.step(Event::Read { txn, item: 1 })?, Reply::Refused(Refusal::NoSuchItem));
+    /// # Ok::<(), esr::Error>(())
+    /// ```
     ///
     /// # Errors
     /// `HistoryFull`, `NoMemory`: then nothing has changed.
@@ -304,6 +346,13 @@ impl Engine {
 
     /// Begins an update. A refusal is an error here and in the calls below.
     ///
+    /// ```
+    /// let mut engine = esr::Engine::open(&[500])?;
+    /// let update = engine.begin_update(200)?;
+    /// engine.write(update, 0, 400)?;
+    /// # Ok::<(), esr::Error>(())
+    /// ```
+    ///
     /// # Errors
     /// Those of [`step`](Engine::step), and `Refused`.
     pub fn begin_update(&mut self, limit: u64) -> Result<Txn, Error> {
@@ -311,6 +360,13 @@ impl Engine {
     }
 
     /// Begins a query that is not strict.
+    ///
+    /// ```
+    /// let mut engine = esr::Engine::open(&[500])?;
+    /// let report = engine.begin_query(200)?;
+    /// assert_eq!(engine.read(report, 0)?, 500);
+    /// # Ok::<(), esr::Error>(())
+    /// ```
     ///
     /// # Errors
     /// Those of [`step`](Engine::step), and `Refused`.
@@ -321,6 +377,15 @@ impl Engine {
         })
     }
 
+    /// Reads an item. What an update is going to write it reads by [`read_for_update`](Engine::read_for_update).
+    ///
+    /// ```
+    /// let mut engine = esr::Engine::open(&[500])?;
+    /// let report = engine.begin_query(200)?;
+    /// assert_eq!(engine.read(report, 0)?, 500);
+    /// # Ok::<(), esr::Error>(())
+    /// ```
+    ///
     /// # Errors
     /// Those of [`step`](Engine::step), and `Refused`.
     pub fn read(&mut self, txn: Txn, item: u32) -> Result<i64, Error> {
@@ -330,18 +395,50 @@ impl Engine {
         }
     }
 
+    /// Writes an item.
+    ///
+    /// ```
+    /// let mut engine = esr::Engine::open(&[500])?;
+    /// let update = engine.begin_update(0)?;
+    /// engine.write(update, 0, 400)?;
+    /// assert_eq!(engine.read(update, 0)?, 400);
+    /// # Ok::<(), esr::Error>(())
+    /// ```
+    ///
     /// # Errors
     /// Those of [`step`](Engine::step), and `Refused`.
     pub fn write(&mut self, txn: Txn, item: u32, value: i64) -> Result<(), Error> {
         self.accepted(Event::Write { txn, item, value }).map(drop)
     }
 
+    /// Ends a transaction, and keeps what it wrote.
+    ///
+    /// ```
+    /// let mut engine = esr::Engine::open(&[500])?;
+    /// let update = engine.begin_update(0)?;
+    /// engine.write(update, 0, 400)?;
+    /// engine.commit(update)?;
+    /// assert_eq!(engine.values()?, [400]);
+    /// # Ok::<(), esr::Error>(())
+    /// ```
+    ///
     /// # Errors
     /// Those of [`step`](Engine::step), and `Refused`.
     pub fn commit(&mut self, txn: Txn) -> Result<(), Error> {
         self.accepted(Event::Commit { txn }).map(drop)
     }
 
+    /// Ends a transaction, and takes back what it wrote.
+    ///
+    /// ```
+    /// let mut engine = esr::Engine::open(&[500])?;
+    /// let update = engine.begin_update(0)?;
+    /// engine.write(update, 0, 400)?;
+    /// engine.abort(update)?;
+    /// assert_eq!(engine.values()?, [500]);
+    /// # Ok::<(), esr::Error>(())
+    /// ```
+    ///
     /// # Errors
     /// Those of [`step`](Engine::step), and `Refused`.
     pub fn abort(&mut self, txn: Txn) -> Result<(), Error> {
@@ -350,6 +447,16 @@ impl Engine {
 
     /// Reads an item that the update is going to write: it takes the write lock first, so that nobody comes between this
     /// read and the write, and two updates that do so never wait for each other in a ring.
+    ///
+    /// ```
+    /// let mut engine = esr::Engine::open(&[500])?;
+    /// let update = engine.begin_update(0)?;
+    /// let value = engine.read_for_update(update, 0)?;
+    /// engine.write(update, 0, value - 100)?;
+    /// engine.commit(update)?;
+    /// assert_eq!(engine.values()?, [400]);
+    /// # Ok::<(), esr::Error>(())
+    /// ```
     ///
     /// # Errors
     /// Those of [`step`](Engine::step), and `Refused`. With `NoMemory` the lock may have been taken.
@@ -373,6 +480,13 @@ impl Engine {
     }
 
     /// What the history has, and what is left of it.
+    ///
+    /// ```
+    /// let mut engine = esr::Engine::open(&[500])?;
+    /// engine.begin_update(0)?;
+    /// assert_eq!((engine.counts().transactions, engine.counts().active), (1, 1));
+    /// # Ok::<(), esr::Error>(())
+    /// ```
     pub fn counts(&mut self) -> Counts {
         let mut counts = sys::Counts::default();
         done(sys::esr_counts_of(&mut self.raw, &mut counts)).expect("an open engine has counts");
@@ -386,6 +500,14 @@ impl Engine {
     }
 
     /// What is known of a transaction, at any time.
+    ///
+    /// ```
+    /// let mut engine = esr::Engine::open(&[500])?;
+    /// let update = engine.begin_update(200)?;
+    /// let account = engine.account(update)?;
+    /// assert_eq!((account.is_query, account.limit, account.charged), (false, 200, 0));
+    /// # Ok::<(), esr::Error>(())
+    /// ```
     ///
     /// # Errors
     /// `NotBegun`.
@@ -406,6 +528,15 @@ impl Engine {
     }
 
     /// What has been imported, and how many entries the history has.
+    ///
+    /// ```
+    /// let mut engine = esr::Engine::open(&[500])?;
+    /// let (update, report) = (engine.begin_update(100)?, engine.begin_query(100)?);
+    /// engine.write(update, 0, 400)?;
+    /// engine.read(report, 0)?;
+    /// assert_eq!(engine.totals().import, 100);
+    /// # Ok::<(), esr::Error>(())
+    /// ```
     pub fn totals(&mut self) -> Totals {
         let mut totals = sys::Totals::default();
         done(sys::esr_totals_of(&mut self.raw, &mut totals)).expect("an open engine has totals");
@@ -417,6 +548,12 @@ impl Engine {
 
     /// The committed values of the items, in their order.
     ///
+    /// ```
+    /// let mut engine = esr::Engine::open(&[500])?;
+    /// assert_eq!(engine.values()?, [500]);
+    /// # Ok::<(), esr::Error>(())
+    /// ```
+    ///
     /// # Errors
     /// `NoMemory`.
     pub fn values(&mut self) -> Result<Vec<i64>, Error> {
@@ -427,6 +564,17 @@ impl Engine {
     }
 
     /// The audit of a committed query.
+    ///
+    /// ```
+    /// let mut engine = esr::Engine::open(&[500])?;
+    /// let (update, report) = (engine.begin_update(100)?, engine.begin_query(100)?);
+    /// engine.write(update, 0, 400)?;
+    /// engine.read(report, 0)?;
+    /// engine.commit(report)?;
+    /// engine.abort(update)?;
+    /// assert_eq!(engine.audit(report)?.to_string(), "distance 100 import 100 before -");
+    /// # Ok::<(), esr::Error>(())
+    /// ```
     ///
     /// # Errors
     /// `NotACommittedQuery`, `NoMemory`.
@@ -447,6 +595,16 @@ impl Engine {
     }
 
     /// The audit of a committed query as one JSON object, which `esr check` judges without this engine.
+    ///
+    /// ```
+    /// let mut engine = esr::Engine::open(&[500])?;
+    /// let (update, report) = (engine.begin_update(100)?, engine.begin_query(100)?);
+    /// engine.write(update, 0, 400)?;
+    /// engine.read(report, 0)?;
+    /// engine.commit(report)?;
+    /// assert!(engine.bundle(report)?.starts_with(b"{"));
+    /// # Ok::<(), esr::Error>(())
+    /// ```
     ///
     /// # Errors
     /// `NotACommittedQuery`, `NoMemory`.
@@ -554,6 +712,16 @@ impl Engine {
     /// history ends at [`MOST_ENTRIES`] and at [`MOST_TRANSACTIONS`]: then let what is active end, audit what is of
     /// interest, and renew.
     ///
+    /// ```
+    /// let mut engine = esr::Engine::open(&[500])?;
+    /// let update = engine.begin_update(0)?;
+    /// assert_eq!(engine.renew(), Err(esr::Error::TransactionActive));
+    /// engine.commit(update)?;
+    /// engine.renew()?;
+    /// assert_eq!(engine.counts().entries, 0);
+    /// # Ok::<(), esr::Error>(())
+    /// ```
+    ///
     /// # Errors
     /// `TransactionActive`, `NoMemory`: then nothing has changed.
     pub fn renew(&mut self) -> Result<(), Error> {
@@ -561,6 +729,15 @@ impl Engine {
     }
 
     /// The same from every state: what is active is aborted.
+    ///
+    /// ```
+    /// let mut engine = esr::Engine::open(&[500])?;
+    /// let update = engine.begin_update(0)?;
+    /// engine.write(update, 0, 400)?;
+    /// engine.renew_aborting()?;
+    /// assert_eq!(engine.values()?, [500]);
+    /// # Ok::<(), esr::Error>(())
+    /// ```
     ///
     /// # Errors
     /// `NoMemory`: then nothing has changed, and what was active still is.

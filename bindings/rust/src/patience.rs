@@ -1,54 +1,189 @@
 //! How long those who are blocked go on trying, over an engine and in a bank.
 //!
-//! Each waits as others do but for a draw of its own: two that were blocked by each other and waited alike would meet
-//! again. The first rounds only let others run, since a counter that many change is free again at once.
+//! Patience is a time, which a transaction spends by waiting: for its events, for the ends of others and for room, over
+//! all its attempts. A count of tries would be used up at once where whoever is waited for is not let run meanwhile, as
+//! happens on a machine that is busy.
+//!
+//! Each pause is longer than the one before, up to some milliseconds, and has a draw of its own: two that were blocked by
+//! each other and waited alike would meet again. The first rounds only let others run, since a counter that many change
+//! is free again at once.
+//!
+//! Whoever waits holds what others may wait for, so an attempt waits for an event only for its share. Then it is aborted,
+//! and begun anew once those who wait for it have had the time to notice. The share doubles from attempt to attempt: where
+//! two wait for each other and nobody tells them, one gives up soon, and where somebody is slow, a later attempt waits
+//! long enough.
 
 use std::{
     collections::hash_map::RandomState,
     hash::{BuildHasher, Hasher},
     thread,
-    time::Duration,
+    time::{Duration, Instant},
 };
 
-/// How often what is blocked is tried again, and how long is waited before: longer each time.
+/// How many rounds only let others run.
+const YIELDS: u32 = 4;
+/// The first pause behind these.
+const PAUSE: Duration = Duration::from_micros(20);
+/// How often the pause is doubled: up to 5 milliseconds.
+const DOUBLINGS: u32 = 8;
+/// In so long everybody who waits has tried again.
+const ROUND: Duration = Duration::from_millis(10);
+
+/// How long a transaction waits for others, in all, before its caller is told that it is blocked: 10 seconds where nothing
+/// else is said. Its own work does not count, however long it takes.
+///
+/// ```
+/// use esr::{Bank, Error, Patience, Refusal};
+/// use std::time::Duration;
+///
+/// let short = Patience::of(Duration::from_millis(20));
+/// let bank = Bank::builder().item("checking", 500).patience(short).open()?;
+/// let told = bank.transact(0, |first| {
+///     first.write("checking", 400)?;
+///     // an update within the other waits for it in vain
+///     bank.transact(0, |second| second.write("checking", 300))
+/// });
+/// assert!(matches!(told, Err(Error::Refused(Refusal::BlockedByLock(_)))));
+/// assert_eq!(bank.value("checking")?, 500);
+/// # Ok::<(), Error>(())
+/// ```
 #[derive(Clone, Copy, PartialEq, Eq, Debug)]
 pub struct Patience {
-    /// How often an event is given, at most.
-    pub tries: u32,
-    /// How often the whole update is begun, at most. Of two updates that block one another, one has to begin anew.
-    pub attempts: u32,
-    /// How long is waited at first, once letting others run was not enough; up to 64 times as long later.
-    pub pause: Duration,
-}
-
-impl Default for Patience {
-    /// For [`transact`](crate::transact), which finds no rings of waiters: so an update gives up soon, and begins anew.
-    fn default() -> Patience {
-        Patience {
-            tries: 64,
-            attempts: 256,
-            pause: Duration::from_micros(20),
-        }
-    }
+    total: Duration,
 }
 
 impl Patience {
-    /// Where rings of waiters are found, and nobody waits for ever.
-    pub(crate) fn among_rings() -> Patience {
-        Patience {
-            tries: 1_000,
-            attempts: 64,
-            ..Patience::default()
+    /// Waits for so long in all, and with nothing not at all: what is blocked is told at once.
+    ///
+    /// ```
+    /// use esr::Patience;
+    /// use std::time::Duration;
+    ///
+    /// assert_eq!(Patience::default(), Patience::of(Duration::from_secs(10)));
+    /// ```
+    #[must_use]
+    pub const fn of(total: Duration) -> Patience {
+        Patience { total }
+    }
+}
+
+impl Default for Patience {
+    fn default() -> Patience {
+        Patience::of(Duration::from_secs(10))
+    }
+}
+
+/// What is left of the patience of a transaction, over all its attempts.
+#[derive(Clone, Copy, Debug)]
+pub(crate) struct Waiting {
+    left: Duration,
+    /// How long this attempt may wait for one event.
+    share: Duration,
+}
+
+/// How often, and how long, something was waited for.
+#[derive(Default, Debug)]
+pub(crate) struct Rounds {
+    count: u32,
+    waited: Duration,
+}
+
+/// A time between the half of it and the whole.
+fn drawn(most: Duration) -> Duration {
+    let draw = RandomState::new().build_hasher().finish();
+    most.saturating_mul(8 + (draw % 9) as u32) / 16
+}
+
+impl Waiting {
+    /// Where nobody finds rings of waiters: an attempt may be in one from its first wait on.
+    pub(crate) fn unwatched(patience: Patience) -> Waiting {
+        Waiting {
+            left: patience.total,
+            share: drawn(Duration::from_millis(2)),
         }
     }
 
-    /// Waits, a little longer in each round.
-    pub(crate) fn wait(self, round: u32) {
-        if round < 4 {
-            return thread::yield_now();
+    /// Where rings of waiters are found, but for those in which somebody has come to its own limit.
+    pub(crate) fn watched(patience: Patience) -> Waiting {
+        Waiting {
+            left: patience.total,
+            share: drawn(Duration::from_millis(50)),
         }
-        let most = self.pause.saturating_mul(1 << (round - 4).min(6));
-        let draw = RandomState::new().build_hasher().finish();
-        thread::sleep(most.saturating_mul(8 + (draw % 8) as u32) / 16);
+    }
+
+    /// The patience that is left.
+    pub(crate) fn left(&self) -> Duration {
+        self.left
+    }
+
+    /// Counts a time that has gone by in vain.
+    pub(crate) fn spend(&mut self, time: Duration) {
+        self.left = self.left.saturating_sub(time);
+    }
+
+    /// Counts an attempt that had no room in the history: as a share, so that one that never has any ends too.
+    pub(crate) fn spend_share(&mut self) {
+        self.spend(self.share);
+    }
+
+    /// Waits a little, longer in each round. False, and at once, where no patience is left.
+    pub(crate) fn pause(&mut self, rounds: &mut Rounds) -> bool {
+        if self.left.is_zero() {
+            return false;
+        }
+        let begun = Instant::now();
+        match rounds.count.checked_sub(YIELDS) {
+            None => thread::yield_now(),
+            Some(n) => thread::sleep(drawn(PAUSE * (1 << n.min(DOUBLINGS))).min(self.left)),
+        }
+        let waited = begun.elapsed();
+        rounds.count = rounds.count.saturating_add(1);
+        rounds.waited += waited;
+        self.spend(waited);
+        true
+    }
+
+    /// The same before an event is tried again. False also where the attempt has waited for it as long as it may.
+    pub(crate) fn pause_for_event(&mut self, rounds: &mut Rounds) -> bool {
+        rounds.waited < self.share && self.pause(rounds)
+    }
+
+    /// Waits until others have tried again, before the next attempt, which may wait twice as long. Whether patience is left.
+    pub(crate) fn pause_for_attempt(&mut self) -> bool {
+        let begun = Instant::now();
+        thread::sleep(drawn(self.share.min(ROUND)).min(self.left));
+        self.spend(begun.elapsed());
+        self.share = self.share.saturating_mul(2);
+        !self.left.is_zero()
+    }
+}
+
+#[cfg(test)]
+mod tests {
+    use super::*;
+
+    /// The patience is gone after as long as was said, and every pause behind it is none.
+    #[test]
+    fn patience_ends() {
+        let mut waiting = Waiting::watched(Patience::of(Duration::from_millis(30)));
+        let (begun, mut rounds) = (Instant::now(), Rounds::default());
+        while waiting.pause(&mut rounds) {}
+        assert!(begun.elapsed() >= Duration::from_millis(30));
+        assert!(rounds.count > YIELDS && rounds.waited >= Duration::from_millis(30));
+        assert!(!waiting.pause_for_attempt() && waiting.left().is_zero());
+    }
+
+    /// An event is waited for as long as the share of its attempt, which doubles.
+    #[test]
+    fn shares_grow() {
+        let mut waiting = Waiting::unwatched(Patience::default());
+        let mut before = Duration::ZERO;
+        for _ in 0..4 {
+            let mut rounds = Rounds::default();
+            while waiting.pause_for_event(&mut rounds) {}
+            assert!(rounds.waited >= waiting.share && waiting.share >= 2 * before);
+            before = waiting.share;
+            assert!(waiting.pause_for_attempt());
+        }
     }
 }

@@ -1,6 +1,9 @@
 //! Updates over an engine that threads share under a lock.
 
-use crate::{Engine, Error, Event, Patience, Reply, Txn};
+use crate::{
+    Engine, Error, Event, Patience, Reply, Txn,
+    patience::{Rounds, Waiting},
+};
 use std::sync::{Mutex, MutexGuard, PoisonError};
 
 /// No panic leaves a call half done, so a lock that one has poisoned is taken all the same.
@@ -9,43 +12,101 @@ fn lock(engine: &Mutex<Engine>) -> MutexGuard<'_, Engine> {
 }
 
 /// An update that [`transact`] has begun. Each call takes the lock for itself, so that others go on in between.
+///
+/// ```
+/// use esr::{Engine, Patience, transact};
+/// use std::sync::Mutex;
+///
+/// let bank = Mutex::new(Engine::open(&[500])?);
+/// let number = transact(&bank, 0, Patience::default(), |update| Ok(update.txn()))?;
+/// assert_eq!(number.number(), 1);
+/// # Ok::<(), esr::Error>(())
+/// ```
 #[derive(Debug)]
 pub struct Update<'a> {
     engine: &'a Mutex<Engine>,
     txn: Txn,
-    patience: Patience,
+    waiting: &'a mut Waiting,
     ended: bool,
 }
 
 impl Update<'_> {
     /// The number of the update.
+    ///
+    /// ```
+    /// use esr::{Engine, Patience, transact};
+    /// use std::sync::Mutex;
+    ///
+    /// let bank = Mutex::new(Engine::open(&[500])?);
+    /// let charged = transact(&bank, 0, Patience::default(), |update| {
+    ///     Ok(bank.lock().unwrap().account(update.txn())?.charged)
+    /// })?;
+    /// assert_eq!(charged, 0);
+    /// # Ok::<(), esr::Error>(())
+    /// ```
     #[must_use]
     pub fn txn(&self) -> Txn {
         self.txn
     }
 
-    fn step(&mut self, event: Event) -> Result<Reply, Error> {
-        let mut round = 0;
+    fn step(
+        &mut self,
+        event: impl Fn(&mut Engine) -> Result<Reply, Error>,
+    ) -> Result<Reply, Error> {
+        let mut rounds = Rounds::default();
         loop {
-            match lock(self.engine).step(event)? {
-                Reply::Refused(why) if why.may_pass_later() && round + 1 < self.patience.tries => {}
+            // (the lock is free again at the end of this line, and not held while waiting)
+            let reply = event(&mut lock(self.engine))?;
+            match reply {
+                Reply::Refused(why)
+                    if why.may_pass_later() && self.waiting.pause_for_event(&mut rounds) => {}
                 Reply::Refused(why) => return Err(Error::Refused(why)),
                 reply => return Ok(reply),
             }
-            self.patience.wait(round);
-            round += 1;
         }
     }
 
     /// Reads an item.
     ///
+    /// ```
+    /// use esr::{Engine, Patience, transact};
+    /// use std::sync::Mutex;
+    ///
+    /// let bank = Mutex::new(Engine::open(&[500])?);
+    /// assert_eq!(transact(&bank, 0, Patience::default(), |update| update.read(0))?, 500);
+    /// # Ok::<(), esr::Error>(())
+    /// ```
+    ///
     /// # Errors
     /// `Refused` where it is refused, or blocked at each try; `HistoryFull`, `NoMemory`.
     pub fn read(&mut self, item: u32) -> Result<i64, Error> {
-        match self.step(Event::Read {
-            txn: self.txn,
-            item,
-        })? {
+        let txn = self.txn;
+        match self.step(|engine| engine.step(Event::Read { txn, item }))? {
+            Reply::Value(value) => Ok(value),
+            other => unreachable!("{other:?}"),
+        }
+    }
+
+    /// Reads an item that the update is going to write: see [`Engine::read_for_update`].
+    ///
+    /// ```
+    /// use esr::{Engine, Patience, transact};
+    /// use std::sync::Mutex;
+    ///
+    /// let bank = Mutex::new(Engine::open(&[500])?);
+    /// transact(&bank, 0, Patience::default(), |update| {
+    ///     let left = update.read_for_update(0)? - 100;
+    ///     update.write(0, left)
+    /// })?;
+    /// assert_eq!(bank.into_inner().unwrap().values()?, [400]);
+    /// # Ok::<(), esr::Error>(())
+    /// ```
+    ///
+    /// # Errors
+    /// Those of [`read`](Update::read).
+    pub fn read_for_update(&mut self, item: u32) -> Result<i64, Error> {
+        let txn = self.txn;
+        match self.step(|engine| engine.step_for_update(txn, item))? {
             Reply::Value(value) => Ok(value),
             other => unreachable!("{other:?}"),
         }
@@ -53,16 +114,27 @@ impl Update<'_> {
 
     /// Writes an item.
     ///
+    /// ```
+    /// use esr::{Engine, Patience, transact};
+    /// use std::sync::Mutex;
+    ///
+    /// let bank = Mutex::new(Engine::open(&[500])?);
+    /// transact(&bank, 0, Patience::default(), |update| update.write(0, 400))?;
+    /// assert_eq!(bank.into_inner().unwrap().values()?, [400]);
+    /// # Ok::<(), esr::Error>(())
+    /// ```
+    ///
     /// # Errors
     /// Those of [`read`](Update::read).
     pub fn write(&mut self, item: u32, value: i64) -> Result<(), Error> {
         let txn = self.txn;
-        self.step(Event::Write { txn, item, value }).map(drop)
+        self.step(|engine| engine.step(Event::Write { txn, item, value }))
+            .map(drop)
     }
 
     fn commit(mut self) -> Result<(), Error> {
         let txn = self.txn;
-        self.step(Event::Commit { txn })?;
+        self.step(|engine| engine.step(Event::Commit { txn }))?;
         self.ended = true;
         Ok(())
     }
@@ -80,14 +152,14 @@ impl Drop for Update<'_> {
 fn attempt<T>(
     engine: &Mutex<Engine>,
     limit: u64,
-    patience: Patience,
+    waiting: &mut Waiting,
     body: &mut impl FnMut(&mut Update<'_>) -> Result<T, Error>,
 ) -> Result<T, Error> {
     let txn = lock(engine).begin_update(limit)?;
     let mut update = Update {
         engine,
         txn,
-        patience,
+        waiting,
         ended: false,
     };
     let value = body(&mut update)?;
@@ -95,9 +167,9 @@ fn attempt<T>(
     Ok(value)
 }
 
-/// Runs an update: begins it, runs the body, and commits. What is blocked is tried again, after a pause that grows; where
-/// that gives up, the update is aborted and the body runs anew, each a bounded number of times. Any other error of the
-/// body aborts the update and is answered, and so does a panic.
+/// Runs an update: begins it, runs the body, and commits. What is blocked is tried again, after a pause that grows; after
+/// some time the update is aborted and the body runs anew, until its [`Patience`] has ended. Any other error of the body
+/// aborts the update and is answered, and so does a panic.
 ///
 /// ```
 /// use esr::{Engine, Patience, transact};
@@ -105,8 +177,8 @@ fn attempt<T>(
 ///
 /// let bank = Mutex::new(Engine::open(&[500, 1500])?);
 /// transact(&bank, 0, Patience::default(), |update| {
-///     let checking = update.read(0)?;
-///     let savings = update.read(1)?;
+///     let checking = update.read_for_update(0)?;
+///     let savings = update.read_for_update(1)?;
 ///     update.write(0, checking - 100)?;
 ///     update.write(1, savings + 100)
 /// })?;
@@ -115,20 +187,18 @@ fn attempt<T>(
 /// ```
 ///
 /// # Errors
-/// `Refused` with the last reason where each attempt was blocked, and the body's own errors.
+/// `Refused` with the last reason where patience has ended, and the body's own errors.
 pub fn transact<T>(
     engine: &Mutex<Engine>,
     limit: u64,
     patience: Patience,
     mut body: impl FnMut(&mut Update<'_>) -> Result<T, Error>,
 ) -> Result<T, Error> {
-    let mut round = 0;
+    let mut waiting = Waiting::unwatched(patience);
     loop {
-        match attempt(engine, limit, patience, &mut body) {
-            Err(Error::Refused(why)) if why.may_pass_later() && round + 1 < patience.attempts => {}
+        match attempt(engine, limit, &mut waiting, &mut body) {
+            Err(Error::Refused(why)) if why.may_pass_later() && waiting.pause_for_attempt() => {}
             answer => return answer,
         }
-        patience.wait(round);
-        round += 1;
     }
 }

@@ -1,7 +1,7 @@
 //! The bank as threads use it: nothing is lost, nothing stays active, and reports are off by no more than they import.
 //! `ESR_SOAK_SECONDS` says how long the soak runs: two seconds where it is not set.
 
-use esr::{Bank, Error, MOST_TRANSACTIONS, Refusal};
+use esr::{Bank, Error, MOST_TRANSACTIONS, Patience, Refusal};
 use std::{
     env, panic,
     sync::{
@@ -126,6 +126,61 @@ fn a_deadlock_is_given_up_by_the_younger() {
     assert_eq!(runs.load(Ordering::Relaxed), 3);
 }
 
+/// A report that waits behind its own limit for an update which waits for that report: no refusal names the update, so
+/// the report is begun anew after a while, and both get through.
+#[test]
+fn a_ring_that_nobody_finds_is_left() {
+    let bank = two_accounts();
+    let met = std::sync::Barrier::new(2);
+    thread::scope(|threads| {
+        threads.spawn(|| {
+            let mut first = true;
+            bank.transact(1_000, |transfer| {
+                transfer.add("checking", -100)?;
+                if first {
+                    met.wait(); // the report has read savings
+                    met.wait();
+                }
+                first = false;
+                transfer.add("savings", 100)
+            })
+            .expect("it gets through");
+        });
+        let mut first = true;
+        let sum = bank.report(50, |report| {
+            if first {
+                met.wait();
+            }
+            let savings = report.read("savings")?;
+            if first {
+                met.wait();
+            }
+            first = false;
+            Ok::<_, Error>(savings + report.read("checking")?)
+        });
+        assert_eq!(sum.map(|(sum, _)| sum), Ok(2000));
+    });
+}
+
+/// Where nobody ends what is in the way, the caller is told why once patience has ended, and nothing stays active.
+#[test]
+fn patience_ends() {
+    let short = Patience::of(Duration::from_millis(100));
+    let bank = Bank::builder().item("checking", 500).patience(short).open();
+    let bank = bank.expect("one item is within the limits");
+    let begun = Instant::now();
+    let told = bank.transact(0, |first| {
+        first.write("checking", 400)?;
+        bank.transact(0, |second| second.write("checking", 300))
+    });
+    assert!(matches!(
+        told,
+        Err(Error::Refused(Refusal::BlockedByLock(_)))
+    ));
+    assert!(begun.elapsed() >= Duration::from_millis(100));
+    assert_eq!(bank.transact(0, |next| next.add("checking", 1)), Ok(501));
+}
+
 /// A bank goes on through the end of a history: the reports that are due are audited before it is gone.
 #[test]
 fn a_bank_renews_itself() {
@@ -187,8 +242,8 @@ fn weights_and_charges() {
     assert_eq!(bad.err(), Some(Error::WeightOutOfRange));
 }
 
-/// Eight threads move money and read sums through renewals: each sum is off by at most what its report imported, and in
-/// the end nothing is missing.
+/// Eight threads move money and read sums through renewals: each sum is off by at most what its report imported, every
+/// transfer that was told committed is in the accounts and no other, and no thread is stuck.
 #[test]
 fn a_soak_loses_nothing() {
     const ACCOUNTS: usize = 16;
@@ -200,52 +255,62 @@ fn a_soak_loses_nothing() {
     let seconds =
         env::var("ESR_SOAK_SECONDS").map_or(2, |text| text.parse().expect("a number of seconds"));
     let end = Instant::now() + Duration::from_secs(seconds);
-    let moved = AtomicU64::new(0);
-    thread::scope(|threads| {
-        for seed in 1..=8u64 {
-            let (bank, names, moved) = (&bank, &names, &moved);
-            threads.spawn(move || {
-                let mut random = seed;
-                let mut draw = |most: usize| {
-                    random = random
-                        .wrapping_mul(6_364_136_223_846_793_005)
-                        .wrapping_add(1_442_695_040_888_963_407);
-                    (random >> 33) as usize % most
-                };
-                while Instant::now() < end {
-                    if seed == 8 {
-                        let (sum, finding) = bank
-                            .report(5_000, |report| {
-                                names
-                                    .iter()
-                                    .map(|name| report.read(name))
-                                    .sum::<Result<i64, Error>>()
-                            })
-                            .expect("its limit is never met");
-                        assert!(sum.abs_diff(1000 * ACCOUNTS as i64) <= finding.distance);
-                        assert!(finding.distance <= finding.import);
-                        thread::sleep(Duration::from_millis(1));
-                        continue;
-                    }
-                    let (from, to) = (draw(ACCOUNTS), draw(ACCOUNTS));
-                    bank.transact(100_000, |update| {
-                        update.add(&names[from], -10)?;
-                        update.add(&names[to], 10)
-                    })
-                    .expect("it gets through");
-                    moved.fetch_add(1, Ordering::Relaxed);
-                }
-            });
+    let (moved, reports) = (AtomicU64::new(0), AtomicU64::new(0));
+    let clerk = || {
+        while Instant::now() < end {
+            let (sum, finding) = bank
+                .report(5_000, |report| {
+                    names
+                        .iter()
+                        .map(|name| report.read(name))
+                        .sum::<Result<i64, Error>>()
+                })
+                .expect("its limit is never met");
+            assert!(sum.abs_diff(1000 * ACCOUNTS as i64) <= finding.distance);
+            assert!(finding.distance <= finding.import);
+            reports.fetch_add(1, Ordering::Relaxed);
+            thread::sleep(Duration::from_millis(1));
         }
+    };
+    let client = |mut random: u64| {
+        let mut draw = || {
+            random = random
+                .wrapping_mul(6_364_136_223_846_793_005)
+                .wrapping_add(1_442_695_040_888_963_407);
+            (random >> 33) as usize % ACCOUNTS
+        };
+        let mut change = [0; ACCOUNTS];
+        while Instant::now() < end {
+            let (from, to) = (draw(), draw());
+            bank.transact(100_000, |update| {
+                update.add(&names[from], -10)?;
+                update.add(&names[to], 10)
+            })
+            .expect("it gets through");
+            change[from] -= 10;
+            change[to] += 10;
+            moved.fetch_add(1, Ordering::Relaxed);
+        }
+        change
+    };
+    let changes = thread::scope(|threads| {
+        threads.spawn(clerk);
+        let clients = (1..8u64).map(|seed| threads.spawn(move || client(seed)));
+        let clients: Vec<_> = clients.collect();
+        clients
+            .into_iter()
+            .map(|client| client.join().expect("a client does not panic"))
+            .collect::<Vec<_>>()
     });
-    let total: i64 = names
-        .iter()
-        .map(|name| bank.value(name).expect("it is an item"))
-        .sum();
-    assert_eq!(total, 1000 * ACCOUNTS as i64);
+    assert!(Instant::now() < end + Duration::from_secs(10));
+    for (n, name) in names.iter().enumerate() {
+        let change: i64 = changes.iter().map(|change| change[n]).sum();
+        assert_eq!(bank.value(name), Ok(1000 + change));
+    }
     println!(
-        "{} transfers, {} renewals",
+        "{} transfers, {} reports, {} renewals",
         moved.load(Ordering::Relaxed),
+        reports.load(Ordering::Relaxed),
         bank.renewals()
     );
 }

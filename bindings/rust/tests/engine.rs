@@ -1,7 +1,12 @@
 //! Errors and refusals, a full history, renewal, and updates of several threads.
 
 use esr::{Engine, Error, Event, MOST_ENTRIES, Patience, Refusal, Reply, Standing, Txn, transact};
-use std::{error, panic, sync::Mutex, thread, time::Duration};
+use std::{
+    error, panic,
+    sync::Mutex,
+    thread,
+    time::{Duration, Instant},
+};
 
 #[test]
 fn an_engine_goes_to_another_thread() {
@@ -106,23 +111,49 @@ fn transact_gives_up_and_aborts() {
     let bank = Mutex::new(Engine::open(&[0]).unwrap());
     let holder = bank.lock().unwrap().begin_update(0).unwrap();
     bank.lock().unwrap().write(holder, 0, 1).unwrap();
-    let patience = Patience {
-        tries: 3,
-        attempts: 2,
-        pause: Duration::from_micros(1),
-    };
-    let mut runs = 0;
+    let patience = Patience::of(Duration::from_millis(20));
+    let (begun, mut runs) = (Instant::now(), 0);
     let answer = transact(&bank, 0, patience, |update| {
         runs += 1;
         update.read(0)
     });
     assert_eq!(answer, Err(Error::Refused(Refusal::BlockedByLock(holder))));
-    assert_eq!(runs, 2);
+    assert!(runs > 1 && begun.elapsed() >= Duration::from_millis(20));
     let mut engine = bank.into_inner().unwrap();
-    // Two entries of the holder; each attempt begins, is blocked three times, and aborts.
-    assert_eq!(engine.totals().entries, 2 + 2 * 5);
+    // The holder is still active, and each attempt was aborted.
+    let counts = engine.counts();
+    assert_eq!((counts.transactions, counts.active), (1 + runs, 1));
     engine.commit(holder).unwrap();
     assert_eq!(engine.renew(), Ok(()));
+}
+
+/// Without patience an event is given once.
+#[test]
+fn transact_without_patience() {
+    let bank = Mutex::new(Engine::open(&[0]).unwrap());
+    let holder = bank.lock().unwrap().begin_update(0).unwrap();
+    bank.lock().unwrap().write(holder, 0, 1).unwrap();
+    let none = Patience::of(Duration::ZERO);
+    let answer = transact(&bank, 0, none, |update| update.read(0));
+    assert_eq!(answer, Err(Error::Refused(Refusal::BlockedByLock(holder))));
+    // Two entries of the holder, and a begin, a blocked read and an abort.
+    assert_eq!(bank.into_inner().unwrap().totals().entries, 2 + 3);
+}
+
+/// Whoever is slow is waited for, however often the update has to be begun anew for that.
+#[test]
+fn transact_waits_for_whoever_is_slow() {
+    let bank = Mutex::new(Engine::open(&[0]).unwrap());
+    let holder = bank.lock().unwrap().begin_update(0).unwrap();
+    bank.lock().unwrap().write(holder, 0, 1).unwrap();
+    thread::scope(|threads| {
+        threads.spawn(|| {
+            thread::sleep(Duration::from_millis(300));
+            bank.lock().unwrap().commit(holder).unwrap();
+        });
+        let answer = transact(&bank, 0, Patience::default(), |update| update.read(0));
+        assert_eq!(answer, Ok(1));
+    });
 }
 
 #[test]
@@ -153,21 +184,13 @@ fn four_threads_count_together() {
             let bank = &bank;
             threads.spawn(move || {
                 for _ in 0..100 {
-                    transact(
-                        bank,
-                        0,
-                        Patience {
-                            attempts: 1000,
-                            ..Patience::default()
-                        },
-                        |update| {
-                            for item in [k % 2, 1 - k % 2] {
-                                let value = update.read(item)?;
-                                update.write(item, value + 1)?;
-                            }
-                            Ok(())
-                        },
-                    )
+                    transact(bank, 0, Patience::default(), |update| {
+                        for item in [k % 2, 1 - k % 2] {
+                            let value = update.read(item)?;
+                            update.write(item, value + 1)?;
+                        }
+                        Ok(())
+                    })
                     .unwrap();
                 }
             });
