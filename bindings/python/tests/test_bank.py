@@ -250,6 +250,17 @@ class Banks(unittest.TestCase):
                 bank.transact(0, lambda update: runs.append(update.number) or update.add("checking", 1))
             self.assertGreaterEqual(time.monotonic() - begun, 0.3)
             self.assertEqual((caught.exception.other, len(runs) > 1), (holder.number, True))
+        bank, runs = two_accounts(patience=0.1), []
+
+        def within(update):
+            runs.append(update.number)
+            update.write("checking", 1)
+            with bank.update(0) as other:
+                other.write("checking", 2)
+
+        with self.assertRaises(Blocked):
+            bank.transact(0, within)
+        self.assertEqual((len(runs), bank["checking"], bank.counts.active), (1, 500, 0))
         bank, has_written = two_accounts(), threading.Event()
 
         def hold():
