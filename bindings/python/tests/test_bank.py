@@ -321,6 +321,7 @@ class Banks(unittest.TestCase):
                 self.assertLessEqual(abs(total - 16_000), finding.distance)
                 self.assertLessEqual(finding.distance, finding.charged)
                 counts["reports"] += 1
+                time.sleep(0.1)  # an audit of a long history takes the bank's lock for as long
 
         together(*[lambda seed=seed: client(seed) for seed in range(1, 8)], clerk)
         self.assertLess(time.monotonic(), end + 10)
