@@ -247,6 +247,8 @@ class Bank:
                     age = update._age
                     return body(update)
             except (Blocked, Deadlock, HistoryFull) as why:
+                if why is not update._given_up:  # that of another, which was begun within
+                    raise
                 if isinstance(why, Deadlock):
                     self._wait_for_end(why.other, update._renewals, waiting)
                 elif isinstance(why, HistoryFull):
@@ -380,12 +382,14 @@ class Bank:
         counts = self._counts()
         return not counts.transactions_left or counts.entries_left <= NEARLY_FULL
 
-    def _make_room(self, waiting: _Waiting) -> None:
+    def _make_room(self, transaction: "_Transaction") -> None:
         """Waits until the history has room, and renews it where nobody else does. The lock is held."""
+        waiting = transaction._waiting
         while self._is_nearly_full():
             if self._active:
                 if waiting.left <= 0:
-                    raise HistoryFull("the history has no room until all that is active has ended")
+                    transaction._given_up = HistoryFull("the history has no room until all that is active has ended")
+                    raise transaction._given_up
                 begun = time.monotonic()
                 self._ended.wait(waiting.left)
                 waiting.left -= time.monotonic() - begun
@@ -412,7 +416,7 @@ class Bank:
 
     def _begin(self, transaction: "_Transaction", call: Callable[..., int], *words: int) -> None:
         with self._lock:
-            self._make_room(transaction._waiting)
+            self._make_room(transaction)
             reply = self._answer(call, *words)
             if reply.kind == c.REFUSED:
                 raise OutOfRange(WORDS[reply.refusal])
@@ -432,6 +436,14 @@ class Bank:
                 self._ended.notify_all()
 
     def _step(self, transaction: "_Transaction", events: Callable[[], c.Reply]) -> c.Reply:
+        """Gives events of a transaction, and notes where it has to be given up for that."""
+        try:
+            return self._step_in_time(transaction, events)
+        except (Blocked, Deadlock, HistoryFull) as why:
+            transaction._given_up = why
+            raise
+
+    def _step_in_time(self, transaction: "_Transaction", events: Callable[[], c.Reply]) -> c.Reply:
         """Gives events under one lock until one is refused, and all of them again after a pause where that may pass."""
         txn, waiting = transaction.number, transaction._waiting
         count, waited = 0, 0.0
@@ -464,6 +476,7 @@ class _Transaction:
         self._waiting = waiting or _Waiting(bank._patience)
         self._age = age
         self._renewals = 0
+        self._given_up: Optional[EsrError] = None
         self.number = 0
         """Its number in the history, from 1, once it has begun."""
 

@@ -250,6 +250,17 @@ class Banks(unittest.TestCase):
                 bank.transact(0, lambda update: runs.append(update.number) or update.add("checking", 1))
             self.assertGreaterEqual(time.monotonic() - begun, 0.3)
             self.assertEqual((caught.exception.other, len(runs) > 1), (holder.number, True))
+        bank, runs = two_accounts(patience=0.1), []
+
+        def within(update):
+            runs.append(update.number)
+            update.write("checking", 1)
+            with bank.update(0) as other:
+                other.write("checking", 2)
+
+        with self.assertRaises(Blocked):
+            bank.transact(0, within)
+        self.assertEqual((len(runs), bank["checking"], bank.counts.active), (1, 500, 0))
         bank, has_written = two_accounts(), threading.Event()
 
         def hold():
@@ -310,6 +321,7 @@ class Banks(unittest.TestCase):
                 self.assertLessEqual(abs(total - 16_000), finding.distance)
                 self.assertLessEqual(finding.distance, finding.charged)
                 counts["reports"] += 1
+                time.sleep(0.1)  # an audit of a long history takes the bank's lock for as long
 
         together(*[lambda seed=seed: client(seed) for seed in range(1, 8)], clerk)
         self.assertLess(time.monotonic(), end + 10)

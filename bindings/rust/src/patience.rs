@@ -79,6 +79,8 @@ pub(crate) struct Waiting {
     left: Duration,
     /// How long this attempt may wait for one event.
     share: Duration,
+    /// Whether it has waited so long.
+    has_given_up: bool,
 }
 
 /// How often, and how long, something was waited for.
@@ -100,6 +102,7 @@ impl Waiting {
         Waiting {
             left: patience.total,
             share: drawn(Duration::from_millis(2)),
+            has_given_up: false,
         }
     }
 
@@ -108,6 +111,7 @@ impl Waiting {
         Waiting {
             left: patience.total,
             share: drawn(Duration::from_millis(50)),
+            has_given_up: false,
         }
     }
 
@@ -145,7 +149,13 @@ impl Waiting {
 
     /// The same before an event is tried again. False also where the attempt has waited for it as long as it may.
     pub(crate) fn pause_for_event(&mut self, rounds: &mut Rounds) -> bool {
-        rounds.waited < self.share && self.pause(rounds)
+        self.has_given_up = rounds.waited >= self.share || !self.pause(rounds);
+        !self.has_given_up
+    }
+
+    /// Whether the attempt has waited for an event as long as it may.
+    pub(crate) fn has_given_up(&self) -> bool {
+        self.has_given_up
     }
 
     /// Waits until others have tried again, before the next attempt, which may wait twice as long. Whether patience is left.
@@ -154,6 +164,7 @@ impl Waiting {
         thread::sleep(drawn(self.share.min(ROUND)).min(self.left));
         self.spend(begun.elapsed());
         self.share = self.share.saturating_mul(2);
+        self.has_given_up = false;
         !self.left.is_zero()
     }
 }

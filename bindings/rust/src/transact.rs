@@ -197,7 +197,11 @@ pub fn transact<T>(
     let mut waiting = Waiting::unwatched(patience);
     loop {
         match attempt(engine, limit, &mut waiting, &mut body) {
-            Err(Error::Refused(why)) if why.may_pass_later() && waiting.pause_for_attempt() => {}
+            // (the body may also answer a refusal of another transaction, which has been waited for already)
+            Err(Error::Refused(why))
+                if why.may_pass_later()
+                    && waiting.has_given_up()
+                    && waiting.pause_for_attempt() => {}
             answer => return answer,
         }
     }

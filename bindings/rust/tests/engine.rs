@@ -140,6 +140,27 @@ fn transact_without_patience() {
     assert_eq!(bank.into_inner().unwrap().totals().entries, 2 + 3);
 }
 
+/// What another transaction within was told is the body's own error, and is not waited for once more.
+#[test]
+fn transact_answers_what_another_was_told() {
+    let bank = Mutex::new(Engine::open(&[0]).unwrap());
+    let short = Patience::of(Duration::from_millis(20));
+    let mut runs = 0;
+    let answer = transact(&bank, 0, Patience::default(), |update| {
+        runs += 1;
+        update.write(0, 1)?;
+        transact(&bank, 0, short, |other| other.write(0, 2))
+    });
+    assert!(matches!(
+        answer,
+        Err(Error::Refused(Refusal::BlockedByLock(_)))
+    ));
+    assert_eq!(
+        (runs, bank.into_inner().unwrap().values()),
+        (1, Ok(vec![0]))
+    );
+}
+
 /// Whoever is slow is waited for, however often the update has to be begun anew for that.
 #[test]
 fn transact_waits_for_whoever_is_slow() {
