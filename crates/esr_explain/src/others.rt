@@ -19,7 +19,7 @@ fn numbers_of(alloc: Global, updates: &[TxnId]) -> Result<Vec<u32>, AllocError>
 }
 
 /// The numbers of some updates, ascending.
-fn ascending(alloc: Global, updates: &[TxnId]) -> Result<Vec<u32>, AllocError>
+fn sorted_numbers(alloc: Global, updates: &[TxnId]) -> Result<Vec<u32>, AllocError>
     ensures sorted { IfOk result (λ v. IsNonDecreasing v.items) }
     ensures same { IfOk result (λ v. (u : ℕ) → is_among v.items u ≡ is_among (map (λ t. t.0) updates.now) u) }
 {
@@ -63,6 +63,6 @@ pub fn others(
 {
     let committed = committed(alloc, history)?;
     let updates = updates_before(alloc, history, &committed, q)?;
-    let numbers = ascending(alloc, before)?;
+    let numbers = sorted_numbers(alloc, before)?;
     without(alloc, &updates, &numbers)
 }

@@ -1,7 +1,7 @@
--- Why `ascending` keeps its contract: the goals that are left to a proof of ours.
+-- Why `sorted_numbers` keeps its contract: the goals that are left to a proof of ours.
 use Rattle.std.proofs.Common.{eqb, arith}
 use Rattle.std.proofs.lemmas.List.Sorted.{IsNonDecreasingBy-from_sort, list_any-IsPermutation}
-use Rattle.esr_explain.proofs.others.ascending.Goals as goal
+use Rattle.esr_explain.proofs.others.sorted_numbers.Goals as goal
 
 pub returns-clause-sorted : goal.returns-clause-sorted
 returns-clause-sorted c = IsNonDecreasingBy-from_sort (λ x. x) c.sort_unstable.new.self.items c.sort_unstable.ensures.sorted
