@@ -18,3 +18,4 @@ pub mod Posed
 pub mod Committed
 pub mod SummaryLaws
 pub mod SameSet
+pub mod StretchLaws

@@ -16,6 +16,7 @@ use Rattle.esr_audit.specs.declared.finding.Book.{Book}
 use Rattle.esr_audit.specs.declared.finding.Summary.{Summary}
 use Rattle.esr_audit.specs.declared.finding.Summaries.{Summaries}
 use Rattle.esr_audit.specs.Findings.{IsAnswer, IsFinding, IsBook, AreSummaries, Finding, AuditError, committed_queries, summary, seen_summary}
+use Rattle.esr_audit.specs.Stretches.{listed}
 use Rattle.esr_audit.proofs.Committed.{query_committed}
 
 module _ (d : Distance) (h longer : Schedule) (q : ℕ) (alike : IsAlike d h longer q) where
@@ -78,11 +79,11 @@ findings_answer d h fs queries found rest legal =
     All-from_recursion (λ (f : Finding). IsAnswer d (along h rest) f.query.0 f.distance f.import (map (λ (t : TxnId). t.0) f.before.items)) fs
     (each_in (λ (f : Finding). IsAnswer d (along h rest) f.query.0 f.distance f.import (map (λ (t : TxnId). t.0) f.before.items)) fs (λ f i.
     let finding : IsFinding d h f = each_at (IsFinding d h) fs f (recursion_from_All (IsFinding d h) fs found) i in
-    stays d h f.query.0 f.distance f.import (map (λ (t : TxnId). t.0) f.before.items) (query_committed h f.query.0 (subst (In f.query.0) queries (listed fs f i))) finding.answer rest legal))
+    stays d h f.query.0 f.distance f.import (map (λ (t : TxnId). t.0) f.before.items) (query_committed h f.query.0 (subst (In f.query.0) queries (asked fs f i))) finding.answer rest legal))
   where
-    listed : (fs : List Finding) (f : Finding) → In f fs → In f.query.0 (map (λ (f : Finding). f.query.0) fs)
-    listed [] f i = absurd i
-    listed (g ∷ fs) f i = ⊎_elim (λ e. inl (ap (λ (f : Finding). f.query.0) e)) (λ j. inr (listed fs f j)) i
+    asked : (fs : List Finding) (f : Finding) → In f fs → In f.query.0 (map (λ (f : Finding). f.query.0) fs)
+    asked [] f i = absurd i
+    asked (g ∷ fs) f i = ⊎_elim (λ e. inl (ap (λ (f : Finding). f.query.0) e)) (λ j. inr (asked fs f j)) i
 
 pub findings_stay : (d : Distance) (h : Schedule) (r : Result Book AuditError)
     → IfOk r (IsBook d h)
@@ -96,7 +97,7 @@ IsAnswerIn d h t = IsAnswer d h t.0 t.1 t.2 t.3
 
 pub summaries_stay : (d : Distance) (h : Schedule) (r : Result Summaries AuditError)
     → IfOk r (AreSummaries d h)
-    → IfOk r (λ b. (rest : List Entry) → IsLegal d (along h rest) → All (λ (s : Summary). IsAnswer d (along h rest) s.query.0 s.distance s.import (map (λ (t : TxnId). t.0) s.before.items)) b.summaries.items)
+    → IfOk r (λ b. (rest : List Entry) → IsLegal d (along h rest) → All (λ (s : Summary). IsAnswer d (along h rest) s.query.0 s.distance s.import (listed s.before)) b.summaries.items)
 summaries_stay d h (Err e) are = tt
 summaries_stay d h (Ok b) are = λ rest legal.
     each_of (IsAnswerIn d (along h rest)) b.summaries.items

@@ -22,6 +22,7 @@ use Rattle.esr_audit.specs.declared.finding.Summaries.{Summaries}
 pub use Rattle.esr_audit.specs.declared.finding.AuditError.{AuditError}
 use Rattle.esr_audit.specs.declared.finding.AuditError.TheVariants as refusals
 use Rattle.esr_audit.specs.Problems.{StandsFor}
+use Rattle.esr_audit.specs.Stretches.{listed}
 
 -- why an audit gives no answer, where there is no order
 abbrev pub refusal_of : OrderError → AuditError
@@ -73,7 +74,7 @@ summary f = (f.query.0, f.distance, f.import, map (λ t. t.0) f.before.items)
 
 -- the same, as it is kept
 abbrev pub seen_summary : Summary → ℕ × ℕ × ℕ × List ℕ
-seen_summary s = (s.query.0, s.distance, s.import, map (λ t. t.0) s.before.items)
+seen_summary s = (s.query.0, s.distance, s.import, listed s.before)
 
 -- the summary of a committed query: all of it is fixed by the history
 abbrev pub summary_of : Distance → Schedule → ℕ → ℕ × ℕ × ℕ × List ℕ

@@ -3,3 +3,5 @@
 pub mod Problems
 pub mod Findings
 pub mod Reads
+pub mod Stretches
+pub mod Worked

@@ -5,6 +5,7 @@ ghost use Rattle.std.specs.Prelude.{◌≡◌};
 ghost use Rattle.esr_audit.specs.declared.finding.AuditError.TheVariants.{NoMemory};
 ghost use Rattle.esr_audit.specs.Findings.{refusal_of, seen_summary, summary};
 
+use crate::stretches::TxnList;
 use esr_cert::{Certificate, Problem};
 use esr_history::{NoMemory, TxnId};
 use esr_order::OrderError;
@@ -31,8 +32,8 @@ pub struct Finding {
     pub certificate: Certificate,
 }
 
-/// What is told of a committed query: a finding without its problem and its certificate, which take the most memory.
-/// All of it is fixed by the history.
+/// What is told of a committed query: a finding without its problem and its certificate, which take the most memory, and
+/// with its updates in little room. All of it is fixed by the history.
 #[derive(Drop)]
 pub struct Summary {
     pub query: TxnId,
@@ -42,7 +43,7 @@ pub struct Summary {
     pub import: u64,
     /// The smallest set of updates before the position of a placement of that
     /// distance, in commit order.
-    pub before: Vec<TxnId>,
+    pub before: TxnList,
 }
 
 impl From<Finding> for Summary {
@@ -53,7 +54,7 @@ impl From<Finding> for Summary {
             query: finding.query,
             distance: finding.distance,
             import: finding.import,
-            before: finding.before,
+            before: TxnList::of(finding.before),
         }
     }
 }

@@ -11,7 +11,9 @@ mod commits;
 mod finding;
 mod problem;
 mod reads;
+mod stretches;
 
 pub use audit::{audit_history, audit_query, audit_query_in, certify_with_steps};
 pub use commits::{CommitLists, commit_lists};
 pub use finding::{AuditError, Book, Finding, Summaries, Summary};
+pub use stretches::{Stretch, TxnList};

@@ -1,4 +1,4 @@
-//! What workers find of the queries, as text.
+//! What workers find of the queries, as text. Of each finding a worker keeps its summary alone, of which the line is made.
 
 ghost use Rattle.esr_board.specs.declared.board.TheConstants.{MOST_SEATS};
 ghost use Rattle.std.specs.Prelude.{◌≡◌, ◌≤◌, ◌++◌, OnOk};
@@ -6,10 +6,10 @@ ghost use Rattle.esr_plan.specs.Text.{findings_text};
 ghost use Rattle.esr_plan.specs.Tables.{names_in};
 
 use esr_audit::AuditError;
-use esr_board::{NoGate, audit_parallel};
+use esr_board::{NoGate, summarize_parallel};
 use esr_history::History;
 use esr_items::Weighted;
-use esr_plan::{BegunNames, push_each};
+use esr_plan::{BegunNames, push_summaries};
 use std::alloc::{AllocError, Global};
 use std::thread::Threads;
 
@@ -26,8 +26,8 @@ pub fn push_findings<R: Threads + Sync>(
     ensures { OnOk result (out.new.items ≡ out.old.items
         ++ findings_text history.now.schedule (names_in names.now)) }
 {
-    match audit_parallel(rt, alloc, history, workers, &NoGate) {
-        Ok(book) => push_each(out, history, names, book.findings.as_slice()),
+    match summarize_parallel(rt, alloc, history, workers, &NoGate) {
+        Ok(found) => push_summaries(out, names, &found.summaries),
         Err(AuditError::NoMemory) => Err(AllocError),
         Err(AuditError::NotACommittedQuery) => unreachable!(),
         Err(AuditError::WorkersOutOfRange) => unreachable!(),

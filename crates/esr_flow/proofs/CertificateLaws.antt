@@ -2,7 +2,7 @@
 use Rattle.std.proofs.Common.{◌≡◌, ℕ, ◌+◌, ◌-◌, ◌≤◌, Bool, true, false, List, [], ◌∷◌, ◌++◌, length, take, drop, map, flat_map, sum_by, Contains, Vec, Global, refl, sym, ap, ◌∙◌, subst, arith, eq-eqb, append-nil, length-append, length-take, length-drop, take-add, take-append-drop, ◌==◌, nat_lt}
 use Rattle.std.specs.List.{concat, list_all}
 use Rattle.std.proofs.lemmas.Bool.{and_parts, and_from}
-use Rattle.std.proofs.lemmas.List.{length-map, map-append, take_rest}
+use Rattle.std.proofs.lemmas.List.{length-map, map-append}
 use Rattle.std.proofs.lemmas.List.Folds.{concat-append}
 use Rattle.std.proofs.lemmas.List.Sums.{sum_by-cons, sum_by-append}
 use Rattle.esr_flow.specs.Words.{Arc}
@@ -86,14 +86,14 @@ sum_take chains n =
 pub row_long : (row flow : List ℕ) (at n : ℕ) → row ≡ take ((at + n) - at) (drop at flow) → at + n ≤ length flow → length row ≡ n
 row_long row flow at n e l = omega (arith, ap length e, length-take ((at + n) - at) (drop at flow), length-drop at flow)
 
-pub whole : (xs bs ms flow : List ℕ) (k n : ℕ) → xs ≡ take k flow → bs ≡ take ((k + n) - k) (drop k flow) → ms ≡ take (length flow - (k + n)) (drop (k + n) flow) → (xs ++ bs) ++ ms ≡ flow
+-- amounts that were cut at one place, and what came before it at another
+pub whole : (xs bs ms flow : List ℕ) (k n : ℕ) → xs ≡ take k (take n flow) → bs ≡ drop k (take n flow) → ms ≡ drop n flow → (xs ++ bs) ++ ms ≡ flow
 whole xs bs ms flow k n a b c =
-    let m : (k + n) - k ≡ n = omega arith in
     ap (λ l. (l ++ bs) ++ ms) a
-    ∙ ap (λ l. (take k flow ++ l) ++ ms) (b ∙ ap (λ j. take j (drop k flow)) m)
-    ∙ ap (λ l. l ++ ms) (sym (take-add k n flow))
-    ∙ ap (λ l. take (k + n) flow ++ l) (c ∙ take_rest flow (k + n))
-    ∙ take-append-drop (k + n) flow
+    ∙ ap (λ l. (take k (take n flow) ++ l) ++ ms) b
+    ∙ ap (λ l. l ++ ms) (take-append-drop k (take n flow))
+    ∙ ap (λ l. take n flow ++ l) c
+    ∙ take-append-drop n flow
 
 -- the first part of the amounts is as long as the costs, the second as the pairs, the third as what a set must hold
 pub record Parts (p : Problem) (flow xs bs ms : List ℕ) : Type 0 where

@@ -2,7 +2,7 @@
 //!
 //! The set is what the source still reaches. Which of several maximum flows is found is not promised, and the set is
 //! the same for all of them.
-ghost use Rattle.std.specs.Prelude.{◌≡◌, ℕ, ◌+◌, ◌*◌, ◌≤◌, true, false, Some, None, length, map, sum_by, get_or, IfOk};
+ghost use Rattle.std.specs.Prelude.{◌≡◌, ℕ, ◌+◌, ◌*◌, ◌≤◌, true, false, Some, None, length, vec_len, map, take, drop, sum_by, get_or, IfOk, OnOk};
 ghost use Rattle.std.specs.List.{concat};
 ghost use Rattle.esr_base.specs.declared.limits.TheConstants.{MOST_TRANSACTIONS};
 ghost use Rattle.esr_cert.specs.Problem.{size, in_set, IsSmallestLeast};
@@ -52,39 +52,59 @@ fn chain_rows(alloc: Global, flow: &[u64], chains: &[Chain]) -> Result<Vec<Vec<u
     Ok(rows)
 }
 
-/// The certificate of a maximum flow, by the nodes that the source still reaches, with this count of augmentations.
+/// Cuts a list of amounts at a place, and answers what came from there on. The list gives back the room of that.
+fn cut_off(alloc: Global, flow: &mut Vec<u64>, at: usize) -> Result<Vec<u64>, AllocError>
+    requires { at ≤ vec_len flow.old }
+    ensures rest { IfOk result (λ rest. rest.items ≡ drop at flow.old.items) }
+    ensures kept { OnOk result (flow.new.items ≡ take at flow.old.items) }
+{
+    let rest = flow[at..].to_vec(alloc)?;
+    flow.truncate(at);
+    flow.shrink_to_fit();
+    Ok(rest)
+}
+
+/// The certificate of a maximum flow, by the nodes that the source still reaches, with this count of augmentations. The
+/// flow is cut into its parts, so that it is never held twice: beside its problem it takes the most memory of an audit.
 fn certify(
     alloc: Global,
     problem: &Problem,
-    maximum: &MaximumFlow,
+    maximum: MaximumFlow,
     augmentations: Option<u64>,
 ) -> Result<Certificate, AllocError>
-    requires flow { flows.IsFlow (network problem.now) maximum.now.flow.items }
-    requires reach { IsReach (network problem.now) maximum.now.flow.items (is_marked maximum.now.marks.items) }
-    requires sink { is_marked maximum.now.marks.items (size problem.now + 1) ≡ false }
-    requires marks { length maximum.now.marks.items ≡ size problem.now + 2 }
-    requires worth { maximum.now.worth ≡ flows.worth (network problem.now) maximum.now.flow.items }
+    requires flow { flows.IsFlow (network problem.now) maximum.flow.items }
+    requires reach { IsReach (network problem.now) maximum.flow.items (is_marked maximum.marks.items) }
+    requires sink { is_marked maximum.marks.items (size problem.now + 1) ≡ false }
+    requires marks { length maximum.marks.items ≡ size problem.now + 2 }
+    requires worth { maximum.worth ≡ flows.worth (network problem.now) maximum.flow.items }
     requires short { is_count_in_bound problem.now augmentations ≡ true }
-    ensures amounts { IfOk result (λ c. amounts (certificate_of c) ≡ maximum.now.flow.items) }
-    ensures worth { IfOk result (λ c. c.worth ≡ maximum.now.worth) }
+    ensures amounts { IfOk result (λ c. amounts (certificate_of c) ≡ maximum.flow.items) }
+    ensures worth { IfOk result (λ c. c.worth ≡ maximum.worth) }
     ensures count { IfOk result (λ c. c.augmentations ≡ augmentations) }
     ensures certifies { IfOk result (λ c. Certifies problem.now (certificate_of c)) }
     ensures least { IfOk result (λ c. IsSmallestLeast problem.now (in_set c.set.items)) }
 {
-    let flow = maximum.flow.as_slice();
+    let MaximumFlow {
+        mut flow,
+        marks,
+        worth,
+        augmentations: _,
+        phases: _,
+    } = maximum;
     let musts = problem.must().len();
     let backs = problem.before().len();
-    let chains = flow.len() - musts - backs;
-    let set = members(alloc, &maximum.marks, problem.updates().len())?;
-    let chain_flow = chain_rows(alloc, &flow[..chains], problem.chains())?;
-    let back_flow = flow[chains..chains + backs].to_vec(alloc)?;
-    let must_flow = flow[chains + backs..].to_vec(alloc)?;
+    let set = members(alloc, &marks, problem.updates().len())?;
+    let pairs_end = flow.len() - musts;
+    let must_flow = cut_off(alloc, &mut flow, pairs_end)?;
+    let chains_end = pairs_end - backs;
+    let back_flow = cut_off(alloc, &mut flow, chains_end)?;
+    let chain_flow = chain_rows(alloc, &flow, problem.chains())?;
     Ok(Certificate {
         set,
         chain_flow,
         back_flow,
         must_flow,
-        worth: maximum.worth,
+        worth,
         augmentations,
     })
 }
@@ -118,11 +138,13 @@ pub fn solve(alloc: Global, net: &Network) -> Result<Solved, NoMemory>
     ensures phases { IfOk result (λ s. s.phases ≤ s.augmentations) }
 {
     let maximum = find_maximum(alloc, &net.graph)?;
-    let certificate = certify(alloc, net.problem, &maximum, Some(maximum.augmentations))?;
+    let augmentations = maximum.augmentations;
+    let phases = maximum.phases;
+    let certificate = certify(alloc, net.problem, maximum, Some(augmentations))?;
     Ok(Solved {
         certificate,
-        augmentations: maximum.augmentations,
-        phases: maximum.phases,
+        augmentations,
+        phases,
     })
 }
 
@@ -146,7 +168,7 @@ pub fn find_from_draft(alloc: Global, net: &Network) -> Result<FromDraft, NoMemo
     ensures count { IfOk result (λ d. d.certificate.augmentations ≡ None) }
 {
     let (maximum, draft) = find_swiftly(alloc, &net.graph)?;
-    let certificate = certify(alloc, net.problem, &maximum, None)?;
+    let certificate = certify(alloc, net.problem, maximum, None)?;
     Ok(FromDraft { certificate, draft })
 }
 

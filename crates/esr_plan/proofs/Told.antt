@@ -1,34 +1,14 @@
--- What an audit finds is what its line says.
-use Rattle.std.proofs.Common.{◌≡◌, ℕ, ℤ, zero, suc, ◌+◌, ◌<◌, List, [], ◌∷◌, ◌++◌, length, take, map, get_or, Option, Result, OnOk, refl, sym, ap, subst, ◌∙◌, append_assoc, append-nil, length-take, arith, ◌≤◌, flat_map}
+-- The lines of items, of replies and of what an audit finds, one after another.
+use Rattle.std.proofs.Common.{◌≡◌, ℕ, ℤ, zero, suc, ◌+◌, ◌<◌, List, [], ◌∷◌, ◌++◌, length, take, map, get_or, Option, refl, sym, ap, ◌∙◌, append_assoc, append-nil, length-take, arith, ◌≤◌, flat_map}
 use Rattle.std.proofs.lemmas.Grind.{flat_map-append}
 use Rattle.std.proofs.lemmas.List.{take_more, take_all, get_or_default}
-use Rattle.esr_items.specs.Weights.{weighted}
-use Rattle.esr_history.specs.Machine.{Schedule, charges_in, import_in}
-use Rattle.esr_order.specs.Placements.{is_among}
-use Rattle.esr_order.specs.Least.{least_cost}
-use Rattle.esr_order.proofs.Least.{law_of_listed_sets}
-use Rattle.esr_audit.specs.declared.finding.Finding.{Finding}
-use Rattle.esr_audit.specs.Findings.{IsFinding}
-use Rattle.esr_report.specs.Lines.{audit_line, reply_line, session_line}
+use Rattle.esr_report.specs.Lines.{reply_line, session_line}
 use Rattle.esr_history.specs.declared.event.Reply.{Reply}
 use Rattle.esr_plan.specs.Calls.{command_of, answers_of, Call}
 use Rattle.esr_plan.specs.Tables.{answered}
 use Rattle.esr_plan.proofs.Noting.{answer_at, length_answers}
-use Rattle.esr_report.specs.Names.{name_of_transaction}
 use Rattle.esr_plan.specs.Blocks.{Answered}
-use Rattle.esr_plan.specs.Text.{finding_text, item_text, items_text, subject_of, replies_text, blocks_text}
-
-abbrev before_of : Finding → List ℕ
-before_of f = map (λ t. t.0) f.before.items
-
-pub told : (h : Schedule) (names : List (List ℕ)) (name : List ℕ) (f : Finding) → IsFinding weighted h f → name ≡ name_of_transaction names f.query.0
-    → audit_line names name f.distance f.import (before_of f) ≡ finding_text h names f.query.0
-told h names name f found is =
-    let law = law_of_listed_sets weighted h f.query.0 (is_among (before_of f)) found.answer.smallest in
-    ap (λ n. audit_line names n f.distance f.import (before_of f)) is
-    ∙ (ap (λ d. audit_line names (name_of_transaction names f.query.0) d f.import (before_of f)) (found.answer.distance_is ∙ law.1)
-    ∙ (ap (λ i. audit_line names (name_of_transaction names f.query.0) (least_cost weighted h f.query.0) i (before_of f)) found.answer.import_is
-    ∙ ap (audit_line names (name_of_transaction names f.query.0) (least_cost weighted h f.query.0) (import_in (charges_in weighted h) f.query.0)) (found.answer.in_order ∙ law.0)))
+use Rattle.esr_plan.specs.Text.{item_text, items_text, subject_of, replies_text, blocks_text}
 
 -- one line more
 pub lines_more : {X : Type 0} (f : X → List ℕ) (xs : List X) (i : ℕ) (x : X) (old mid all : List ℕ)
@@ -39,15 +19,9 @@ lines_more f xs i x old mid all so_far lt is more =
 pub whole_text : {X : Type 0} (f : X → List ℕ) (xs : List X) (i : ℕ) (old all : List ℕ) → length xs ≤ i → all ≡ old ++ flat_map f (take i xs) → all ≡ old ++ flat_map f xs
 whole_text f xs i old all le is = is ∙ ap (λ l. old ++ flat_map f l) (take_all i xs le)
 
--- the queries of the findings
-pub by_queries : (h : Schedule) (names : List (List ℕ)) (fs : List Finding) (queries : List ℕ) → map (λ f. f.query.0) fs ≡ queries
-    → flat_map (λ f. finding_text h names f.query.0) fs ≡ flat_map (finding_text h names) queries
-by_queries h names [] queries is = ap (flat_map (finding_text h names)) is
-by_queries h names (f ∷ fs) queries is =
-    ap (λ l. finding_text h names f.query.0 ++ l) (by_queries h names fs (map (λ f. f.query.0) fs) refl) ∙ ap (flat_map (finding_text h names)) is
-
-pub same_end : {E : Type 0} (r : Result (Unit {0}) E) (all old a b : List ℕ) → a ≡ b → OnOk r (all ≡ old ++ a) → OnOk r (all ≡ old ++ b)
-same_end r all old a b is h = subst (λ (t : List ℕ). OnOk r (all ≡ old ++ t)) is h
+pub lines_of_map : {X Y : Type 0} (f : Y → List ℕ) (g : X → Y) (xs : List X) → flat_map (λ (x : X). f (g x)) xs ≡ flat_map f (map g xs)
+lines_of_map f g [] = refl
+lines_of_map f g (x ∷ xs) = ap (λ l. f (g x) ++ l) (lines_of_map f g xs)
 
 items_more : (names : List (List ℕ)) (values : List ℤ) (weights : List (Option ℕ)) (i : ℕ) (v : ℤ) (w : Option ℕ) → length values ≡ length names → length weights ≡ length names → i < length values
     → items_text (take (suc i) names) (take (suc i) values) (take (suc i) weights)

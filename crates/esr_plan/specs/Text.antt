@@ -3,10 +3,9 @@ use Rattle.std.specs.Prelude.{ℕ, ◌+◌, ℤ, pos, List, [], ◌∷◌, ◌++
 use Rattle.std.specs.Option.{option_and_then, option_map_or}
 use Rattle.esr_items.specs.Weights.{weighted}
 use Rattle.esr_history.specs.Events.{numbers}
-use Rattle.esr_history.specs.Machine.{Schedule, done, charges_in, import_in}
+use Rattle.esr_history.specs.Machine.{Schedule, done}
 use Rattle.esr_history.specs.Totals.{all_imports, all_exports}
-use Rattle.esr_order.specs.Least.{least_set, least_cost}
-use Rattle.esr_audit.specs.Findings.{committed_queries}
+use Rattle.esr_audit.specs.Findings.{summary_of, committed_queries}
 use Rattle.esr_report.specs.Names.{name_of_transaction}
 use Rattle.esr_report.specs.Lines.{Named, item_line, weighted_item_line, session_line, reply_line, audit_line, totals_line}
 use Rattle.esr_line.specs.Command.{Command, begin_update, begin_query, begin_strict_query, read, write, commit, abort}
@@ -57,14 +56,13 @@ abbrev pub blocks_text : List (List ℕ) → ℕ → List (List Answered) → Li
 blocks_text names k [] = []
 blocks_text names k (b ∷ blocks) = session_line k ++ replies_text names b ++ blocks_text names (k + 1) blocks
 
--- what the audit finds of a query: its least distance, its import, and the smallest least set
-abbrev pub finding_text : Schedule → List (List ℕ) → ℕ → List ℕ
-finding_text h names q =
-    audit_line names (name_of_transaction names q) (least_cost weighted h q) (import_in (charges_in weighted h) q)
-    (least_set weighted h q)
+-- the line of what is told of a query: the query, its distance, its import, and the updates before its position
+abbrev pub told_text : List (List ℕ) → ℕ × ℕ × ℕ × List ℕ → List ℕ
+told_text names t = audit_line names (name_of_transaction names t.0) t.1 t.2 t.3
 
+-- what the audit finds of the committed queries: of each its least distance, its import, and the smallest least set
 abbrev pub findings_text : Schedule → List (List ℕ) → List ℕ
-findings_text h names = flat_map (finding_text h names) (committed_queries h)
+findings_text h names = flat_map (told_text names) (map (summary_of weighted h) (committed_queries h))
 
 abbrev pub text_of : Plan → Schedule → List (List Answered) → List ℕ
 text_of p h blocks =

@@ -1,19 +1,17 @@
 //! The text of a drive, part by part: items, blocks, what was found of each query, totals.
 
 ghost use Rattle.esr_base.specs.declared.limits.TheConstants.{MOST_ITEMS};
-ghost use Rattle.std.specs.Prelude.{◌≡◌, ◌<◌, ◌≤◌, slice_index_or, ◌++◌, [], OnOk, All, length, map, flat_map};
-ghost use Rattle.esr_items.specs.Weights.{weighted};
-ghost use Rattle.esr_audit.specs.Findings.{IsFinding};
+ghost use Rattle.std.specs.Prelude.{◌≡◌, ◌<◌, ◌≤◌, slice_index_or, ◌++◌, [], OnOk, length, map, flat_map};
+ghost use Rattle.esr_audit.specs.Findings.{seen_summary};
 ghost use Rattle.esr_report.specs.Lines.{reply_line};
 ghost use Rattle.esr_plan.specs.Calls.{command_of, answers_of, AreAnswered, all_answers};
-ghost use Rattle.esr_plan.specs.Text.{item_text, items_text, subject_of, replies_text, blocks_text, finding_text};
+ghost use Rattle.esr_plan.specs.Text.{item_text, items_text, subject_of, replies_text, blocks_text, told_text};
 ghost use Rattle.esr_plan.specs.Tables.{names_in};
 
 use crate::call::Call;
 use crate::table::BegunNames;
-use esr_audit::Finding;
-use esr_history::{History, Reply};
-use esr_items::Weighted;
+use esr_audit::Summary;
+use esr_history::Reply;
 use esr_report::{
     Names, audit_line, item_line, name_of_transaction, reply_line, session_line, weighted_item_line,
 };
@@ -114,41 +112,36 @@ pub fn push_blocks(
 }
 
 /// Appends the line of what was found of a query.
-fn push_finding(
+fn push_summary(
     out: &mut Vec<u8>,
-    history: &History<Weighted>,
     names: &BegunNames<'_>,
-    finding: &Finding,
+    summary: &Summary,
 ) -> Result<(), AllocError>
-    requires { IsFinding weighted history.now.schedule finding.now }
-    ensures { OnOk result (out.new.items ≡ out.old.items
-        ++ finding_text history.now.schedule (names_in names.now) finding.now.query.0) }
+    ensures { OnOk result (out.new.items ≡ out.old.items ++ told_text (names_in names.now) (seen_summary summary.now)) }
 {
-    let name = name_of_transaction(names, finding.query);
+    let before = summary.before.to_vec(*out.allocator())?;
     audit_line(
         out,
         names,
-        name,
-        finding.distance,
-        finding.import,
-        finding.before.as_slice(),
+        name_of_transaction(names, summary.query),
+        summary.distance,
+        summary.import,
+        &before,
     )
 }
 
 /// Appends the lines of what was found of queries.
-#[tactic(auto, using(crate::proofs::Told::whole_text))]
-pub fn push_each(
+#[tactic(auto, using(crate::proofs::Told::lines_more))]
+pub fn push_summaries(
     out: &mut Vec<u8>,
-    history: &History<Weighted>,
     names: &BegunNames<'_>,
-    findings: &[Finding],
+    summaries: &[Summary],
 ) -> Result<(), AllocError>
-    requires { All (IsFinding weighted history.now.schedule) findings.now }
     ensures { OnOk result (out.new.items ≡ out.old.items
-        ++ flat_map (λ f. finding_text history.now.schedule (names_in names.now) f.query.0) findings.now) }
+        ++ flat_map (told_text (names_in names.now)) (map seen_summary summaries.now)) }
 {
-    for finding in findings {
-        push_finding(out, history, names, finding)?;
+    for summary in summaries {
+        push_summary(out, names, summary)?;
     }
     Ok(())
 }

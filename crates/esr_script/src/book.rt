@@ -14,13 +14,14 @@ use std::alloc::AllocError;
 fn push_summary(out: &mut Vec<u8>, names: &Names, summary: &Summary) -> Result<(), AllocError>
     ensures { OnOk result (out.new.items ≡ out.old.items ++ told_line names.now (seen_summary summary.now)) }
 {
+    let before = summary.before.to_vec(*out.allocator())?;
     audit_line(
         out,
         names,
         name_of_transaction(names, summary.query),
         summary.distance,
         summary.import,
-        &summary.before,
+        &before,
     )
 }
 

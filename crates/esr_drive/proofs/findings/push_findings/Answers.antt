@@ -1,11 +1,13 @@
 -- Why `push_findings` keeps its contract: the goals that are left to a proof of ours.
-use Rattle.std.proofs.Common.{ap, ◌∙◌, flat_map}
-use Rattle.esr_plan.specs.Text.{finding_text}
-use Rattle.esr_plan.proofs.Told.{by_queries, same_end}
+use Rattle.std.proofs.Common.{◌≡◌, ℕ, List, ◌++◌, Result, OnOk, ap, ◌∙◌, subst, map, flat_map}
+use Rattle.esr_audit.specs.Findings.{seen_summary}
+use Rattle.esr_plan.specs.Text.{told_text}
 use Rattle.esr_plan.specs.Tables.{names_in}
 use Rattle.esr_drive.proofs.findings.push_findings.Goals as goal
 
+same_end : {E : Type 0} (r : Result (Unit {0}) E) (all old a b : List ℕ) → a ≡ b → OnOk r (all ≡ old ++ a) → OnOk r (all ≡ old ++ b)
+same_end r all old a b is h = subst (λ (t : List ℕ). OnOk r (all ≡ old ++ t)) is h
+
 pub returns-in-Ok : goal.returns-in-Ok
 returns-in-Ok g c =
-    same_end _ _ _ _ _ (ap (flat_map (λ f. finding_text c.args.history.now.schedule (names_in c.args.names.now) f.query.0)) c.as_slice.ensures.value
-    ∙ by_queries c.args.history.now.schedule (names_in c.args.names.now) c.in-Ok.book.findings.items _ c.in-Ok.ensures.book.queries) c.push_each.ensures
+    same_end _ _ _ _ _ (ap (flat_map (told_text (names_in c.args.names.now))) (ap (map seen_summary) c.deref.ensures.value ∙ c.in-Ok.ensures.summaries.summaries)) c.push_summaries.ensures

@@ -1,0 +1,65 @@
+-- Stretches of consecutive numbers, one after another.
+use Rattle.std.proofs.Common.{◌≡◌, ℕ, zero, suc, ◌+◌, ◌-◌, ◌<◌, ◌≤◌, List, [], ◌∷◌, ◌++◌, length, take, map, get_or, sym, ap, ◌∙◌, append_assoc, append-nil, arith, flat_map}
+use Rattle.std.specs.List.{range_with_len}
+use Rattle.std.proofs.lemmas.Grind.{flat_map-append}
+use Rattle.std.proofs.lemmas.List.{map-append, take_more}
+use Rattle.esr_base.specs.declared.numbers.TxnId.{TxnId}
+use Rattle.esr_audit.specs.declared.stretches.Stretch.{Stretch}
+use Rattle.esr_audit.specs.Stretches.{numbers_in}
+
+-- one number more
+pub range_more : (a n : ℕ) → range_with_len a (suc n) ≡ range_with_len a n ++ (a + n) ∷ []
+range_more a zero = ap (λ k. k ∷ []) (omega arith)
+range_more a (suc n) = ap (λ l. a ∷ l) (range_more (a + 1) n ∙ ap (λ k. range_with_len (a + 1) n ++ k ∷ []) (omega arith))
+
+pub longer : (first end : ℕ) → first ≤ end → range_with_len first (end + 1 - first) ≡ range_with_len first (end - first) ++ end ∷ []
+longer first end le =
+    let n : ℕ = end - first in
+    let count : end + 1 - first ≡ suc n = omega (arith, le) in
+    let last : first + n ≡ end = omega (arith, le) in
+    ap (range_with_len first) count ∙ range_more first n ∙ ap (λ k. range_with_len first n ++ k ∷ []) last
+
+-- the numbers of one stretch more
+pub one_more : (ss : List Stretch) (s : Stretch) → flat_map numbers_in (ss ++ s ∷ []) ≡ flat_map numbers_in ss ++ numbers_in s
+one_more ss s = flat_map-append numbers_in ss (s ∷ []) ∙ ap (λ l. flat_map numbers_in ss ++ l) (append-nil (numbers_in s))
+
+-- the last stretch goes on
+pub goes_on : (ss : List Stretch) (s : Stretch) (n end : ℕ) → s.first ≤ s.end → s.end ≡ n → end ≡ n + 1
+    → flat_map numbers_in ss ++ range_with_len s.first (end - s.first) ≡ flat_map numbers_in ss ++ numbers_in s ++ n ∷ []
+goes_on ss s n end le is next =
+    ap (λ k. flat_map numbers_in ss ++ range_with_len s.first (k - s.first)) (next ∙ ap (λ k. k + 1) (sym is))
+    ∙ ap (λ l. flat_map numbers_in ss ++ l) (longer s.first s.end le)
+    ∙ sym (append_assoc (flat_map numbers_in ss) (numbers_in s) (s.end ∷ []))
+    ∙ ap (λ k. flat_map numbers_in ss ++ numbers_in s ++ k ∷ []) is
+
+-- a stretch begins
+pub begins : (ss all : List Stretch) (s : Stretch) (n end : ℕ) → all ≡ ss ++ s ∷ [] → end ≡ n + 1
+    → flat_map numbers_in all ++ range_with_len n (end - n) ≡ flat_map numbers_in ss ++ numbers_in s ++ n ∷ []
+begins ss all s n end is next =
+    let one : end - n ≡ 1 = omega (arith, next) in
+    ap (λ l. flat_map numbers_in l ++ range_with_len n (end - n)) is
+    ∙ ap (λ l. l ++ range_with_len n (end - n)) (one_more ss s)
+    ∙ ap (λ k. flat_map numbers_in ss ++ numbers_in s ++ range_with_len n k) one
+
+-- the numbers of one transaction more
+pub txns_more : (ts : List TxnId) (i : ℕ) (t : TxnId) (done all : List ℕ) → done ≡ map (λ (t : TxnId). t.0) (take i ts) → i < length ts → t ≡ get_or ts i t
+    → all ≡ done ++ t.0 ∷ [] → all ≡ map (λ (t : TxnId). t.0) (take (i + 1) ts)
+txns_more ts i t done all so_far lt is more =
+    more ∙ ap (λ l. l ++ t.0 ∷ []) so_far
+    ∙ sym (map-append (λ (t : TxnId). t.0) (take i ts) (t ∷ []))
+    ∙ ap (map (λ (t : TxnId). t.0)) (ap (λ (x : TxnId). take i ts ++ x ∷ []) is ∙ sym (take_more ts i t lt))
+
+-- the numbers of one stretch more, from a list
+pub stretches_more : (ss : List Stretch) (i : ℕ) (s : Stretch) (done all : List ℕ) → done ≡ flat_map numbers_in (take i ss) → i < length ss → s ≡ get_or ss i s
+    → all ≡ done ++ numbers_in s → all ≡ flat_map numbers_in (take (i + 1) ss)
+stretches_more ss i s done all so_far lt is more =
+    more ∙ ap (λ l. l ++ numbers_in s) so_far ∙ sym (one_more (take i ss) s)
+    ∙ ap (flat_map numbers_in) (ap (λ (x : Stretch). take i ss ++ x ∷ []) is ∙ sym (take_more ss i s lt))
+
+-- one number of a stretch more
+pub number_more : (ts all : List TxnId) (old : List ℕ) (first n m : ℕ) → map (λ (t : TxnId). t.0) ts ≡ old ++ range_with_len first (n - first) → all ≡ ts ++ record { 0 = n } ∷ [] → first ≤ n → m ≡ n + 1
+    → map (λ (t : TxnId). t.0) all ≡ old ++ range_with_len first (m - first)
+number_more ts all old first n m so_far is le next =
+    ap (map (λ (t : TxnId). t.0)) is ∙ map-append (λ (t : TxnId). t.0) ts (record { 0 = n } ∷ [])
+    ∙ ap (λ l. l ++ n ∷ []) so_far ∙ append_assoc old (range_with_len first (n - first)) (n ∷ [])
+    ∙ ap (λ l. old ++ l) (sym (longer first n le)) ∙ ap (λ k. old ++ range_with_len first (k - first)) (sym next)

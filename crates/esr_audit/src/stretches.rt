@@ -1,0 +1,109 @@
+//! Lists of transactions in little room.
+//!
+//! What comes before a query is mostly nearly all that committed before it, and transactions mostly commit in the order
+//! in which they begin. So such a list is kept as stretches of consecutive numbers, where these are few, and else as it
+//! is. A summary of 65,000 updates takes some bytes then for 260,000. Rejected: a bit for each number, which needs the
+//! order of commits to be read again.
+ghost use Rattle.std.specs.Prelude.{◌≡◌, ◌≤◌, ◌++◌, ◌∷◌, [], true, OnOk, IfOk, IfSome, map, flat_map};
+ghost use Rattle.esr_audit.specs.Stretches.{listed, numbers_in};
+
+use esr_history::TxnId;
+use std::alloc::{AllocError, Global};
+
+/// Consecutive numbers of transactions, from the first up to the end, and not with it.
+#[derive(Clone, Copy, Debug)]
+pub struct Stretch {
+    pub first: u32,
+    pub end: u32,
+}
+
+/// Transactions in order.
+#[derive(Debug, Drop)]
+pub enum TxnList {
+    Each(Vec<TxnId>),
+    Stretches(Vec<Stretch>),
+}
+
+/// Whether a transaction follows a stretch.
+fn follows(stretch: Stretch, t: TxnId) -> bool
+    ensures begun { result ≡ true → stretch.first ≤ stretch.end }
+    ensures next { result ≡ true → stretch.end ≡ t.0 }
+{
+    stretch.first <= stretch.end && stretch.end == t.0
+}
+
+/// The last stretch after one more transaction: it is longer, or is put to those before it, and the transaction begins
+/// one. None where memory was refused, or the number has no next.
+#[tactic(auto, using(crate::proofs::StretchLaws::goes_on, crate::proofs::StretchLaws::begins))]
+fn stretch_with(stretches: &mut Vec<Stretch>, last: Stretch, t: TxnId) -> Option<Stretch>
+    ensures { IfSome result (λ s. flat_map numbers_in stretches.new.items ++ numbers_in s
+        ≡ flat_map numbers_in stretches.old.items ++ numbers_in last ++ t.0 ∷ []) }
+{
+    let end = t.0.checked_add(1)?;
+    if follows(last, t) {
+        return Some(Stretch {
+            first: last.first,
+            end,
+        });
+    }
+    stretches.push(last).ok()?;
+    Some(Stretch { first: t.0, end })
+}
+
+/// The stretches of transactions; none where memory was refused, or a number has no next.
+fn stretches_of(alloc: Global, txns: &[TxnId]) -> Option<Vec<Stretch>>
+    ensures { IfSome result (λ v. flat_map numbers_in v.items ≡ map (λ t. t.0) txns.now) }
+{
+    let mut stretches = Vec::new(alloc);
+    let mut last = Stretch { first: 0, end: 0 };
+    for t in txns {
+        last = stretch_with(&mut stretches, last, *t)?;
+    }
+    stretches.push(last).ok()?;
+    Some(stretches)
+}
+
+/// Adds the transactions of a stretch.
+fn push_stretch(txns: &mut Vec<TxnId>, stretch: Stretch) -> Result<(), AllocError>
+    ensures { OnOk result (map (λ t. t.0) txns.new.items ≡ map (λ t. t.0) txns.old.items ++ numbers_in stretch) }
+{
+    for number in stretch.first..stretch.end {
+        txns.push(TxnId(number))?;
+    }
+    Ok(())
+}
+
+/// The transactions of stretches.
+fn txns_of(alloc: Global, stretches: &[Stretch]) -> Result<Vec<TxnId>, AllocError>
+    ensures { IfOk result (λ v. map (λ t. t.0) v.items ≡ flat_map numbers_in stretches.now) }
+{
+    let mut txns = Vec::new(alloc);
+    for stretch in stretches {
+        push_stretch(&mut txns, *stretch)?;
+    }
+    Ok(txns)
+}
+
+impl TxnList {
+    /// The same transactions, in stretches where that takes less room and there is memory for it.
+    pub fn of(txns: Vec<TxnId>) -> TxnList
+        ensures { listed result ≡ map (λ t. t.0) txns.items }
+    {
+        if let Some(stretches) = stretches_of(*txns.allocator(), &txns) {
+            if stretches.len() < txns.len() / 2 {
+                return TxnList::Stretches(stretches);
+            }
+        }
+        TxnList::Each(txns)
+    }
+
+    /// The transactions, each by itself.
+    pub fn to_vec(&self, alloc: Global) -> Result<Vec<TxnId>, AllocError>
+        ensures { IfOk result (λ v. map (λ t. t.0) v.items ≡ listed self.now) }
+    {
+        match self {
+            TxnList::Each(txns) => txns.as_slice().to_vec(alloc),
+            TxnList::Stretches(stretches) => txns_of(alloc, stretches),
+        }
+    }
+}
