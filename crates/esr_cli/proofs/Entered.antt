@@ -1,6 +1,6 @@
 -- The words behind the name of a subcommand are left to it: so what the program finds of them is computed from that
 -- subcommand alone, and not from all at once.
-use Rattle.std.proofs.Common.{◌≡◌, ◌∙◌, ap, ap₂, sym, refl, false, fold, codes, List, [], ◌∷◌, Option, Some, None, is_some, find, option_map}
+use Rattle.std.proofs.Common.{◌≡◌, ◌∙◌, ap, ap₂, sym, refl, fold, codes, List, [], ◌∷◌, Option, Some, is_some, find, option_map}
 use Rattle.std.specs.Option.{option_map_or}
 use Rattle.clap.specs.Walk.{Text, Walk, answers_to, finished, nothing_held, settled, walk, walk_from, walked}
 use Rattle.clap.specs.Simple.{App, Shape, built, built_leaf, entered, label_of, names_of, rows_at, subcommand_of}
@@ -75,10 +75,10 @@ rows_behind name word s rest is =
     ∙ ap (λ (o : Option Shape). option_map (λ s. rows_at s rest) o) is.found
 
 abbrev pub run_shape : Shape
-run_shape = built_leaf (spec.scripted (new_app (codes "run"))).top
+run_shape = built_leaf (spec.with_script (new_app (codes "run"))).top
 
 abbrev pub picture_shape : Shape
-picture_shape = built_leaf (spec.named (codes "picture")).top
+picture_shape = built_leaf (spec.with_name (codes "picture")).top
 
 abbrev pub certify_shape : Shape
 certify_shape = built_leaf spec.certify.top

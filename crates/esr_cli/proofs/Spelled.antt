@@ -4,7 +4,7 @@ use Rattle.clap.proofs.ValueTestLemmas.{accepts-Accepts}
 use Rattle.std.specs.Str.Parse.{IsNumeral, digits_value, without_leading_plus}
 use Rattle.std.proofs.lemmas.Bool.Decides.{nat_tests}
 use Rattle.std.proofs.lemmas.Str.Parse.{digit_from_value}
-use Rattle.clap.specs.Lexer.{long_of, short_of, strip_byte}
+use Rattle.clap.specs.Lexer.{strip_byte}
 use Rattle.clap.specs.Walk.{Row, Text, Walk, finished, idle, nothing_held, walk_from, walked}
 use Rattle.clap.specs.Simple.{Shape, subcommand_of}
 use Rattle.clap.specs.Values.{kind_of}

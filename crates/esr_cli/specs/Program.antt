@@ -98,24 +98,24 @@ abbrev pub reading : App → App
 reading a = with_rule a file_rule
 
 -- one that reads a script
-abbrev pub scripted : App → App
-scripted a = with_rule (with_rule (with_rule (reading a) bail_rule) progress_rule) no_progress_rule
+abbrev pub with_script : App → App
+with_script a = with_rule (with_rule (with_rule (reading a) bail_rule) progress_rule) no_progress_rule
 
 -- one that tells of one query of a script
-abbrev pub named : Text → App
-named name = scripted (with_rule (new_app name) name_rule)
+abbrev pub with_name : Text → App
+with_name name = with_script (with_rule (new_app name) name_rule)
 
 abbrev pub certify : App
-certify = with_rule (named (codes "certify")) steps_rule
+certify = with_rule (with_name (codes "certify")) steps_rule
 
 abbrev pub explain : App
-explain = with_rule (with_rule (named (codes "explain")) prose_rule) format_rule
+explain = with_rule (with_rule (with_name (codes "explain")) prose_rule) format_rule
 
 abbrev pub page : App
-page = with_rule (scripted (new_app (codes "page"))) worst_rule
+page = with_rule (with_script (new_app (codes "page"))) worst_rule
 
 abbrev pub audit : App
-audit = with_rule (with_rule (scripted (new_app (codes "audit"))) workers_rule) format_rule
+audit = with_rule (with_rule (with_script (new_app (codes "audit"))) workers_rule) format_rule
 
 abbrev pub drive : App
 drive = with_rule (with_rule (reading (new_app (codes "drive"))) workers_rule) as_script_rule
@@ -131,19 +131,19 @@ abbrev pub check : App
 check = with_rule (with_rule (with_rule (reading (new_app (codes "check"))) script_rule) query_rule) verbose_rule
 
 abbrev pub ledger : App
-ledger = with_rule (scripted (new_app (codes "ledger"))) format_rule
+ledger = with_rule (with_script (new_app (codes "ledger"))) format_rule
 
 abbrev pub why : App
-why = with_rule (scripted (new_app (codes "why"))) of_rule
+why = with_rule (with_script (new_app (codes "why"))) of_rule
 
 abbrev pub scripts : App
 scripts =
-    with_subcommand (with_subcommand (with_subcommand esr (scripted (new_app (codes "run"))).top) certify.top)
+    with_subcommand (with_subcommand (with_subcommand esr (with_script (new_app (codes "run"))).top) certify.top)
     check.top
 
 abbrev pub queries : App
 queries =
-    with_subcommand (with_subcommand (with_subcommand scripts explain.top) (named (codes "picture")).top) page.top
+    with_subcommand (with_subcommand (with_subcommand scripts explain.top) (with_name (codes "picture")).top) page.top
 
 abbrev pub tables : App
 tables = with_subcommand (with_subcommand queries ledger.top) why.top

@@ -7,7 +7,7 @@
 ghost use Rattle.std.specs.Prelude.{◌≡◌, IfOk, codes, false};
 ghost use Rattle.clap.specs.Words.{App, app_of, new_app, with_rule, with_subcommand, rule_of};
 ghost use Rattle.clap.specs.declared.builder.command.Command.TheViews.{out-Command};
-ghost use Rattle.esr_cli.specs.Program.{all_rule, as_script_rule, audit, bail_rule, certify, check, drive, esr, explain, explore, file_rule, files_rule, format_rule, ledger, lint, name_rule, named, no_progress_rule, of_rule, page, program, progress_rule, prose_rule, queries, query_rule, reading, script_rule, scripted, scripts, seeds_rule, steps_rule, tables, verbose_rule, why, workers_rule, worst_by_rule, worst_rule};
+ghost use Rattle.esr_cli.specs.Program.{all_rule, as_script_rule, audit, bail_rule, certify, check, drive, esr, explain, explore, file_rule, files_rule, format_rule, ledger, lint, name_rule, no_progress_rule, of_rule, page, program, progress_rule, prose_rule, queries, query_rule, reading, script_rule, scripts, seeds_rule, steps_rule, tables, verbose_rule, why, with_name, with_script, workers_rule, worst_by_rule, worst_rule};
 
 use crate::help;
 use clap::{Arg, ArgAction, Command, value_parser};
@@ -259,13 +259,13 @@ fn reading<'a>(
 }
 
 /// A command that reads a script.
-fn scripted<'a>(
+fn with_script<'a>(
     alloc: Global,
     command: Result<Command<'a>, AllocError>,
 ) -> Result<Command<'a>, AllocError>
     requires { IfOk command (λ c. (out-Command c).has_globals ≡ false) }
     ensures app { (whole : App) → IfOk command.entry (λ c. app_of c ≡ whole)
-        → IfOk result (λ c. app_of c ≡ scripted whole) }
+        → IfOk result (λ c. app_of c ≡ with_script whole) }
     ensures local { IfOk result (λ c. (out-Command c).has_globals ≡ false) }
 {
     let command = taking(reading(alloc, command), bail(alloc));
@@ -273,26 +273,26 @@ fn scripted<'a>(
 }
 
 /// A command that tells of one query of a script.
-fn named<'a>(
+fn with_name<'a>(
     alloc: Global,
     name_of_it: &'a str,
     about: &'a str,
     after: &'a str,
 ) -> Result<Command<'a>, AllocError>
-    ensures app { IfOk result (λ c. app_of c ≡ named name_of_it.entry.now) }
+    ensures app { IfOk result (λ c. app_of c ≡ with_name name_of_it.entry.now) }
     ensures local { IfOk result (λ c. (out-Command c).has_globals ≡ false) }
 {
     let command = plain(alloc, name_of_it, about, after);
-    scripted(alloc, taking(command, name(alloc)))
+    with_script(alloc, taking(command, name(alloc)))
 }
 
 /// `run [--bail] [FILE]`
 fn run<'a>(alloc: Global) -> Result<Command<'a>, AllocError>
-    ensures app { IfOk result (λ c. app_of c ≡ scripted (new_app (codes "run"))) }
+    ensures app { IfOk result (λ c. app_of c ≡ with_script (new_app (codes "run"))) }
     ensures local { IfOk result (λ c. (out-Command c).has_globals ≡ false) }
 {
     let about = "Runs a script and writes its answers";
-    scripted(alloc, plain(alloc, "run", about, help::SCRIPT))
+    with_script(alloc, plain(alloc, "run", about, help::SCRIPT))
 }
 
 /// `certify [--bail] [--steps] NAME [FILE]`
@@ -301,7 +301,10 @@ fn certify<'a>(alloc: Global) -> Result<Command<'a>, AllocError>
     ensures local { IfOk result (λ c. (out-Command c).has_globals ≡ false) }
 {
     let about = "Runs a script and writes the bundle of a query";
-    taking(named(alloc, "certify", about, help::CERTIFY), steps(alloc))
+    taking(
+        with_name(alloc, "certify", about, help::CERTIFY),
+        steps(alloc),
+    )
 }
 
 /// `explain [--bail] [--prose] [--format FORMAT] NAME [FILE]`
@@ -310,7 +313,7 @@ fn explain<'a>(alloc: Global) -> Result<Command<'a>, AllocError>
     ensures local { IfOk result (λ c. (out-Command c).has_globals ≡ false) }
 {
     let about = "Runs a script and tells what a query read and was charged";
-    let command = named(alloc, "explain", about, help::EXPLAIN);
+    let command = with_name(alloc, "explain", about, help::EXPLAIN);
     taking(taking(command, prose(alloc)), format(alloc))
 }
 
@@ -321,7 +324,7 @@ fn page<'a>(alloc: Global) -> Result<Command<'a>, AllocError>
 {
     let about = "Runs a script and writes an HTML page about its queries";
     taking(
-        scripted(alloc, plain(alloc, "page", about, help::PAGE)),
+        with_script(alloc, plain(alloc, "page", about, help::PAGE)),
         worst(alloc),
     )
 }
@@ -346,7 +349,7 @@ fn ledger<'a>(alloc: Global) -> Result<Command<'a>, AllocError>
 {
     let about = "Runs a script and writes a row for each transaction";
     taking(
-        scripted(alloc, plain(alloc, "ledger", about, help::LEDGER)),
+        with_script(alloc, plain(alloc, "ledger", about, help::LEDGER)),
         format(alloc),
     )
 }
@@ -358,7 +361,7 @@ fn why<'a>(alloc: Global) -> Result<Command<'a>, AllocError>
 {
     let about = "Runs a script and tells why lines were blocked";
     taking(
-        scripted(alloc, plain(alloc, "why", about, help::WHY)),
+        with_script(alloc, plain(alloc, "why", about, help::WHY)),
         of(alloc),
     )
 }
@@ -369,7 +372,7 @@ fn audit<'a>(alloc: Global) -> Result<Command<'a>, AllocError>
     ensures local { IfOk result (λ c. (out-Command c).has_globals ≡ false) }
 {
     let about = "Runs a script and audits each committed query";
-    let command = scripted(alloc, plain(alloc, "audit", about, help::AUDIT));
+    let command = with_script(alloc, plain(alloc, "audit", about, help::AUDIT));
     taking(taking(command, workers(alloc)), format(alloc))
 }
 
@@ -443,7 +446,10 @@ fn queries<'a>(alloc: Global) -> Result<Command<'a>, AllocError>
 {
     let picture = "Runs a script and writes a picture of a query, an SVG";
     let commands = with(scripts(alloc)?, explain(alloc))?;
-    let commands = with(commands, named(alloc, "picture", picture, help::PICTURE))?;
+    let commands = with(
+        commands,
+        with_name(alloc, "picture", picture, help::PICTURE),
+    )?;
     with(commands, page(alloc))
 }
 

@@ -2,3 +2,4 @@
 
 pub mod Turning
 pub mod Telling
+pub mod Searching

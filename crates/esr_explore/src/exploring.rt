@@ -1,10 +1,14 @@
 //! From a drive file to what is written of its runs.
 
-ghost use Rattle.std.specs.Prelude.{◌≡◌, ◌≤◌, ℕ, List, false, IfOk, length, map};
+ghost use Rattle.std.specs.Prelude.{◌≡◌, ◌≤◌, ◌++◌, ◌∷◌, [], ℕ, List, None, false, IfOk, IfSome, OnOk, Some, length, map, sum};
+ghost use Rattle.std.specs.List.{Contains};
 ghost use Rattle.esr_base.specs.declared.limits.TheConstants.{MOST_ENTRIES};
 ghost use Rattle.esr_past.specs.Again.{IsPast};
 ghost use Rattle.esr_plan.specs.declared.draft.TheConstants.{MAX_BLOCKS};
 ghost use Rattle.esr_plan.specs.Plan.{weights_of};
+ghost use Rattle.esr_turns.specs.Orders.{IsOrder, first_turns};
+ghost use Rattle.esr_explore.specs.declared.tale.Tale.{Tale};
+ghost use Rattle.esr_explore.specs.Searches.{AreTales, all_orders, line_counts, orders_of};
 ghost use Rattle.esr_explore.specs.Tales.{IsTale};
 ghost use Rattle.esr_explore.specs.Turns.{AreDone};
 ghost use Rattle.esr_base.specs.Watch.{failed};
@@ -21,7 +25,7 @@ use crate::ways::{ExploreFault, Ways, all_ways, line_counts};
 use esr_history::{Reply, Watched};
 use esr_past::named_script;
 use esr_plan::{DriveFault, Sheet, begun_names, read_all, sheet_of};
-use esr_turns::count_orders;
+use esr_turns::{count_orders, draw_order};
 use std::alloc::{AllocError, Global};
 use std::io::{Read, Write};
 
@@ -62,6 +66,7 @@ pub fn explore<I: Read, O: Write>(
 /// The orders that are gone through.
 fn ways_of(alloc: Global, counts: &[u32], seeds: Option<u64>) -> Result<Ways, ExploreFault>
     requires { length counts.now ≤ MAX_BLOCKS }
+    ensures { seeds ≡ None → IfOk result (λ ways. orders_of ways ≡ Some (first_turns counts.now (sum counts.now))) }
 {
     match seeds {
         Some(seeds) => Ok(Ways::Drawn { seeds }),
@@ -85,8 +90,57 @@ fn tale_of(
     Ok(tale)
 }
 
-/// What is told of the run with each order.
+/// Appends what is told of one more run.
+fn push_tale(tales: &mut Vec<Tale>, tale: Tale) -> Result<(), ExploreFault>
+    ensures { OnOk result (tales.new.items ≡ tales.old.items ++ tale ∷ []) }
+{
+    match tales.push(tale) {
+        Ok(()) => Ok(()),
+        Err(_) => Err(ExploreFault::Drive(DriveFault::NoMemory)),
+    }
+}
+
+/// What is told of the run with each of these orders.
 fn tales_of(
+    alloc: Global,
+    sheet: &Sheet<'_>,
+    queries: &[Query<'_>],
+    orders: &[Vec<u8>],
+) -> Result<Vec<Tale>, ExploreFault>
+    requires { IsSound sheet.now }
+    ensures { IfOk result (λ tales. AreTales sheet.now.values.items (weights_of sheet.now.weights.items)
+        (map (λ b. b.items) sheet.now.blocks.items) queries.now (map (λ o. o.items) orders.now) tales.items) }
+{
+    let mut tales = Vec::new(alloc);
+    for order in orders {
+        let tale = tale_of(alloc, sheet, queries, order)?;
+        push_tale(&mut tales, tale)?;
+    }
+    Ok(tales)
+}
+
+/// What is told of the run with each order that these seeds draw.
+fn drawn_tales(
+    alloc: Global,
+    sheet: &Sheet<'_>,
+    queries: &[Query<'_>],
+    counts: &[u32],
+    seeds: u64,
+) -> Result<Vec<Tale>, ExploreFault>
+    requires sound { IsSound sheet.now }
+    requires few { length counts.now ≤ MAX_BLOCKS }
+{
+    let mut tales = Vec::new(alloc);
+    for seed in 0..seeds {
+        let order = draw_order(alloc, counts, seed)?;
+        let tale = tale_of(alloc, sheet, queries, &order)?;
+        push_tale(&mut tales, tale)?;
+    }
+    Ok(tales)
+}
+
+/// What is told of the run with each order that is gone through.
+fn all_tales(
     alloc: Global,
     sheet: &Sheet<'_>,
     queries: &[Query<'_>],
@@ -95,16 +149,42 @@ fn tales_of(
 ) -> Result<Vec<Tale>, ExploreFault>
     requires sound { IsSound sheet.now }
     requires few { length counts.now ≤ MAX_BLOCKS }
+    ensures { IfOk result (λ tales. IfSome (orders_of ways.now) (λ orders. AreTales sheet.now.values.items
+        (weights_of sheet.now.weights.items) (map (λ b. b.items) sheet.now.blocks.items) queries.now orders tales.items)) }
 {
-    let mut tales = Vec::new(alloc);
-    for number in 0..ways.count() {
-        let order = ways.order(alloc, counts, number)?;
-        let tale = tale_of(alloc, sheet, queries, &order)?;
-        if tales.push(tale).is_err() {
-            return Err(ExploreFault::Drive(DriveFault::NoMemory));
-        }
+    match ways {
+        Ways::All(orders) => tales_of(alloc, sheet, queries, orders.as_slice()),
+        Ways::Drawn { seeds } => drawn_tales(alloc, sheet, queries, counts, *seeds),
     }
-    Ok(tales)
+}
+
+/// What a search finds: the orders that were gone through, and what is told of each run.
+#[derive(Drop)]
+struct Found {
+    ways: Ways,
+    tales: Vec<Tale>,
+}
+
+/// Goes through all orders of the blocks, or through so many drawn ones. Where all are gone through, none is left out.
+fn search_orders(
+    alloc: Global,
+    sheet: &Sheet<'_>,
+    queries: &[Query<'_>],
+    counts: &[u32],
+    seeds: Option<u64>,
+) -> Result<Found, ExploreFault>
+    requires sound { IsSound sheet.now }
+    requires counts { counts.now ≡ line_counts (map (λ b. b.items) sheet.now.blocks.items) }
+    ensures all { seeds ≡ None → IfOk result (λ found. AreTales sheet.now.values.items
+        (weights_of sheet.now.weights.items) (map (λ b. b.items) sheet.now.blocks.items) queries.now
+        (all_orders (map (λ b. b.items) sheet.now.blocks.items)) found.tales.items) }
+    ensures every { seeds ≡ None → IfOk result (λ found. (order : List ℕ) → IsOrder counts.now (sum counts.now) order
+        → (tale : Tale) × (Contains found.tales.items tale × IsTale sheet.now.values.items
+        (weights_of sheet.now.weights.items) (map (λ b. b.items) sheet.now.blocks.items) queries.now order tale)) }
+{
+    let ways = ways_of(alloc, counts, seeds)?;
+    let tales = all_tales(alloc, sheet, queries, &ways, counts)?;
+    Ok(Found { ways, tales })
 }
 
 /// What is written of the runs that these tales are of.
@@ -154,8 +234,7 @@ fn text_of(alloc: Global, sheet: &Sheet<'_>, search: Search) -> Result<Vec<u8>, 
 {
     let counts = line_counts(alloc, sheet.blocks.as_slice())?;
     let queries = queries_of(alloc, sheet.blocks.as_slice())?;
-    let ways = ways_of(alloc, &counts, search.seeds)?;
-    let tales = tales_of(alloc, sheet, &queries, &ways, &counts)?;
+    let Found { ways, tales } = search_orders(alloc, sheet, &queries, &counts, search.seeds)?;
     match search.worst {
         None => Ok(report_of(alloc, &queries, &tales, &counts)?),
         Some(measure) => {

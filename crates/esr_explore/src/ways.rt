@@ -1,9 +1,11 @@
 //! The orders that are gone through: all of them, or so many drawn ones.
 
-ghost use Rattle.std.specs.Prelude.{◌≡◌, ◌≤◌, IfOk, length};
+ghost use Rattle.std.specs.Prelude.{◌≡◌, ◌≤◌, Some, IfOk, length, map, sum};
 ghost use Rattle.esr_plan.specs.declared.draft.TheConstants.{MAX_BLOCKS};
 ghost use Rattle.esr_plan.specs.declared.fault.DriveFault.TheVariants.{NoMemory};
+ghost use Rattle.esr_turns.specs.Orders.{first_turns};
 ghost use Rattle.esr_explore.specs.declared.ways.ExploreFault.TheVariants.{Drive};
+ghost use Rattle.esr_explore.specs.Searches.{orders_of};
 
 use esr_plan::{Call, DriveFault};
 use esr_turns::{MOST_ORDERS, all_orders, count_orders, draw_order};
@@ -69,24 +71,27 @@ pub enum Ways {
 }
 
 /// How many lines each block has.
-pub fn line_counts(alloc: Global, blocks: &[Vec<Call<'_>>]) -> Result<Vec<u32>, AllocError>
-    ensures { IfOk result (λ counts. length counts.items ≡ length blocks.now) }
+pub fn line_counts(alloc: Global, blocks: &[Vec<Call<'_>>]) -> Result<Vec<u32>, ExploreFault>
+    ensures { IfOk result (λ counts. counts.items ≡ map (λ b. length b.items) blocks.now) }
 {
     let mut counts = Vec::new(alloc);
     for block in blocks {
-        let lines = u32::try_from(block.len()).unwrap_or(u32::MAX);
-        counts.push(lines)?;
+        let Ok(lines) = u32::try_from(block.len()) else {
+            return Err(ExploreFault::TooManyLinesInBlocks);
+        };
+        if counts.push(lines).is_err() {
+            return Err(ExploreFault::Drive(DriveFault::NoMemory));
+        }
     }
     Ok(counts)
 }
 
 /// How many lines there are in all.
-pub fn sum_of(counts: &[u32]) -> usize {
-    let mut sum = 0usize;
-    for count in counts {
-        sum = sum.saturating_add(*count as usize);
-    }
-    sum
+fn sum_of(counts: &[u32]) -> usize
+    requires { length counts.now ≤ MAX_BLOCKS }
+    ensures { result ≡ sum counts.now }
+{
+    counts.iter().map(|count| *count as usize).sum()
 }
 
 /// Whether all of so many orders are gone through.
@@ -100,6 +105,7 @@ fn is_few(count: Option<u64>) -> bool {
 /// All orders of blocks with so many lines, if they are few enough.
 pub fn all_ways(alloc: Global, counts: &[u32]) -> Result<Ways, ExploreFault>
     requires { length counts.now ≤ MAX_BLOCKS }
+    ensures { IfOk result (λ ways. orders_of ways ≡ Some (first_turns counts.now (sum counts.now))) }
 {
     let turns = sum_of(counts);
     let count = count_orders(counts);

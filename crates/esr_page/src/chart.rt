@@ -4,8 +4,8 @@
 //! than all others, the chart ends below them, so that the others are seen; a logarithmic scale was rejected, since a bar
 //! would no longer show its amount by its length.
 
+use crate::audits::Found;
 use crate::rows::{Row, Rows};
-use esr_audit::Summary;
 use esr_prose::{push_count, push_number};
 use std::alloc::{AllocError, Global};
 
@@ -28,14 +28,13 @@ fn height(amount: u64, top: u64) -> u64 {
     share.unwrap_or(0).min(1000)
 }
 
-/// A bar of such a class, with a torn end where it goes on above the chart.
+/// A bar of such a class.
 fn push_bar(out: &mut String, class: &str, amount: u64, top: u64) -> Result<(), AllocError> {
     let height = height(amount, top);
     let (whole, part) = (height / 10, height % 10);
-    let end = if amount > top { " torn" } else { "" };
     write!(
         out,
-        "<i class='{class}{end}' style='bottom:0;height:{whole}.{part}%'></i>"
+        "<i class='{class}' style='bottom:0;height:{whole}.{part}%'></i>"
     )
 }
 
@@ -60,13 +59,15 @@ fn push_words(out: &mut String, row: &Row<'_>) -> Result<(), AllocError> {
     push_number(out, row.distance().unwrap_or(0))
 }
 
-/// A column.
+/// A column. Where it goes on above the chart, a gap through all its bars says so: an end that each bar had of its own, as
+/// if torn, crossed that of the bar before it, and could not be seen on narrow bars.
 fn push_column(out: &mut String, row: &Row<'_>, top: u64) -> Result<(), AllocError> {
     let name = row.name;
     let target = if row.is_told { "q" } else { "r" };
     write!(out, "<li><a href='#{target}-{name}' title='")?;
     push_words(out, row)?;
-    out.push_str("'><span class='col' aria-hidden='true'>")?;
+    let end = if row.charged > top { " cut" } else { "" };
+    write!(out, "'><span class='col{end}' aria-hidden='true'>")?;
     push_bar(out, "chg", row.charged, top)?;
     push_bar(out, "dis", row.distance().unwrap_or(0), top)?;
     push_limit(out, row.limit, top)?;
@@ -77,11 +78,11 @@ fn push_column(out: &mut String, row: &Row<'_>, top: u64) -> Result<(), AllocErr
 fn push_columns(
     out: &mut String,
     all: &mut Rows<'_>,
-    summaries: &[Summary],
+    found: &[Found],
     top: u64,
 ) -> Result<(), AllocError> {
-    for summary in summaries.iter().take(MOST_COLUMNS) {
-        if let Some(row) = all.of(summary.query) {
+    for found in found.iter().take(MOST_COLUMNS) {
+        if let Some(row) = all.of(found.query) {
             push_column(out, row, top)?;
         }
     }
@@ -100,9 +101,9 @@ fn charges_of(alloc: Global, rows: &[Row<'_>]) -> Result<Vec<u64>, AllocError> {
     Ok(charges)
 }
 
-/// The most that a query was charged, a tenth of them left out, and one at least.
+/// The most that a query was charged, a quarter of them left out, and one at least.
 fn usual_charge(charges: &[u64]) -> u64 {
-    let dearest = (charges.len() / 10).max(1);
+    let dearest = (charges.len() / 4).max(1);
     let others = charges.len().saturating_sub(dearest);
     charges
         .get(..others)
@@ -135,7 +136,7 @@ fn push_legend(out: &mut String, top: u64, charges: &[u64]) -> Result<(), AllocE
     push_number(out, top)?;
     out.push('.')?;
     if above > 0 {
-        out.push_str(" Above it, with a torn end: ")?;
+        out.push_str(" Beyond it, with a gap below the top: ")?;
         push_count(out, above as u64, " query", " queries")?;
         out.push('.')?;
     }
@@ -154,15 +155,15 @@ pub fn push_chart(
     alloc: Global,
     out: &mut String,
     all: &mut Rows<'_>,
-    summaries: &[Summary],
+    found: &[Found],
 ) -> Result<(), AllocError> {
-    if summaries.is_empty() {
+    if found.is_empty() {
         return out.push_str("<p>No query has committed.</p>\n");
     }
     let charges = charges_of(alloc, &all.rows)?;
     let top = top_of(&all.rows, &charges);
     out.push_str("<h2>Committed queries, in the order of their commits</h2>\n")?;
-    let class = if summaries.len() > MOST_NAMED {
+    let class = if found.len() > MOST_NAMED {
         "chart many"
     } else {
         "chart few"
@@ -171,7 +172,7 @@ pub fn push_chart(
         out,
         "<div class='wide' tabindex='0' role='group' aria-label='Chart'><ol class='{class}'>\n"
     )?;
-    push_columns(out, all, summaries, top)?;
+    push_columns(out, all, found, top)?;
     out.push_str("</ol></div>\n")?;
     push_legend(out, top, &charges)
 }

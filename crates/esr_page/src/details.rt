@@ -1,7 +1,7 @@
-//! Picture and prose of the queries that were farthest off. Each is audited again, one after another, so that no more
-//! than one problem is in memory.
+//! Picture and prose of the queries that were farthest off.
 
-use crate::rows::{End, Row, Rows};
+use crate::audits::{Audits, rank};
+use crate::rows::{Row, Rows};
 use esr_audit::{AuditError, Finding, audit_query};
 use esr_history::TxnId;
 use esr_picture::picture;
@@ -10,24 +10,21 @@ use esr_report::name_of_transaction;
 use esr_telling::Chronicle;
 use std::alloc::{AllocError, Global};
 
-/// Marks so many queries that were farthest off, and gives them, the farthest first. Of two that were off alike the one
-/// that was charged more comes first.
+/// Marks so many queries that were farthest off, and gives them, the farthest first.
 pub fn tell_farthest(
     alloc: Global,
     all: &mut Rows<'_>,
-    count: u64,
+    count: usize,
 ) -> Result<Vec<TxnId>, AllocError> {
     let mut ranks = Vec::new(alloc);
     for row in &all.rows {
         if let Some(distance) = row.distance() {
-            let far = u64::MAX.saturating_sub(distance);
-            let dear = u64::MAX.saturating_sub(row.charged);
-            ranks.push((far, dear, row.query.0))?;
+            ranks.push(rank(distance, row.charged, row.query))?;
         }
     }
     ranks.sort_unstable();
     let mut told = Vec::new(alloc);
-    for (_, _, number) in ranks.iter().take(usize::try_from(count).unwrap_or(0)) {
+    for (_, _, number) in ranks.iter().take(count) {
         let query = TxnId(*number);
         if let Some(row) = all.of(query) {
             row.is_told = true;
@@ -103,14 +100,18 @@ fn push_told(
     )
 }
 
-/// A query with picture and prose, after an audit of its own.
+/// A query with picture and prose, after one more audit where what was found is not kept.
 fn push_query(
     alloc: Global,
     out: &mut String,
     chronicle: &Chronicle<'_>,
+    audits: &Audits,
     lines: &[u32],
     query: TxnId,
 ) -> Result<(), AllocError> {
+    if let Some(finding) = audits.finding_of(query) {
+        return push_told(alloc, out, chronicle, lines, finding);
+    }
     match audit_query(alloc, &chronicle.history, query) {
         Ok(finding) => push_told(alloc, out, chronicle, lines, &finding),
         Err(AuditError::NoMemory) => Err(AllocError),
@@ -132,6 +133,7 @@ pub fn push_details(
     alloc: Global,
     out: &mut String,
     chronicle: &Chronicle<'_>,
+    audits: &Audits,
     rows: &[Row<'_>],
     told: &[TxnId],
 ) -> Result<(), AllocError> {
@@ -146,7 +148,7 @@ pub fn push_details(
     )?;
     out.push_str(heading_of(rows))?;
     for query in told {
-        push_query(alloc, out, chronicle, &lines, *query)?;
+        push_query(alloc, out, chronicle, audits, &lines, *query)?;
     }
     Ok(())
 }

@@ -3,11 +3,11 @@
 //!
 //! It is one file without any outside resource, so that it can be mailed and kept. Names are lowercase letters, digits
 //! and `_`, as no line binds another, and all else are fixed words and numbers: so nothing has to be escaped, and a
-//! name makes an id. Audits are made one after another and kept in summaries, so that no more than one problem is in
-//! memory; of the queries that are told in full it is made again. What the page shows is promised by no clause, but that it
-//! is one document in which each element is closed.
+//! name makes an id. What the page shows is promised by no clause, but that it is one document in which each element is
+//! closed.
 #![tactic(auto)]
 
+mod audits;
 mod chart;
 mod details;
 mod page;

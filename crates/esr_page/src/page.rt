@@ -1,18 +1,15 @@
 //! The page, in its order.
 
-ghost use Rattle.std.specs.Prelude.{◌≡◌, IfOk, map};
-ghost use Rattle.esr_history.specs.Machine.{done};
-ghost use Rattle.esr_history.specs.Operations.{commit_order};
+ghost use Rattle.std.specs.Prelude.{IfOk};
 ghost use Rattle.esr_page.specs.Page.{IsPage};
 
+use crate::audits::{Audits, audit_all};
 use crate::chart::push_chart;
 use crate::details::{push_details, tell_farthest};
 use crate::rows::{Row, rows_of};
 use crate::style::{HEAD, SCRIPT};
 use crate::table::push_table;
-use esr_audit::{CommitLists, Summaries, Summary, audit_query_in, commit_lists};
-use esr_history::{History, TxnId};
-use esr_items::Weighted;
+use esr_history::TxnId;
 use esr_picture::markup_or_nothing;
 use esr_prose::{push_count, push_number};
 use esr_report::{Names, name_of_transaction};
@@ -108,18 +105,18 @@ fn push_order(out: &mut String, names: &Names, order: &[TxnId]) -> Result<(), Al
 fn body_of(
     alloc: Global,
     chronicle: &Chronicle<'_>,
-    found: &Summaries,
-    worst: u64,
+    audits: &Audits,
+    count: usize,
 ) -> Result<String, AllocError> {
-    let mut all = rows_of(alloc, chronicle, &found.summaries)?;
-    let told = tell_farthest(alloc, &mut all, worst)?;
+    let mut all = rows_of(alloc, chronicle, &audits.found)?;
+    let told = tell_farthest(alloc, &mut all, count)?;
     let mut out = String::new(alloc);
     out.push_str(HEAD)?;
-    push_sums(&mut out, totals_of(&all.rows), found.order.len() as u64)?;
-    push_chart(alloc, &mut out, &mut all, &found.summaries)?;
+    push_sums(&mut out, totals_of(&all.rows), audits.order.len() as u64)?;
+    push_chart(alloc, &mut out, &mut all, &audits.found)?;
     push_table(&mut out, &all.rows)?;
-    push_details(alloc, &mut out, chronicle, &all.rows, &told)?;
-    push_order(&mut out, &chronicle.transactions, &found.order)?;
+    push_details(alloc, &mut out, chronicle, audits, &all.rows, &told)?;
+    push_order(&mut out, &chronicle.transactions, &audits.order)?;
     out.push_str(SCRIPT)?;
     Ok(out)
 }
@@ -129,59 +126,23 @@ fn body_of(
 fn page_of(
     alloc: Global,
     chronicle: &Chronicle<'_>,
-    found: &Summaries,
-    worst: u64,
+    audits: &Audits,
+    count: usize,
 ) -> Result<Vec<u8>, AllocError>
     ensures { IfOk result (λ text. IsPage text.items) }
 {
-    let body = markup_or_nothing(alloc, body_of(alloc, chronicle, found, worst)?)?;
+    let body = markup_or_nothing(alloc, body_of(alloc, chronicle, audits, count)?)?;
     let text = format!(in alloc; "<!DOCTYPE html><html lang='en'>{body}</html>\n")?;
     Ok(text.into_bytes())
-}
-
-/// What the audit finds of a committed query, in a summary.
-fn summary_of(
-    alloc: Global,
-    history: &History<Weighted>,
-    committed: &[TxnId],
-    query: TxnId,
-) -> Result<Summary, AllocError>
-    requires { map (λ t. t.0) committed.now ≡ commit_order (done history.now.schedule) }
-{
-    match audit_query_in(alloc, history, committed, query) {
-        Ok(finding) => Ok(Summary::from(finding)),
-        Err(_) => Err(AllocError),
-    }
-}
-
-/// The committed updates, and what audits find of the committed queries, one after another.
-fn summarize(alloc: Global, history: &History<Weighted>) -> Result<Summaries, AllocError> {
-    let Ok(
-        CommitLists {
-            all,
-            updates,
-            queries,
-        },
-    ) = commit_lists(alloc, history)
-    else {
-        return Err(AllocError);
-    };
-    let mut summaries = Vec::new(alloc);
-    for query in &queries {
-        summaries.push(summary_of(alloc, history, &all, *query)?)?;
-    }
-    Ok(Summaries {
-        order: updates,
-        summaries,
-    })
 }
 
 /// The page about a script.
 fn page_about(alloc: Global, chronicle: &Chronicle<'_>, worst: u64) -> Result<Vec<u8>, AllocError>
     ensures { IfOk result (λ text. IsPage text.items) }
 {
-    let found = summarize(alloc, &chronicle.history)?;
-    page_of(alloc, chronicle, &found, worst)
+    let count = usize::try_from(worst).unwrap_or(usize::MAX);
+    let audits = audit_all(alloc, &chronicle.history, count)?;
+    page_of(alloc, chronicle, &audits, count)
 }
 
 impl Survey for Page {

@@ -1,7 +1,7 @@
 //! What is told of each query in the table and in the chart. One pass over the log counts reads and finds who is strict;
 //! what audits find is put beside it.
 
-use esr_audit::Summary;
+use crate::audits::Found;
 use esr_history::{Entry, Event, History, Reply, TxnId};
 use esr_items::Weighted;
 use esr_report::name_of_transaction;
@@ -117,7 +117,7 @@ impl<'a> Rows<'a> {
 pub fn rows_of<'a>(
     alloc: Global,
     chronicle: &'a Chronicle<'_>,
-    summaries: &[Summary],
+    found: &[Found],
 ) -> Result<Rows<'a>, AllocError> {
     let mut all = queries_of(alloc, chronicle)?;
     let log = chronicle.history.log();
@@ -126,10 +126,10 @@ pub fn rows_of<'a>(
             all.note(entry);
         }
     }
-    for summary in summaries {
-        if let Some(row) = all.of(summary.query) {
+    for found in found {
+        if let Some(row) = all.of(found.query) {
             row.end = End::Committed {
-                distance: summary.distance,
+                distance: found.distance,
             };
         }
     }

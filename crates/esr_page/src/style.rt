@@ -22,11 +22,11 @@ dt{color:var(--dim)}
 dd{margin:0;font-size:1.4em;overflow-wrap:anywhere}
 .wide{overflow-x:auto;max-width:100%}
 .wide svg{display:block}
-ol.chart{display:flex;align-items:flex-end;list-style:none;margin:0;padding:0 0 4px}
+ol.chart{display:flex;align-items:flex-start;list-style:none;margin:0;padding:0 0 4px}
 .chart li{max-width:none}
 .many li{flex:1 0 4px}
 .many .lim{border-top-width:1px}
-.few li{flex:0 0 9.5em}
+.few li{flex:0 1 9.5em;min-width:3em}
 .chart a{display:block;text-align:center;text-decoration:none}
 .col{display:block;position:relative;height:200px;margin:0 1px;border-bottom:1px solid var(--ink)}
 .few .col{margin:0 25%}
@@ -34,9 +34,10 @@ ol.chart{display:flex;align-items:flex-end;list-style:none;margin:0;padding:0 0 
 .chg{background:var(--charged)}
 .dis{background:var(--off)}
 .few .dis{left:25%;right:25%}
-.torn{clip-path:polygon(0 100%,0 8px,25% 0,50% 8px,75% 0,100% 8px,100% 100%)}
+.cut::after{content:'';position:absolute;left:-1px;right:-1px;top:14px;height:6px;background:var(--paper)}
+.few .cut::after{left:-4px;right:-4px;transform:skewY(-8deg)}
 .lim{border-top:2px solid var(--ink)}
-.few .nam{font:12px monospace;text-decoration:underline}
+.few .nam{display:block;padding-top:4px;font:12px monospace;overflow-wrap:anywhere;text-decoration:underline}
 .many .nam{position:absolute;width:1px;height:1px;overflow:hidden;clip-path:inset(50%);white-space:nowrap}
 .many li{position:relative}
 .key span{margin-right:1.5em}

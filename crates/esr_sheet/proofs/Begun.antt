@@ -5,7 +5,6 @@ use Rattle.esr_history.specs.declared.event.Entry.{Entry}
 use Rattle.esr_history.specs.declared.event.Event.{Event}
 use Rattle.esr_history.specs.Events.{Beginning, accepted, beginning_of, beginnings}
 use Rattle.esr_order.proofs.Entries.{accepts, given_accepted, given_events}
-use Rattle.esr_sheet.specs.declared.kinds.Kind.{Kind}
 use Rattle.esr_sheet.specs.Rows.{kind_of}
 use Rattle.esr_sheet.specs.Entries.{kind_in}
 

@@ -1,14 +1,12 @@
 -- The parts of a row, by what is found of all transactions at once.
-use Rattle.std.proofs.Common.{◌≡◌, ◌≢◌, ℕ, zero, suc, ◌+◌, ◌-◌, ◌<◌, ◌≤◌, Bool, true, false, List, [], ◌∷◌, length, refl, sym, ◌∙◌, ap, ap₂, arith, subst, Option, Some, None, map, is_some, slice_get, option_map, unwrap_or, if◌then◌else◌}
-use Rattle.std.proofs.lemmas.Bool.{true≢false}
-use Rattle.std.proofs.lemmas.Option.{same_Some, slice_get-map}
+use Rattle.std.proofs.Common.{◌≡◌, ℕ, zero, suc, ◌-◌, ◌<◌, ◌≤◌, Bool, false, List, [], ◌∷◌, length, refl, sym, ◌∙◌, ap, ap₂, arith, Option, Some, None, map, is_some, slice_get, unwrap_or, if◌then◌else◌}
+use Rattle.std.proofs.lemmas.Option.{slice_get-map}
 use Rattle.esr_history.specs.declared.event.Entry.{Entry}
 use Rattle.esr_base.specs.declared.numbers.TxnId.{TxnId}
-use Rattle.esr_history.specs.Events.{Beginning, accepted, beginning, beginnings, is_committed, is_query, limit_of}
+use Rattle.esr_history.specs.Events.{accepted, beginning, beginnings, is_query, limit_of}
 use Rattle.esr_history.specs.Machine.{Distance, Schedule, charges_in, done, export_in, import_in, IsLegal}
 use Rattle.esr_history.specs.declared.back_links.Facts.{Facts}
 use Rattle.esr_history.specs.BackLinks.{accepted_end, begun_count, facts_of, last_place}
-use Rattle.esr_order.specs.Scans.{commits_in, is_commit_at}
 use Rattle.esr_order.proofs.Commits.{commit_at_end, end_some, facts_none}
 use Rattle.esr_sheet.specs.declared.kinds.Kind.{Kind}
 use Rattle.esr_sheet.specs.declared.kinds.Kind.TheVariants.{Update}

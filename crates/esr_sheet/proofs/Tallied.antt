@@ -1,19 +1,17 @@
 -- What one more entry adds to the tallies.
-use Rattle.std.proofs.Common.{◌≡◌, ℕ, ◌+◌, ◌<◌, ◌≤◌, ◌^◌, ◌&&◌, Bool, true, false, cond, if◌then◌else◌, List, [], ◌∷◌, ◌++◌, length, take, get_or, set, refl, sym, ◌∙◌, ap, ap₂, filter, length-append, arith, subst, Option, Some, None, count_by, get_or-set_same, get_or-set_other, length-set, ⊎_elim, slice_get, All, replicate}
+use Rattle.std.proofs.Common.{◌≡◌, ℕ, ◌+◌, ◌<◌, ◌≤◌, ◌^◌, ◌&&◌, Bool, true, false, cond, if◌then◌else◌, List, [], ◌∷◌, ◌++◌, length, get_or, set, refl, sym, ◌∙◌, ap, ap₂, filter, length-append, arith, subst, Some, count_by, get_or-set_same, get_or-set_other, length-set, ⊎_elim, All, replicate}
 use Rattle.std.proofs.lemmas.List.{get_or-replicate, length-replicate}
 use Rattle.std.proofs.lemmas.List.Sums.{count_by-le-length, length-filter}
 use Rattle.std.proofs.lemmas.Bool.{cases_eq, eq-eqb, ne_eqb}
-use Rattle.std.proofs.lemmas.Option.{same_Some}
 use Rattle.std.proofs.lemmas.List.Elements.{filter-append}
 use Rattle.esr_history.specs.declared.event.Reply.{Reply}
-use Rattle.esr_history.specs.declared.event.Refusal.{Refusal}
 use Rattle.esr_history.specs.declared.event.Entry.{Entry}
-use Rattle.esr_history.specs.declared.event.Reply.TheVariants.{Begun, Value, Wrote, Committed, Aborted, Refused}
+use Rattle.esr_history.specs.declared.event.Reply.TheVariants.{Value, Wrote, Refused}
 use Rattle.esr_history.specs.declared.event.Refusal.TheVariants.{BlockedByLock, BlockedByImport, BlockedByExport}
 use Rattle.esr_history.specs.BackLinks.{txn_in, is_key}
 use Rattle.esr_sheet.specs.declared.tallies.Tally.{Tally}
 use Rattle.esr_sheet.specs.Rows.{by_export, by_import, by_lock, count_of, is_read, is_write, tally_of}
-use Rattle.esr_sheet.specs.Entries.{AreTallies, IsCountable, counted}
+use Rattle.esr_sheet.specs.Entries.{AreTallies, IsCountable, with_answer}
 
 none_more : (n : ℕ) → n + 0 ≡ n
 none_more n = omega arith
@@ -34,7 +32,7 @@ tally r w l i e = record { reads = r; writes = w; by_lock = l; by_import = i; by
 
 one_more : (R W L I E : ℕ) (b : Bool) (r : Reply)
     → tally (R + cond (b && is_read r) 1 0) (W + cond (b && is_write r) 1 0) (L + cond (b && by_lock r) 1 0) (I + cond (b && by_import r) 1 0) (E + cond (b && by_export r) 1 0)
-    ≡ (if b then counted (tally R W L I E) r else tally R W L I E)
+    ≡ (if b then with_answer (tally R W L I E) r else tally R W L I E)
 one_more R W L I E false r = λ i. tally (none_more R i) (none_more W i) (none_more L i) (none_more I i) (none_more E i)
 one_more R W L I E true (Value v) = λ i. tally (R + 1) (none_more W i) (none_more L i) (none_more I i) (none_more E i)
 one_more R W L I E true Wrote = λ i. tally (none_more R i) (W + 1) (none_more L i) (none_more I i) (none_more E i)
@@ -47,7 +45,7 @@ counted_one : (p : Reply → Bool) (es : List Entry) (e : Entry) (t : ℕ) → c
 counted_one p es e t = count_more (λ (n : Entry). is_key (txn_in n) t && p n.reply) es e
 
 -- an entry more is counted for its transaction, and for no other
-pub tally_more : (es : List Entry) (e : Entry) (t : ℕ) → tally_of (es ++ e ∷ []) t ≡ (if is_key (txn_in e) t then counted (tally_of es t) e.reply else tally_of es t)
+pub tally_more : (es : List Entry) (e : Entry) (t : ℕ) → tally_of (es ++ e ∷ []) t ≡ (if is_key (txn_in e) t then with_answer (tally_of es t) e.reply else tally_of es t)
 tally_more es e t =
     (λ i. tally (counted_one is_read es e t i) (counted_one is_write es e t i) (counted_one by_lock es e t i) (counted_one by_import es e t i) (counted_one by_export es e t i))
     ∙ one_more (count_of is_read es t) (count_of is_write es t) (count_of by_lock es t) (count_of by_import es t) (count_of by_export es t) (is_key (txn_in e) t) e.reply
@@ -59,27 +57,27 @@ few p es t = count_by-le-length (λ (e : Entry). is_key (txn_in e) t && p e.repl
 -- the tallies where an entry is of no transaction that there is
 pub not_counted : (es : List Entry) (e : Entry) (tallies : List Tally) → ((t : ℕ) → t < length tallies → is_key (txn_in e) t ≡ false) → AreTallies es tallies → AreTallies (es ++ e ∷ []) tallies
 not_counted es e tallies other are t l d =
-    are t l d ∙ sym (tally_more es e t ∙ ap (λ (b : Bool). if b then counted (tally_of es t) e.reply else tally_of es t) (other t l))
+    are t l d ∙ sym (tally_more es e t ∙ ap (λ (b : Bool). if b then with_answer (tally_of es t) e.reply else tally_of es t) (other t l))
 
 -- the tallies where it is of transaction n
 pub is_counted : (es : List Entry) (e : Entry) (tallies : List Tally) (n : ℕ) (d : Tally) → n < length tallies → txn_in e ≡ Some n → AreTallies es tallies
-    → AreTallies (es ++ e ∷ []) (set tallies n (counted (get_or tallies n d) e.reply))
+    → AreTallies (es ++ e ∷ []) (set tallies n (with_answer (get_or tallies n d) e.reply))
 is_counted es e tallies n d within is are t l f =
-    let long : length (set tallies n (counted (get_or tallies n d) e.reply)) ≡ length tallies = length-set tallies n (counted (get_or tallies n d) e.reply) in
+    let long : length (set tallies n (with_answer (get_or tallies n d) e.reply)) ≡ length tallies = length-set tallies n (with_answer (get_or tallies n d) e.reply) in
     let low : t < length tallies = omega (arith, long, l) in
     ⊎_elim
     (λ (same : t ≡ n).
     let key : is_key (txn_in e) t ≡ true = ap (λ o. is_key o t) is ∙ eq-eqb n t (sym same) in
-    ap (λ k. get_or (set tallies n (counted (get_or tallies n d) e.reply)) k f) same
-    ∙ (get_or-set_same tallies n (counted (get_or tallies n d) e.reply) f within
-    ∙ (ap (λ (y : Tally). counted y e.reply) (are n within d)
-    ∙ (ap (λ k. counted (tally_of es k) e.reply) (sym same)
-    ∙ sym (tally_more es e t ∙ ap (λ (b : Bool). if b then counted (tally_of es t) e.reply else tally_of es t) key)))))
+    ap (λ k. get_or (set tallies n (with_answer (get_or tallies n d) e.reply)) k f) same
+    ∙ (get_or-set_same tallies n (with_answer (get_or tallies n d) e.reply) f within
+    ∙ (ap (λ (y : Tally). with_answer y e.reply) (are n within d)
+    ∙ (ap (λ k. with_answer (tally_of es k) e.reply) (sym same)
+    ∙ sym (tally_more es e t ∙ ap (λ (b : Bool). if b then with_answer (tally_of es t) e.reply else tally_of es t) key)))))
     (λ other.
     let key : is_key (txn_in e) t ≡ false = ap (λ o. is_key o t) is ∙ ne_eqb n t (λ same. other (sym same)) in
-    get_or-set_other tallies n t (counted (get_or tallies n d) e.reply) f other
+    get_or-set_other tallies n t (with_answer (get_or tallies n d) e.reply) f other
     ∙ (are t low f
-    ∙ sym (tally_more es e t ∙ ap (λ (b : Bool). if b then counted (tally_of es t) e.reply else tally_of es t) key)))
+    ∙ sym (tally_more es e t ∙ ap (λ (b : Bool). if b then with_answer (tally_of es t) e.reply else tally_of es t) key)))
     (cases_eq t n)
 
 -- there is room for one more of each

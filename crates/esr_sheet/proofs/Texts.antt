@@ -1,25 +1,29 @@
 -- The lines of rows, one after another.
-use Rattle.std.proofs.Common.{◌≡◌, ◌∙◌, ℕ, ◌+◌, ◌<◌, ◌≤◌, List, [], ◌∷◌, ◌++◌, ap, sym, length, take, get_or, append-nil, append_assoc, take_all, map, Bor}
+use Rattle.std.proofs.Common.{◌≡◌, ◌∙◌, ℕ, ◌+◌, ◌<◌, List, [], ◌∷◌, ◌++◌, ap, ap₂, arith, sym, length, take, get_or, append-nil, append_assoc, map, Bor}
 use Rattle.esr_sheet.specs.Csv.{behind, csv_line}
-use Rattle.std.specs.List.{flat_map}
+use Rattle.std.specs.List.{flat_map, range_with_len}
 use Rattle.std.proofs.lemmas.Grind.{flat_map-append}
 use Rattle.std.proofs.lemmas.List.{take_more, map-append}
+use Rattle.std.proofs.lemmas.List.FromFn.{map-range_with_len_more}
 
--- one more behind those before it
-pub one_line_more : {X : Type 0} (f : X → List ℕ) (out : List ℕ) (xs : List X) (i : ℕ) (d : X) (before after : List ℕ) → i < length xs
-    → before ≡ out ++ flat_map f (take i xs) → after ≡ before ++ f (get_or xs i d) → after ≡ out ++ flat_map f (take (i + 1) xs)
-one_line_more f out xs i d before after within stood grew =
+-- the line of one row more, of rows that are the values of a function
+pub one_row_more : {X : Type 0} (f : X → List ℕ) (row : ℕ → X) (out : List ℕ) (n : ℕ) (x : X) (before after : List ℕ)
+    → before ≡ out ++ flat_map f (map row (range_with_len 1 n)) → x ≡ row (n + 1) → after ≡ before ++ f x
+    → after ≡ out ++ flat_map f (map row (range_with_len 1 (n + 1)))
+one_row_more f row out n x before after stood is grew =
+    let rows = map row (range_with_len 1 n) in
+    let next = row (n + 1) in
     grew
-    ∙ (ap (λ l. l ++ f (get_or xs i d)) stood
-    ∙ (append_assoc out (flat_map f (take i xs)) (f (get_or xs i d))
+    ∙ (ap₂ (λ l y. l ++ f y) stood is
+    ∙ (append_assoc out (flat_map f rows) (f next)
     ∙ ap (λ l. out ++ l)
-    (ap (λ l. flat_map f (take i xs) ++ l) (sym (append-nil (f (get_or xs i d))))
-    ∙ (sym (flat_map-append f (take i xs) (get_or xs i d ∷ [])) ∙ ap (flat_map f) (sym (take_more xs i d within))))))
+    (ap (λ l. flat_map f rows ++ l) (sym (append-nil (f next)))
+    ∙ (sym (flat_map-append f rows (next ∷ [])) ∙ ap (flat_map f) (sym (map-range_with_len_more row 1 n (n + 1) (omega arith)))))))
 
 -- after the last
-pub all_lines : {X : Type 0} (f : X → List ℕ) (out : List ℕ) (xs : List X) (i : ℕ) (after : List ℕ) → length xs ≤ i
-    → after ≡ out ++ flat_map f (take i xs) → after ≡ out ++ flat_map f xs
-all_lines f out xs i after all stood = stood ∙ ap (λ l. out ++ flat_map f l) (take_all i xs all)
+pub all_rows : {X : Type 0} (f : X → List ℕ) (row : ℕ → X) (out : List ℕ) (n i : ℕ) (after : List ℕ) → i ≡ n
+    → after ≡ out ++ flat_map f (map row (range_with_len 1 i)) → after ≡ out ++ flat_map f (map row (range_with_len 1 n))
+all_rows f row out n i after all stood = stood ∙ ap (λ k. out ++ flat_map f (map row (range_with_len 1 k))) all
 
 -- ---- fields behind commas
 

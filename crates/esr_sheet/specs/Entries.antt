@@ -1,5 +1,5 @@
 -- What single entries add to the columns of a ledger.
-use Rattle.std.specs.Prelude.{◌≡◌, ℕ, ◌+◌, ◌<◌, ◌^◌, List, Option, None, Some, is_some, map, length, slice_index_or, if◌then◌else◌, option_map}
+use Rattle.std.specs.Prelude.{◌≡◌, ℕ, ◌+◌, ◌<◌, ◌^◌, List, Option, None, is_some, map, length, slice_index_or, if◌then◌else◌, option_map}
 use Rattle.std.specs.List.{range_with_len}
 use Rattle.esr_history.specs.declared.event.Reply.{Reply}
 use Rattle.esr_history.specs.declared.event.Entry.{Entry}
@@ -7,7 +7,6 @@ use Rattle.esr_history.specs.declared.event.Reply.TheVariants.{Value, Wrote, Ref
 use Rattle.esr_history.specs.declared.event.Refusal.TheVariants.{BlockedByLock, BlockedByImport, BlockedByExport}
 use Rattle.esr_history.specs.Events.{beginnings, beginning_of, is_refusal}
 use Rattle.esr_history.specs.Machine.{Schedule, done, charges_in, export_in}
-use Rattle.esr_history.specs.Operations.{commit_order}
 use Rattle.esr_history.specs.BackLinks.{begun_count}
 use Rattle.esr_items.specs.Weights.{weighted}
 use Rattle.esr_order.specs.Scans.{is_commit_at}
@@ -16,20 +15,20 @@ use Rattle.esr_sheet.specs.declared.rows.Columns.{Columns}
 use Rattle.esr_sheet.specs.declared.rows.End.{End}
 use Rattle.esr_sheet.specs.declared.rows.End.TheVariants.{Committed, Aborted, Active}
 use Rattle.esr_sheet.specs.declared.tallies.Tally.{Tally}
-use Rattle.esr_sheet.specs.Rows.{kind_of, tally_of}
+use Rattle.esr_sheet.specs.Rows.{distance_of, kind_of, tally_of}
 
 -- the kind of the transaction that an entry begins, if that is accepted
 abbrev pub kind_in : Entry → Option Kind
 kind_in e = if is_refusal e.reply then None else option_map kind_of (beginning_of e.event)
 
 -- a tally with one more answer
-abbrev pub counted : Tally → Reply → Tally
-counted t (Value v) = record t { reads = t.reads + 1 }
-counted t Wrote = record t { writes = t.writes + 1 }
-counted t (Refused (BlockedByLock u)) = record t { by_lock = t.by_lock + 1 }
-counted t (Refused (BlockedByImport q)) = record t { by_import = t.by_import + 1 }
-counted t (Refused (BlockedByExport u)) = record t { by_export = t.by_export + 1 }
-counted t _ = t
+abbrev pub with_answer : Tally → Reply → Tally
+with_answer t (Value v) = record t { reads = t.reads + 1 }
+with_answer t Wrote = record t { writes = t.writes + 1 }
+with_answer t (Refused (BlockedByLock u)) = record t { by_lock = t.by_lock + 1 }
+with_answer t (Refused (BlockedByImport q)) = record t { by_import = t.by_import + 1 }
+with_answer t (Refused (BlockedByExport u)) = record t { by_export = t.by_export + 1 }
+with_answer t _ = t
 
 -- one more of each can be counted
 pub record IsCountable (t : Tally) : Type 0 where
@@ -53,4 +52,4 @@ pub record AreColumns (h : Schedule) (c : Columns) : Type 0 where
   pub many : begun_count h.entries < length c.tallies.items
   pub tallies : AreTallies h.entries c.tallies.items
   pub exports : c.exports.items ≡ map (export_in (charges_in weighted h)) (range_with_len 0 (begun_count h.entries + 1))
-  pub committed : map (λ t. t.0) c.committed.items ≡ commit_order (done h)
+  pub distances : c.distances.items ≡ map (distance_of weighted h) (range_with_len 1 (begun_count h.entries))

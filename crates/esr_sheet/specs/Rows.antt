@@ -1,7 +1,6 @@
 -- The rows of a ledger: what a history says of each transaction.
 use Rattle.std.specs.Prelude.{ℕ, ◌-◌, ◌&&◌, List, Bool, true, false, Option, None, Some, map, count_by, is_some, if◌then◌else◌, option_map, unwrap_or}
 use Rattle.esr_history.specs.declared.event.Reply.{Reply}
-use Rattle.esr_history.specs.declared.event.Refusal.{Refusal}
 use Rattle.esr_history.specs.declared.event.Entry.{Entry}
 use Rattle.esr_history.specs.declared.event.Reply.TheVariants.{Value, Wrote, Refused}
 use Rattle.esr_history.specs.declared.event.Refusal.TheVariants.{BlockedByLock, BlockedByImport, BlockedByExport}

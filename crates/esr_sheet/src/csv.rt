@@ -3,12 +3,17 @@
 
 ghost use Rattle.std.specs.Prelude.{◌≡◌, ◌++◌, ◌∷◌, [], OnOk, decimal, map};
 ghost use Rattle.std.specs.List.{flat_map};
+ghost use Rattle.esr_items.specs.Weights.{weighted};
 ghost use Rattle.esr_sheet.specs.Csv.{amounts, behind, end_word, head, kind_word, named_line, optional, row_line};
+ghost use Rattle.esr_sheet.specs.Entries.{AreColumns};
+ghost use Rattle.esr_sheet.specs.Rows.{rows_of};
 ghost use Rattle.esr_sheet.specs.Spans.{first_of, last_of};
 
 use crate::kinds::Kind;
-use crate::rows::{End, Row};
+use crate::rows::{Columns, End, Row, row_behind};
 use crate::spans::{Span, Spans};
+use esr_history::History;
+use esr_items::Weighted;
 use esr_report::{Names, name_of_transaction};
 use std::alloc::AllocError;
 
@@ -133,19 +138,23 @@ fn row_line(out: &mut Vec<u8>, name: &str, row: &Row, span: Span) -> Result<(), 
 pub const HEAD: &str =
     "number,name,kind,limit,charged,left,reads,writes,blocked_by_lock,blocked_by_import,blocked_by_export,end,distance,first_line,last_line\n";
 
-/// Appends the lines of rows.
+/// Appends the lines of all rows.
 fn push_rows(
     out: &mut Vec<u8>,
     transactions: &Names,
-    rows: &[Row],
+    history: &History<Weighted>,
+    columns: &Columns,
     spans: &Spans,
 ) -> Result<(), AllocError>
+    requires { AreColumns history.now.schedule columns.now }
     ensures { OnOk result (out.new.items ≡ out.old.items
-        ++ flat_map (named_line transactions.now (first_of spans.now) (last_of spans.now)) rows.now) }
+        ++ flat_map (named_line transactions.now (first_of spans.now) (last_of spans.now))
+        (rows_of weighted history.now.schedule)) }
 {
-    for row in rows {
+    for place in 0..history.begun_count() {
+        let row = row_behind(history, columns, place);
         let name = name_of_transaction(transactions, row.number);
-        row_line(out, name, row, spans.of(row.number))?;
+        row_line(out, name, &row, spans.of(row.number))?;
     }
     Ok(())
 }
@@ -154,12 +163,15 @@ fn push_rows(
 pub fn push_ledger(
     out: &mut Vec<u8>,
     transactions: &Names,
-    rows: &[Row],
+    history: &History<Weighted>,
+    columns: &Columns,
     spans: &Spans,
 ) -> Result<(), AllocError>
+    requires { AreColumns history.now.schedule columns.now }
     ensures { OnOk result (out.new.items ≡ out.old.items ++ head
-        ++ flat_map (named_line transactions.now (first_of spans.now) (last_of spans.now)) rows.now) }
+        ++ flat_map (named_line transactions.now (first_of spans.now) (last_of spans.now))
+        (rows_of weighted history.now.schedule)) }
 {
     out.extend_from_slice(HEAD.as_bytes())?;
-    push_rows(out, transactions, rows, spans)
+    push_rows(out, transactions, history, columns, spans)
 }

@@ -1,10 +1,14 @@
 //! A ledger as JSON, an object on each line. Amounts are numbers, up to 10^18, which a double does not hold exactly. No
 //! word needs an escape: names are letters, digits and `_`.
 
+ghost use Rattle.esr_sheet.specs.Entries.{AreColumns};
+
 use crate::cells::{CELLS, Content, content_of};
-use crate::rows::Row;
+use crate::rows::{Columns, Row, row_behind};
 use crate::spans::{Span, Spans};
 use crate::words::{push_number, push_word};
+use esr_history::History;
+use esr_items::Weighted;
 use esr_report::{Names, name_of_transaction};
 use std::alloc::{AllocError, Global};
 
@@ -34,13 +38,17 @@ fn push_row(out: &mut String, name: &str, row: &Row, span: Span) -> Result<(), A
 pub fn ledger_json(
     alloc: Global,
     transactions: &Names,
-    rows: &[Row],
+    history: &History<Weighted>,
+    columns: &Columns,
     spans: &Spans,
-) -> Result<Vec<u8>, AllocError> {
+) -> Result<Vec<u8>, AllocError>
+    requires { AreColumns history.now.schedule columns.now }
+{
     let mut out = String::new(alloc);
-    for row in rows {
+    for place in 0..history.begun_count() {
+        let row = row_behind(history, columns, place);
         let name = name_of_transaction(transactions, row.number);
-        push_row(&mut out, name, row, spans.of(row.number))?;
+        push_row(&mut out, name, &row, spans.of(row.number))?;
     }
     Ok(out.into_bytes())
 }

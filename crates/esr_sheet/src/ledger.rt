@@ -3,7 +3,7 @@
 ghost use Rattle.std.specs.Prelude.{◌≡◌, IfOk};
 ghost use Rattle.esr_items.specs.Weights.{weighted};
 ghost use Rattle.esr_sheet.specs.Csv.{ledger_csv};
-ghost use Rattle.esr_sheet.specs.Rows.{rows_of};
+ghost use Rattle.esr_sheet.specs.Entries.{AreColumns};
 ghost use Rattle.esr_sheet.specs.Spans.{first_of, last_of};
 ghost use Rattle.esr_sheet.specs.Written.{IsLedger, IsLedgerOf};
 ghost use Rattle.esr_telling.specs.Ask.{IsRecorded};
@@ -12,7 +12,7 @@ ghost use Rattle.esr_telling.specs.State.{ScriptState};
 use crate::csv::push_ledger;
 use crate::format::Format;
 use crate::json::ledger_json;
-use crate::rows::{Row, rows_of};
+use crate::rows::{Columns, columns_of};
 use crate::spans::{Spans, spans_in, spans_of};
 use crate::text::ledger_text;
 use esr_history::History;
@@ -31,17 +31,17 @@ pub struct Ledger {
 /// A ledger as CSV.
 fn ledger_csv(
     alloc: Global,
-    history: &History<Weighted>,
     transactions: &Names,
-    rows: &[Row],
+    history: &History<Weighted>,
+    columns: &Columns,
     spans: &Spans,
 ) -> Result<Vec<u8>, AllocError>
-    requires { rows.now ≡ rows_of weighted history.now.schedule }
+    requires { AreColumns history.now.schedule columns.now }
     ensures { IfOk result (λ text. text.items ≡ ledger_csv weighted history.now.schedule
         transactions.now (first_of spans.now) (last_of spans.now)) }
 {
     let mut out = Vec::new(alloc);
-    push_ledger(&mut out, transactions, rows, spans)?;
+    push_ledger(&mut out, transactions, history, columns, spans)?;
     Ok(out)
 }
 
@@ -53,31 +53,26 @@ pub fn history_ledger(
 ) -> Result<Vec<u8>, AllocError>
     ensures { IfOk result (λ text. IsLedgerOf history.now.schedule transactions.now text.items) }
 {
-    let Ok(rows) = rows_of(alloc, history) else {
+    let Ok(columns) = columns_of(alloc, history) else {
         return Err(AllocError);
     };
     let spans = spans_in(alloc, history)?;
-    ledger_csv(alloc, history, transactions, &rows, &spans)
+    ledger_csv(alloc, transactions, history, &columns, &spans)
 }
 
 /// The ledger of a script in this form.
 fn text_in(alloc: Global, chronicle: &Chronicle<'_>, format: Format) -> Result<Vec<u8>, AllocError>
     ensures { (s : ScriptState) → IsRecorded s chronicle.now → IfOk result (λ text. IsLedger format s text.items) }
 {
-    let Ok(rows) = rows_of(alloc, &chronicle.history) else {
+    let history = &chronicle.history;
+    let Ok(columns) = columns_of(alloc, history) else {
         return Err(AllocError);
     };
     let spans = spans_of(alloc, chronicle)?;
     match format {
-        Format::Text => ledger_text(alloc, &chronicle.transactions, &rows, &spans),
-        Format::Csv => ledger_csv(
-            alloc,
-            &chronicle.history,
-            &chronicle.transactions,
-            &rows,
-            &spans,
-        ),
-        Format::Json => ledger_json(alloc, &chronicle.transactions, &rows, &spans),
+        Format::Text => ledger_text(alloc, &chronicle.transactions, history, &columns, &spans),
+        Format::Csv => ledger_csv(alloc, &chronicle.transactions, history, &columns, &spans),
+        Format::Json => ledger_json(alloc, &chronicle.transactions, history, &columns, &spans),
     }
 }
 

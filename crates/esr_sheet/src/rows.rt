@@ -1,4 +1,5 @@
-//! The rows of a ledger: what a history says of each transaction.
+//! The rows of a ledger: what a history says of each transaction. A row is made where it is written, from a few numbers
+//! that are found of all transactions at once: of 65,000 transactions all rows would take 6 MB.
 
 ghost use Rattle.std.specs.Prelude.{◌≡◌, ◌<◌, ◌≤◌, ◌+◌, List, Some, length, map, IfOk};
 ghost use Rattle.esr_order.specs.Scans.{commits_in};
@@ -8,16 +9,15 @@ ghost use Rattle.esr_history.specs.BackLinks.{begun_count};
 ghost use Rattle.esr_history.specs.Events.{beginnings, is_query, limit_of};
 ghost use Rattle.esr_history.specs.Machine.{Schedule, charges_in, done, export_in};
 ghost use Rattle.esr_items.specs.Weights.{weighted};
-ghost use Rattle.esr_sheet.specs.Rows.{charged_of, end_of, kind_at, kind_of, row_of, rows_of, tally_of};
+ghost use Rattle.esr_sheet.specs.Rows.{charged_of, end_of, kind_at, kind_of, row_of, tally_of};
 ghost use Rattle.esr_sheet.specs.Entries.{AreColumns, AreTallies, end_at};
 
-use crate::distances::distance;
+use crate::distances::{distance_at, distances, txn_behind};
 use crate::exports::exports;
 use crate::kinds::{Kind, kinds};
 use crate::tallies::{Tally, tallies};
 use esr_history::{Entry, Event, History, Log, NoMemory, TxnId};
 use esr_items::Weighted;
-use esr_order::committed;
 use std::alloc::Global;
 
 /// How a transaction ended.
@@ -46,26 +46,26 @@ pub struct Row {
 
 /// What is found of all transactions at once.
 #[derive(Drop)]
-struct Columns {
+pub struct Columns {
     kinds: Vec<Kind>,
     tallies: Vec<Tally>,
     exports: Vec<u64>,
-    committed: Vec<TxnId>,
+    distances: Vec<Option<u64>>,
 }
 
 /// What is found of all transactions at once.
-fn columns_of(alloc: Global, history: &History<Weighted>) -> Result<Columns, NoMemory>
+pub fn columns_of(alloc: Global, history: &History<Weighted>) -> Result<Columns, NoMemory>
     ensures { IfOk result (λ c. AreColumns history.now.schedule c) }
 {
     let exports = exports(alloc, history)?;
     let kinds = kinds(alloc, history)?;
     let tallies = tallies(alloc, history)?;
-    let committed = committed(alloc, history)?;
+    let distances = distances(alloc, history)?;
     Ok(Columns {
         kinds,
         tallies,
         exports,
-        committed,
+        distances,
     })
 }
 
@@ -159,20 +159,14 @@ fn tally_at(tallies: &[Tally], t: TxnId) -> Tally
 }
 
 /// The row of a transaction that has begun.
-fn row_of(
-    alloc: Global,
-    history: &History<Weighted>,
-    columns: &Columns,
-    t: TxnId,
-) -> Result<Row, NoMemory>
+fn row_of(history: &History<Weighted>, columns: &Columns, t: TxnId) -> Row
     requires columns { AreColumns history.now.schedule columns.now }
     requires begun { (1 ≤ t.0) × (t.0 ≤ begun_count history.now.schedule.entries) }
-    ensures { IfOk result (λ r. r ≡ row_of weighted history.now.schedule t.0) }
+    ensures { result ≡ row_of weighted history.now.schedule t.0 }
 {
     let limit = limit_of(history, t);
     let charged = charged_of(history, &columns.exports, t);
-    let distance = distance(alloc, history, &columns.committed, t)?;
-    Ok(Row {
+    Row {
         number: t,
         kind: kind_at(&columns.kinds, t),
         limit,
@@ -180,34 +174,15 @@ fn row_of(
         left: limit.saturating_sub(charged),
         tally: tally_at(&columns.tallies, t),
         end: end_of(history, t),
-        distance,
-    })
-}
-
-/// The rows of all transactions, beside their columns.
-fn rows_beside(
-    alloc: Global,
-    history: &History<Weighted>,
-    columns: &Columns,
-) -> Result<Vec<Row>, NoMemory>
-    requires { AreColumns history.now.schedule columns.now }
-    ensures { IfOk result (λ v. v.items ≡ rows_of weighted history.now.schedule) }
-{
-    let _legal = history.log(); // brings the invariant into the proof
-    let mut rows = Vec::new(alloc);
-    for place in 0..history.begun_count() {
-        let next = row_of(alloc, history, columns, TxnId(place as u32 + 1))?;
-        if rows.push(next).is_err() {
-            return Err(NoMemory);
-        }
+        distance: distance_at(&columns.distances, t),
     }
-    Ok(rows)
 }
 
-/// The rows of a ledger: one for each transaction, in the order of their numbers.
-pub fn rows_of(alloc: Global, history: &History<Weighted>) -> Result<Vec<Row>, NoMemory>
-    ensures { IfOk result (λ v. v.items ≡ rows_of weighted history.now.schedule) }
+/// The row of the transaction that began behind so many others.
+pub fn row_behind(history: &History<Weighted>, columns: &Columns, place: usize) -> Row
+    requires columns { AreColumns history.now.schedule columns.now }
+    requires begun { place < begun_count history.now.schedule.entries }
+    ensures { result ≡ row_of weighted history.now.schedule (place + 1) }
 {
-    let columns = columns_of(alloc, history)?;
-    rows_beside(alloc, history, &columns)
+    row_of(history, columns, txn_behind(history, place))
 }

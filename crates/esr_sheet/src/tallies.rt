@@ -5,7 +5,7 @@ ghost use Rattle.std.specs.Prelude.{◌≡◌, ◌<◌, ◌++◌, ◌∷◌, [],
 ghost use Rattle.esr_history.specs.declared.event.Entry.{Entry};
 ghost use Rattle.esr_history.specs.BackLinks.{begun_by, txn_of, begun_count};
 ghost use Rattle.esr_sheet.specs.Rows.{tally_of};
-ghost use Rattle.esr_sheet.specs.Entries.{counted, IsCountable, AreTallies};
+ghost use Rattle.esr_sheet.specs.Entries.{with_answer, IsCountable, AreTallies};
 
 use esr_history::{Entry, Event, History, Refusal, Reply};
 use esr_items::Weighted;
@@ -66,9 +66,9 @@ pub fn txn_of(event: Event, reply: Reply) -> Option<u32>
 }
 
 /// The tally with one more answer.
-fn counted(tally: Tally, reply: Reply) -> Tally
+fn with_answer(tally: Tally, reply: Reply) -> Tally
     requires { IsCountable tally }
-    ensures { result ≡ counted tally reply }
+    ensures { result ≡ with_answer tally reply }
 {
     match reply {
         Reply::Value(_) => Tally {
@@ -107,7 +107,7 @@ fn count(tallies: &mut Vec<Tally>, entry: Entry)
     };
     let t = number as usize;
     if t < tallies.len() {
-        tallies[t] = counted(tallies[t], entry.reply);
+        tallies[t] = with_answer(tallies[t], entry.reply);
     }
 }
 

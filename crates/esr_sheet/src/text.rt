@@ -1,10 +1,14 @@
 //! A ledger for people: columns as wide as their widest cell, numbers on the right and words on the left. The rows are
 //! gone over twice, for the widths and for the text, so that no cell is kept.
 
+ghost use Rattle.esr_sheet.specs.Entries.{AreColumns};
+
 use crate::cells::{Cell, Content, content_of};
-use crate::rows::Row;
+use crate::rows::{Columns, Row, row_behind};
 use crate::spans::{Span, Spans};
 use crate::words::push_number;
+use esr_history::History;
+use esr_items::Weighted;
 use esr_report::{Names, name_of_transaction};
 use std::alloc::{AllocError, Global};
 
@@ -135,23 +139,41 @@ fn push_row(
     out.push_str("\n")
 }
 
+/// The widths of the columns of a ledger.
+fn widths_of(
+    transactions: &Names,
+    history: &History<Weighted>,
+    columns: &Columns,
+    spans: &Spans,
+) -> Widths
+    requires { AreColumns history.now.schedule columns.now }
+{
+    let mut widths = Widths::of_heads();
+    for place in 0..history.begun_count() {
+        let row = row_behind(history, columns, place);
+        let name = name_of_transaction(transactions, row.number);
+        widths.widen(name, &row, spans.of(row.number));
+    }
+    widths
+}
+
 /// A ledger for people.
 pub fn ledger_text(
     alloc: Global,
     transactions: &Names,
-    rows: &[Row],
+    history: &History<Weighted>,
+    columns: &Columns,
     spans: &Spans,
-) -> Result<Vec<u8>, AllocError> {
-    let mut widths = Widths::of_heads();
-    for row in rows {
-        let name = name_of_transaction(transactions, row.number);
-        widths.widen(name, row, spans.of(row.number));
-    }
+) -> Result<Vec<u8>, AllocError>
+    requires { AreColumns history.now.schedule columns.now }
+{
+    let widths = widths_of(transactions, history, columns, spans);
     let mut out = String::new(alloc);
     push_heads(&mut out, &widths)?;
-    for row in rows {
+    for place in 0..history.begun_count() {
+        let row = row_behind(history, columns, place);
         let name = name_of_transaction(transactions, row.number);
-        push_row(&mut out, &widths, name, row, spans.of(row.number))?;
+        push_row(&mut out, &widths, name, &row, spans.of(row.number))?;
     }
     Ok(out.into_bytes())
 }

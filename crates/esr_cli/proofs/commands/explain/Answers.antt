@@ -1,10 +1,10 @@
 -- Why `explain` keeps its contract: the goals that are left to a proof of ours.
 use Rattle.std.proofs.Common.{codes}
-use Rattle.clap.specs.Words.{new_app, with_rule}
+use Rattle.clap.specs.Words.{with_rule}
 use Rattle.esr_cli.specs.Program as spec
 use Rattle.esr_cli.proofs.commands.explain.Goals as goal
 
 pub returns-clause-app : goal.returns-clause-app
 returns-clause-app c =
-    let prose = rw c.prose.ensures.rule at (c.taking.ensures.app (spec.named (codes "explain")) c.named-command.ensures.app) in
-    rw c.format.ensures.rule at (c.taking-2.ensures.app (with_rule (spec.named (codes "explain")) spec.prose_rule) prose)
+    let prose = rw c.prose.ensures.rule at (c.taking.ensures.app (spec.with_name (codes "explain")) c.with_name-command.ensures.app) in
+    rw c.format.ensures.rule at (c.taking-2.ensures.app (with_rule (spec.with_name (codes "explain")) spec.prose_rule) prose)

@@ -1,6 +1,6 @@
 -- Why `explore` keeps its contract: the goals that are left to a proof of ours.
 use Rattle.std.proofs.Common.{codes}
-use Rattle.clap.specs.Words.{new_app, with_rule}
+use Rattle.clap.specs.Words.{new_app}
 use Rattle.esr_cli.specs.Program as spec
 use Rattle.esr_cli.proofs.commands.explore.Goals as goal
 

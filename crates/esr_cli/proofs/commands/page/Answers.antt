@@ -6,5 +6,5 @@ use Rattle.esr_cli.proofs.commands.page.Goals as goal
 
 pub returns-clause-app : goal.returns-clause-app
 returns-clause-app c =
-    let scripted = c.scripted.ensures.app (new_app (codes "page")) c.plain.ensures.app in
-    rw c.worst.ensures.rule at (c.taking.ensures.app (spec.scripted (new_app (codes "page"))) scripted)
+    let with_script = c.with_script.ensures.app (new_app (codes "page")) c.plain.ensures.app in
+    rw c.worst.ensures.rule at (c.taking.ensures.app (spec.with_script (new_app (codes "page"))) with_script)

@@ -4,4 +4,4 @@ use Rattle.clap.specs.Words.{new_app}
 use Rattle.esr_cli.proofs.commands.run.Goals as goal
 
 pub returns-clause-app : goal.returns-clause-app
-returns-clause-app c = c.scripted.ensures.app (new_app (codes "run")) c.plain.ensures.app
+returns-clause-app c = c.with_script.ensures.app (new_app (codes "run")) c.plain.ensures.app

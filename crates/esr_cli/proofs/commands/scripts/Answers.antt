@@ -8,6 +8,6 @@ pub returns : goal.returns
 returns c =
     c.with-3.ensures _ spec.check
     (c.in_ok-commands-2.ensures _ spec.certify
-    (c.in_ok-commands.ensures spec.esr (spec.scripted (new_app (codes "run"))) c.shell.ensures c.run.ensures.app)
+    (c.in_ok-commands.ensures spec.esr (spec.with_script (new_app (codes "run"))) c.shell.ensures c.run.ensures.app)
     c.certify.ensures.app)
     c.check.ensures.app

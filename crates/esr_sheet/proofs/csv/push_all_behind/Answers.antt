@@ -1,5 +1,5 @@
 -- Why `push_all_behind` keeps its contract: the goals that are left to a proof of ours.
-use Rattle.std.proofs.Common.{◌≡◌, ◌∙◌, ℕ, List, Bor, ◌++◌, ◌∷◌, [], ap, map, take_all}
+use Rattle.std.proofs.Common.{◌∙◌, ℕ, List, Bor, ◌++◌, ap, map, take_all}
 use Rattle.esr_sheet.specs.Csv.{behind}
 use Rattle.esr_sheet.proofs.Texts.{field_more}
 use Rattle.esr_sheet.proofs.csv.push_all_behind.Goals as goal

@@ -1,5 +1,5 @@
 -- Why `text_in` keeps its contract: the goals that are left to a proof of ours.
-use Rattle.std.proofs.Common.{◌≡◌, ℕ, Vec, IfOk, subst, sym}
+use Rattle.std.proofs.Common.{ℕ, Vec, IfOk, subst, sym}
 use Rattle.std.specs.declared.alloc.Global.{Global}
 use Rattle.esr_sheet.specs.declared.format.Format.{Format}
 use Rattle.esr_sheet.specs.Spans.{first_of, last_of}

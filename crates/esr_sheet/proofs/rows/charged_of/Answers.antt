@@ -1,5 +1,5 @@
 -- Why `charged_of` keeps its contract: the goals that are left to a proof of ours.
-use Rattle.std.proofs.Common.{◌≡◌, ◌∙◌, sym, false}
+use Rattle.std.proofs.Common.{◌∙◌, sym}
 use Rattle.esr_items.specs.Weights.{weighted}
 use Rattle.esr_history.specs.Machine.{charges_in, export_in}
 use Rattle.esr_history.specs.BackLinks.{begun_count}

@@ -1,5 +1,5 @@
 -- Why `end_of` keeps its contract: the goals that are left to a proof of ours.
-use Rattle.std.proofs.Common.{◌≡◌, ◌∙◌, ap, sym}
+use Rattle.std.proofs.Common.{◌∙◌, ap, sym}
 use Rattle.esr_items.specs.Weights.{weighted}
 use Rattle.esr_sheet.specs.Entries.{end_at}
 use Rattle.esr_sheet.proofs.Rowed.{end_there}

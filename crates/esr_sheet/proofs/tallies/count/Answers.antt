@@ -1,7 +1,7 @@
 -- Why `count` keeps its contract: the goals that are left to a proof of ours.
 use Rattle.std.proofs.Common.{◌≡◌, ◌∙◌, ◌<◌, ◌∷◌, [], ◌++◌, ap, arith, get_or, length, sym, subst, slice_set}
 use Rattle.esr_sheet.specs.declared.tallies.Tally.{Tally}
-use Rattle.esr_sheet.specs.Entries.{AreTallies, counted}
+use Rattle.esr_sheet.specs.Entries.{AreTallies, with_answer}
 use Rattle.esr_sheet.proofs.Tallied.{is_counted}
 use Rattle.esr_sheet.proofs.tallies.count.Goals as goal
 
@@ -10,5 +10,5 @@ returns-then-t-len-clause-tallies c = λ es are.
     let e = c.args.entry in let tallies = c.args.tallies.now.items in let n = c.in-Some.number in
     let long : c.len.result ≡ length tallies = c.len.ensures ∙ c.args.tallies.now.ok.0 in
     let within : n < length tallies = omega (arith, long, c.if-t-len.true) in
-    let is : c.counted.result ≡ counted (get_or tallies n c.index.result.now) e.reply = c.counted.ensures ∙ ap (λ (y : Tally). counted y e.reply) c.index.ensures in
+    let is : c.with_answer.result ≡ with_answer (get_or tallies n c.index.result.now) e.reply = c.with_answer.ensures ∙ ap (λ (y : Tally). with_answer y e.reply) c.index.ensures in
     subst (λ (y : Tally). AreTallies (es ++ e ∷ []) (slice_set tallies n y)) (sym is) (is_counted es e tallies n c.index.result.now within (sym c.in-Some.ensures) are)

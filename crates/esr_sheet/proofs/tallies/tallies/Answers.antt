@@ -1,10 +1,8 @@
 -- Why `tallies` keeps its contract: the goals that are left to a proof of ours.
-use Rattle.std.proofs.Common.{◌≡◌, ◌∙◌, ◌≤◌, ◌<◌, ◌+◌, ◌^◌, ◌∷◌, [], ◌++◌, List, ap, sym, subst, arith, length, take, Some, slice_get}
-use Rattle.std.proofs.lemmas.List.{length-take-le}
+use Rattle.std.proofs.Common.{◌≡◌, ◌∙◌, List, ap, sym, subst, arith, take, Some, slice_get}
 use Rattle.esr_history.specs.declared.event.Entry.{Entry}
 use Rattle.esr_sheet.specs.Entries.{AreTallies}
 use Rattle.esr_sheet.proofs.Places.{take_next}
-use Rattle.esr_sheet.proofs.Tallied.{all_countable}
 use Rattle.esr_sheet.proofs.tallies.tallies.Goals as goal
 
 pub loop-place-preserved : goal.loop-place-preserved

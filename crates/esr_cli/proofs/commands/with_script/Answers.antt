@@ -1,7 +1,7 @@
--- Why `scripted` keeps its contract: the goals that are left to a proof of ours.
+-- Why `with_script` keeps its contract: the goals that are left to a proof of ours.
 use Rattle.clap.specs.Words.{with_rule}
 use Rattle.esr_cli.specs.Program as spec
-use Rattle.esr_cli.proofs.commands.scripted.Goals as goal
+use Rattle.esr_cli.proofs.commands.with_script.Goals as goal
 
 pub returns-clause-app : goal.returns-clause-app
 returns-clause-app c whole is =

@@ -1,9 +1,9 @@
--- Why `named` keeps its contract: the goals that are left to a proof of ours.
+-- Why `with_name` keeps its contract: the goals that are left to a proof of ours.
 use Rattle.clap.specs.Words.{new_app, with_rule}
 use Rattle.esr_cli.specs.Program as spec
-use Rattle.esr_cli.proofs.commands.named.Goals as goal
+use Rattle.esr_cli.proofs.commands.with_name.Goals as goal
 
 pub returns-clause-app : goal.returns-clause-app
 returns-clause-app c =
     let named = rw c.name.ensures.rule at (c.taking.ensures.app (new_app c.args.name_of_it.now) c.plain-command.ensures.app) in
-    c.scripted.ensures.app (with_rule (new_app c.args.name_of_it.now) spec.name_rule) named
+    c.with_script.ensures.app (with_rule (new_app c.args.name_of_it.now) spec.name_rule) named

@@ -1,0 +1,29 @@
+-- What is told of a search through many orders: of each the tale of its run.
+use Rattle.std.specs.Prelude.{ℕ, ℤ, List, [], ◌∷◌, Option, Some, None, length, map, sum}
+use Rattle.esr_plan.specs.declared.call.Call.{Call}
+use Rattle.esr_turns.specs.Orders.{first_turns}
+use Rattle.esr_explore.specs.declared.query.Query.{Query}
+use Rattle.esr_explore.specs.declared.tale.Tale.{Tale}
+use Rattle.esr_explore.specs.declared.ways.Ways.{Ways}
+use Rattle.esr_explore.specs.declared.ways.Ways.TheVariants.{All, Drawn}
+use Rattle.esr_explore.specs.Tales.{IsTale}
+
+-- how many lines each block has
+abbrev pub line_counts : List (List Call) → List ℕ
+line_counts blocks = map length blocks
+
+-- all orders in which the blocks may take their turns
+abbrev pub all_orders : List (List Call) → List (List ℕ)
+all_orders blocks = first_turns (line_counts blocks) (sum (line_counts blocks))
+
+-- the orders of a search that goes through a list of them
+abbrev pub orders_of : Ways → Option (List (List ℕ))
+orders_of (All orders) = Some (map (λ o. o.items) orders.items)
+orders_of (Drawn seeds) = None
+
+-- a tale for each order, of a run with it: none is skipped, and none told twice
+abbrev pub AreTales : List ℤ → List ℕ → List (List Call) → List Query → List (List ℕ) → List Tale → Type 0
+AreTales opening weights blocks queries [] [] = Unit {0}
+AreTales opening weights blocks queries (order ∷ orders) (tale ∷ tales) =
+    IsTale opening weights blocks queries order tale × AreTales opening weights blocks queries orders tales
+AreTales opening weights blocks queries _ _ = ⊥

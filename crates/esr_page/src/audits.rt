@@ -1,0 +1,139 @@
+//! What audits find of the committed queries, one after another. Of each the distance is kept; of those that were
+//! farthest off so far the whole finding, which has what picture and prose need, so that it is not made twice. Where the
+//! problems of these have many updates together, the last of them go again, so that a page takes little more memory than
+//! one audit: what is told of such a query is found once more.
+
+ghost use Rattle.std.specs.Prelude.{◌≡◌, map};
+ghost use Rattle.esr_history.specs.Machine.{done};
+ghost use Rattle.esr_history.specs.Operations.{commit_order};
+
+use esr_audit::{CommitLists, Finding, audit_query_in, commit_lists};
+use esr_history::{History, TxnId};
+use esr_items::Weighted;
+use std::alloc::{AllocError, Global};
+
+/// So many updates the problems that are kept have together at most.
+const MOST_UPDATES: usize = 150_000;
+
+/// How far a committed query was off.
+#[derive(Clone, Copy)]
+pub struct Found {
+    pub query: TxnId,
+    pub distance: u64,
+}
+
+/// The committed updates, and what audits find of the committed queries, in the order of their commits.
+#[derive(Drop)]
+pub struct Audits {
+    pub order: Vec<TxnId>,
+    pub found: Vec<Found>,
+    /// What was found of the queries that were farthest off, the farthest first.
+    farthest: Vec<Finding>,
+}
+
+/// Where a query stands among those that were farthest off: less for one that was farther off, and of two that were off
+/// alike for the one that was charged more.
+pub fn rank(distance: u64, charged: u64, query: TxnId) -> (u64, u64, u32) {
+    let far = u64::MAX.saturating_sub(distance);
+    let dear = u64::MAX.saturating_sub(charged);
+    (far, dear, query.0)
+}
+
+/// The rank of the query of a finding.
+fn rank_of(finding: &Finding) -> (u64, u64, u32) {
+    rank(finding.distance, finding.import, finding.query)
+}
+
+/// How many of these findings, from the first, are kept, if at most so many are.
+fn fitting(findings: &[Finding], count: usize) -> usize {
+    let mut updates = 0usize;
+    let mut fitting = 0usize;
+    for finding in findings.iter().take(count) {
+        updates = updates.saturating_add(finding.problem.updates().len());
+        if updates <= MOST_UPDATES {
+            fitting = fitting.saturating_add(1);
+        }
+    }
+    fitting
+}
+
+impl Audits {
+    /// Those before the first audit.
+    fn new(alloc: Global, order: Vec<TxnId>) -> Audits {
+        Audits {
+            order,
+            found: Vec::new(alloc),
+            farthest: Vec::new(alloc),
+        }
+    }
+
+    /// Keeps a finding, if it is among so many that were farthest off.
+    fn keep(&mut self, finding: Finding, count: usize) -> Result<(), AllocError> {
+        let next = rank_of(&finding);
+        let place = self
+            .farthest
+            .iter()
+            .position(|other| next < rank_of(other))
+            .unwrap_or(self.farthest.len());
+        if place >= count {
+            return Ok(());
+        }
+        self.farthest.insert(place, finding)?;
+        let fitting = fitting(&self.farthest, count);
+        self.farthest.truncate(fitting);
+        Ok(())
+    }
+
+    /// Notes what was found of a query.
+    fn note(&mut self, finding: Finding, count: usize) -> Result<(), AllocError> {
+        self.found.push(Found {
+            query: finding.query,
+            distance: finding.distance,
+        })?;
+        self.keep(finding, count)
+    }
+
+    /// What was found of a query, if that was kept.
+    pub fn finding_of(&self, query: TxnId) -> Option<&Finding> {
+        self.farthest.iter().find(|finding| finding.query == query)
+    }
+}
+
+/// What the audit finds of a committed query.
+fn finding_in(
+    alloc: Global,
+    history: &History<Weighted>,
+    committed: &[TxnId],
+    query: TxnId,
+) -> Result<Finding, AllocError>
+    requires { map (λ t. t.0) committed.now ≡ commit_order (done history.now.schedule) }
+{
+    match audit_query_in(alloc, history, committed, query) {
+        Ok(finding) => Ok(finding),
+        Err(_) => Err(AllocError),
+    }
+}
+
+/// The audits of a history, with the findings of up to so many queries that were farthest off.
+pub fn audit_all(
+    alloc: Global,
+    history: &History<Weighted>,
+    count: usize,
+) -> Result<Audits, AllocError> {
+    let Ok(
+        CommitLists {
+            all,
+            updates,
+            queries,
+        },
+    ) = commit_lists(alloc, history)
+    else {
+        return Err(AllocError);
+    };
+    let mut audits = Audits::new(alloc, updates);
+    for query in &queries {
+        let finding = finding_in(alloc, history, &all, *query)?;
+        audits.note(finding, count)?;
+    }
+    Ok(audits)
+}
