@@ -59,7 +59,7 @@ fn standing_at(log: &Log, end: Option<u64>) -> Standing
 
 impl Engine {
     /// What a query has imported so far, or an update exported.
-    fn charged(&self, query: bool, t: TxnId) -> u64
+    fn charge_of(&self, query: bool, t: TxnId) -> u64
         ensures { result ≡ charged_to weighted self.now query t.0 }
     {
         if query {
@@ -79,7 +79,7 @@ impl Engine {
             Some(facts) => Some(Account {
                 kind: kind_of(facts.query),
                 limit: facts.limit,
-                charged: self.charged(facts.query, t),
+                charged: self.charge_of(facts.query, t),
                 standing: standing_at(history.log(), facts.end),
             }),
             None => None,

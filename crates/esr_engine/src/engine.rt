@@ -66,7 +66,7 @@ impl Model for Engine {
 
 impl Engine {
     /// How many entries there are, with one for the end of each active transaction.
-    pub(crate) fn taken(&self) -> usize
+    pub(crate) fn demand(&self) -> usize
         ensures taken { result ≡ taken self.now }
         ensures most { result ≤ MOST_ENTRIES }
     {
@@ -92,25 +92,26 @@ impl Engine {
     }
 
     /// Whether there is no room for an event beside the ends of what is active.
+    #[inline(always)]
     fn is_full(&self, event: Event) -> bool
         ensures { result ≡ is_full self.now event }
     {
-        let taken = self.taken();
+        let demand = self.demand();
         match event {
             Event::BeginUpdate { limit: _ }
             | Event::BeginQuery {
                 limit: _,
                 strict: _,
-            } => taken + 2 > MOST_ENTRIES || self.begun() >= MOST_TRANSACTIONS,
+            } => demand + 2 > MOST_ENTRIES || self.begun() >= MOST_TRANSACTIONS,
             Event::Commit { txn } | Event::Abort { txn } => {
-                taken >= MOST_ENTRIES && !self.is_active(txn)
+                demand >= MOST_ENTRIES && !self.is_active(txn)
             }
             Event::Read { txn: _, item: _ }
             | Event::Write {
                 txn: _,
                 item: _,
                 value: _,
-            } => taken >= MOST_ENTRIES,
+            } => demand >= MOST_ENTRIES,
         }
     }
 
@@ -119,6 +120,7 @@ impl Engine {
     /// # Errors
     /// `Full` exactly where there is no room for the event beside the ends of what is active, and never for an end of
     /// an active transaction; `NoMemory` if an allocation failed. Then nothing has changed.
+    #[inline(always)]
     pub fn step(&mut self, event: Event) -> Result<Reply, Unanswered>
         ensures reply { IfOk result (λ reply. reply ≡ reply_to weighted self.old event) }
         ensures added { IfOk result (λ reply. self.new ≡ extended self.old event reply) }
@@ -148,7 +150,7 @@ impl Engine {
             entries: self.machine.log().len() as u64,
             transactions: begun as u64,
             active: self.active as u64,
-            entries_left: (MOST_ENTRIES - self.taken()) as u64,
+            entries_left: (MOST_ENTRIES - self.demand()) as u64,
             transactions_left: MOST_TRANSACTIONS.saturating_sub(begun) as u64,
         }
     }
@@ -191,6 +193,7 @@ impl Engine {
 }
 
 /// How many are active after a reply.
+#[inline(always)]
 fn active_after(active: usize, reply: Reply) -> usize
     requires some { is_end reply ≡ true → 0 < active }
     requires few { active ≤ MOST_ENTRIES }

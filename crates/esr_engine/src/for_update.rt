@@ -54,7 +54,7 @@ impl Engine {
         ensures full { IsErrOf result Unanswered.Full ↔ (no_pair self.old ≡ true) }
         ensures err { IfErr result (λ _. IsPartlyDone self.old self.new t x) }
     {
-        if self.taken() + 2 > MOST_ENTRIES {
+        if self.demand() + 2 > MOST_ENTRIES {
             return Err(Unanswered::Full);
         }
         let _legal = self.machine.log(); // brings the invariant into the proof

@@ -208,6 +208,7 @@ impl BackLinks {
     }
 
     /// Notes an accepted event, whose place has the code.
+    #[inline(always)]
     fn note(&mut self, event: Event, code: u32)
         requires { HasRoomToBegin 1 self.old }
         ensures on_item { self.new.on_item ≡ self.old.on_item }
@@ -238,6 +239,7 @@ impl BackLinks {
     }
 
     /// The links of the next entry, and the code of its place.
+    #[inline(always)]
     fn next(&self, entry: Entry) -> (u32, u32, u32)
         requires { length self.now.on_item.items + 1 < 2 ^ 32 }
         ensures item { result.0 ≡ key_at self.now.items.items (item_in entry) }
@@ -250,6 +252,7 @@ impl BackLinks {
     }
 
     /// Adds an entry, for which there is room.
+    #[inline(always)]
     pub fn add(&mut self, entry: Entry)
         requires { HasRoom 1 self.old }
         ensures links { (n : ℕ) (es : List Entry) → AreLinks n es self.old → IsFit n es

@@ -22,6 +22,7 @@ pub fn no_imports(alloc: Global) -> Result<Vec<u64>, AllocError>
 }
 
 /// Makes a place for the import of a transaction that begins, where there is room for it.
+#[inline(always)]
 fn open(imports: &mut Vec<u64>, event: Event)
     requires { length imports.old.items < vec_capacity imports.old }
     ensures places { imports.new.items ≡ with_number imports.old.items event }
@@ -64,6 +65,7 @@ pub fn clear(imports: &mut Vec<u64>)
 }
 
 /// Adds what an entry imports, with its charges, where there is room for one more transaction.
+#[inline(always)]
 pub fn note(imports: &mut Vec<u64>, entry: Entry, charges: &[(TxnId, u64)])
     requires room { length imports.old.items < vec_capacity imports.old }
     requires fits { is_refusal entry.reply ≡ false → (t : ℕ)

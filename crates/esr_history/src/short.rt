@@ -100,6 +100,7 @@ fn reply_of(bar: Bar, other: u16) -> Reply
 }
 
 /// The short form of a read with its reply, if it has one.
+#[inline(always)]
 fn short_read(txn: TxnId, item: ItemId, reply: Reply) -> Option<Short>
     ensures { IfSome result (λ s. (long : List Entry)
         → (unpacked long s ≡ record { event = Read txn item; reply = reply }) × IsWithin long s) }
@@ -119,6 +120,7 @@ fn short_read(txn: TxnId, item: ItemId, reply: Reply) -> Option<Short>
 }
 
 /// The short form of a write with its reply, if it has one.
+#[inline(always)]
 fn short_write(txn: TxnId, item: ItemId, value: i64, reply: Reply) -> Option<Short>
     ensures { IfSome result (λ s. (long : List Entry)
         → (unpacked long s ≡ record { event = Write txn item value; reply = reply }) × IsWithin long s) }
@@ -165,6 +167,7 @@ fn write(txn: u16, item: u16, value: i64) -> Event
 
 impl Short {
     /// The short form of an entry, if it has one.
+    #[inline(always)]
     pub fn of(entry: Entry) -> Option<Short>
         ensures { IfSome result (λ s. (long : List Entry) → (unpacked long s ≡ entry) × IsWithin long s) }
     {

@@ -104,6 +104,7 @@ pub fn reserve_one<T: MadeWith<Global> + Drop, const N: usize>(
 }
 
 /// Where the row of a transaction is in a list, or where it would go.
+#[inline(always)]
 fn place_of<R: Numbered + MadeWith<Global>, const N: usize>(
     rows: &SmallVec<R, N>,
     t: TxnId,
@@ -130,6 +131,7 @@ pub fn is_reader(readers: &[Reader], t: TxnId) -> bool
 }
 
 /// Puts an element at a place, for which there is room. Most come last, and then none is moved.
+#[inline(always)]
 fn put<T: MadeWith<Global> + Drop, const N: usize>(list: &mut SmallVec<T, N>, at: usize, element: T)
     requires place { at ≤ length list.old.items }
     requires room { HasRoomFor list.old 1 }
@@ -143,6 +145,7 @@ fn put<T: MadeWith<Global> + Drop, const N: usize>(list: &mut SmallVec<T, N>, at
 }
 
 /// Adds a reader, and answers whether it was not there.
+#[inline(always)]
 pub fn add_reader(readers: &mut Readers, t: TxnId) -> bool
     requires ascending { IsAscendingBy (λ r. r.update.0) readers.old.items }
     requires room { HasRoomFor readers.old 1 }

@@ -136,6 +136,7 @@ impl Row {
     }
 
     /// Makes room for one more lock.
+    #[inline(always)]
     pub fn reserve(&mut self) -> Result<(), AllocError>
         ensures locks { self.new.locks ≡ self.old.locks }
         ensures ok { OnOk result (0 < self.new.room) }
@@ -148,6 +149,7 @@ impl Row {
 
     /// Adds a read by an update, and answers whether the update had neither read nor written the
     /// item.
+    #[inline(always)]
     fn add_reader(&mut self, t: TxnId) -> bool
         requires { 0 < self.old.room }
         ensures locks { self.new.locks ≡ with_reader t.0 self.old.locks }
@@ -159,6 +161,7 @@ impl Row {
     }
 
     /// Adds a write, and answers whether the update had neither read nor written the item.
+    #[inline(always)]
     fn add_writer(&mut self, t: TxnId) -> bool
         ensures locks { self.new.locks ≡ with_writer t.0 self.old.locks }
         ensures fresh { result ≡ not (has_update_lock self.old.locks t.0) }

@@ -33,7 +33,7 @@ pub fn ask<R: Read, O: Observer>(
     ensures write { is_write_fault result ≡ false }
 {
     match replay(alloc, reader, observer) {
-        Ok(script) => script.asked(name, observer),
+        Ok(script) => script.tell_of(name, observer),
         Err(fault) => Err(fault),
     }
 }

@@ -48,6 +48,7 @@ impl Engine {
     }
 
     /// Gives the machine an event.
+    #[inline(always)]
     pub fn step(&mut self, event: Event) -> Result<Reply, StepError>
         ensures reply { IfOk result (λ reply. reply ≡ reply_to weighted self.old event) }
         ensures added { IfOk result (λ reply. self.new ≡ extended self.old event reply) }

@@ -163,6 +163,7 @@ impl Script {
     }
 
     /// Gives the machine an event, and answers with its reply.
+    #[inline(always)]
     fn ask(&mut self, subject: Subject<'_>, event: Event, out: &mut Vec<u8>) -> Result<(), RunFault>
         requires { IsBegin event → position_of self.old.transactions subject.txn.now ≡ None }
         ensures { Obeys (ask self.old (named_by subject.entry) event) self.new out.old.items out.new.items result }
@@ -293,7 +294,7 @@ impl Script {
     }
 
     /// Ends the run, and tells of the query of that name.
-    pub fn asked<O: Observer>(mut self, name: &str, observer: &mut O) -> Result<Asked, RunFault>
+    pub fn tell_of<O: Observer>(mut self, name: &str, observer: &mut O) -> Result<Asked, RunFault>
         ensures answered { IfOk result (IsAnswered self name.now) }
         ensures refused { IsErrOf result RunFault.NotACommittedQuery
             → is_committed_query self.history (transaction_called self name.now).0 ≡ false }

@@ -36,7 +36,22 @@ impl Stage {
     ghost use Rattle.esr_script.specs.Stages.{is_running, history_of};
 
     /// Makes the machine, where it is not made yet.
+    #[inline(always)]
     pub fn close(&mut self, alloc: Global) -> Result<(), RunFault>
+        ensures ok { OnOk result ((is_running self.new ≡ true) × (history_of self.new ≡ history_of self.old)) }
+        ensures err { OnErr result ((history_of self.new).entries ≡ (history_of self.old).entries) }
+        ensures faults { IfErr result (λ e. e ≡ RunFault.NoMemory) }
+    {
+        if let Stage::Running(_) = self {
+            return Ok(());
+        }
+        self.make(alloc)
+    }
+
+    /// The same, apart: each line asks, and a function pays at its entry for the machine among its locals.
+    #[cold]
+    #[inline(never)]
+    fn make(&mut self, alloc: Global) -> Result<(), RunFault>
         ensures ok { OnOk result ((is_running self.new ≡ true) × (history_of self.new ≡ history_of self.old)) }
         ensures err { OnErr result ((history_of self.new).entries ≡ (history_of self.old).entries) }
         ensures faults { IfErr result (λ e. e ≡ RunFault.NoMemory) }
@@ -61,6 +76,7 @@ impl Stage {
     }
 
     /// Gives the machine an event.
+    #[inline(always)]
     pub fn step(&mut self, event: Event) -> Result<Reply, RunFault>
         requires { is_running self.old ≡ true }
         ensures room { OnOk result (length (history_of self.old).entries ≢ MOST_ENTRIES) }

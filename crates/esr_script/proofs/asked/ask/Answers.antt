@@ -10,5 +10,5 @@ returns-in-Err-clause-asked g c input known = grind (arith, reached_fault)
 pub returns-in-Ok-clause-asked : goal.returns-in-Ok-clause-asked
 returns-in-Ok-clause-asked g c input known =
     let replayed = c.in-Ok.ensures.replay input known in
-    asked_after input c.args.name.now (g.R.Read.remaining (inner c.replay.new.reader)) c.in-Ok.script c.asked.result replayed.0 replayed.1 replayed.2
-    c.asked.ensures.answered c.asked.ensures.refused c.asked.ensures.faults
+    asked_after input c.args.name.now (g.R.Read.remaining (inner c.replay.new.reader)) c.in-Ok.script c.tell_of.result replayed.0 replayed.1 replayed.2
+    c.tell_of.ensures.answered c.tell_of.ensures.refused c.tell_of.ensures.faults

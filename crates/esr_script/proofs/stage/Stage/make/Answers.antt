@@ -1,7 +1,7 @@
--- Why `Stage::close` keeps its contract: the goals that are left to a proof of ours.
+-- Why `Stage::make` keeps its contract: the goals that are left to a proof of ours.
 use Rattle.std.proofs.Common.{refl, ◌∙◌}
 use Rattle.esr_script.proofs.Opens.{opens}
-use Rattle.esr_script.proofs.stage.Stage.close.Goals as goal
+use Rattle.esr_script.proofs.stage.Stage.make.Goals as goal
 
 pub returns-clause-ok : goal.returns-clause-ok
 returns-clause-ok c = (

@@ -1,12 +1,11 @@
--- What holds at each turn of the loop in `make_lists`.
-use Rattle.std.proofs.Common.{◌≡◌, ℕ, ◌+◌, ◌-◌, vec_len, length, ◌<◌, ◌≤◌}
+-- What holds at each turn of the loop in `add_lists`.
+use Rattle.std.proofs.Common.{◌≡◌, ℕ, ◌+◌, ◌-◌, vec_len, length, ◌≤◌}
 use Rattle.esr_locks.specs.Rows.{held_at}
-use Rattle.esr_locks.proofs.table.make_lists.Given as goal
+use Rattle.esr_locks.proofs.table.add_lists.Given as goal
 
 abbrev pub invariant-loop-alloc : goal.invariant-loop-alloc
 invariant-loop-alloc l = record {
   items : (u : ℕ) → (held_at l.held.items u).items ≡ (held_at l.initial.held.items u).items;
-  there : l.t.0 < length l.initial.held.items → l.held.items ≡ l.initial.held.items;
   longer : length l.initial.held.items ≤ length l.held.items;
 }
 

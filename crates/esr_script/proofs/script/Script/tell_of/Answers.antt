@@ -1,8 +1,8 @@
--- Why `Script::asked` keeps its contract: the goals that are left to a proof of ours.
+-- Why `Script::tell_of` keeps its contract: the goals that are left to a proof of ours.
 use Rattle.std.proofs.Common.{◌∙◌, ap, sym, subst}
 use Rattle.esr_telling.specs.Ask.{IsFoundOf}
 use Rattle.esr_script.specs.Text.{ScriptState}
-use Rattle.esr_script.proofs.script.Script.asked.Goals as goal
+use Rattle.esr_script.proofs.script.Script.tell_of.Goals as goal
 
 pub returns-in-Ok-clause-answered : goal.returns-in-Ok-clause-answered
 returns-in-Ok-clause-answered g c = let same = c.in-Ok.ensures.ok in record {
