@@ -6,7 +6,7 @@ ghost use Rattle.std.specs.Str.{all_ascii_digits};
 ghost use Rattle.std.specs.List.{position, list_all};
 ghost use Rattle.esr_line.specs.Command.{is_letter, is_name_byte, is_name, value_from, number_below, is_blank, words_of, words_after, name_of, limit_in, int_of, one_of, two_of, three_of, four_of};
 
-use std::str::from_utf8;
+use std::str::from_utf8_unchecked;
 
 /// One above the largest number of 18 digits.
 const INT_END: u64 = 1_000_000_000_000_000_000;
@@ -99,10 +99,8 @@ pub fn name(word: &[u8]) -> Option<&str>
     if !is_name(word) {
         return None;
     }
-    match from_utf8(word) {
-        Ok(name) => Some(name),
-        Err(_) => None,
-    }
+    // the bytes of a name are ASCII
+    Some(unsafe { from_utf8_unchecked(word) })
 }
 
 /// The value of up to 19 digits.

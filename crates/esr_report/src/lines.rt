@@ -33,6 +33,7 @@ pub struct Subject<'a> {
 }
 
 /// Appends a byte that separates, and a word.
+#[inline(always)]
 fn push_behind(out: &mut Vec<u8>, byte: u8, word: &str) -> Result<(), AllocError>
     ensures ok { OnOk result (out.new.items ≡ out.old.items ++ byte ∷ word.now) }
     ensures kept { BeginsWith out.new.items out.old.items }
@@ -42,6 +43,7 @@ fn push_behind(out: &mut Vec<u8>, byte: u8, word: &str) -> Result<(), AllocError
 }
 
 /// Appends words separated by single spaces.
+#[inline(always)]
 fn push_words(out: &mut Vec<u8>, first: &str, rest: &[&str]) -> Result<(), AllocError>
     ensures ok { OnOk result (out.new.items ≡ out.old.items
         ++ join_with_byte 32 (first.now ∷ map (λ word. word.now) rest.now)) }
@@ -73,6 +75,7 @@ fn end_line(
 }
 
 /// Appends a line of words separated by single spaces.
+#[inline(always)]
 pub fn push_line(out: &mut Vec<u8>, first: &str, rest: &[&str]) -> Result<(), AllocError>
     ensures ok { OnOk result (out.new.items ≡ out.old.items ++ line (first.now ∷ map (λ word. word.now) rest.now)) }
     ensures err { OnErr result (out.new.items ≡ out.old.items) }

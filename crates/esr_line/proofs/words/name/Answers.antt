@@ -3,5 +3,5 @@ use Rattle.std.proofs.Common.{arith}
 use Rattle.esr_line.proofs.Blanks.{name_utf8}
 use Rattle.esr_line.proofs.words.name.Goals as goal
 
-pub returns-in-Err : goal.returns-in-Err
-returns-in-Err c = grind (arith, name_utf8)
+pub from_utf8_unchecked-requires : goal.from_utf8_unchecked-requires
+from_utf8_unchecked-requires c = grind (arith, name_utf8)
