@@ -205,7 +205,7 @@ fn search_of(seeds: Option<u64>, all: bool, worst: Option<&str>) -> Result<Searc
     let Some(name) = worst else {
         return Ok(Search { seeds, worst: None });
     };
-    match Measure::named(name) {
+    match Measure::of_name(name) {
         None => Err("--worst takes import, distance or blocked"),
         worst => Ok(Search { seeds, worst }),
     }

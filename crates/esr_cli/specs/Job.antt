@@ -96,14 +96,14 @@ abbrev pub progress_in : List Row → Progress
 progress_in rows = if flag_in (codes "no-progress") rows then Never
     else (if flag_in (codes "progress") rows then Always else AtATerminal)
 
-abbrev pub format_named : Text → Option Format
-format_named name = if bytes_eq name (codes "text") then Some Plain
+abbrev pub format_of_name : Text → Option Format
+format_of_name name = if bytes_eq name (codes "text") then Some Plain
     else (if bytes_eq name (codes "csv") then Some Csv
     else (if bytes_eq name (codes "json") then Some Json else None))
 
 -- text where no format is named
 abbrev pub format_in : List Row → Option Format
-format_in rows = option_map_or format_named (first_of (codes "format") rows) (Some Plain)
+format_in rows = option_map_or format_of_name (first_of (codes "format") rows) (Some Plain)
 
 -- the number that an option is given
 abbrev pub count_in : Text → List Row → Option ℕ

@@ -27,7 +27,7 @@ fn plain<'a>(
 }
 
 /// Adds an argument to a command, where there was memory for it.
-fn taking<'a>(
+fn with_argument<'a>(
     command: Result<Command<'a>, AllocError>,
     arg: Arg<'a>,
 ) -> Result<Command<'a>, AllocError>
@@ -255,7 +255,7 @@ fn reading<'a>(
         → IfOk result (λ c. app_of c ≡ reading whole) }
     ensures local { IfOk result (λ c. (out-Command c).has_globals ≡ false) }
 {
-    taking(command, file(alloc))
+    with_argument(command, file(alloc))
 }
 
 /// A command that reads a script.
@@ -268,8 +268,8 @@ fn with_script<'a>(
         → IfOk result (λ c. app_of c ≡ with_script whole) }
     ensures local { IfOk result (λ c. (out-Command c).has_globals ≡ false) }
 {
-    let command = taking(reading(alloc, command), bail(alloc));
-    taking(taking(command, progress(alloc)), no_progress(alloc))
+    let command = with_argument(reading(alloc, command), bail(alloc));
+    with_argument(with_argument(command, progress(alloc)), no_progress(alloc))
 }
 
 /// A command that tells of one query of a script.
@@ -283,7 +283,7 @@ fn with_name<'a>(
     ensures local { IfOk result (λ c. (out-Command c).has_globals ≡ false) }
 {
     let command = plain(alloc, name_of_it, about, after);
-    with_script(alloc, taking(command, name(alloc)))
+    with_script(alloc, with_argument(command, name(alloc)))
 }
 
 /// `run [--bail] [FILE]`
@@ -301,7 +301,7 @@ fn certify<'a>(alloc: Global) -> Result<Command<'a>, AllocError>
     ensures local { IfOk result (λ c. (out-Command c).has_globals ≡ false) }
 {
     let about = "Runs a script and writes the bundle of a query";
-    taking(
+    with_argument(
         with_name(alloc, "certify", about, help::CERTIFY),
         steps(alloc),
     )
@@ -314,7 +314,7 @@ fn explain<'a>(alloc: Global) -> Result<Command<'a>, AllocError>
 {
     let about = "Runs a script and tells what a query read and was charged";
     let command = with_name(alloc, "explain", about, help::EXPLAIN);
-    taking(taking(command, prose(alloc)), format(alloc))
+    with_argument(with_argument(command, prose(alloc)), format(alloc))
 }
 
 /// `page [--bail] [--worst N] [FILE]`
@@ -323,7 +323,7 @@ fn page<'a>(alloc: Global) -> Result<Command<'a>, AllocError>
     ensures local { IfOk result (λ c. (out-Command c).has_globals ≡ false) }
 {
     let about = "Runs a script and writes an HTML page about its queries";
-    taking(
+    with_argument(
         with_script(alloc, plain(alloc, "page", about, help::PAGE)),
         worst(alloc),
     )
@@ -336,8 +336,8 @@ fn check<'a>(alloc: Global) -> Result<Command<'a>, AllocError>
 {
     let about = "Judges a bundle: valid, invalid or bad";
     let command = reading(alloc, plain(alloc, "check", about, help::CHECK));
-    taking(
-        taking(taking(command, script(alloc)), query(alloc)),
+    with_argument(
+        with_argument(with_argument(command, script(alloc)), query(alloc)),
         verbose(alloc),
     )
 }
@@ -348,7 +348,7 @@ fn ledger<'a>(alloc: Global) -> Result<Command<'a>, AllocError>
     ensures local { IfOk result (λ c. (out-Command c).has_globals ≡ false) }
 {
     let about = "Runs a script and writes a row for each transaction";
-    taking(
+    with_argument(
         with_script(alloc, plain(alloc, "ledger", about, help::LEDGER)),
         format(alloc),
     )
@@ -360,7 +360,7 @@ fn why<'a>(alloc: Global) -> Result<Command<'a>, AllocError>
     ensures local { IfOk result (λ c. (out-Command c).has_globals ≡ false) }
 {
     let about = "Runs a script and tells why lines were blocked";
-    taking(
+    with_argument(
         with_script(alloc, plain(alloc, "why", about, help::WHY)),
         of(alloc),
     )
@@ -373,7 +373,7 @@ fn audit<'a>(alloc: Global) -> Result<Command<'a>, AllocError>
 {
     let about = "Runs a script and audits each committed query";
     let command = with_script(alloc, plain(alloc, "audit", about, help::AUDIT));
-    taking(taking(command, workers(alloc)), format(alloc))
+    with_argument(with_argument(command, workers(alloc)), format(alloc))
 }
 
 /// `drive [--workers W] [--as-script] [FILE]`
@@ -383,7 +383,7 @@ fn drive<'a>(alloc: Global) -> Result<Command<'a>, AllocError>
 {
     let about = "Runs the sessions of a drive file, each on a thread";
     let command = reading(alloc, plain(alloc, "drive", about, help::DRIVE));
-    taking(taking(command, workers(alloc)), as_script(alloc))
+    with_argument(with_argument(command, workers(alloc)), as_script(alloc))
 }
 
 /// `explore [--seeds N | --all] [--worst MEASURE] [FILE]`
@@ -393,8 +393,8 @@ fn explore<'a>(alloc: Global) -> Result<Command<'a>, AllocError>
 {
     let about = "Tries interleavings of the sessions of a drive file";
     let command = reading(alloc, plain(alloc, "explore", about, help::EXPLORE));
-    taking(
-        taking(taking(command, seeds(alloc)), all(alloc)),
+    with_argument(
+        with_argument(with_argument(command, seeds(alloc)), all(alloc)),
         worst_by(alloc),
     )
 }
@@ -405,7 +405,7 @@ fn lint<'a>(alloc: Global) -> Result<Command<'a>, AllocError>
     ensures local { IfOk result (λ c. (out-Command c).has_globals ≡ false) }
 {
     let about = "Lists what is wrong in a script, line by line";
-    taking(plain(alloc, "lint", about, help::LINT), files(alloc))
+    with_argument(plain(alloc, "lint", about, help::LINT), files(alloc))
 }
 
 /// Adds a command to a program, where there was memory for it.

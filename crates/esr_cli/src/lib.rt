@@ -12,7 +12,7 @@ ghost use Rattle.clap.specs.Words.{subcommand_of, subcommand_rows_of, FailsBy};
 ghost use Rattle.clap.specs.Walk.{texts};
 ghost use Rattle.clap.specs.declared.error.kind.ErrorKind.TheVariants.{OutOfMemory};
 ghost use Rattle.esr_cli.specs.Program.{program};
-ghost use Rattle.esr_cli.specs.Job.{certify_in, check_in, count_in, drive_in, explain_in, explore_in, flag_in, format_in, format_named, progress_in, request_in, request_of, work_in, work_of, HasWorkers, Spells};
+ghost use Rattle.esr_cli.specs.Job.{certify_in, check_in, count_in, drive_in, explain_in, explore_in, flag_in, format_in, format_of_name, progress_in, request_in, request_of, work_in, work_of, HasWorkers, Spells};
 
 mod commands;
 mod help;
@@ -140,8 +140,8 @@ fn count(given: &ArgMatches<'_>, id: &str) -> Option<u64>
 }
 
 /// The format of that name.
-fn format_named(name: &str) -> Option<Format>
-    ensures { result ≡ format_named name.now }
+fn format_of_name(name: &str) -> Option<Format>
+    ensures { result ≡ format_of_name name.now }
 {
     match name {
         "text" => Some(Format::Text),
@@ -156,7 +156,7 @@ fn asked_format(given: &ArgMatches<'_>) -> Option<Format>
     ensures { result ≡ format_in (rows_of (found_of given.now)) }
 {
     match text(given, "format") {
-        Some(name) => format_named(name),
+        Some(name) => format_of_name(name),
         None => Some(Format::Text),
     }
 }

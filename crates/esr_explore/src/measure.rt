@@ -10,7 +10,7 @@ pub enum Measure {
 
 impl Measure {
     /// The measure of that name.
-    pub fn named(name: &str) -> Option<Measure> {
+    pub fn of_name(name: &str) -> Option<Measure> {
         match name {
             "import" => Some(Measure::Import),
             "distance" => Some(Measure::Distance),

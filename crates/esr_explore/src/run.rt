@@ -108,7 +108,7 @@ fn fresh_runners(alloc: Global, count: usize) -> Result<Vec<Runner>, AllocError>
 }
 
 /// The first block from a number on that has a line left.
-fn unfinished(blocks: &[Vec<Call<'_>>], runners: &[Runner], from: usize) -> Option<usize>
+fn find_unfinished(blocks: &[Vec<Call<'_>>], runners: &[Runner], from: usize) -> Option<usize>
     requires { length runners.now ≡ length blocks.now }
     ensures { IfNone result ((k : ℕ) → from ≤ k → k < length blocks.now
         → length (slice_index_or runners.now k fresh).replies
@@ -128,9 +128,9 @@ fn next_in_round(blocks: &[Vec<Call<'_>>], runners: &[Runner], from: usize) -> O
     requires { length runners.now ≡ length blocks.now }
     ensures { IfNone result (AreDone (map (λ b. b.items) blocks.now) runners.now) }
 {
-    match unfinished(blocks, runners, from) {
+    match find_unfinished(blocks, runners, from) {
         Some(block) => Some(block),
-        None => unfinished(blocks, runners, 0),
+        None => find_unfinished(blocks, runners, 0),
     }
 }
 

@@ -57,7 +57,7 @@ impl Runner {
     }
 
     /// How often a line was blocked.
-    pub fn blocked(&self) -> u64
+    pub fn blocked_count(&self) -> u64
         ensures { result ≡ self.now.blocked }
     {
         self.blocked

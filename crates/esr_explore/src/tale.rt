@@ -96,7 +96,7 @@ fn all_blocked(alloc: Global, runners: &[Runner]) -> Result<Vec<u64>, AllocError
 {
     let mut counts = Vec::new(alloc);
     for runner in runners {
-        counts.push(runner.blocked())?;
+        counts.push(runner.blocked_count())?;
     }
     Ok(counts)
 }

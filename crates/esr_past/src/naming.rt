@@ -11,7 +11,7 @@ use std::alloc::{AllocError, Global};
 use std::str::from_utf8;
 
 /// A word with a number behind it.
-fn numbered(alloc: Global, word: &str, number: u32) -> Result<String, AllocError>
+fn name_of_number(alloc: Global, word: &str, number: u32) -> Result<String, AllocError>
     ensures { IfOk result (λ name. string_bytes name ≡ numbered word.now number) }
 {
     let mut digits = itoa::Buffer::new();
@@ -29,7 +29,7 @@ fn all_numbered(alloc: Global, word: &str, first: u32, count: u32) -> Result<Nam
 {
     let mut names = Names::new(alloc);
     for i in 0..count {
-        let name = numbered(alloc, word, first + i)?;
+        let name = name_of_number(alloc, word, first + i)?;
         names.bind(&name)?;
     }
     Ok(names)
@@ -159,7 +159,12 @@ fn first_names<'a, N: TransactionNames>(
 /// A table of these names, where lines spell them and none comes twice; else of the word with numbers from a first one
 /// on.
 #[tactic(auto, using(crate::proofs::Names::spelled_some, crate::proofs::Names::spelled_none))]
-fn spelled(alloc: Global, words: &[&[u8]], word: &str, first: u32) -> Result<Names, AllocError>
+fn names_for_lines(
+    alloc: Global,
+    words: &[&[u8]],
+    word: &str,
+    first: u32,
+) -> Result<Names, AllocError>
     requires room { first + length words.now < 2 ^ 32 }
     ensures { IfOk result (λ names. names ≡ spelled word.now first (map (λ word. word.now) words.now)) }
 {
@@ -185,6 +190,6 @@ pub fn spelled_names<N: TransactionNames>(
     ensures { IfOk result (λ table. table ≡ spelled word.now first (first_names count (N.names names.now))) }
 {
     let words = first_names(alloc, names, count)?;
-    let table = spelled(alloc, &words, word, first)?;
+    let table = names_for_lines(alloc, &words, word, first)?;
     Ok(table)
 }

@@ -7,5 +7,5 @@ use Rattle.esr_cli.proofs.commands.drive.Goals as goal
 pub returns-clause-app : goal.returns-clause-app
 returns-clause-app c =
     let reads = c.reading-command.ensures.app (new_app (codes "drive")) c.plain.ensures.app in
-    let workers = rw c.workers.ensures.rule at (c.taking.ensures.app (spec.reading (new_app (codes "drive"))) reads) in
-    rw c.as_script.ensures.rule at (c.taking-2.ensures.app _ workers)
+    let workers = rw c.workers.ensures.rule at (c.with_argument.ensures.app (spec.reading (new_app (codes "drive"))) reads) in
+    rw c.as_script.ensures.rule at (c.with_argument-2.ensures.app _ workers)

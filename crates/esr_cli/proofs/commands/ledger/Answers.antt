@@ -7,4 +7,4 @@ use Rattle.esr_cli.proofs.commands.ledger.Goals as goal
 pub returns-clause-app : goal.returns-clause-app
 returns-clause-app c =
     let with_script = c.with_script.ensures.app (new_app (codes "ledger")) c.plain.ensures.app in
-    rw c.format.ensures.rule at (c.taking.ensures.app (spec.with_script (new_app (codes "ledger"))) with_script)
+    rw c.format.ensures.rule at (c.with_argument.ensures.app (spec.with_script (new_app (codes "ledger"))) with_script)

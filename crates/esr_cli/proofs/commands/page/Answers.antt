@@ -7,4 +7,4 @@ use Rattle.esr_cli.proofs.commands.page.Goals as goal
 pub returns-clause-app : goal.returns-clause-app
 returns-clause-app c =
     let with_script = c.with_script.ensures.app (new_app (codes "page")) c.plain.ensures.app in
-    rw c.worst.ensures.rule at (c.taking.ensures.app (spec.with_script (new_app (codes "page"))) with_script)
+    rw c.worst.ensures.rule at (c.with_argument.ensures.app (spec.with_script (new_app (codes "page"))) with_script)

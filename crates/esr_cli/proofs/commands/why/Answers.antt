@@ -7,4 +7,4 @@ use Rattle.esr_cli.proofs.commands.why.Goals as goal
 pub returns-clause-app : goal.returns-clause-app
 returns-clause-app c =
     let with_script = c.with_script.ensures.app (new_app (codes "why")) c.plain.ensures.app in
-    rw c.of.ensures.rule at (c.taking.ensures.app (spec.with_script (new_app (codes "why"))) with_script)
+    rw c.of.ensures.rule at (c.with_argument.ensures.app (spec.with_script (new_app (codes "why"))) with_script)

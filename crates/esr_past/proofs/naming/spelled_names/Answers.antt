@@ -5,8 +5,8 @@ use Rattle.std.proofs.lemmas.List.{length-map}
 use Rattle.esr_past.proofs.Names.{first_long}
 use Rattle.esr_past.proofs.naming.spelled_names.Goals as goal
 
-pub spelled-requires : goal.spelled-requires
-spelled-requires g c =
+pub names_for_lines-requires : goal.names_for_lines-requires
+names_for_lines-requires g c =
     let words = c.in_ok-words.words.items in
     let long : length words ≡ c.args.count =
     sym (length-map words (λ (w : Bor (List ℕ)). w.now)) ∙ (ap length c.in_ok-words.ensures ∙ first_long c.args.count (g.N.TransactionNames.names c.args.names.now)) in

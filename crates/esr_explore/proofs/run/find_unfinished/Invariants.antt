@@ -1,7 +1,7 @@
--- What holds at each turn of the loop in `unfinished`.
+-- What holds at each turn of the loop in `find_unfinished`.
 use Rattle.std.proofs.Common.{◌≡◌, ◌≤◌, ◌<◌, ℕ, [], length, map, slice_index_or}
 use Rattle.esr_explore.specs.Turns.{fresh}
-use Rattle.esr_explore.proofs.run.unfinished.Given as goal
+use Rattle.esr_explore.proofs.run.find_unfinished.Given as goal
 
 -- the blocks so far have no line left
 abbrev pub invariant-loop-block : goal.invariant-loop-block
