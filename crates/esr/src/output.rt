@@ -22,7 +22,7 @@ impl<W> Output<W> {
     }
 
     /// What was held back.
-    pub fn held(&self) -> &[u8] {
+    pub fn bytes(&self) -> &[u8] {
         &self.held
     }
 }

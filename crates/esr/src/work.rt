@@ -221,7 +221,7 @@ fn conclude<R: Print + Eprint + Clock, W: Write>(
 /// Writes what was held back, and is done.
 fn release<W: Write>(rt: &(impl Print + Eprint), output: &Output<W>) -> u8 {
     let mut writer = Watched::new(io::writer(rt));
-    match writer.send_all(output.held()) {
+    match writer.send_all(output.bytes()) {
         Ok(()) => 0,
         Err(_) => fail(rt, &"write failed", 1),
     }

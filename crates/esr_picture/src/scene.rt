@@ -167,7 +167,7 @@ impl<'a> SceneParts<'a> {
     }
 
     /// How often the version of an update was read, by its position.
-    fn seen(&self, by_writer: &[u64], writer: u32) -> u64 {
+    fn read_count(&self, by_writer: &[u64], writer: u32) -> u64 {
         let txn = self.asked.finding.problem.updates().get(writer as usize);
         let number = txn.map_or(usize::MAX, |txn| txn.0 as usize);
         by_writer.get(number).copied().unwrap_or(0)
@@ -187,7 +187,7 @@ impl<'a> SceneParts<'a> {
         let mut last = self.version(chain.item, 0, self.opening(chain.item), at_start);
         for writer in &chain.writers {
             let slot = self.slots.of(*writer);
-            let seen = self.seen(&by_writer, *writer);
+            let seen = self.read_count(&by_writer, *writer);
             match self.written.value(lane, slot) {
                 Some(value) if slot != 0 => {
                     stretches.push(last)?;
