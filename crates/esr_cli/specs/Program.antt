@@ -94,12 +94,12 @@ abbrev pub files_rule : Rule
 files_rule = record (new_rule (codes "FILE")) { action = Some Append }
 
 -- a subcommand that reads a file
-abbrev pub reading : App → App
-reading a = with_rule a file_rule
+abbrev pub with_file : App → App
+with_file a = with_rule a file_rule
 
 -- one that reads a script
 abbrev pub with_script : App → App
-with_script a = with_rule (with_rule (with_rule (reading a) bail_rule) progress_rule) no_progress_rule
+with_script a = with_rule (with_rule (with_rule (with_file a) bail_rule) progress_rule) no_progress_rule
 
 -- one that tells of one query of a script
 abbrev pub with_name : Text → App
@@ -118,17 +118,17 @@ abbrev pub audit : App
 audit = with_rule (with_rule (with_script (new_app (codes "audit"))) workers_rule) format_rule
 
 abbrev pub drive : App
-drive = with_rule (with_rule (reading (new_app (codes "drive"))) workers_rule) as_script_rule
+drive = with_rule (with_rule (with_file (new_app (codes "drive"))) workers_rule) as_script_rule
 
 abbrev pub explore : App
 explore =
-    with_rule (with_rule (with_rule (reading (new_app (codes "explore"))) seeds_rule) all_rule) worst_by_rule
+    with_rule (with_rule (with_rule (with_file (new_app (codes "explore"))) seeds_rule) all_rule) worst_by_rule
 
 abbrev pub lint : App
 lint = with_rule (new_app (codes "lint")) files_rule
 
 abbrev pub check : App
-check = with_rule (with_rule (with_rule (reading (new_app (codes "check"))) script_rule) query_rule) verbose_rule
+check = with_rule (with_rule (with_rule (with_file (new_app (codes "check"))) script_rule) query_rule) verbose_rule
 
 abbrev pub ledger : App
 ledger = with_rule (with_script (new_app (codes "ledger"))) format_rule

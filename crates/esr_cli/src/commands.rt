@@ -7,7 +7,7 @@
 ghost use Rattle.std.specs.Prelude.{◌≡◌, IfOk, codes, false};
 ghost use Rattle.clap.specs.Words.{App, app_of, new_app, with_rule, with_subcommand, rule_of};
 ghost use Rattle.clap.specs.declared.builder.command.Command.TheViews.{out-Command};
-ghost use Rattle.esr_cli.specs.Program.{all_rule, as_script_rule, audit, bail_rule, certify, check, drive, esr, explain, explore, file_rule, files_rule, format_rule, ledger, lint, name_rule, no_progress_rule, of_rule, page, program, progress_rule, prose_rule, queries, query_rule, reading, script_rule, scripts, seeds_rule, steps_rule, tables, verbose_rule, why, with_name, with_script, workers_rule, worst_by_rule, worst_rule};
+ghost use Rattle.esr_cli.specs.Program.{all_rule, as_script_rule, audit, bail_rule, certify, check, drive, esr, explain, explore, file_rule, files_rule, format_rule, ledger, lint, name_rule, no_progress_rule, of_rule, page, program, progress_rule, prose_rule, queries, query_rule, with_file, script_rule, scripts, seeds_rule, steps_rule, tables, verbose_rule, why, with_name, with_script, workers_rule, worst_by_rule, worst_rule};
 
 use crate::help;
 use clap::{Arg, ArgAction, Command, value_parser};
@@ -246,13 +246,13 @@ fn of<'a>(alloc: Global) -> Arg<'a>
 }
 
 /// A command that reads a file.
-fn reading<'a>(
+fn with_file<'a>(
     alloc: Global,
     command: Result<Command<'a>, AllocError>,
 ) -> Result<Command<'a>, AllocError>
     requires { IfOk command (λ c. (out-Command c).has_globals ≡ false) }
     ensures app { (whole : App) → IfOk command.entry (λ c. app_of c ≡ whole)
-        → IfOk result (λ c. app_of c ≡ reading whole) }
+        → IfOk result (λ c. app_of c ≡ with_file whole) }
     ensures local { IfOk result (λ c. (out-Command c).has_globals ≡ false) }
 {
     with_argument(command, file(alloc))
@@ -268,7 +268,7 @@ fn with_script<'a>(
         → IfOk result (λ c. app_of c ≡ with_script whole) }
     ensures local { IfOk result (λ c. (out-Command c).has_globals ≡ false) }
 {
-    let command = with_argument(reading(alloc, command), bail(alloc));
+    let command = with_argument(with_file(alloc, command), bail(alloc));
     with_argument(with_argument(command, progress(alloc)), no_progress(alloc))
 }
 
@@ -335,7 +335,7 @@ fn check<'a>(alloc: Global) -> Result<Command<'a>, AllocError>
     ensures local { IfOk result (λ c. (out-Command c).has_globals ≡ false) }
 {
     let about = "Judges a bundle: valid, invalid or bad";
-    let command = reading(alloc, plain(alloc, "check", about, help::CHECK));
+    let command = with_file(alloc, plain(alloc, "check", about, help::CHECK));
     with_argument(
         with_argument(with_argument(command, script(alloc)), query(alloc)),
         verbose(alloc),
@@ -382,7 +382,7 @@ fn drive<'a>(alloc: Global) -> Result<Command<'a>, AllocError>
     ensures local { IfOk result (λ c. (out-Command c).has_globals ≡ false) }
 {
     let about = "Runs the sessions of a drive file, each on a thread";
-    let command = reading(alloc, plain(alloc, "drive", about, help::DRIVE));
+    let command = with_file(alloc, plain(alloc, "drive", about, help::DRIVE));
     with_argument(with_argument(command, workers(alloc)), as_script(alloc))
 }
 
@@ -392,7 +392,7 @@ fn explore<'a>(alloc: Global) -> Result<Command<'a>, AllocError>
     ensures local { IfOk result (λ c. (out-Command c).has_globals ≡ false) }
 {
     let about = "Tries interleavings of the sessions of a drive file";
-    let command = reading(alloc, plain(alloc, "explore", about, help::EXPLORE));
+    let command = with_file(alloc, plain(alloc, "explore", about, help::EXPLORE));
     with_argument(
         with_argument(with_argument(command, seeds(alloc)), all(alloc)),
         worst_by(alloc),

@@ -26,7 +26,7 @@ use Rattle.esr_history.proofs.Values.{current-write, stays}
 use Rattle.esr_core.proofs.Held.{active-kept}
 use Rattle.esr_core.proofs.Locks.{writer_is}
 use Rattle.esr_engine.specs.declared.engine.Unanswered.{Unanswered}
-use Rattle.esr_engine.specs.ForUpdate.{after, has_lock, locking, locked, reply_for_update, after_for_update, IsHeldValue}
+use Rattle.esr_engine.specs.ForUpdate.{after, has_lock, lock_event, locked, reply_for_update, after_for_update, IsHeldValue}
 
 settles : (begun committed aborted : Bool) → begun ≡ true → (begun && (not committed && not aborted)) ≡ false → (committed ≡ true → aborted ≡ false) → committed ≡ not aborted
 settles true true aborted b none once = sym (ap not (once refl))
@@ -86,14 +86,14 @@ module _ (h : Schedule) (o : IsOrderly (done h)) (x : ItemId) where
         at : (b : Bool) → has_lock h t.0 x.0 ≡ b → IsHeldValue h (after_for_update h t x) t x (reply_for_update h t x)
         at true has =
             rw has (held_read h (current_value h.opening (done h) x.0) refl refl refl (λ act. (and_parts (is_active (done h) t.0) (list_any (writes t.0 x.0) (done h)) (lock_held has).1).1))
-        at false has = rw has (after_write (refusal weighted h (locking h t x)) refl)
+        at false has = rw has (after_write (refusal weighted h (lock_event h t x)) refl)
           where
             w : Event
-            w = locking h t x
+            w = lock_event h t x
 
-            after_write : (why : Option Refusal) → refusal weighted h (locking h t x) ≡ why
-                → IsHeldValue h (if is_refusal (reply_to weighted h (locking h t x)) then after h (locking h t x) else after (after h (locking h t x)) (Read t x)) t x
-                (if is_refusal (reply_to weighted h (locking h t x)) then reply_to weighted h (locking h t x) else reply_to weighted (after h (locking h t x)) (Read t x))
+            after_write : (why : Option Refusal) → refusal weighted h (lock_event h t x) ≡ why
+                → IsHeldValue h (if is_refusal (reply_to weighted h (lock_event h t x)) then after h (lock_event h t x) else after (after h (lock_event h t x)) (Read t x)) t x
+                (if is_refusal (reply_to weighted h (lock_event h t x)) then reply_to weighted h (lock_event h t x) else reply_to weighted (after h (lock_event h t x)) (Read t x))
             after_write (Some why) some = rw some tt
             after_write None none =
                 rw none
@@ -120,18 +120,18 @@ module _ (h : Schedule) (t : TxnId) (x : ItemId) where
   held_steps has = (rw has refl, rw has refl)
 
   -- the write is accepted: a read after it
-  pub taken_steps : has_lock h t.0 x.0 ≡ false → reply_to weighted h (locking h t x) ≡ Wrote
-      → (locked h t x ≡ extended h (locking h t x) Wrote) × (reply_for_update h t x ≡ reply_to weighted (extended h (locking h t x) Wrote) (Read t x)) × (after_for_update h t x ≡ after (extended h (locking h t x) Wrote) (Read t x))
+  pub taken_steps : has_lock h t.0 x.0 ≡ false → reply_to weighted h (lock_event h t x) ≡ Wrote
+      → (locked h t x ≡ extended h (lock_event h t x) Wrote) × (reply_for_update h t x ≡ reply_to weighted (extended h (lock_event h t x) Wrote) (Read t x)) × (after_for_update h t x ≡ after (extended h (lock_event h t x) Wrote) (Read t x))
   taken_steps has wrote = (rw (has, wrote) refl, rw (has, wrote) refl, rw (has, wrote) refl)
 
   -- the write is refused
-  pub refused_steps : has_lock h t.0 x.0 ≡ false → (reply_to weighted h (locking h t x) ≡ Wrote → ⊥)
-      → (reply_for_update h t x ≡ reply_to weighted h (locking h t x)) × (after_for_update h t x ≡ after h (locking h t x))
-  refused_steps has isnt = at (refusal weighted h (locking h t x)) refl
+  pub refused_steps : has_lock h t.0 x.0 ≡ false → (reply_to weighted h (lock_event h t x) ≡ Wrote → ⊥)
+      → (reply_for_update h t x ≡ reply_to weighted h (lock_event h t x)) × (after_for_update h t x ≡ after h (lock_event h t x))
+  refused_steps has isnt = at (refusal weighted h (lock_event h t x)) refl
     where
-      at : (why : Option Refusal) → refusal weighted h (locking h t x) ≡ why → (reply_for_update h t x ≡ reply_to weighted h (locking h t x)) × (after_for_update h t x ≡ after h (locking h t x))
+      at : (why : Option Refusal) → refusal weighted h (lock_event h t x) ≡ why → (reply_for_update h t x ≡ reply_to weighted h (lock_event h t x)) × (after_for_update h t x ≡ after h (lock_event h t x))
       at None none = absurd (isnt (rw none refl))
-      at (Some why) some = let r : reply_to weighted h (locking h t x) ≡ Refused why = rw some refl in (rw (has, r) refl, rw (has, r) refl)
+      at (Some why) some = let r : reply_to weighted h (lock_event h t x) ≡ Refused why = rw some refl in (rw (has, r) refl, rw (has, r) refl)
 
 -- the ok answers of two facts
 pub record Finished (h : Schedule) (t : TxnId) (x : ItemId) (r : Result Reply Unanswered) (new : Schedule) : Type 0 where

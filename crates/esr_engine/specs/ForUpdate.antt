@@ -22,21 +22,21 @@ abbrev pub has_lock : Schedule → ℕ → ℕ → Bool
 has_lock h t x = nat_lt x (length h.opening) && unwrap_or (option_map (λ u. u == t) (writer (done h) x)) false
 
 -- the write that takes the lock: of the committed value, which is the current one where nobody holds it
-abbrev pub locking : Schedule → TxnId → ItemId → Event
-locking h t x = Write t x (if nat_lt x.0 (length h.opening) then committed_value h.opening (done h) x.0 else pos 0)
+abbrev pub lock_event : Schedule → TxnId → ItemId → Event
+lock_event h t x = Write t x (if nat_lt x.0 (length h.opening) then committed_value h.opening (done h) x.0 else pos 0)
 
 -- the history before the read, or where it ends if the lock is refused
 abbrev pub locked : Schedule → TxnId → ItemId → Schedule
-locked h t x = if has_lock h t.0 x.0 then h else after h (locking h t x)
+locked h t x = if has_lock h t.0 x.0 then h else after h (lock_event h t x)
 
 -- whether the lock is refused
 abbrev pub lock_refused : Schedule → TxnId → ItemId → Bool
-lock_refused h t x = if has_lock h t.0 x.0 then false else is_refusal (reply_to weighted h (locking h t x))
+lock_refused h t x = if has_lock h t.0 x.0 then false else is_refusal (reply_to weighted h (lock_event h t x))
 
 -- the reply: that of the write where it is refused, else that of the read
 abbrev pub reply_for_update : Schedule → TxnId → ItemId → Reply
 reply_for_update h t x =
-    if lock_refused h t x then reply_to weighted h (locking h t x) else reply_to weighted (locked h t x) (Read t x)
+    if lock_refused h t x then reply_to weighted h (lock_event h t x) else reply_to weighted (locked h t x) (Read t x)
 
 -- the history afterwards
 abbrev pub after_for_update : Schedule → TxnId → ItemId → Schedule

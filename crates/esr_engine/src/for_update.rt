@@ -5,7 +5,7 @@
 //! which is charged nothing; then the read tells it. Both are entries, as if they had been given one by one.
 
 ghost use Rattle.std.specs.Prelude.{◌≡◌, ◌↔◌, true, IfOk, IfErr, OnOk, IsErrOf};
-ghost use Rattle.esr_engine.specs.ForUpdate.{reply_for_update, after_for_update, has_lock, locking, IsHeldValue, IsPartlyDone, no_pair};
+ghost use Rattle.esr_engine.specs.ForUpdate.{reply_for_update, after_for_update, has_lock, lock_event, IsHeldValue, IsPartlyDone, no_pair};
 
 use crate::engine::{Engine, Unanswered};
 use esr_history::{Event, MOST_ENTRIES, Reply, TxnId};
@@ -26,8 +26,8 @@ impl Engine {
     }
 
     /// The write that takes the lock: of the value that committed transactions left, 0 where there is no such item.
-    fn locking(&self, t: TxnId, x: ItemId) -> Event
-        ensures { result ≡ locking self.now t x }
+    fn lock_event(&self, t: TxnId, x: ItemId) -> Event
+        ensures { result ≡ lock_event self.now t x }
     {
         let value = if x.0 < self.machine.history().items() {
             self.machine.committed(x)
@@ -61,7 +61,7 @@ impl Engine {
         if self.has_lock(t, x) {
             return self.step(Event::Read { txn: t, item: x });
         }
-        let lock = self.locking(t, x);
+        let lock = self.lock_event(t, x);
         match self.step(lock) {
             Ok(Reply::Wrote) => self.step(Event::Read { txn: t, item: x }),
             other => other,

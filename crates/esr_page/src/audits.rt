@@ -45,16 +45,16 @@ fn rank_of(finding: &Finding) -> (u64, u64, u32) {
 }
 
 /// How many of these findings, from the first, are kept, if at most so many are.
-fn fitting(findings: &[Finding], count: usize) -> usize {
+fn count_kept(findings: &[Finding], count: usize) -> usize {
     let mut updates = 0usize;
-    let mut fitting = 0usize;
+    let mut kept = 0usize;
     for finding in findings.iter().take(count) {
         updates = updates.saturating_add(finding.problem.updates().len());
         if updates <= MOST_UPDATES {
-            fitting = fitting.saturating_add(1);
+            kept = kept.saturating_add(1);
         }
     }
-    fitting
+    kept
 }
 
 impl Audits {
@@ -79,8 +79,8 @@ impl Audits {
             return Ok(());
         }
         self.farthest.insert(place, finding)?;
-        let fitting = fitting(&self.farthest, count);
-        self.farthest.truncate(fitting);
+        let kept = count_kept(&self.farthest, count);
+        self.farthest.truncate(kept);
         Ok(())
     }
 

@@ -7,7 +7,7 @@ use Rattle.esr_history.specs.declared.event.Event.TheVariants.{Read}
 use Rattle.esr_history.specs.declared.event.Reply.TheVariants.{Wrote}
 use Rattle.esr_history.specs.Machine.{IsLegal, Schedule, extended, reply_to}
 use Rattle.esr_history.proofs.Lawful.{legal_orderly}
-use Rattle.esr_engine.specs.ForUpdate.{locking, no_pair}
+use Rattle.esr_engine.specs.ForUpdate.{lock_event, no_pair}
 use Rattle.esr_engine.specs.Room.{is_full, taken}
 use Rattle.esr_engine.proofs.Active.{pair_room}
 use Rattle.esr_engine.proofs.Locking.{Finished, finish, held_steps, taken_steps}
@@ -30,14 +30,14 @@ pub returns-then-has_lock-clause-held : goal.returns-then-has_lock-clause-held
 returns-then-has_lock-clause-held c = (held (goal.at.returns-then-has_lock-clause-held c).After-step).held
 
 -- the write was accepted, and what it left
-wrote : (c : After-step-in-Ok-Wrote) → reply_to weighted c.args.self.now (locking c.args.self.now c.args.t c.args.x) ≡ Wrote
-wrote c = ap (reply_to weighted c.args.self.now) (sym c.locking-lock.ensures) ∙ (sym c.in-Ok-Wrote.ensures.reply ∙ c.in-Ok-Wrote.field-0-is)
+wrote : (c : After-step-in-Ok-Wrote) → reply_to weighted c.args.self.now (lock_event c.args.self.now c.args.t c.args.x) ≡ Wrote
+wrote c = ap (reply_to weighted c.args.self.now) (sym c.lock_event-lock.ensures) ∙ (sym c.in-Ok-Wrote.ensures.reply ∙ c.in-Ok-Wrote.field-0-is)
 
-left : (c : After-step-in-Ok-Wrote) → c.step-2.new.self ≡ extended c.args.self.now (locking c.args.self.now c.args.t c.args.x) Wrote
+left : (c : After-step-in-Ok-Wrote) → c.step-2.new.self ≡ extended c.args.self.now (lock_event c.args.self.now c.args.t c.args.x) Wrote
 left c =
     c.in-Ok-Wrote.ensures.added
-    ∙ (ap (λ (e : Event). extended c.args.self.now e c.in-Ok-Wrote.field-0) c.locking-lock.ensures
-    ∙ ap (extended c.args.self.now (locking c.args.self.now c.args.t c.args.x)) c.in-Ok-Wrote.field-0-is)
+    ∙ (ap (λ (e : Event). extended c.args.self.now e c.in-Ok-Wrote.field-0) c.lock_event-lock.ensures
+    ∙ ap (extended c.args.self.now (lock_event c.args.self.now c.args.t c.args.x)) c.in-Ok-Wrote.field-0-is)
 
 locks : (c : After-step-in-Ok-Wrote) → Finished c.args.self.now c.args.t c.args.x c.step-in-Ok-Wrote.result c.step-in-Ok-Wrote.new.self
 locks c =
@@ -45,7 +45,7 @@ locks c =
     let t = c.args.t in
     let x = c.args.x in
     let steps = taken_steps h t x (sym c.has_lock.ensures ∙ c.if-has_lock.false) (wrote c) in
-    finish h (legal_orderly weighted h (subst (IsLegal weighted) c.self.view_is c.log-legal.ensures.legal)) t x c.step-in-Ok-Wrote.result c.step-in-Ok-Wrote.new.self (extended h (locking h t x) Wrote)
+    finish h (legal_orderly weighted h (subst (IsLegal weighted) c.self.view_is c.log-legal.ensures.legal)) t x c.step-in-Ok-Wrote.result c.step-in-Ok-Wrote.new.self (extended h (lock_event h t x) Wrote)
     (subst (λ (g : Schedule). IfOk c.step-in-Ok-Wrote.result (λ a. a ≡ reply_to weighted g (Read t x))) (left c) c.step-in-Ok-Wrote.ensures.reply)
     (subst (λ (g : Schedule). IfOk c.step-in-Ok-Wrote.result (λ a. c.step-in-Ok-Wrote.new.self ≡ extended g (Read t x) a)) (left c) c.step-in-Ok-Wrote.ensures.added)
     steps.1 steps.2
