@@ -6,13 +6,13 @@ use Rattle.esr_history.specs.declared.event.Event.{Event}
 use Rattle.esr_history.specs.declared.event.Reply.{Reply}
 use Rattle.esr_history.specs.declared.event.Reply.TheVariants.{Refused}
 use Rattle.esr_history.specs.Machine.{Schedule, extended, reply_to, schedule_of}
-use Rattle.esr_history.specs.Refusals.{refusal_named}
+use Rattle.esr_history.specs.Refusals.{refusal_blocker}
 use Rattle.esr_plan.specs.declared.call.Call.{Call}
 use Rattle.esr_plan.specs.Calls.{event_by}
 
 -- refused for what a transaction holds
 abbrev pub is_blocked : Reply → Bool
-is_blocked (Refused why) = is_some (refusal_named why)
+is_blocked (Refused why) = is_some (refusal_blocker why)
 is_blocked _ = false
 
 -- a block that is run: the last replies to its lines, how often the next one was given, and how often a line was blocked

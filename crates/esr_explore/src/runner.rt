@@ -32,7 +32,7 @@ pub fn is_blocked(reply: Reply) -> bool
     ensures { result ≡ is_blocked reply }
 {
     match reply {
-        Reply::Refused(why) => why.named().is_some(),
+        Reply::Refused(why) => why.blocker().is_some(),
         _ => false,
     }
 }

@@ -2,14 +2,14 @@
 use Rattle.std.specs.Prelude.{ℕ, List, codes, Option, None, Some}
 use Rattle.esr_history.specs.Events.{TxnId, Refusal, NoSuchTransaction, AlreadyEnded, NoSuchItem, QueryMayNotWrite, ValueOutOfRange, LimitOutOfRange, TooManyTransactions, TooManyReads, BlockedByLock, BlockedByImport, BlockedByExport}
 
--- a number, words, and the transaction that is named, where one is
+-- a number, words, and the transaction that blocks the event, where one does
 pub record Told : Type 0 where
   pub number : ℕ
   pub words : List ℕ
-  pub named : Option TxnId
+  pub blocker : Option TxnId
 
 abbrev pub telling : ℕ → List ℕ → Option TxnId → Told
-telling number words named = record { number = number; words = words; named = named }
+telling number words blocker = record { number = number; words = words; blocker = blocker }
 
 -- each refusal in turn; of the last three, what blocks the event, and whose it is
 abbrev pub told : Refusal → Told
@@ -31,5 +31,5 @@ refusal_number why = (told why).number
 abbrev pub refusal_words : Refusal → List ℕ
 refusal_words why = (told why).words
 
-abbrev pub refusal_named : Refusal → Option TxnId
-refusal_named why = (told why).named
+abbrev pub refusal_blocker : Refusal → Option TxnId
+refusal_blocker why = (told why).blocker

@@ -10,7 +10,7 @@ use Rattle.esr_history.specs.declared.event.Reply.{Reply}
 use Rattle.esr_history.specs.declared.event.Reply.TheVariants.{Begun, Refused}
 use Rattle.esr_history.specs.declared.event.Entry.{Entry}
 use Rattle.esr_history.specs.Machine.{Schedule}
-use Rattle.esr_history.specs.Refusals.{refusal_named}
+use Rattle.esr_history.specs.Refusals.{refusal_blocker}
 use Rattle.esr_line.specs.Command.{Command, item, weighted_item, begin_update, begin_query, begin_strict_query, read, write, commit, abort, words}
 use Rattle.esr_report.specs.Lines.{line}
 use Rattle.esr_report.specs.Names.{name_of_transaction}
@@ -21,7 +21,7 @@ name_of_item items x = slice_index_or items x []
 -- Whether the script has a line for the reply's event. What was refused for another reason than what a transaction holds
 -- has none: it changed nothing, and may have asked for numbers that no line spells.
 abbrev pub is_kept : Reply → Bool
-is_kept (Refused why) = is_some (refusal_named why)
+is_kept (Refused why) = is_some (refusal_blocker why)
 is_kept _ = true
 
 -- the number that a begin was given

@@ -77,7 +77,7 @@ fn is_kept(reply: Reply) -> bool
     ensures { result ≡ is_kept reply }
 {
     match reply {
-        Reply::Refused(why) => why.named().is_some(),
+        Reply::Refused(why) => why.blocker().is_some(),
         _ => true,
     }
 }

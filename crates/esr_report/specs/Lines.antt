@@ -6,7 +6,7 @@ use Rattle.esr_history.specs.declared.event.Reply.{Reply}
 use Rattle.esr_history.specs.declared.event.Reply.TheVariants.{Begun, Value, Wrote, Committed, Aborted, Refused}
 use Rattle.esr_history.specs.declared.event.Refusal.{Refusal}
 use Rattle.esr_base.specs.declared.numbers.TxnId.{TxnId}
-use Rattle.esr_history.specs.Refusals.{refusal_number, refusal_words, refusal_named}
+use Rattle.esr_history.specs.Refusals.{refusal_number, refusal_words, refusal_blocker}
 use Rattle.esr_report.specs.declared.lines.LineError.{LineError}
 use Rattle.esr_report.specs.declared.lines.LineError.TheVariants as error
 use Rattle.esr_report.specs.Names.{name_of_transaction}
@@ -60,7 +60,7 @@ reason_line names why (Some txn) =
 
 -- the same for whom it names itself; the names are those of the transactions, in the order of their numbers
 abbrev pub refusal_line : List (List ℕ) → Refusal → List ℕ
-refusal_line names why = reason_line names why (refusal_named why)
+refusal_line names why = reason_line names why (refusal_blocker why)
 
 -- what an event names: a transaction, an item and a value to write, as far as it has them
 pub record Named : Type 0 where

@@ -186,7 +186,7 @@ pub fn refusal_line<N: TransactionNames>(
     ensures ok { OnOk result (out.new.items ≡ out.old.items ++ refusal_line (N.names names.now) why) }
     ensures err { OnErr result (out.new.items ≡ out.old.items) }
 {
-    match why.named() {
+    match why.blocker() {
         None => push_refused(out, why.number(), why.words()),
         Some(txn) => {
             let name = name_of_transaction(names, txn);
