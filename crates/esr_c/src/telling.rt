@@ -20,8 +20,8 @@ use esr_explain::explanation;
 use esr_history::History;
 use esr_items::Weighted;
 use esr_picture::picture;
-use esr_prose::Audited;
 use esr_report::Names;
+use esr_story::Audited;
 use std::alloc::Global;
 
 /// The explanation of a query of which this was found, or why there is none.

@@ -6,7 +6,7 @@
 
 use crate::audits::Found;
 use crate::rows::{Row, Rows};
-use esr_prose::{push_count, push_number};
+use esr_story::{push_count, push_number};
 use std::alloc::{AllocError, Global};
 
 /// So many queries have names below their columns.

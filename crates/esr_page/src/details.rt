@@ -5,8 +5,9 @@ use crate::rows::{Row, Rows};
 use esr_audit::{AuditError, Finding, audit_query};
 use esr_history::TxnId;
 use esr_picture::picture;
-use esr_prose::{Audited, Block, Kind, Tale, lines_of_entries, prose_of, push_number};
+use esr_prose::{Block, Kind, Tale, prose_of};
 use esr_report::name_of_transaction;
+use esr_story::{Audited, lines_of_entries, push_number};
 use esr_telling::Chronicle;
 use std::alloc::{AllocError, Global};
 

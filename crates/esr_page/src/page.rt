@@ -11,8 +11,8 @@ use crate::style::{HEAD, SCRIPT};
 use crate::table::push_table;
 use esr_history::TxnId;
 use esr_picture::markup_or_nothing;
-use esr_prose::{push_count, push_number};
 use esr_report::{Names, name_of_transaction};
+use esr_story::{push_count, push_number};
 use esr_telling::{Chronicle, Survey};
 use std::alloc::{AllocError, Global};
 

@@ -2,7 +2,7 @@
 //! column sorts by it.
 
 use crate::rows::{End, Row};
-use esr_prose::push_number;
+use esr_story::push_number;
 use std::alloc::AllocError;
 
 /// So many rows there are at most.

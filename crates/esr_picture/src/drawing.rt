@@ -10,7 +10,7 @@ ghost use Rattle.esr_picture.specs.Picture.{IsSvg, IsWithin, Lacks};
 
 use crate::markup::{is_attributes, is_markup};
 use crate::svg::{Parts, parts_of};
-use esr_prose::Audited;
+use esr_story::Audited;
 use esr_telling::{Asked, Telling};
 use std::alloc::{AllocError, Global};
 

@@ -6,7 +6,7 @@ ghost use Rattle.std.specs.Prelude.{◌≤◌};
 use crate::choice::{MOST_LANES, MOST_UPDATES};
 use crate::keys::keys_width;
 use crate::scene::{Lane, Scene};
-use esr_prose::{letters_of, number_letters};
+use esr_story::{letters_of, number_letters};
 
 /// No picture is wider, as long as what it has to show can be folded.
 const WIDEST: u32 = 1100;

@@ -5,7 +5,7 @@
 use crate::elements::{open_text, push_text};
 use crate::frame::Frame;
 use crate::scene::{Lane, Scene, Update};
-use esr_prose::{push_number, push_value};
+use esr_story::{push_number, push_value};
 use std::alloc::AllocError;
 
 const STYLE: &str = "<style>\n\

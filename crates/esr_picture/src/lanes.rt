@@ -9,7 +9,7 @@ use crate::elements::{
 use crate::frame::Frame;
 use crate::scene::{Lane, Scene, Stretch};
 use crate::sights::{LaneReads, Strays};
-use esr_prose::{push_count, push_number, push_value};
+use esr_story::{push_count, push_number, push_value};
 use std::alloc::AllocError;
 
 /// What else was read of an item, without the start of the text: how often the value was read, or the second value, or

@@ -10,8 +10,8 @@ use crate::sights::{LaneReads, Strays, count_of, reads_of, seen_by_writer, stray
 use crate::written::{Written, written_by};
 use esr_cert::Chain;
 use esr_items::{ItemId, Metric};
-use esr_prose::{Audited, Story, sentences_of, story_of};
 use esr_report::name_of_transaction;
+use esr_story::{Audited, Story, sentences_of, story_of};
 use std::alloc::{AllocError, Global};
 
 /// How often a scene that is too wide is made with fewer updates.

@@ -3,8 +3,8 @@
 //! then, since audits compare values and nothing else, and whose the value was is told as well.
 
 use esr_items::ItemId;
-use esr_prose::{Audited, End, Sight, Story};
 use esr_report::name_of_transaction;
+use esr_story::{Audited, End, Sight, Story};
 use std::alloc::{AllocError, Global};
 
 /// What was read of an item: the values without repetitions, and how many reads there were.

@@ -9,7 +9,7 @@ use crate::head::{push_attributes, push_head, push_heading};
 use crate::keys::push_keys;
 use crate::lanes::{push_audit, push_others};
 use crate::scene::{Scene, scene_of, story_in};
-use esr_prose::Audited;
+use esr_story::Audited;
 use std::alloc::{AllocError, Global};
 
 /// What is written of a picture between the ends of its element.

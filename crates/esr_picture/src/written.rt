@@ -3,7 +3,7 @@
 use crate::choice::Choice;
 use crate::order::Slots;
 use esr_order::accesses_of;
-use esr_prose::Audited;
+use esr_story::Audited;
 use std::alloc::{AllocError, Global};
 
 /// The most slots: one for each update that is drawn, one for the line, and the one before them.

@@ -1,12 +1,12 @@
 //! What a query was charged, in words: how much, in which line, and why; and the sums by item and by update.
 
-use crate::numbers::{push_count, push_number, push_value};
 use crate::prose::{Block, MOST_POINTS};
-use crate::story::{Cause, Charge, Story, Sum};
 use crate::tale::Tale;
-use crate::text::{MOST_NAMES, push_rest};
 use esr_history::TxnId;
 use esr_items::ItemId;
+use esr_story::{
+    Cause, Charge, MOST_NAMES, Story, Sum, push_count, push_number, push_rest, push_value,
+};
 use std::alloc::{AllocError, Global};
 
 /// The values before and behind an update's change.

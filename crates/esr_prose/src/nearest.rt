@@ -1,15 +1,14 @@
 //! The nearest moment of a committed query, in words: what each item that it read was there, and how far off the reads
 //! of it are.
 
-use crate::numbers::{push_number, push_value};
 use crate::prose::{Block, MOST_POINTS, push_more};
 use crate::reads::sum_of_reads;
-use crate::story::{Sight, Story};
 use crate::tale::Tale;
 use esr_audit::Finding;
 use esr_history::TxnId;
 use esr_items::ItemId;
 use esr_order::accesses_of;
+use esr_story::{Sight, Story, push_number, push_value};
 use std::alloc::{AllocError, Global};
 
 /// An item that was read, as it was at the nearest moment.

@@ -1,14 +1,11 @@
 //! The prose about a query, as paragraphs and points, whatever they are written as.
 
-use crate::audited::Audited;
 use crate::charges::push_charges;
 use crate::nearest::push_nearest;
-use crate::numbers::push_number;
 use crate::reads::push_reads;
-use crate::sentences::{nearest, strict, verdict};
-use crate::story::{Story, story_of};
 use crate::tale::{Ending, Tale};
 use esr_audit::Finding;
+use esr_story::{Audited, Story, nearest_moment, push_number, story_of, strict_sentence, verdict};
 use std::alloc::{AllocError, Global};
 
 /// So many points are listed at most, and then how many more there are.
@@ -104,11 +101,11 @@ fn answer(alloc: Global, tale: &Tale<'_>, story: &Story) -> Result<String, Alloc
     let mut out = verdict(alloc, &audited, story)?;
     if finding.distance > 0 {
         out.push(' ')?;
-        out.push_str(&nearest(alloc, &audited, story)?)?;
+        out.push_str(&nearest_moment(alloc, &audited, story)?)?;
     }
     if !finding.problem.must().is_empty() {
         out.push(' ')?;
-        out.push_str(&strict(alloc, &audited)?)?;
+        out.push_str(&strict_sentence(alloc, &audited)?)?;
     }
     Ok(out)
 }

@@ -1,10 +1,9 @@
 //! What a query read, in words: each value, in which line, and whose it was.
 
-use crate::numbers::{push_count, push_number, push_value};
 use crate::prose::{Block, MOST_POINTS, push_more};
-use crate::story::{Sight, Story};
 use crate::tale::{Ending, Tale};
 use esr_history::TxnId;
+use esr_story::{Sight, Story, push_count, push_number, push_value};
 use std::alloc::{AllocError, Global};
 
 /// The words for what became of an update whose value was read before it had ended.

@@ -1,10 +1,10 @@
 //! A query that prose is about, however it ended, with what its script leads to and the line of each entry.
 
-use crate::numbers::push_number;
 use esr_audit::Finding;
 use esr_history::{Event, History, TxnId};
 use esr_items::{ItemId, Metric, Weighted};
 use esr_report::{Names, name_of_transaction};
+use esr_story::push_number;
 use std::alloc::AllocError;
 
 /// A query that prose is about.

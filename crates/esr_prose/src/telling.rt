@@ -1,11 +1,10 @@
 //! Prose about one query of a script, however it ended, as lines of a width at which no terminal wraps them.
 
-use crate::lines::lines_of_entries;
 use crate::prose::{Block, Kind, prose_of};
 use crate::tale::Tale;
-use crate::text::wrap;
 use esr_audit::{AuditError, Finding, audit_query};
 use esr_history::TxnId;
+use esr_story::{lines_of_entries, wrap};
 use esr_telling::{Chronicle, Survey};
 use std::alloc::{AllocError, Global};
 

@@ -7,7 +7,7 @@ ghost use Rattle.esr_sheet.specs.Spans.{first_of, last_of};
 use crate::tallies::txn_of;
 use esr_history::{Entry, History, Refusal, Reply, TxnId};
 use esr_items::Weighted;
-use esr_prose::lines_of_entries;
+use esr_story::lines_of_entries;
 use esr_telling::Chronicle;
 use std::alloc::{AllocError, Global};
 

@@ -14,7 +14,7 @@ use crate::sentences::Script;
 use crate::waits::{Latest, Wait, transaction_of};
 use esr_history::{Entry, Event, History, NoMemory, Refusal, Reply, TxnId};
 use esr_items::Weighted;
-use esr_prose::lines_of_entries;
+use esr_story::lines_of_entries;
 use esr_telling::{Chronicle, Survey};
 use std::alloc::{AllocError, Global};
 

@@ -52,7 +52,11 @@ pub fn verdict(alloc: Global, asked: &Audited<'_>, story: &Story) -> Result<Stri
 }
 
 /// The nearest moment, where none has all that was read.
-pub fn nearest(alloc: Global, asked: &Audited<'_>, story: &Story) -> Result<String, AllocError> {
+pub fn nearest_moment(
+    alloc: Global,
+    asked: &Audited<'_>,
+    story: &Story,
+) -> Result<String, AllocError> {
     let mut out = String::new(alloc);
     out.push_str(if asked.finding.problem.must().is_empty() {
         "The nearest moment, "
@@ -101,7 +105,7 @@ fn charge_sentence(
 }
 
 /// The updates that a strict query had to be behind.
-pub fn strict(alloc: Global, asked: &Audited<'_>) -> Result<String, AllocError> {
+pub fn strict_sentence(alloc: Global, asked: &Audited<'_>) -> Result<String, AllocError> {
     let problem = &asked.finding.problem;
     let mut seen = Vec::new(alloc);
     for position in problem.must() {
@@ -125,7 +129,12 @@ pub fn sentences_of(
     let mut lines = Vec::new(alloc);
     wrap(alloc, &mut lines, LINE, &verdict(alloc, asked, story)?)?;
     if asked.finding.distance > 0 {
-        wrap(alloc, &mut lines, LINE, &nearest(alloc, asked, story)?)?;
+        wrap(
+            alloc,
+            &mut lines,
+            LINE,
+            &nearest_moment(alloc, asked, story)?,
+        )?;
     }
     wrap(
         alloc,
@@ -134,7 +143,7 @@ pub fn sentences_of(
         &charge_sentence(alloc, asked, story)?,
     )?;
     if !asked.finding.problem.must().is_empty() {
-        wrap(alloc, &mut lines, LINE, &strict(alloc, asked)?)?;
+        wrap(alloc, &mut lines, LINE, &strict_sentence(alloc, asked)?)?;
     }
     Ok(lines)
 }
