@@ -23,7 +23,7 @@ fn name_of_number(alloc: Global, word: &str, number: u32) -> Result<String, Allo
 
 /// The names of so many numbers from a first one on: each is the word with the number behind it.
 #[tactic(auto, using(crate::proofs::Numbers::unbound))]
-fn all_numbered(alloc: Global, word: &str, first: u32, count: u32) -> Result<Names, AllocError>
+fn names_by_number(alloc: Global, word: &str, first: u32, count: u32) -> Result<Names, AllocError>
     requires room { first + count < 2 ^ 32 }
     ensures { IfOk result (λ names. names ≡ all_numbered word.now first count) }
 {
@@ -40,7 +40,7 @@ pub fn transaction_names(alloc: Global, count: u32) -> Result<Names, AllocError>
     requires room { count + 1 < 2 ^ 32 }
     ensures { IfOk result (λ names. names ≡ transaction_names count) }
 {
-    all_numbered(alloc, "t", 1, count)
+    names_by_number(alloc, "t", 1, count)
 }
 
 /// What stands between the line feeds of a text.
@@ -117,7 +117,7 @@ pub fn item_names(alloc: Global, text: &[u8], count: u32) -> Result<Option<Names
     ensures { IfOk result (λ found. found ≡ item_names count text.now) }
 {
     if text.is_empty() {
-        return match all_numbered(alloc, "i", 0, count) {
+        return match names_by_number(alloc, "i", 0, count) {
             Ok(names) => Ok(Some(names)),
             Err(error) => Err(error),
         };
@@ -172,7 +172,7 @@ fn names_for_lines(
     match found {
         Some(names) => Ok(names),
         None => {
-            let numbers = all_numbered(alloc, word, first, words.len() as u32)?;
+            let numbers = names_by_number(alloc, word, first, words.len() as u32)?;
             Ok(numbers)
         }
     }

@@ -1,9 +1,9 @@
--- Why `all_numbered` keeps its contract: the goals that are left to a proof of ours.
+-- Why `names_by_number` keeps its contract: the goals that are left to a proof of ours.
 use Rattle.std.proofs.Common.{◌≡◌, ◌+◌, ◌∙◌, ap, arith, length, refl}
 use Rattle.std.proofs.lemmas.List.FromFn.{length-map-range_with_len, map-range_with_len_more}
 use Rattle.esr_past.specs.Naming.{numbered, all_numbered}
 use Rattle.esr_past.proofs.Numbers.{unbound}
-use Rattle.esr_past.proofs.naming.all_numbered.Goals as goal
+use Rattle.esr_past.proofs.naming.names_by_number.Goals as goal
 
 pub bind-requires-clause-unbound : goal.bind-requires-clause-unbound
 bind-requires-clause-unbound c =
