@@ -83,7 +83,13 @@ fn writers_and_values(alloc: Global, links: Option<Links>) -> (Vec<u32>, Vec<i64
 {
     match links {
         None => (Vec::new(alloc), Vec::new(alloc)),
-        Some(Links { writers, values }) => (writers, values),
+        Some(
+            Links {
+                writers,
+                values,
+                ..
+            },
+        ) => (writers, values),
     }
 }
 

@@ -36,3 +36,16 @@ module _ (arcs : List Arc) (flow : List ℕ) (same : length flow ≡ length arcs
             let none : cond {A = ℕ} (eqb node v) (amount_at flow i) 0 ≡ 0 = ap (λ b. cond {A = ℕ} b (amount_at flow i) 0) (ne_eqb node v (λ q. ne (sym q))) in
             omega (arith, ap (λ l. get_or l v 0) is, other, so_far v l, more, none)
       ]
+
+  nothing : (b : Bool) → cond {A = ℕ} b 0 0 ≡ 0
+  nothing true = refl
+  nothing false = refl
+
+  -- with an arc more that carries nothing
+  pub sums_same : (end : Arc → ℕ) (sums : List ℕ) (nodes : ℕ) → amount_at flow i ≡ 0 → ((v : ℕ) → v < nodes → get_or sums v 0 ≡ carried (λ a. eqb (end a) v) (take i arcs) (take i flow))
+      → (v : ℕ) → v < nodes → get_or sums v 0 ≡ carried (λ a. eqb (end a) v) (take (i + 1) arcs) (take (i + 1) flow)
+  sums_same end sums nodes none so_far v l =
+      let more = carried_more (λ a. eqb (end a) v) in
+      let here = eqb (end (arc_at arcs i)) v in
+      let zero : cond {A = ℕ} here (amount_at flow i) 0 ≡ 0 = ap (λ n. cond {A = ℕ} here n 0) none ∙ nothing here in
+      omega (arith, so_far v l, more, zero)

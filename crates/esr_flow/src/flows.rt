@@ -69,6 +69,9 @@ fn sum_up(graph: &Graph, flow: &[u64], into: &mut [u64], from: &mut [u64]) -> Op
     let mut greatest = 0;
     for i in 0..flow.len() {
         let amount = flow[i];
+        if amount == 0 {
+            continue;
+        }
         let arc = graph.problem.arc(i as u32);
         if !add_on(arc, amount, into, from) {
             return None;

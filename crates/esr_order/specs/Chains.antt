@@ -5,7 +5,7 @@ use Rattle.esr_history.specs.Machine.{Schedule}
 use Rattle.esr_history.specs.Serial.{values_by}
 use Rattle.esr_history.specs.Queries.{updates_of}
 use Rattle.esr_order.specs.UpdateOperations.{UpdateOperation}
-use Rattle.esr_order.specs.declared.chains.Links.{Links}
+use Rattle.esr_order.specs.declared.links.Links.{Links}
 
 -- the updates that wrote an item, by their positions in commit order, and the values that they wrote last
 pub record Chain : Type 0 where

@@ -10,12 +10,15 @@ use std::alloc::{AllocError, Global};
 
 /// An accepted read or write of an item. The value is the one that was read, or the one that was
 /// written.
+///
+/// The numbers of the item and of the transaction do not lie side by side, as they do in an event: they were copied
+/// together then, in one load of what two stores had just written, and to wait for these took half of a walk.
 #[derive(Clone, Copy)]
 pub struct Access {
-    pub txn: TxnId,
     pub item: ItemId,
-    pub writes: bool,
     pub value: i64,
+    pub txn: TxnId,
+    pub writes: bool,
 }
 
 /// The value that a reply answers.

@@ -3,15 +3,8 @@
 ghost use Rattle.std.specs.Prelude.{◌≡◌, [], IfOk, OnOk, map};
 ghost use Rattle.esr_order.specs.Chains.{latest_writer, with_write, turned, seen_links};
 
+use crate::links::Links;
 use std::alloc::{AllocError, Global};
-
-/// The updates that wrote an item, by their positions in commit order, and the
-/// values that they wrote last.
-#[derive(Drop)]
-pub struct Links {
-    pub writers: Vec<u32>,
-    pub values: Vec<i64>,
-}
 
 impl Links {
     /// The chain of an item that no update wrote.
@@ -21,6 +14,7 @@ impl Links {
         Links {
             writers: Vec::new(alloc),
             values: Vec::new(alloc),
+            latest: None,
         }
     }
 
@@ -32,6 +26,7 @@ impl Links {
         Ok(Links {
             writers: Vec::with_capacity(alloc, writers)?,
             values: Vec::with_capacity(alloc, writers)?,
+            latest: None,
         })
     }
 }
@@ -40,7 +35,7 @@ impl Links {
 pub fn latest_writer(links: &Links) -> Option<u32>
     ensures { result ≡ latest_writer (seen_links links.now) }
 {
-    links.writers.last().copied()
+    links.latest
 }
 
 /// Adds a write of the update at a position to a chain that goes back, unless a later one of that update is there.
@@ -48,8 +43,9 @@ pub fn put_write(links: &mut Links, place: u32, value: i64) -> Result<(), AllocE
     ensures { OnOk result (seen_links links.new ≡ with_write (seen_links links.old) place value) }
 {
     if latest_writer(links) != Some(place) {
-        links.writers.push(place)?;
         links.values.push(value)?;
+        links.writers.push(place)?;
+        links.latest = Some(place);
     }
     Ok(())
 }
@@ -59,6 +55,7 @@ fn turn(links: &mut Links)
 {
     links.writers.reverse();
     links.values.reverse();
+    links.latest = links.writers.last().copied();
 }
 
 /// Turns chains round, each for itself.

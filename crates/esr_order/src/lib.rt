@@ -10,6 +10,7 @@ mod accesses;
 mod chains;
 mod index;
 mod laws;
+mod links;
 mod operations;
 mod order;
 mod scan;
@@ -18,10 +19,10 @@ mod ties;
 mod walk;
 
 pub use accesses::{Access, accesses_of};
-pub use chains::Links;
 pub use index::Index;
 pub use laws::{
     least_sets_are_listed, least_sets_meet, longer_histories_agree, parts_are_closed_sets,
 };
+pub use links::Links;
 pub use order::{Order, OrderError};
 pub use scan::{committed, updates_before};

@@ -19,7 +19,8 @@ ghost use Rattle.esr_order.specs.Chains.{chain_from, last_by_update, seen_links}
 ghost use Rattle.esr_order.specs.Later.{with_operation, readers_with, ties_of, turn_ties, AreLater};
 
 use crate::accesses::{Access, list_accesses};
-use crate::chains::{Links, latest_writer, put_write, turn_all};
+use crate::chains::{latest_writer, put_write, turn_all};
+use crate::links::Links;
 use crate::ties::{put_in_order, tie_back};
 use esr_history::{History, TxnId};
 use esr_items::Metric;

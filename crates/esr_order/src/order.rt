@@ -19,7 +19,7 @@ ghost use Rattle.esr_history.specs.Serial.{is_before};
 ghost use Rattle.esr_history.specs.Machine.{done};
 ghost use Rattle.esr_history.specs.Operations.{commit_order, operations};
 
-use crate::chains::Links;
+use crate::links::Links;
 use crate::operations::gather;
 use crate::scan::{committed, count_must, is_committed_query, updates_before};
 use crate::search::near_of;

@@ -1,10 +1,10 @@
 -- Why `sum_up` keeps its contract: the goals that are left to a proof of ours.
-use Rattle.std.proofs.Common.{rules, arith, ◌≡◌, ◌+◌, ◌∙◌, ◌<◌, true, get_or, length, set, sym, ap, subst, below_more}
+use Rattle.std.proofs.Common.{rules, arith, ◌≡◌, ℕ, ◌+◌, ◌∙◌, ◌<◌, true, get_or, length, set, sym, ap, subst, below_more, Option, Some, None, refl}
 use Rattle.esr_cert.specs.Network.{arc_at}
 use Rattle.esr_cert.specs.Flow.{within, amount_at}
 use Rattle.esr_flow.specs.Words.{Arc}
 use Rattle.esr_flow.specs.Graph.{arcs_of}
-use Rattle.esr_flow.proofs.SumLaws.{sums_more}
+use Rattle.esr_flow.proofs.SumLaws.{sums_more, sums_same}
 use Rattle.esr_flow.proofs.flows.sum_up.Goals as goal
 
 pub loop-i-preserved : goal.loop-i-preserved
@@ -23,4 +23,19 @@ loop-i-preserved c =
       most = below_more _ _ (λ k l. omega (arith, c.loop-i.invariant.most k l, c.max-greatest.ensures)) (omega (arith, c.max-greatest.ensures));
       to = sums_more arcs flow c.requires.flow i in_arcs (λ a. a.to) c.loop-i.into c.add_on.new.into nodes (omega (arith, c.loop-i.auto.into, c.requires.into)) ends.1 to c.loop-i.invariant.to;
       out = sums_more arcs flow c.requires.flow i in_arcs (λ a. a.from) c.loop-i.from c.add_on.new.from nodes (omega (arith, c.loop-i.auto.from, c.requires.from)) ends.0 out c.loop-i.invariant.out;
+    }
+
+nothing_within : (limit : Option ℕ) → within 0 limit ≡ true
+nothing_within None = refl
+nothing_within (Some limit) = search rules
+
+pub loop-i-preserved-then-amount-eq0 : goal.loop-i-preserved-then-amount-eq0
+loop-i-preserved-then-amount-eq0 c =
+    let arcs = arcs_of c.args.graph.now in let flow = c.args.flow.now in let i = c.loop-i.i in let nodes = c.args.graph.now.nodes in
+    let in_arcs : i < length arcs = omega (arith, c.loop-i-test.true, c.requires.flow) in
+    let none : amount_at flow i ≡ 0 = c.if-amount-eq0.true in record {
+      capacities = below_more _ _ c.loop-i.invariant.capacities (subst (λ n. within n (arc_at arcs i).capacity ≡ true) (sym none) (nothing_within (arc_at arcs i).capacity));
+      most = below_more _ _ c.loop-i.invariant.most (omega (arith, none));
+      to = sums_same arcs flow c.requires.flow i in_arcs (λ a. a.to) c.loop-i.into nodes none c.loop-i.invariant.to;
+      out = sums_same arcs flow c.requires.flow i in_arcs (λ a. a.from) c.loop-i.from nodes none c.loop-i.invariant.out;
     }
