@@ -42,6 +42,8 @@ PAUSE = 20e-6
 """The first pause behind these, in seconds."""
 DOUBLINGS = 8
 """How often the pause is doubled: up to 5 milliseconds."""
+TAKEN = 0.0005
+"""How many seconds pass until a lock that was taken is tried again."""
 ROUND = 0.01
 """In so long everybody who waits has tried again."""
 SHARE = 0.05
@@ -94,6 +96,24 @@ class Finding:
 
     def _repr_svg_(self) -> Optional[str]:
         return self._query._repr_svg_()
+
+
+class _Lock:
+    """A lock that is tried again after a while in place of being waited for.
+
+    Whoever finds it taken mostly has the interpreter from the thread that holds it, which goes on as soon as the other sleeps.
+    A lock that is waited for would wake one who waits at each release, and go from thread to thread at each call.
+    """
+
+    def __init__(self) -> None:
+        self.inner = threading.RLock()
+
+    def __enter__(self) -> None:
+        while not self.inner.acquire(False):
+            time.sleep(TAKEN)
+
+    def __exit__(self, kind: Optional[Type[BaseException]], error: object, trace: Optional[TracebackType]) -> None:
+        self.inner.release()
 
 
 class _Waiting:
@@ -188,8 +208,8 @@ class Bank:
         self._engine = c.Engine()
         self._patience = patience
         self._before_renewal = before_renewal
-        self._lock = threading.RLock()
-        self._ended = threading.Condition(self._lock)
+        self._lock = _Lock()
+        self._ended = threading.Condition(self._lock.inner)
         self._waits = _Waits()
         self._active: Set[int] = set()
         self._bodies = self.renewals = 0

@@ -1,14 +1,22 @@
-"""The shared library, declared for ctypes. Nothing here decides anything: each function is the C call of its name."""
+"""The shared library, declared for ctypes. Nothing here decides anything: each function is the C call of its name.
+
+The calls of single events keep the interpreter's lock, as they are shorter than giving it away and taking it again: between
+them threads change only where Python changes them. Those that may take long let others run meanwhile.
+"""
 
 import ctypes
 import ctypes.util
 import os
 import pathlib
+import types
 from ctypes import POINTER, c_bool, c_char_p, c_int64, c_size_t, c_uint8, c_uint32, c_uint64
 
 DONE, BAD_NAMES, NOT_A_COMMITTED_QUERY, TOO_SMALL, FULL, NO_MEMORY = 0, 5, 6, 7, 12, 13
 READ = 2
 BEGUN, VALUE, WROTE, COMMITTED, ABORTED, REFUSED = 1, 2, 3, 4, 5, 6
+QUICK = {"esr_begin_update", "esr_begin_query", "esr_read", "esr_write", "esr_read_for_update", "esr_commit", "esr_abort"}
+QUICK |= {"esr_totals_of", "esr_counts_of", "esr_account_of"}
+"""The calls that keep the interpreter's lock."""
 
 
 class Engine(ctypes.Structure):
@@ -49,8 +57,9 @@ def _path() -> str:
     return found
 
 
-def _load() -> ctypes.CDLL:
-    library = ctypes.CDLL(_path())
+def _load() -> types.SimpleNamespace:
+    path = _path()
+    library, quick, calls = ctypes.CDLL(path), ctypes.PyDLL(path), types.SimpleNamespace()
     engine, text = POINTER(Engine), (POINTER(c_uint8), c_size_t, POINTER(c_size_t))
     declared = {
         "esr_open_weighted": [engine, POINTER(c_int64), c_size_t, POINTER(c_uint32), c_size_t],
@@ -75,10 +84,12 @@ def _load() -> ctypes.CDLL:
         "esr_renew": [engine],
     }
     for name, arguments in declared.items():
-        call = getattr(library, name)
+        call = getattr(quick if name in QUICK else library, name)
         call.argtypes, call.restype = arguments, c_uint32
-    library.esr_close.argtypes, library.esr_close.restype = [engine], None
-    return library
+        setattr(calls, name, call)
+    calls.esr_close = library.esr_close
+    calls.esr_close.argtypes, calls.esr_close.restype = [engine], None
+    return calls
 
 
 library = _load()

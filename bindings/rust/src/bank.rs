@@ -1,24 +1,31 @@
 //! A bank: an engine that threads share, whose items have names, and which begins anew before its history is full.
 //!
 //! One lock is taken for each call of a transaction, and not for the whole of it, so others go on in between. What is
-//! blocked is tried again after a pause, as long as its patience lasts; who waits for whom is kept beside the engine, and
-//! of a ring of waiters the youngest is given up at once. Once the history is nearly full nothing begins; when the last active transaction has
-//! ended, whoever wants to begin renews the engine.
+//! blocked sleeps until it may try again, as long as its patience lasts; who waits for whom is kept beside the engine
+//! (`waits`), and of a ring of waiters the youngest is given up at once. Once the history is nearly full nothing begins;
+//! when the last active transaction has ended, whoever wants to begin renews the engine.
 //!
 //! Each transaction is ended by the value that stands for it, also where a body fails or panics, so the count of active
 //! ones comes down to 0 in any case, and a renewal never waits for ever.
 //!
-//! Rejected: to wake who is blocked when the other ends. A counter that eight threads change then pays for a wake-up with
-//! each commit, and they are slower together than one alone; a short sleep costs nobody else anything.
+//! A bank is quickest while one thread uses it for some time: its engine is then in the cache of one processor, and its
+//! lock is free. So nobody is handed an item that has become free, which would let it stand idle until that thread runs;
+//! whoever comes first takes it, and whoever is blocked leaves the field at once.
+//!
+//! Rejected: pauses alone. They are too short for a counter that eight threads change, who all come back while one is at
+//! work, or too long for a transfer, for whose one account others wait while it waits for the other. To wake whoever may
+//! try again, all of them and each time, or to try a few times at once: then threads take turns at each transaction, and
+//! each has to fetch what the other's processor has in its cache.
 
 use crate::{
-    Counts, Engine, Error, Event, Finding, MOST_ENTRIES, Patience, Refusal, Reply, Totals, Txn,
+    Counts, Engine, Error, Event, Finding, MOST_ENTRIES, Patience, Refusal, Reply, Standing,
+    Totals, Txn,
     patience::{Rounds, Waiting},
-    waits::{Age, Waits},
+    waits::{Age, Holds, Waiter, Waits},
 };
 use std::{
     cell::Cell,
-    collections::{HashMap, HashSet},
+    collections::HashMap,
     fmt,
     sync::{Condvar, Mutex, MutexGuard, PoisonError},
     time::Instant,
@@ -44,7 +51,8 @@ pub struct Report {
 /// What the lock is round.
 struct Shared {
     engine: Engine,
-    active: HashSet<Txn>,
+    /// How many transactions are active.
+    active: u64,
     /// How many bodies have begun, each counted once however often it is begun anew.
     bodies: u64,
     renewals: u64,
@@ -58,24 +66,23 @@ impl Shared {
         counts.transactions_left == 0 || counts.entries_left <= NEARLY_FULL
     }
 
-    /// Gives an event of a transaction once. What is blocked is noted as waiting.
+    /// Gives an event of a transaction at an item once. What another one blocks is noted as waiting.
     fn step_of(
         &mut self,
-        txn: Txn,
-        age: Age,
+        waiter: Waiter,
+        item: u32,
         event: impl FnOnce(&mut Engine) -> Result<Reply, Error>,
     ) -> Result<Reply, Error> {
+        let txn = waiter.txn;
         if self.waits.has_given_up(txn) {
             return Err(Error::Deadlock);
         }
+        self.waits.end(txn);
         let reply = event(&mut self.engine)?;
-        match reply {
-            Reply::Refused(
-                Refusal::BlockedByLock(other)
-                | Refusal::BlockedByImport(other)
-                | Refusal::BlockedByExport(other),
-            ) if other != txn => self.waits.begin(txn, age, other),
-            _ => self.waits.end(txn),
+        if let Reply::Refused(why) = reply {
+            if let Some(other) = why.other_than(txn) {
+                self.waits.begin(waiter, item, other);
+            }
         }
         if self.waits.has_given_up(txn) {
             return Err(Error::Deadlock);
@@ -85,7 +92,7 @@ impl Shared {
 
     /// Forgets a transaction, which has ended. Whom it waited for, where it had been given up.
     fn forget(&mut self, txn: Txn) -> Option<Txn> {
-        self.active.remove(&txn);
+        self.active -= 1;
         self.waits.forget(txn)
     }
 }
@@ -226,7 +233,7 @@ impl BankBuilder {
             patience: self.patience.unwrap_or_default(),
             shared: Mutex::new(Shared {
                 engine: Engine::open_weighted(&self.opening, &self.weights)?,
-                active: HashSet::new(),
+                active: 0,
                 bodies: 0,
                 renewals: 0,
                 waits: Waits::default(),
@@ -432,13 +439,13 @@ impl Bank {
     fn with_room(&self, waiting: &mut Waiting) -> Result<MutexGuard<'_, Shared>, Error> {
         let mut shared = self.lock();
         while shared.is_nearly_full() {
-            if shared.active.is_empty() {
+            if shared.active == 0 {
                 self.renew_now(&mut shared)?;
-            } else if waiting.left().is_zero() {
+            } else if waiting.rest().is_zero() {
                 return Err(Error::HistoryFull);
             } else {
                 let begun = Instant::now();
-                let waited = self.ended.wait_timeout(shared, waiting.left());
+                let waited = self.ended.wait_timeout(shared, waiting.rest());
                 shared = waited.unwrap_or_else(PoisonError::into_inner).0;
                 waiting.spend(begun.elapsed());
             }
@@ -475,15 +482,18 @@ impl Bank {
             Reply::Refused(why) => return Err(Error::Refused(why)),
             other => unreachable!("{other:?}"),
         };
-        shared.active.insert(txn);
+        shared.active += 1;
         let age = age.unwrap_or_else(|| {
             shared.bodies += 1;
             Age(shared.bodies)
         });
         Ok(Handle {
             bank: self,
-            txn,
-            age,
+            waiter: Waiter {
+                txn,
+                age,
+                holds: Holds::Nothing,
+            },
             waiting,
             stop: None,
             is_active: true,
@@ -497,11 +507,11 @@ impl Bank {
         mut body: impl FnMut(&mut Handle<'_>) -> Result<T, E>,
         end: impl Fn(Handle<'_>, T) -> Result<R, Error>,
     ) -> Result<R, E> {
-        let mut waiting = Waiting::watched(self.patience);
+        let mut waiting = Waiting::of_bank(self.patience);
         let mut age = None;
         loop {
             let mut handle = self.begin(event, age, waiting)?;
-            age = Some(handle.age);
+            age = Some(handle.waiter.age);
             let answer = body(&mut handle);
             let why = match (handle.stop, answer) {
                 (None, Ok(value)) => return end(handle, value).map_err(E::from),
@@ -517,7 +527,7 @@ impl Bank {
                 (Error::HistoryFull, _) => waiting.spend_share(),
                 _ => _ = waiting.pause_for_attempt(),
             }
-            if waiting.left().is_zero() {
+            if waiting.rest().is_zero() {
                 return Err(why.into());
             }
         }
@@ -803,8 +813,10 @@ impl Bank {
 
     /// Whether a transaction of the history that had been renewed so often has ended.
     fn has_ended(&self, txn: Txn, renewals: u64) -> bool {
-        let shared = self.lock();
-        shared.renewals != renewals || !shared.active.contains(&txn)
+        let mut shared = self.lock();
+        let account = shared.engine.account(txn);
+        shared.renewals != renewals
+            || account.map_or(true, |account| account.standing != Standing::Active)
     }
 
     /// Waits until a transaction has ended, as long as patience lasts.
@@ -835,8 +847,7 @@ impl fmt::Debug for Closing<'_> {
 /// An active transaction. It is aborted where it is dropped before it has committed.
 struct Handle<'a> {
     bank: &'a Bank,
-    txn: Txn,
-    age: Age,
+    waiter: Waiter,
     waiting: Waiting,
     /// Why it has to be given up, once it has. Nothing is answered from then on.
     stop: Option<Error>,
@@ -844,8 +855,7 @@ struct Handle<'a> {
 }
 
 impl<'a> Handle<'a> {
-    /// Gives events in turn under one lock, until one is refused; that one's try is made again after a pause, and all of
-    /// them with it.
+    /// Gives events in turn under one lock, until one is refused; where that may pass, all of them are given again later.
     fn step(
         &mut self,
         events: impl Fn(&mut Shared) -> Result<Reply, Error>,
@@ -864,7 +874,11 @@ impl<'a> Handle<'a> {
                 }
                 Ok(Reply::Refused(why)) => return Err(Error::Refused(why)),
                 Err(why @ (Error::Deadlock | Error::HistoryFull)) => return Err(self.stop_for(why)),
-                answer => return answer,
+                Err(why) => return Err(why),
+                accepted => {
+                    self.waiter.holds = Holds::Locks;
+                    return accepted;
+                }
             }
         }
     }
@@ -875,9 +889,12 @@ impl<'a> Handle<'a> {
     }
 
     fn read(&mut self, name: &str) -> Result<i64, Error> {
-        let (txn, age, item) = (self.txn, self.age, self.bank.number_of(name)?);
+        let (waiter, item) = (self.waiter, self.bank.number_of(name)?);
+        let txn = waiter.txn;
         match self.step(|shared| {
-            shared.step_of(txn, age, |engine| engine.step(Event::Read { txn, item }))
+            shared.step_of(waiter, item, |engine| {
+                engine.step(Event::Read { txn, item })
+            })
         })? {
             Reply::Value(value) => Ok(value),
             other => unreachable!("{other:?}"),
@@ -885,7 +902,7 @@ impl<'a> Handle<'a> {
     }
 
     fn charged(&self) -> u64 {
-        let account = self.bank.lock().engine.account(self.txn);
+        let account = self.bank.lock().engine.account(self.waiter.txn);
         account.map_or(0, |account| account.charged)
     }
 
@@ -894,7 +911,7 @@ impl<'a> Handle<'a> {
         let mut shared = self.bank.lock();
         shared.engine.step(event)?;
         self.is_active = false;
-        shared.forget(self.txn);
+        shared.forget(self.waiter.txn);
         self.bank.tell_of_the_last(&mut shared);
         Ok(shared)
     }
@@ -907,26 +924,26 @@ impl<'a> Handle<'a> {
     fn abort(&mut self) -> Option<Txn> {
         let mut shared = self.bank.lock();
         // an engine keeps room for the end of each active transaction, so this is done
-        let _ = shared.engine.abort(self.txn);
+        let _ = shared.engine.abort(self.waiter.txn);
         self.is_active = false;
-        let waited_for = shared.forget(self.txn);
+        let waited_for = shared.forget(self.waiter.txn);
         self.bank.tell_of_the_last(&mut shared);
         waited_for
     }
 
     fn commit(self) -> Result<(), Error> {
-        let txn = self.txn;
+        let txn = self.waiter.txn;
         self.end(Event::Commit { txn }).map(drop)
     }
 
     fn commit_and_audit(self) -> Result<Finding, Error> {
-        let txn = self.txn;
+        let txn = self.waiter.txn;
         let mut shared = self.end(Event::Commit { txn })?;
         shared.engine.audit(txn)
     }
 
     fn commit_as_due(self) -> Result<Report, Error> {
-        let txn = self.txn;
+        let txn = self.waiter.txn;
         let mut shared = self.end(Event::Commit { txn })?;
         shared.due.push(txn);
         Ok(Report {
@@ -939,7 +956,7 @@ impl<'a> Handle<'a> {
 impl Bank {
     /// Wakes those who wait to begin, where nothing is active any more.
     fn tell_of_the_last(&self, shared: &mut Shared) {
-        if shared.active.is_empty() && shared.is_nearly_full() {
+        if shared.active == 0 && shared.is_nearly_full() {
             self.ended.notify_all();
         }
     }
@@ -997,11 +1014,12 @@ impl BankUpdate<'_, '_> {
     /// # Errors
     /// Those of [`read`](BankUpdate::read), and `Refused` where the value is out of range.
     pub fn write(&mut self, name: &str, value: i64) -> Result<(), Error> {
-        let (txn, age) = (self.handle.txn, self.handle.age);
+        let waiter = self.handle.waiter;
+        let txn = waiter.txn;
         let item = self.handle.bank.number_of(name)?;
         let write = Event::Write { txn, item, value };
         self.handle
-            .step(|shared| shared.step_of(txn, age, |engine| engine.step(write)))
+            .step(|shared| shared.step_of(waiter, item, |engine| engine.step(write)))
             .map(drop)
     }
 
@@ -1017,17 +1035,18 @@ impl BankUpdate<'_, '_> {
     /// # Errors
     /// Those of [`write`](BankUpdate::write).
     pub fn add(&mut self, name: &str, more: i64) -> Result<i64, Error> {
-        let (txn, age) = (self.handle.txn, self.handle.age);
+        let waiter = self.handle.waiter;
+        let txn = waiter.txn;
         let item = self.handle.bank.number_of(name)?;
         let sum = Cell::new(0);
         self.handle.step(|shared| {
-            let reply = shared.step_of(txn, age, |engine| engine.step_for_update(txn, item))?;
+            let reply = shared.step_of(waiter, item, |engine| engine.step_for_update(txn, item))?;
             let Reply::Value(value) = reply else {
                 return Ok(reply);
             };
             sum.set(value.saturating_add(more));
             let value = sum.get();
-            shared.step_of(txn, age, |engine| {
+            shared.step_of(waiter, item, |engine| {
                 engine.step(Event::Write { txn, item, value })
             })
         })?;
@@ -1054,7 +1073,7 @@ impl BankUpdate<'_, '_> {
 impl fmt::Debug for BankUpdate<'_, '_> {
     fn fmt(&self, f: &mut fmt::Formatter<'_>) -> fmt::Result {
         f.debug_struct("BankUpdate")
-            .field("txn", &self.handle.txn)
+            .field("txn", &self.handle.waiter.txn)
             .finish()
     }
 }
@@ -1109,7 +1128,7 @@ impl BankQuery<'_, '_> {
 impl fmt::Debug for BankQuery<'_, '_> {
     fn fmt(&self, f: &mut fmt::Formatter<'_>) -> fmt::Result {
         f.debug_struct("BankQuery")
-            .field("txn", &self.handle.txn)
+            .field("txn", &self.handle.waiter.txn)
             .finish()
     }
 }

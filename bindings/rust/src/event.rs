@@ -166,6 +166,16 @@ impl Refusal {
             Refusal::BlockedByLock(_) | Refusal::BlockedByImport(_) | Refusal::BlockedByExport(_)
         )
     }
+
+    /// Who is in the way of a transaction, where it is another: a read of a query may be in the way of its own limit.
+    pub(crate) fn other_than(self, txn: Txn) -> Option<Txn> {
+        match self {
+            Refusal::BlockedByLock(other)
+            | Refusal::BlockedByImport(other)
+            | Refusal::BlockedByExport(other) => Some(other).filter(|other| *other != txn),
+            _ => None,
+        }
+    }
 }
 
 impl fmt::Display for Refusal {

@@ -98,7 +98,7 @@ pub struct Engine {
 // SAFETY: the engine's memory is reached through it alone, and the library keeps nothing of a thread.
 unsafe impl Send for Engine {}
 
-fn done(status: u32) -> Result<(), Error> {
+fn check(status: u32) -> Result<(), Error> {
     match status {
         0 => Ok(()),
         1 => Err(Error::TooManyItems),
@@ -191,7 +191,7 @@ fn text(bytes: Vec<u8>) -> String {
 }
 
 /// A list that a call writes, at its second try where the first room was too small.
-fn listed<T: Copy>(
+fn list_by<T: Copy>(
     blank: T,
     room: usize,
     mut call: impl FnMut(*mut T, usize, &mut usize) -> u32,
@@ -203,7 +203,7 @@ fn listed<T: Copy>(
         list.resize(count, blank);
         status = call(list.as_mut_ptr(), list.len(), &mut count);
     }
-    done(status)?;
+    check(status)?;
     list.truncate(count);
     Ok(list)
 }
@@ -222,7 +222,7 @@ impl Engine {
     pub fn open(opening: &[i64]) -> Result<Engine, Error> {
         let mut engine = Engine { raw: sys::CLOSED };
         // SAFETY: the pointer and the length are those of one slice, which is borrowed for the call.
-        done(unsafe { sys::esr_open(&mut engine.raw, opening.as_ptr(), opening.len()) })?;
+        check(unsafe { sys::esr_open(&mut engine.raw, opening.as_ptr(), opening.len()) })?;
         Ok(engine)
     }
 
@@ -246,7 +246,7 @@ impl Engine {
         let mut engine = Engine { raw: sys::CLOSED };
         let (values, items) = (opening.as_ptr(), opening.len());
         // SAFETY: the pointers and the lengths are those of two slices, which are borrowed for the call.
-        done(unsafe {
+        check(unsafe {
             sys::esr_open_weighted(
                 &mut engine.raw,
                 values,
@@ -275,7 +275,7 @@ impl Engine {
     pub fn step(&mut self, event: Event) -> Result<Reply, Error> {
         let mut reply = sys::Reply::default();
         let (raw, out) = (&mut self.raw, &mut reply);
-        done(match event {
+        check(match event {
             Event::BeginUpdate { limit } => sys::esr_begin_update(raw, limit, out),
             Event::BeginQuery { limit, strict } => sys::esr_begin_query(raw, limit, strict, out),
             Event::Read { txn, item } => sys::esr_read(raw, txn.0, item, out),
@@ -286,7 +286,7 @@ impl Engine {
         Ok(reply_of(reply))
     }
 
-    fn accepted(&mut self, event: Event) -> Result<Reply, Error> {
+    fn accept(&mut self, event: Event) -> Result<Reply, Error> {
         match self.step(event)? {
             Reply::Refused(why) => Err(Error::Refused(why)),
             reply => Ok(reply),
@@ -333,12 +333,12 @@ impl Engine {
         replies.truncate(answered);
         (
             replies.into_iter().map(reply_of).collect(),
-            done(status).err(),
+            check(status).err(),
         )
     }
 
-    fn begun(&mut self, event: Event) -> Result<Txn, Error> {
-        match self.accepted(event)? {
+    fn begin(&mut self, event: Event) -> Result<Txn, Error> {
+        match self.accept(event)? {
             Reply::Begun(txn) => Ok(txn),
             other => unreachable!("{other:?}"),
         }
@@ -356,7 +356,7 @@ impl Engine {
     /// # Errors
     /// Those of [`step`](Engine::step), and `Refused`.
     pub fn begin_update(&mut self, limit: u64) -> Result<Txn, Error> {
-        self.begun(Event::BeginUpdate { limit })
+        self.begin(Event::BeginUpdate { limit })
     }
 
     /// Begins a query that is not strict.
@@ -371,7 +371,7 @@ impl Engine {
     /// # Errors
     /// Those of [`step`](Engine::step), and `Refused`.
     pub fn begin_query(&mut self, limit: u64) -> Result<Txn, Error> {
-        self.begun(Event::BeginQuery {
+        self.begin(Event::BeginQuery {
             limit,
             strict: false,
         })
@@ -389,7 +389,7 @@ impl Engine {
     /// # Errors
     /// Those of [`step`](Engine::step), and `Refused`.
     pub fn read(&mut self, txn: Txn, item: u32) -> Result<i64, Error> {
-        match self.accepted(Event::Read { txn, item })? {
+        match self.accept(Event::Read { txn, item })? {
             Reply::Value(value) => Ok(value),
             other => unreachable!("{other:?}"),
         }
@@ -408,7 +408,7 @@ impl Engine {
     /// # Errors
     /// Those of [`step`](Engine::step), and `Refused`.
     pub fn write(&mut self, txn: Txn, item: u32, value: i64) -> Result<(), Error> {
-        self.accepted(Event::Write { txn, item, value }).map(drop)
+        self.accept(Event::Write { txn, item, value }).map(drop)
     }
 
     /// Ends a transaction, and keeps what it wrote.
@@ -425,7 +425,7 @@ impl Engine {
     /// # Errors
     /// Those of [`step`](Engine::step), and `Refused`.
     pub fn commit(&mut self, txn: Txn) -> Result<(), Error> {
-        self.accepted(Event::Commit { txn }).map(drop)
+        self.accept(Event::Commit { txn }).map(drop)
     }
 
     /// Ends a transaction, and takes back what it wrote.
@@ -442,7 +442,7 @@ impl Engine {
     /// # Errors
     /// Those of [`step`](Engine::step), and `Refused`.
     pub fn abort(&mut self, txn: Txn) -> Result<(), Error> {
-        self.accepted(Event::Abort { txn }).map(drop)
+        self.accept(Event::Abort { txn }).map(drop)
     }
 
     /// Reads an item that the update is going to write: it takes the write lock first, so that nobody comes between this
@@ -470,7 +470,7 @@ impl Engine {
 
     pub(crate) fn step_for_update(&mut self, txn: Txn, item: u32) -> Result<Reply, Error> {
         let mut reply = sys::Reply::default();
-        done(sys::esr_read_for_update(
+        check(sys::esr_read_for_update(
             &mut self.raw,
             txn.0,
             item,
@@ -489,7 +489,7 @@ impl Engine {
     /// ```
     pub fn counts(&mut self) -> Counts {
         let mut counts = sys::Counts::default();
-        done(sys::esr_counts_of(&mut self.raw, &mut counts)).expect("an open engine has counts");
+        check(sys::esr_counts_of(&mut self.raw, &mut counts)).expect("an open engine has counts");
         Counts {
             entries: counts.entries,
             transactions: counts.transactions,
@@ -513,7 +513,7 @@ impl Engine {
     /// `NotBegun`.
     pub fn account(&mut self, txn: Txn) -> Result<Account, Error> {
         let mut account = sys::Account::default();
-        done(sys::esr_account_of(&mut self.raw, txn.0, &mut account))?;
+        check(sys::esr_account_of(&mut self.raw, txn.0, &mut account))?;
         Ok(Account {
             is_query: account.query,
             standing: match account.standing {
@@ -539,7 +539,7 @@ impl Engine {
     /// ```
     pub fn totals(&mut self) -> Totals {
         let mut totals = sys::Totals::default();
-        done(sys::esr_totals_of(&mut self.raw, &mut totals)).expect("an open engine has totals");
+        check(sys::esr_totals_of(&mut self.raw, &mut totals)).expect("an open engine has totals");
         Totals {
             import: u128::from(totals.high) << 64 | u128::from(totals.low),
             entries: totals.entries,
@@ -558,7 +558,7 @@ impl Engine {
     /// `NoMemory`.
     pub fn values(&mut self) -> Result<Vec<i64>, Error> {
         // SAFETY: the pointer and the length are those of one list.
-        listed(0, MOST_ITEMS, |values, room, count| unsafe {
+        list_by(0, MOST_ITEMS, |values, room, count| unsafe {
             sys::esr_values(&mut self.raw, values, room, count)
         })
     }
@@ -580,7 +580,7 @@ impl Engine {
     /// `NotACommittedQuery`, `NoMemory`.
     pub fn audit(&mut self, query: Txn) -> Result<Finding, Error> {
         let mut found = sys::Finding::default();
-        let before = listed(0, 16, |before, room, count| {
+        let before = list_by(0, 16, |before, room, count| {
             // SAFETY: the pointer and the length are those of one list.
             let status =
                 unsafe { sys::esr_audit(&mut self.raw, query.0, before, room, &mut found) };
@@ -610,7 +610,7 @@ impl Engine {
     /// `NotACommittedQuery`, `NoMemory`.
     pub fn bundle(&mut self, query: Txn) -> Result<Vec<u8>, Error> {
         // SAFETY: the pointer and the length are those of one list.
-        listed(0, 4_096, |bytes, room, count| unsafe {
+        list_by(0, 4_096, |bytes, room, count| unsafe {
             sys::esr_bundle(&mut self.raw, query.0, bytes, room, count)
         })
     }
@@ -632,7 +632,7 @@ impl Engine {
     pub fn script(&mut self, names: &[&str]) -> Result<String, Error> {
         let names = names.join("\n");
         // SAFETY: the pointers and the lengths are those of two lists.
-        let bytes = listed(0, 4_096, |bytes, room, count| unsafe {
+        let bytes = list_by(0, 4_096, |bytes, room, count| unsafe {
             let (raw, length) = (&mut self.raw, names.len());
             sys::esr_history_script(raw, names.as_ptr(), length, bytes, room, count)
         })?;
@@ -640,10 +640,10 @@ impl Engine {
     }
 
     /// What a call tells of a query, by these names of the items.
-    fn told(&mut self, call: sys::Telling, query: Txn, names: &[&str]) -> Result<String, Error> {
+    fn tell(&mut self, call: sys::Telling, query: Txn, names: &[&str]) -> Result<String, Error> {
         let names = names.join("\n");
         // SAFETY: the pointers and the lengths are those of two lists.
-        let bytes = listed(0, 4_096, |bytes, room, count| unsafe {
+        let bytes = list_by(0, 4_096, |bytes, room, count| unsafe {
             let (raw, length) = (&mut self.raw, names.len());
             call(raw, query.0, names.as_ptr(), length, bytes, room, count)
         })?;
@@ -667,7 +667,7 @@ impl Engine {
     /// # Errors
     /// `NotACommittedQuery`, `BadNames`, `NoMemory`.
     pub fn explain(&mut self, query: Txn, names: &[&str]) -> Result<String, Error> {
-        self.told(sys::esr_explain, query, names)
+        self.tell(sys::esr_explain, query, names)
     }
 
     /// The audit of a committed query as a picture, as `esr picture` draws it: one SVG. Items are called as in
@@ -685,7 +685,7 @@ impl Engine {
     /// # Errors
     /// Those of [`explain`](Engine::explain).
     pub fn picture(&mut self, query: Txn, names: &[&str]) -> Result<String, Error> {
-        self.told(sys::esr_picture, query, names)
+        self.tell(sys::esr_picture, query, names)
     }
 
     /// The ledger of the history so far as CSV, as `esr ledger` writes it: below a line of the names of the fields a line
@@ -702,7 +702,7 @@ impl Engine {
     /// `NoMemory`.
     pub fn ledger(&mut self) -> Result<String, Error> {
         // SAFETY: the pointer and the length are those of one list.
-        let bytes = listed(0, 4_096, |bytes, room, count| unsafe {
+        let bytes = list_by(0, 4_096, |bytes, room, count| unsafe {
             sys::esr_ledger(&mut self.raw, bytes, room, count)
         })?;
         Ok(text(bytes))
@@ -725,7 +725,7 @@ impl Engine {
     /// # Errors
     /// `TransactionActive`, `NoMemory`: then nothing has changed.
     pub fn renew(&mut self) -> Result<(), Error> {
-        done(sys::esr_renew(&mut self.raw))
+        check(sys::esr_renew(&mut self.raw))
     }
 
     /// The same from every state: what is active is aborted.
@@ -742,7 +742,7 @@ impl Engine {
     /// # Errors
     /// `NoMemory`: then nothing has changed, and what was active still is.
     pub fn renew_aborting(&mut self) -> Result<(), Error> {
-        done(sys::esr_renew_aborting(&mut self.raw))
+        check(sys::esr_renew_aborting(&mut self.raw))
     }
 }
 

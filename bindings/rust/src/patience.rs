@@ -4,9 +4,9 @@
 //! all its attempts. A count of tries would be used up at once where whoever is waited for is not let run meanwhile, as
 //! happens on a machine that is busy.
 //!
-//! Each pause is longer than the one before, up to some milliseconds, and has a draw of its own: two that were blocked by
-//! each other and waited alike would meet again. The first rounds only let others run, since a counter that many change
-//! is free again at once.
+//! Where a bank wakes whoever may try again, nothing is tried before. Else each pause is longer than the one before, up to
+//! some milliseconds, and has a draw of its own: two that were blocked by each other and waited alike would meet again.
+//! The first rounds only let others run, since a counter that many change is free again at once.
 //!
 //! Whoever waits holds what others may wait for, so an attempt waits for an event only for its share. Then it is aborted,
 //! and begun anew once those who wait for it have had the time to notice. The share doubles from attempt to attempt: where
@@ -20,12 +20,8 @@ use std::{
     time::{Duration, Instant},
 };
 
-/// How many rounds only let others run.
-const YIELDS: u32 = 4;
-/// The first pause behind these.
-const PAUSE: Duration = Duration::from_micros(20);
-/// How often the pause is doubled: up to 5 milliseconds.
-const DOUBLINGS: u32 = 8;
+/// No pause is longer.
+const LONGEST: Duration = Duration::from_millis(5);
 /// In so long everybody who waits has tried again.
 const ROUND: Duration = Duration::from_millis(10);
 
@@ -77,6 +73,10 @@ impl Default for Patience {
 #[derive(Clone, Copy, Debug)]
 pub(crate) struct Waiting {
     left: Duration,
+    /// How many rounds only let others run.
+    yields: u32,
+    /// The first pause behind these, which is doubled from round to round.
+    pause: Duration,
     /// How long this attempt may wait for one event.
     share: Duration,
     /// Whether it has waited so long.
@@ -91,32 +91,37 @@ pub(crate) struct Rounds {
 }
 
 /// A time between the half of it and the whole.
-fn drawn(most: Duration) -> Duration {
-    let draw = RandomState::new().build_hasher().finish();
-    most.saturating_mul(8 + (draw % 9) as u32) / 16
+fn draw(most: Duration) -> Duration {
+    let number = RandomState::new().build_hasher().finish();
+    most.saturating_mul(8 + (number % 9) as u32) / 16
 }
 
 impl Waiting {
     /// Where nobody finds rings of waiters: an attempt may be in one from its first wait on.
-    pub(crate) fn unwatched(patience: Patience) -> Waiting {
+    pub(crate) fn of_engine(patience: Patience) -> Waiting {
         Waiting {
             left: patience.total,
-            share: drawn(Duration::from_millis(2)),
+            yields: 4,
+            pause: Duration::from_micros(20),
+            share: draw(Duration::from_millis(2)),
             has_given_up: false,
         }
     }
 
-    /// Where rings of waiters are found, but for those in which somebody has come to its own limit.
-    pub(crate) fn watched(patience: Patience) -> Waiting {
+    /// Where rings of waiters are found, but for those in which somebody has come to its own limit, and whoever is waited
+    /// for is woken.
+    pub(crate) fn of_bank(patience: Patience) -> Waiting {
         Waiting {
             left: patience.total,
-            share: drawn(Duration::from_millis(50)),
+            yields: 0,
+            pause: Duration::from_millis(1),
+            share: draw(Duration::from_millis(50)),
             has_given_up: false,
         }
     }
 
     /// The patience that is left.
-    pub(crate) fn left(&self) -> Duration {
+    pub(crate) fn rest(&self) -> Duration {
         self.left
     }
 
@@ -130,15 +135,18 @@ impl Waiting {
         self.spend(self.share);
     }
 
-    /// Waits a little, longer in each round. False, and at once, where no patience is left.
+    /// Waits a little, longer in each round, or until this thread is woken. False, and at once, where no patience is left.
     pub(crate) fn pause(&mut self, rounds: &mut Rounds) -> bool {
         if self.left.is_zero() {
             return false;
         }
         let begun = Instant::now();
-        match rounds.count.checked_sub(YIELDS) {
+        match rounds.count.checked_sub(self.yields) {
             None => thread::yield_now(),
-            Some(n) => thread::sleep(drawn(PAUSE * (1 << n.min(DOUBLINGS))).min(self.left)),
+            Some(n) => {
+                let most = self.pause.saturating_mul(1 << n.min(16)).min(LONGEST);
+                thread::park_timeout(draw(most).min(self.left));
+            }
         }
         let waited = begun.elapsed();
         rounds.count = rounds.count.saturating_add(1);
@@ -161,7 +169,7 @@ impl Waiting {
     /// Waits until others have tried again, before the next attempt, which may wait twice as long. Whether patience is left.
     pub(crate) fn pause_for_attempt(&mut self) -> bool {
         let begun = Instant::now();
-        thread::sleep(drawn(self.share.min(ROUND)).min(self.left));
+        thread::sleep(draw(self.share.min(ROUND)).min(self.left));
         self.spend(begun.elapsed());
         self.share = self.share.saturating_mul(2);
         self.has_given_up = false;
@@ -176,18 +184,18 @@ mod tests {
     /// The patience is gone after as long as was said, and every pause behind it is none.
     #[test]
     fn patience_ends() {
-        let mut waiting = Waiting::watched(Patience::of(Duration::from_millis(30)));
+        let mut waiting = Waiting::of_bank(Patience::of(Duration::from_millis(30)));
         let (begun, mut rounds) = (Instant::now(), Rounds::default());
         while waiting.pause(&mut rounds) {}
         assert!(begun.elapsed() >= Duration::from_millis(30));
-        assert!(rounds.count > YIELDS && rounds.waited >= Duration::from_millis(30));
-        assert!(!waiting.pause_for_attempt() && waiting.left().is_zero());
+        assert!(rounds.count > 1 && rounds.waited >= Duration::from_millis(30));
+        assert!(!waiting.pause_for_attempt() && waiting.rest().is_zero());
     }
 
     /// An event is waited for as long as the share of its attempt, which doubles.
     #[test]
     fn shares_grow() {
-        let mut waiting = Waiting::unwatched(Patience::default());
+        let mut waiting = Waiting::of_engine(Patience::default());
         let mut before = Duration::ZERO;
         for _ in 0..4 {
             let mut rounds = Rounds::default();

@@ -194,7 +194,7 @@ pub fn transact<T>(
     patience: Patience,
     mut body: impl FnMut(&mut Update<'_>) -> Result<T, Error>,
 ) -> Result<T, Error> {
-    let mut waiting = Waiting::unwatched(patience);
+    let mut waiting = Waiting::of_engine(patience);
     loop {
         match attempt(engine, limit, &mut waiting, &mut body) {
             // (the body may also answer a refusal of another transaction, which has been waited for already)

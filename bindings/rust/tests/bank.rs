@@ -258,6 +258,7 @@ fn a_soak_loses_nothing() {
     let (moved, reports) = (AtomicU64::new(0), AtomicU64::new(0));
     let clerk = || {
         while Instant::now() < end {
+            let begun = Instant::now();
             let (sum, finding) = bank
                 .report(5_000, |report| {
                     names
@@ -269,7 +270,7 @@ fn a_soak_loses_nothing() {
             assert!(sum.abs_diff(1000 * ACCOUNTS as i64) <= finding.distance);
             assert!(finding.distance <= finding.import);
             reports.fetch_add(1, Ordering::Relaxed);
-            thread::sleep(Duration::from_millis(1));
+            thread::sleep(begun.elapsed()); // an audit goes over the history under the bank's lock
         }
     };
     let client = |mut random: u64| {
