@@ -47,7 +47,7 @@ static void day(esr_engine *engine) {
     answered(esr_commit(engine, 2, &reply), &reply, ESR_COMMITTED);
 }
 
-/* The report is 100 from the state before the transfer, and was charged 200. */
+/* The report is 100 from the state before the transfer, and was charged 200. What is refused leaves the finding alone. */
 static void audit(esr_engine *engine) {
     uint32_t before[2] = {7, 7};
     esr_finding finding = {0, 0, 9};
@@ -58,13 +58,15 @@ static void audit(esr_engine *engine) {
     WANT(finding.count, 0);
     WANT(before[0], 7);
     WANT(esr_audit(engine, 1, before, 2, &finding), ESR_NOT_A_COMMITTED_QUERY);
+    WANT(finding.distance, 100);
     WANT(esr_totals_of(engine, &totals), ESR_DONE);
     WANT(totals.high, 0);
     WANT(totals.low, 200);
     WANT(totals.entries, 8);
 }
 
-/* The bundle is told its length where the room is too small, and written where it is just large enough. */
+/* The bundle is told its length where the room is too small, and written where it is just large enough. Cut short it is bad,
+ * and with another worth invalid. */
 static void bundle(esr_engine *engine) {
     static uint8_t bytes[1000];
     size_t length = 0, again = 0;
@@ -85,6 +87,10 @@ static void bundle(esr_engine *engine) {
     WANT(esr_check(bytes, length - 1, &verdict), ESR_DONE);
     WANT(verdict.kind, ESR_BAD);
     WANT(verdict.number, 1);
+    memcpy(strstr((char *)bytes, "\"worth\":100"), "\"worth\":200", 11);
+    WANT(esr_check(bytes, length, &verdict), ESR_DONE);
+    WANT(verdict.kind, ESR_INVALID);
+    WANT(verdict.number, 6);
 }
 
 /* A renewal keeps the committed values, and nothing else: numbers begin at 1 again, and an abort puts back. */

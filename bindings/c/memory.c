@@ -27,7 +27,7 @@ void *__wrap_realloc(void *block, size_t size) { return fails() ? NULL : __real_
         } \
     } while (0)
 
-/* Read for update, and a renewal with an update active. */
+/* Read for update, and a renewal with an update active, behind which numbers begin at 1 again. */
 static int aborted_day(void) {
     esr_engine engine = ESR_CLOSED;
     esr_reply reply;
@@ -43,8 +43,9 @@ static int aborted_day(void) {
     WANT(esr_write(&engine, 2, 1, 7, &reply), ESR_DONE);
     WANT(esr_renew_aborting(&engine), ESR_DONE);
     WANT(esr_values(&engine, values, 2, &count), ESR_DONE);
+    WANT(esr_begin_update(&engine, 0, &reply), ESR_DONE);
     esr_close(&engine);
-    return values[0] != 400 || values[1] != 1500;
+    return values[0] != 400 || values[1] != 1500 || reply.txn != 1;
 }
 
 /* The bank of the README, with its audit, its bundle and a renewal. */

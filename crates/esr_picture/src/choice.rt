@@ -295,6 +295,64 @@ fn on_side(
     Ok(side)
 }
 
+/// The updates before the line, and those after it.
+fn sides_of(
+    alloc: Global,
+    updates: &[u32],
+    inside: &[bool],
+) -> Result<(Vec<u32>, Vec<u32>), AllocError> {
+    let before = on_side(alloc, updates, inside, true)?;
+    let after = on_side(alloc, updates, inside, false)?;
+    Ok((before, after))
+}
+
+/// All updates, where they are few and there is room for them, and else none.
+fn few_updates(alloc: Global, count: usize, most: usize) -> Result<Vec<u32>, AllocError> {
+    if count <= FEW_UPDATES && count <= most {
+        (0..count as u32).collect(alloc)
+    } else {
+        Ok(Vec::new(alloc))
+    }
+}
+
+/// The lanes and the updates that are drawn, ascending.
+fn draw(
+    alloc: Global,
+    problem: &Problem,
+    crossings: &[Crossing],
+    places: &Places,
+    most: usize,
+) -> Result<(Vec<usize>, Vec<u32>), AllocError> {
+    let candidates = candidates_of(alloc, problem, crossings, places)?;
+    let mut updates = few_updates(alloc, problem.updates().len(), most)?;
+    let chains = problem.chains();
+    let mut lanes = draw_lanes(alloc, chains, crossings, &candidates, &mut updates, most)?;
+    lanes.sort_unstable();
+    updates.sort_unstable();
+    Ok((lanes, updates))
+}
+
+/// What to draw of a problem, where the line crosses its lanes so.
+fn choose_at(
+    alloc: Global,
+    problem: &Problem,
+    inside: &[bool],
+    crossings: Vec<Crossing>,
+    most: usize,
+) -> Result<Choice, AllocError> {
+    let places = Places::new(alloc, inside, problem.must())?;
+    let (lanes, updates) = draw(alloc, problem, &crossings, &places, most)?;
+    let is_cheaper_elsewhere = is_cheaper_elsewhere(alloc, problem, &lanes, &places)?;
+    let (before, after) = sides_of(alloc, &updates, inside)?;
+    Ok(Choice {
+        crossings,
+        lanes,
+        before,
+        after,
+        is_cheaper_elsewhere,
+    })
+}
+
 /// The lanes and the updates to draw of a problem with such a set: of few updates all, and else at most so many, those
 /// that bound what is seen of the lanes.
 pub fn choose(
@@ -303,25 +361,7 @@ pub fn choose(
     set: &[u32],
     most: usize,
 ) -> Result<Choice, AllocError> {
-    let count = problem.updates().len();
-    let inside = marks_of(alloc, count, set)?;
+    let inside = marks_of(alloc, problem.updates().len(), set)?;
     let crossings = crossings(alloc, problem.chains(), &inside)?;
-    let places = Places::new(alloc, &inside, problem.must())?;
-    let candidates = candidates_of(alloc, problem, &crossings, &places)?;
-    let mut updates = if count <= FEW_UPDATES && count <= most {
-        (0..count as u32).collect(alloc)?
-    } else {
-        Vec::new(alloc)
-    };
-    let chains = problem.chains();
-    let mut lanes = draw_lanes(alloc, chains, &crossings, &candidates, &mut updates, most)?;
-    lanes.sort_unstable();
-    updates.sort_unstable();
-    Ok(Choice {
-        is_cheaper_elsewhere: is_cheaper_elsewhere(alloc, problem, &lanes, &places)?,
-        before: on_side(alloc, &updates, &inside, true)?,
-        after: on_side(alloc, &updates, &inside, false)?,
-        crossings,
-        lanes,
-    })
+    choose_at(alloc, problem, &inside, crossings, most)
 }

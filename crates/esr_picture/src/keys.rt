@@ -3,7 +3,7 @@
 ghost use Rattle.std.specs.Prelude.{◌≤◌};
 
 use crate::elements::{push_horizontal, push_straight, push_text, push_vertical};
-use crate::scene::{Lane, Scene};
+use crate::scene::{Lane, Scene, Update};
 use std::alloc::AllocError;
 
 /// What a picture may have to explain.
@@ -21,8 +21,12 @@ enum Key {
     Nearest,
 }
 
+fn keys() -> &'static [Key] {
+    &KEYS
+}
+
 /// The keys, in the order in which they are drawn.
-const KEYS: [Key; 10] = [
+static KEYS: [Key; 10] = [
     Key::Read,
     Key::Other,
     Key::Nearest,
@@ -68,17 +72,44 @@ fn has_several(lane: &Lane<'_>, is_read: bool) -> bool {
         .any(|s| s.versions > 1 && (s.seen > 0) == is_read)
 }
 
+/// Whether some lane has a value that was read, or one that was not.
+fn have_value(lanes: &[Lane<'_>], is_read: bool) -> bool {
+    lanes.iter().any(|lane| has_value(lane, is_read))
+}
+
+/// Whether some lane has a stretch of several values of which some were read, or none.
+fn have_several(lanes: &[Lane<'_>], is_read: bool) -> bool {
+    lanes.iter().any(|lane| has_several(lane, is_read))
+}
+
+/// Whether some lane tells of a value that did not stay.
+fn have_stray(lanes: &[Lane<'_>]) -> bool {
+    lanes.iter().any(|lane| lane.strays.first.is_some())
+}
+
+/// Whether some update is on that side of the line.
+fn are_on_side(updates: &[Update<'_>], line: u8, before: bool) -> bool {
+    updates
+        .iter()
+        .any(|u| u.slot != line && (u.slot < line) == before)
+}
+
+/// Whether the query had to be behind some update.
+fn have_must(updates: &[Update<'_>]) -> bool {
+    updates.iter().any(|u| u.must)
+}
+
 /// Whether the picture has what a key means.
 fn occurs(scene: &Scene<'_>, key: Key) -> bool {
     match key {
-        Key::Read => scene.lanes.iter().any(|lane| has_value(lane, true)),
-        Key::Other => scene.lanes.iter().any(|lane| has_value(lane, false)),
-        Key::Several => scene.lanes.iter().any(|lane| has_several(lane, false)),
-        Key::SeveralRead => scene.lanes.iter().any(|lane| has_several(lane, true)),
-        Key::Stray => scene.lanes.iter().any(|lane| lane.strays.first.is_some()),
-        Key::Before => scene.updates.iter().any(|u| u.slot < scene.line),
-        Key::After => scene.updates.iter().any(|u| u.slot > scene.line),
-        Key::Must => scene.updates.iter().any(|u| u.must),
+        Key::Read => have_value(&scene.lanes, true),
+        Key::Other => have_value(&scene.lanes, false),
+        Key::Several => have_several(&scene.lanes, false),
+        Key::SeveralRead => have_several(&scene.lanes, true),
+        Key::Stray => have_stray(&scene.lanes),
+        Key::Before => are_on_side(&scene.updates, scene.line, true),
+        Key::After => are_on_side(&scene.updates, scene.line, false),
+        Key::Must => have_must(&scene.updates),
         Key::First => !scene.arrows.is_empty(),
         Key::Nearest => !scene.lanes.is_empty(),
     }
@@ -88,7 +119,7 @@ fn occurs(scene: &Scene<'_>, key: Key) -> bool {
 pub fn keys_width(scene: &Scene<'_>) -> u32
     ensures { result ≤ 1000 }
 {
-    let count = KEYS
+    let count = keys()
         .iter()
         .filter(|key| occurs(scene, **key))
         .count()
@@ -129,12 +160,12 @@ pub fn push_keys(out: &mut String, scene: &Scene<'_>, y: u32) -> Result<(), Allo
     requires { y ≤ 200000 }
 {
     let mut place = 0u32;
-    for key in KEYS {
-        if occurs(scene, key) {
+    for key in keys() {
+        if occurs(scene, *key) {
             let x = 20 + KEY_WIDTH * (place / 3).min(3);
             let low = y + 22 * (place % 3);
-            push_sign(out, scene.query, key, x, low)?;
-            push_text(out, "q", x + 34, low, words_of(key))?;
+            push_sign(out, scene.query, *key, x, low)?;
+            push_text(out, "q", x + 34, low, words_of(*key))?;
             place = place.saturating_add(1);
         }
     }

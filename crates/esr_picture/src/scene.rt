@@ -107,6 +107,19 @@ fn values_of(alloc: Global, stretches: &[Stretch]) -> Result<Vec<i64>, AllocErro
     Ok(values)
 }
 
+/// The slots of the updates, with the line in that one, and what the updates that are drawn left in the lanes.
+fn laid_out(
+    alloc: Global,
+    asked: &Audited<'_>,
+    choice: &Choice,
+    drawn: &[u32],
+    line: u8,
+) -> Result<(Slots, Written), AllocError> {
+    let slots = Slots::new(alloc, asked.finding.problem.updates().len(), choice, line)?;
+    let written = written_by(alloc, asked, choice, drawn, &slots)?;
+    Ok((slots, written))
+}
+
 /// What a scene is made from.
 #[derive(Drop)]
 struct SceneParts<'a> {
@@ -129,12 +142,10 @@ impl<'a> SceneParts<'a> {
         most: usize,
     ) -> Result<SceneParts<'a>, AllocError> {
         let finding = asked.finding;
-        let problem = &finding.problem;
-        let choice = choose(alloc, problem, &finding.certificate.set, most)?;
+        let choice = choose(alloc, &finding.problem, &finding.certificate.set, most)?;
         let drawn = drawn_in_order(alloc, &choice)?;
         let line = choice.before.len().min(MOST_UPDATES) as u8 + 1;
-        let slots = Slots::new(alloc, problem.updates().len(), &choice, line)?;
-        let written = written_by(alloc, asked, &choice, &drawn, &slots)?;
+        let (slots, written) = laid_out(alloc, asked, &choice, &drawn, line)?;
         Ok(SceneParts {
             asked,
             story,
@@ -212,16 +223,28 @@ impl<'a> SceneParts<'a> {
         chain: &Chain,
         off: u64,
     ) -> Result<Lane<'a>, AllocError> {
+        let read = reads_of(alloc, self.story, chain.item)?;
         let stretches = self.stretches(alloc, chain, lane)?;
-        let values = values_of(alloc, &stretches)?;
+        let strays = self.strays(alloc, chain.item, &stretches)?;
         Ok(Lane {
             name: self.asked.items.name_of(chain.item.0).unwrap_or(""),
             weight: self.asked.history.metric().distance(chain.item, 0, 1),
-            read: reads_of(alloc, self.story, chain.item)?,
-            strays: strays_of(self.asked, self.story, chain.item, &values),
-            stretches,
+            read,
             off,
+            stretches,
+            strays,
         })
+    }
+
+    /// The values that were read of an item and did not stay, beside the pieces of its lane.
+    fn strays(
+        &self,
+        alloc: Global,
+        item: ItemId,
+        stretches: &[Stretch],
+    ) -> Result<Strays<'a>, AllocError> {
+        let values = values_of(alloc, stretches)?;
+        Ok(strays_of(self.asked, self.story, item, &values))
     }
 
     /// Adds the lane of that number, which is of the chain at a position.
@@ -278,15 +301,33 @@ impl<'a> SceneParts<'a> {
         Ok(updates)
     }
 
+    /// The arrows, and what is said above the lanes.
+    fn arrows_and_words(&self, alloc: Global) -> Result<(Vec<Arrow>, Vec<String>), AllocError> {
+        let problem = &self.asked.finding.problem;
+        let arrows = arrows(alloc, problem, &self.drawn, &self.slots)?;
+        let sentences = sentences_of(alloc, self.asked, self.story)?;
+        Ok((arrows, sentences))
+    }
+
     /// What is drawn.
     fn scene(&self, alloc: Global) -> Result<Scene<'a>, AllocError> {
-        let finding = self.asked.finding;
-        let arrows = arrows(alloc, &finding.problem, &self.drawn, &self.slots)?;
-        let sentences = sentences_of(alloc, self.asked, self.story)?;
+        let (arrows, sentences) = self.arrows_and_words(alloc)?;
         let updates = self.updates(alloc)?;
         let lanes = self.lanes(alloc)?;
+        Ok(self.scene_of(sentences, updates, arrows, lanes))
+    }
+
+    /// What is drawn, of these updates and lanes.
+    fn scene_of(
+        &self,
+        sentences: Vec<String>,
+        updates: Vec<Update<'a>>,
+        arrows: Vec<Arrow>,
+        lanes: Vec<Lane<'a>>,
+    ) -> Scene<'a> {
+        let finding = self.asked.finding;
         let (others_off, others_sum) = others_off(&self.choice);
-        Ok(Scene {
+        Scene {
             query: name_of_transaction(self.asked.transactions, finding.query),
             distance: finding.distance,
             import: finding.import,
@@ -300,7 +341,7 @@ impl<'a> SceneParts<'a> {
             line: self.line,
             updates,
             lanes,
-        })
+        }
     }
 }
 

@@ -29,14 +29,19 @@ fn push_body(out: &mut String, scene: &Scene<'_>, frame: &Frame) -> Result<(), A
     push_keys(out, scene, frame.floor() + 98)
 }
 
+/// What is written of a scene.
+fn parts_of_scene(alloc: Global, scene: &Scene<'_>) -> Result<Parts, AllocError> {
+    let frame = Frame::of(scene);
+    let mut attributes = String::new(alloc);
+    push_attributes(&mut attributes, scene, &frame)?;
+    let mut body = String::new(alloc);
+    push_body(&mut body, scene, &frame)?;
+    Ok(Parts { attributes, body })
+}
+
 /// What is written of the picture of what a script tells of one of its queries.
 pub fn parts_of<'a>(alloc: Global, asked: &'a Audited<'a>) -> Result<Parts, AllocError> {
     let story = story_in(alloc, asked)?;
     let scene = scene_of(alloc, asked, &story)?;
-    let frame = Frame::of(&scene);
-    let mut attributes = String::new(alloc);
-    push_attributes(&mut attributes, &scene, &frame)?;
-    let mut body = String::new(alloc);
-    push_body(&mut body, &scene, &frame)?;
-    Ok(Parts { attributes, body })
+    parts_of_scene(alloc, &scene)
 }

@@ -158,8 +158,12 @@ const OF_SEEN: [Case; 5] = [
     (Set(&[]), Some(Fault::SetNotClosed)),
 ];
 
+fn refused() -> &'static [(Asked<'static>, BundleFault)] {
+    &REFUSED
+}
+
 /// Parts that are no problem, and the rule that each breaks.
-const REFUSED: [(Asked<'static>, BundleFault); 5] = [
+static REFUSED: [(Asked<'static>, BundleFault); 5] = [
     // Neighbours of a chain are no pair.
     (
         Asked {
@@ -339,7 +343,7 @@ fn a_problem_keeps_its_parts(rt: HostRuntime) {
 /// The contract lets out of memory come in place of each fault; and that shape comes before range is a definition's.
 #[test]
 fn a_problem_keeps_its_rules(rt: HostRuntime) {
-    for (i, (asked, fault)) in REFUSED.iter().enumerate() {
+    for (i, (asked, fault)) in refused().iter().enumerate() {
         assert!(rt; problem(rt.alloc(), *asked).err() == Some(*fault), "at {i}");
     }
     assert!(rt; BundleFault::Range.number() == 3);

@@ -37,6 +37,20 @@ fn read_by(rt: &impl Abort, locks: &mut LockTable, t: TxnId)
     locks.add_read_update(t, A);
 }
 
+fn write_by(rt: &impl Abort, locks: &mut LockTable, t: TxnId)
+    requires { 0 < length locks.old.locks }
+    ensures { length locks.new.locks ≡ length locks.old.locks }
+{
+    make_room(rt, locks, t, A);
+    locks.add_write(t, A);
+}
+
+fn release(locks: &mut LockTable, t: TxnId)
+    ensures { length locks.new.locks ≡ length locks.old.locks }
+{
+    locks.release(t);
+}
+
 /// By the clauses room may be refused always, and `items_of` list more than is locked: here it lists what is.
 #[test]
 fn an_upgrade_waits_for_the_smallest_other_reader(rt: HostRuntime) {
@@ -44,26 +58,22 @@ fn an_upgrade_waits_for_the_smallest_other_reader(rt: HostRuntime) {
     let u = TxnId(1);
     let v = TxnId(2);
     let w = TxnId(3);
-    make_room(&rt, &mut locks, w, A);
-    locks.add_read_update(w, A);
-    make_room(&rt, &mut locks, u, A);
-    locks.add_read_update(u, A);
-    make_room(&rt, &mut locks, v, A);
-    locks.add_read_update(v, A);
+    read_by(&rt, &mut locks, w);
+    read_by(&rt, &mut locks, u);
+    read_by(&rt, &mut locks, v);
     assert!(rt; locks.may_write(u, A) == Some(v));
     assert!(rt; locks.may_write(v, A) == Some(u));
     assert!(rt; locks.may_read_update(u, A) == None);
-    locks.release(v);
+    release(&mut locks, v);
     assert!(rt; locks.may_write(u, A) == Some(w));
-    locks.release(w);
+    release(&mut locks, w);
     assert!(rt; locks.may_write(u, A) == None);
-    make_room(&rt, &mut locks, u, A);
-    locks.add_write(u, A);
+    write_by(&rt, &mut locks, u);
     assert!(rt; locks.write_holder(A) == Some(u));
     assert!(rt; locks.may_read_update(v, A) == Some(u));
     assert!(rt; locks.items_of(u).len() == 1);
     assert!(rt; locks.write_holder(B) == None);
-    locks.release(u);
+    release(&mut locks, u);
     assert!(rt; locks.write_holder(A) == None);
     assert!(rt; locks.items_of(u).is_empty());
 }
@@ -104,7 +114,7 @@ fn more_readers_than_a_row_holds_stand_by_their_numbers(rt: HostRuntime) {
     read_by(&rt, &mut locks, TxnId(11));
     read_by(&rt, &mut locks, TxnId(13));
     assert!(rt; locks.may_write(TxnId(11), A) == Some(TxnId(12)));
-    locks.release(TxnId(12));
+    release(&mut locks, TxnId(12));
     assert!(rt; locks.may_write(TxnId(11), A) == Some(TxnId(13)));
 }
 

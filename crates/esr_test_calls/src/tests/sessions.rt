@@ -1,6 +1,6 @@
 //! Sessions on threads of their own.
-ghost use Rattle.std.specs.Prelude.{◌≡◌, [], map};
-ghost use Rattle.esr_session.specs.declared.naming.TheConstants.{LEDGER_PARTS};
+ghost use Rattle.std.specs.Prelude.{◌≡◌, ◌≤◌, [], map};
+ghost use Rattle.esr_session.specs.declared.naming.TheConstants.{LEDGER_PARTS, MOST_SESSIONS};
 
 use esr_core::StepError;
 use esr_history::{Event, Log, Refusal, Reply, TxnId};
@@ -26,6 +26,33 @@ fn zeros(rt: &impl Abort, alloc: Global, count: usize) -> Store {
         panic!(rt; "memory for items")
     };
     items
+}
+
+/// An engine over these items, and so many sessions on it. Where memory is refused for these, it is asked for once more.
+fn opened<N: Naming, R: Abort>(
+    rt: &R,
+    alloc: Global,
+    blank: Blank,
+    items: Store,
+    count: usize,
+) -> (Engine<Plain, N>, Vec<Session<Plain, N>>)
+    requires name { blank.name ≡ N.name }
+    requires parts { (blank.parts ≡ N.parts) × (blank.parts ≡ LEDGER_PARTS) }
+    requires opening { map (λ w. w.committed) items ≡ N.opening }
+    requires weights { [] ≡ N.weights }
+    requires count { (1 ≤ count) × (count ≤ MOST_SESSIONS) }
+{
+    let Ok(mut engine) = Engine::<Plain, N>::new(alloc, blank, items, Plain) else {
+        panic!(rt; "memory for an engine")
+    };
+    let made = match engine.open_sessions(count) {
+        Err(_) => engine.open_sessions(count),
+        made => made,
+    };
+    let Ok(sessions) = made else {
+        panic!(rt; "refused twice")
+    };
+    (engine, sessions)
 }
 
 /// By their contracts a call may always find the engine closed, and a close always a foreign receipt.
@@ -90,12 +117,7 @@ where
     requires opening { map (λ w. w.committed) items ≡ N.opening }
     requires weights { [] ≡ N.weights }
 {
-    let Ok(mut engine) = Engine::<Plain, N>::new(alloc, blank, items, Plain) else {
-        panic!(rt; "an engine")
-    };
-    let Ok(sessions) = engine.open_sessions(4) else {
-        panic!(rt; "four sessions")
-    };
+    let (engine, sessions) = opened::<N, R>(&rt, alloc, blank, items, 4);
     let back = run_all(rt, alloc, sessions, limit);
     close_twice(&rt, engine, back)
 }
@@ -215,12 +237,7 @@ where
     requires opening { map (λ w. w.committed) items ≡ N.opening }
     requires weights { [] ≡ N.weights }
 {
-    let Ok(mut engine) = Engine::<Plain, N>::new(alloc, blank, items, Plain) else {
-        panic!(rt; "an engine")
-    };
-    let Ok(mut sessions) = engine.open_sessions(2) else {
-        panic!(rt; "two sessions")
-    };
+    let (engine, mut sessions) = opened::<N, R>(&rt, alloc, blank, items, 2);
     let (first, mut second) = last_two(&rt, &mut sessions);
     let first = write_apart(rt, first);
     read_five(&rt, &mut second);
@@ -340,12 +357,7 @@ where
     requires opening { map (λ w. w.committed) items ≡ N.opening }
     requires weights { [] ≡ N.weights }
 {
-    let Ok(mut engine) = Engine::<Plain, N>::new(alloc, blank, items, Plain) else {
-        panic!(rt; "an engine")
-    };
-    let Ok(mut sessions) = engine.open_sessions(3) else {
-        panic!(rt; "three sessions")
-    };
+    let (engine, mut sessions) = opened::<N, R>(&rt, alloc, blank, items, 3);
     let Some(mut idle) = sessions.pop() else {
         panic!(rt; "three sessions")
     };
@@ -411,16 +423,7 @@ where
     requires opening { map (λ w. w.committed) items ≡ N.opening }
     requires weights { [] ≡ N.weights }
 {
-    let Ok(mut engine) = Engine::<Plain, N>::new(alloc, blank, items, Plain) else {
-        panic!(rt; "memory for an engine")
-    };
-    let opened = match engine.open_sessions(2) {
-        Err(_) => engine.open_sessions(2),
-        opened => opened,
-    };
-    let Ok(mut sessions) = opened else {
-        panic!(rt; "refused twice")
-    };
+    let (engine, mut sessions) = opened::<N, R>(&rt, alloc, blank, items, 2);
     for session in &mut sessions {
         write_once_more(&rt, session);
     }

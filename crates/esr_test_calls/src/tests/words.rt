@@ -1,8 +1,9 @@
 //! Command lines, by what they ask for. Which words spell a job is proved from the commands that `clap` is told of.
 //! That these are the ones of the pages, that a job is got if there is memory, and what help says, no clause can say.
 
+use clap::Error;
 use clap::error::ErrorKind;
-use esr_cli::{Format, Progress, Task, command};
+use esr_cli::{Format, Job, Progress, Task, command};
 use std::alloc::Global;
 use std::process::Abort;
 
@@ -168,9 +169,14 @@ fn tasks() -> &'static [(Words, Task<'static>)] {
     &TASKS
 }
 
+/// The job that the words ask for, or why there is none.
+fn asked(alloc: Global, words: Words) -> Result<Job<'static>, Error> {
+    command(alloc, words)
+}
+
 /// The work that the words ask for.
 fn task_of(alloc: Global, words: Words) -> Option<Task<'static>> {
-    match command(alloc, words) {
+    match asked(alloc, words) {
         Ok(job) => Some(job.task),
         Err(_) => None,
     }
@@ -211,7 +217,7 @@ fn files() -> &'static [(Words, Option<&'static str>, bool)] {
 
 /// Whether the words name this file, and ask so for `--bail`.
 fn names_file(alloc: Global, words: Words, file: Option<&str>, bail: bool) -> bool {
-    match command(alloc, words) {
+    match asked(alloc, words) {
         Ok(job) => job.file == file && job.bail == bail,
         Err(_) => false,
     }
@@ -273,7 +279,7 @@ fn ways() -> &'static [(Words, Progress, Option<Format>)] {
 
 /// Whether the words ask for this.
 fn asks_so(alloc: Global, words: Words, progress: Progress, format: Option<Format>) -> bool {
-    match command(alloc, words) {
+    match asked(alloc, words) {
         Ok(job) => job.progress == progress && job.format == format,
         Err(_) => false,
     }
@@ -353,7 +359,7 @@ static OTHERS: [(Words, ErrorKind, i32); 18] = [
 
 /// Compares what is said of words with this, and the exit status.
 fn check_words(rt: &impl Abort, alloc: Global, words: Words, kind: ErrorKind, status: i32) {
-    let Err(error) = command(alloc, words) else {
+    let Err(error) = asked(alloc, words) else {
         panic!(rt; "{:?} asks for no job", words)
     };
     assert!(rt;
@@ -377,7 +383,7 @@ fn other_words_are_mistakes_or_ask_for_help(rt: HostRuntime) {
 
 /// Whether the help that these words ask for teaches the lines of a script.
 fn teaches_lines(alloc: Global, words: Words) -> bool {
-    let Err(error) = command(alloc, words) else {
+    let Err(error) = asked(alloc, words) else {
         return false;
     };
     match error.to_string(alloc) {
