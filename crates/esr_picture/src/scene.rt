@@ -108,7 +108,7 @@ fn values_of(alloc: Global, stretches: &[Stretch]) -> Result<Vec<i64>, AllocErro
 }
 
 /// The slots of the updates, with the line in that one, and what the updates that are drawn left in the lanes.
-fn laid_out(
+fn lay_out(
     alloc: Global,
     asked: &Audited<'_>,
     choice: &Choice,
@@ -145,7 +145,7 @@ impl<'a> SceneParts<'a> {
         let choice = choose(alloc, &finding.problem, &finding.certificate.set, most)?;
         let drawn = drawn_in_order(alloc, &choice)?;
         let line = choice.before.len().min(MOST_UPDATES) as u8 + 1;
-        let (slots, written) = laid_out(alloc, asked, &choice, &drawn, line)?;
+        let (slots, written) = lay_out(alloc, asked, &choice, &drawn, line)?;
         Ok(SceneParts {
             asked,
             story,
