@@ -6,7 +6,7 @@ use crate::nearest::push_nearest;
 use crate::numbers::push_number;
 use crate::reads::push_reads;
 use crate::sentences::{nearest, strict, verdict};
-use crate::story::{Story, story_of};
+use crate::story::Story;
 use crate::tale::{Ending, Tale};
 use esr_audit::Finding;
 use std::alloc::{AllocError, Global};
@@ -155,16 +155,15 @@ fn moral(alloc: Global, finding: &Finding) -> Result<String, AllocError> {
     Ok(out)
 }
 
-/// The prose about a query.
-pub fn prose_of(alloc: Global, tale: &Tale<'_>) -> Result<Vec<Block>, AllocError> {
-    let story = story_of(alloc, tale.history, tale.query)?;
+/// The prose about a query of which the history tells this.
+pub fn prose_of(alloc: Global, tale: &Tale<'_>, story: &Story) -> Result<Vec<Block>, AllocError> {
     let mut blocks = Vec::new(alloc);
-    Block::push(&mut blocks, answer(alloc, tale, &story)?)?;
-    Block::push(&mut blocks, course(alloc, tale, &story)?)?;
-    push_reads(alloc, &mut blocks, tale, &story)?;
-    push_charges(alloc, &mut blocks, tale, &story)?;
+    Block::push(&mut blocks, answer(alloc, tale, story)?)?;
+    Block::push(&mut blocks, course(alloc, tale, story)?)?;
+    push_reads(alloc, &mut blocks, tale, story)?;
+    push_charges(alloc, &mut blocks, tale, story)?;
     if let Some(finding) = tale.finding {
-        push_nearest(alloc, &mut blocks, tale, &story, finding)?;
+        push_nearest(alloc, &mut blocks, tale, story, finding)?;
         if finding.import > 0 {
             Block::push(&mut blocks, moral(alloc, finding)?)?;
         }

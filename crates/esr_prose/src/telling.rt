@@ -1,7 +1,7 @@
 //! Prose about one query of a script, however it ended, as lines of a width at which no terminal wraps them.
 
-use crate::lines::lines_of_entries;
 use crate::prose::{Block, Kind, prose_of};
+use crate::story::story_of;
 use crate::tale::Tale;
 use crate::text::wrap;
 use esr_audit::{AuditError, Finding, audit_query};
@@ -67,27 +67,22 @@ fn query_called(chronicle: &Chronicle<'_>, name: &str) -> Option<TxnId> {
 }
 
 /// The prose about a query of which this was found, if it has committed.
-fn prose_with(
+fn prose_with<'a>(
     alloc: Global,
-    chronicle: &Chronicle<'_>,
+    chronicle: &'a Chronicle<'a>,
     query: TxnId,
-    finding: Option<&Finding>,
+    finding: Option<&'a Finding>,
 ) -> Result<String, AllocError> {
-    let lines = lines_of_entries(
-        alloc,
-        chronicle.script,
-        &chronicle.transactions,
-        &chronicle.history,
-    )?;
     let tale = Tale {
         items: &chronicle.items,
         transactions: &chronicle.transactions,
         history: &chronicle.history,
-        lines: &lines,
+        lines: chronicle.lines,
         query,
         finding,
     };
-    let blocks = prose_of(alloc, &tale)?;
+    let story = story_of(alloc, tale.history, query)?;
+    let blocks = prose_of(alloc, &tale, &story)?;
     text_of(alloc, &blocks)
 }
 
