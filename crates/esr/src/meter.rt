@@ -6,7 +6,7 @@
 //! promised by no clause, and a line that cannot be written is no fault of the run.
 
 use esr_cli::Progress;
-use esr_lint::{NoQuery, Observer, Standing, Teller};
+use esr_lint::{NoQuery, Observer, Standing, Teller, is_error};
 use esr_script::Gate;
 use std::fmt::Display;
 use std::io::IsTerminal;
@@ -123,7 +123,7 @@ impl<R: Clock + Eprint, E: Eprint> Observer for Watching<'_, '_, '_, R, E> {
     fn see_line(&mut self, number: u64, line: &[u8], answer: &[u8]) {
         self.lines = number;
         // The teller is given a line at fault alone, so that each answer is looked at once.
-        if answer.starts_with(b"error ") {
+        if is_error(answer) {
             self.meter.clear();
             self.teller.see_line(number, line, answer);
         }

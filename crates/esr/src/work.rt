@@ -14,7 +14,7 @@ use crate::output::Output;
 use esr_cli::{Job, Task};
 use esr_history::Watched;
 use esr_lint::{Observer, Source, Teller, When};
-use esr_script::{Copied, RunFault, audit, certify, certify_steps, run, survey, tell};
+use esr_script::{RunFault, audit, certify, certify_steps, run, survey, tell};
 use esr_telling::{Survey, Telling};
 use std::alloc::Global;
 use std::io;
@@ -153,7 +153,7 @@ pub fn survey_script<R: Print + Eprint + AllocGlobal + Clock, I: Read + Drop, S:
     survey_of: &S,
 ) -> u8 {
     let alloc = rt.alloc();
-    let mut reader = Watched::new(Copied::new(alloc, input));
+    let mut reader = Watched::new(input);
     let mut writer = Watched::new(Output::new(alloc, io::writer(rt), holds_back(job)));
     let teller = Teller::new(rt, alloc, source, When::AtOnce, "");
     let meter = Meter::new(rt, shows);

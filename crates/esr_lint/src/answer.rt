@@ -22,9 +22,21 @@ impl Fault<'_> {
     }
 }
 
+/// Whether an answer is this word and a number. The answer to a read begins with the name of its transaction, which may
+/// be that word; but behind it stands the name of an item, which begins with a letter.
+fn is_numbered(answer: &[u8], word: &[u8]) -> bool {
+    let behind = answer.get(word.len()).copied().unwrap_or(0);
+    answer.starts_with(word) && behind.is_ascii_digit()
+}
+
+/// Whether a line was answered by an error.
+pub fn is_error(answer: &[u8]) -> bool {
+    is_numbered(answer, b"error ")
+}
+
 /// The fault of a line that was answered by an error.
 pub fn fault_of<'a>(line: &'a [u8], answer: &'a [u8]) -> Option<Fault<'a>> {
-    if !answer.starts_with(b"error ") {
+    if !is_error(answer) {
         return None;
     }
     if answer.starts_with(b"error 1 ") {
@@ -36,7 +48,7 @@ pub fn fault_of<'a>(line: &'a [u8], answer: &'a [u8]) -> Option<Fault<'a>> {
 /// The same, or that of a line that was refused whatever else comes: by 1 to 8, which are mistakes, and not by a lock
 /// or a limit, which may let it pass later.
 pub fn mistake_of<'a>(line: &'a [u8], answer: &'a [u8]) -> Option<Fault<'a>> {
-    if answer.starts_with(b"refused ") {
+    if is_numbered(answer, b"refused ") {
         return Some(Fault::Answered { line, answer });
     }
     fault_of(line, answer)

@@ -18,7 +18,7 @@ mod place;
 mod reason;
 mod telling;
 
-pub use answer::{Fault, fault_of};
+pub use answer::{Fault, fault_of, is_error};
 pub use keeping::KeptLine;
 pub use listing::Listing;
 pub use observer::{End, Observer, Standing, Unobserved};

@@ -4,7 +4,7 @@
 //! where they are written, as by `run`, the first is kept and told at the end. Nothing is allocated before a line is at
 //! fault or a query is sought in vain. That a line cannot be told is no fault of the run.
 
-use crate::answer::fault_of;
+use crate::answer::{fault_of, is_error};
 use crate::observer::{End, Observer, Standing};
 use crate::place::Source;
 use std::alloc::Global;
@@ -123,7 +123,7 @@ impl<'a, E: Eprint> Teller<'a, E> {
 impl<E: Eprint> Observer for Teller<'_, E> {
     fn see_line(&mut self, number: u64, line: &[u8], answer: &[u8]) {
         self.lines = number;
-        if !answer.starts_with(b"error ") {
+        if !is_error(answer) {
             return;
         }
         self.faults = self.faults.saturating_add(1);

@@ -1,19 +1,20 @@
 //! What audits find of the committed queries, one after another. Of each the distance is kept; of those that were
-//! farthest off so far the whole finding, which has what picture and prose need, so that it is not made twice. Where the
-//! problems of these have many updates together, the last of them go again, so that a page takes little more memory than
-//! one audit: what is told of such a query is found once more.
+//! farthest off so far the finding without its flow, which is what picture and prose read, so that it is not made twice.
+//! Where the problems of these have many updates together, the last of them go again, so that a page takes little more
+//! memory than one audit: what is told of such a query is found once more.
 
 ghost use Rattle.std.specs.Prelude.{◌≡◌, map};
 ghost use Rattle.esr_history.specs.Machine.{done};
 ghost use Rattle.esr_history.specs.Operations.{commit_order};
 
 use esr_audit::{CommitLists, Finding, audit_query_in, commit_lists};
+use esr_cert::Certificate;
 use esr_history::{History, TxnId};
 use esr_items::Weighted;
 use std::alloc::{AllocError, Global};
 
 /// So many updates the problems that are kept have together at most.
-const MOST_UPDATES: usize = 150_000;
+const MOST_UPDATES: usize = 250_000;
 
 /// How far a committed query was off.
 #[derive(Clone, Copy)]
@@ -57,6 +58,12 @@ fn count_kept(findings: &[Finding], count: usize) -> usize {
     kept
 }
 
+/// Lets go of a flow, which takes a third of a finding.
+fn drop_flow(alloc: Global, certificate: &mut Certificate) {
+    certificate.chain_flow = Vec::new(alloc);
+    certificate.back_flow = Vec::new(alloc);
+}
+
 impl Audits {
     /// Those before the first audit.
     fn new(alloc: Global, order: Vec<TxnId>) -> Audits {
@@ -68,7 +75,12 @@ impl Audits {
     }
 
     /// Keeps a finding, if it is among so many that were farthest off.
-    fn keep(&mut self, finding: Finding, count: usize) -> Result<(), AllocError> {
+    fn keep(
+        &mut self,
+        alloc: Global,
+        mut finding: Finding,
+        count: usize,
+    ) -> Result<(), AllocError> {
         let next = rank_of(&finding);
         let place = self
             .farthest
@@ -78,6 +90,7 @@ impl Audits {
         if place >= count {
             return Ok(());
         }
+        drop_flow(alloc, &mut finding.certificate);
         self.farthest.insert(place, finding)?;
         let kept = count_kept(&self.farthest, count);
         self.farthest.truncate(kept);
@@ -85,12 +98,12 @@ impl Audits {
     }
 
     /// Notes what was found of a query.
-    fn note(&mut self, finding: Finding, count: usize) -> Result<(), AllocError> {
+    fn note(&mut self, alloc: Global, finding: Finding, count: usize) -> Result<(), AllocError> {
         self.found.push(Found {
             query: finding.query,
             distance: finding.distance,
         })?;
-        self.keep(finding, count)
+        self.keep(alloc, finding, count)
     }
 
     /// What was found of a query, if that was kept.
@@ -133,7 +146,7 @@ pub fn audit_all(
     let mut audits = Audits::new(alloc, updates);
     for query in &queries {
         let finding = finding_in(alloc, history, &all, *query)?;
-        audits.note(finding, count)?;
+        audits.note(alloc, finding, count)?;
     }
     Ok(audits)
 }

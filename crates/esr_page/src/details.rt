@@ -4,10 +4,10 @@ use crate::audits::{Audits, rank};
 use crate::rows::{Row, Rows};
 use esr_audit::{AuditError, Finding, audit_query};
 use esr_history::TxnId;
-use esr_picture::picture;
+use esr_picture::picture_with;
 use esr_prose::{Block, Kind, Tale, prose_of};
 use esr_report::name_of_transaction;
-use esr_story::{Audited, lines_of_entries, push_number};
+use esr_story::{Audited, push_number, story_of};
 use esr_telling::Chronicle;
 use std::alloc::{AllocError, Global};
 
@@ -64,27 +64,26 @@ fn push_heading(out: &mut String, name: &str, distance: u64) -> Result<(), Alloc
 }
 
 /// A query with picture and prose.
-fn push_told(
+fn push_told<'a>(
     alloc: Global,
     out: &mut String,
-    chronicle: &Chronicle<'_>,
-    lines: &[u32],
-    finding: &Finding,
+    chronicle: &'a Chronicle<'a>,
+    finding: &'a Finding,
 ) -> Result<(), AllocError> {
+    let story = story_of(alloc, &chronicle.history, finding.query)?;
     let audited = Audited {
         items: &chronicle.items,
         transactions: &chronicle.transactions,
         history: &chronicle.history,
         finding,
     };
-    let found = Some(finding);
     let tale = Tale {
         items: &chronicle.items,
         transactions: &chronicle.transactions,
         history: &chronicle.history,
-        lines,
+        lines: chronicle.lines,
         query: finding.query,
-        finding: found,
+        finding: Some(finding),
     };
     let name = name_of_transaction(&chronicle.transactions, finding.query);
     push_heading(out, name, finding.distance)?;
@@ -92,9 +91,9 @@ fn push_told(
         out,
         "<div class='wide' tabindex='0' role='group' aria-label='Picture of {name}'>\n"
     )?;
-    out.push_str(&picture(alloc, &audited)?)?;
+    out.push_str(&picture_with(alloc, &audited, &story)?)?;
     out.push_str("</div>\n")?;
-    push_blocks(out, &prose_of(alloc, &tale)?)?;
+    push_blocks(out, &prose_of(alloc, &tale, &story)?)?;
     write!(
         out,
         "<p><a href='#r-{name}'>{name} in the table</a></p></section>\n"
@@ -107,14 +106,13 @@ fn push_query(
     out: &mut String,
     chronicle: &Chronicle<'_>,
     audits: &Audits,
-    lines: &[u32],
     query: TxnId,
 ) -> Result<(), AllocError> {
     if let Some(finding) = audits.finding_of(query) {
-        return push_told(alloc, out, chronicle, lines, finding);
+        return push_told(alloc, out, chronicle, finding);
     }
     match audit_query(alloc, &chronicle.history, query) {
-        Ok(finding) => push_told(alloc, out, chronicle, lines, &finding),
+        Ok(finding) => push_told(alloc, out, chronicle, &finding),
         Err(AuditError::NoMemory) => Err(AllocError),
         Err(_) => Ok(()),
     }
@@ -141,15 +139,9 @@ pub fn push_details(
     if told.is_empty() {
         return Ok(());
     }
-    let lines = lines_of_entries(
-        alloc,
-        chronicle.script,
-        &chronicle.transactions,
-        &chronicle.history,
-    )?;
     out.push_str(heading_of(rows))?;
     for query in told {
-        push_query(alloc, out, chronicle, audits, &lines, *query)?;
+        push_query(alloc, out, chronicle, audits, *query)?;
     }
     Ok(())
 }

@@ -1,4 +1,5 @@
-//! The fixed parts of the page: its head with the style, and the script that sorts the table.
+//! The fixed parts of the page: its head with the style, and the script that sorts the table. On paper the buttons of its
+//! head have no boxes: a head that has any is not repeated on each sheet.
 
 /// The head, and the start of the body. Classes have three letters or more, since pictures bring some of one letter.
 pub const HEAD: &str = "
@@ -50,7 +51,7 @@ thead th{position:sticky;top:0;background:var(--paper)}
 th button{font:inherit;color:var(--link);background:none;border:0;padding:0;cursor:pointer;text-decoration:underline}
 tr:target,section:target h3{outline:2px solid var(--link)}
 .order{color:var(--dim);max-width:none}
-@media print{*{-webkit-print-color-adjust:exact;print-color-adjust:exact}.wide{overflow:visible}.wide svg{max-width:100%;height:auto}.chart li{flex:1 1 0}table{font-size:.7em}th,td{padding:2px 5px}h2,h3{break-after:avoid}section .wide{break-inside:avoid-page}}
+@media print{th button{display:contents}*{-webkit-print-color-adjust:exact;print-color-adjust:exact}.wide{overflow:visible}.wide svg{max-width:100%;height:auto}.chart li{flex:1 1 0}table{font-size:.7em}th,td{padding:2px 5px}h2,h3{break-after:avoid}section .wide{break-inside:avoid-page}}
 </style>
 </head>
 <body>

@@ -61,9 +61,7 @@ fn is_marked(marks: &[bool], position: u32) -> bool {
 fn crossing_of(chain: &Chain, inside: &[bool]) -> Crossing {
     let version = chain
         .writers
-        .iter()
-        .filter(|writer| is_marked(inside, **writer))
-        .count();
+        .partition_point(|writer| is_marked(inside, *writer));
     let off = chain.costs.get(version).copied().unwrap_or(0);
     Crossing { version, off }
 }

@@ -10,7 +10,7 @@ ghost use Rattle.esr_picture.specs.Picture.{IsSvg, IsWithin, Lacks};
 
 use crate::markup::{is_attributes, is_markup};
 use crate::svg::{Parts, parts_of};
-use esr_story::Audited;
+use esr_story::{Audited, Story, story_of};
 use esr_telling::{Asked, Telling};
 use std::alloc::{AllocError, Global};
 
@@ -62,12 +62,24 @@ fn element(alloc: Global, parts: Parts) -> Result<String, AllocError>
     Ok(text)
 }
 
+/// The picture of the audit of a query of which the history tells this.
+pub fn picture_with<'a>(
+    alloc: Global,
+    audited: &'a Audited<'a>,
+    story: &'a Story,
+) -> Result<String, AllocError>
+    ensures { IfOk result (λ text. IsSvg (string_bytes text)) }
+{
+    let parts = parts_of(alloc, audited, story)?;
+    element(alloc, parts)
+}
+
 /// The picture of the audit of a query.
 pub fn picture<'a>(alloc: Global, audited: &'a Audited<'a>) -> Result<String, AllocError>
     ensures { IfOk result (λ text. IsSvg (string_bytes text)) }
 {
-    let parts = parts_of(alloc, audited)?;
-    element(alloc, parts)
+    let story = story_of(alloc, audited.history, audited.finding.query)?;
+    picture_with(alloc, audited, &story)
 }
 
 /// The bytes of a picture.

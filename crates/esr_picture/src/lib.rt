@@ -25,5 +25,5 @@ mod svg;
 mod weighing;
 mod written;
 
-pub use drawing::{Drawing, picture};
+pub use drawing::{Drawing, picture, picture_with};
 pub use markup::markup_or_nothing;

@@ -11,7 +11,7 @@ use crate::written::{Written, written_by};
 use esr_cert::Chain;
 use esr_items::{ItemId, Metric};
 use esr_report::name_of_transaction;
-use esr_story::{Audited, Story, sentences_of, story_of};
+use esr_story::{Audited, Story, sentences_of};
 use std::alloc::{AllocError, Global};
 
 /// How often a scene that is too wide is made with fewer updates.
@@ -355,35 +355,21 @@ fn scene_with<'a>(
     SceneParts::new(alloc, asked, story, most)?.scene(alloc)
 }
 
-/// How many updates a scene may have, so that it is not too wide.
-fn fitting_updates<'a>(
-    alloc: Global,
-    asked: &'a Audited<'a>,
-    story: &'a Story,
-) -> Result<usize, AllocError> {
-    let mut most = MOST_UPDATES;
-    for _ in 0..MOST_TRIES {
-        let scene = scene_with(alloc, asked, story, most)?;
-        let fitting = Frame::of(&scene).fitting_updates();
-        if scene.updates.len() <= fitting {
-            break;
-        }
-        most = fitting.min(most.saturating_sub(1));
-    }
-    Ok(most)
-}
-
-/// What the history tells of the query of what a script tells.
-pub fn story_in(alloc: Global, asked: &Audited<'_>) -> Result<Story, AllocError> {
-    story_of(alloc, asked.history, asked.finding.query)
-}
-
 /// What is drawn of what a script tells of a query.
 pub fn scene_of<'a>(
     alloc: Global,
     asked: &'a Audited<'a>,
     story: &'a Story,
 ) -> Result<Scene<'a>, AllocError> {
-    let most = fitting_updates(alloc, asked, story)?;
-    scene_with(alloc, asked, story, most)
+    let mut most = MOST_UPDATES;
+    let mut scene = scene_with(alloc, asked, story, most)?;
+    for _ in 0..MOST_TRIES {
+        let fitting = Frame::of(&scene).fitting_updates();
+        if scene.updates.len() <= fitting {
+            break;
+        }
+        most = fitting.min(most.saturating_sub(1));
+        scene = scene_with(alloc, asked, story, most)?;
+    }
+    Ok(scene)
 }

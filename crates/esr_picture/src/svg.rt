@@ -8,8 +8,8 @@ use crate::frame::Frame;
 use crate::head::{push_attributes, push_head, push_heading};
 use crate::keys::push_keys;
 use crate::lanes::{push_audit, push_others};
-use crate::scene::{Scene, scene_of, story_in};
-use esr_story::Audited;
+use crate::scene::{Scene, scene_of};
+use esr_story::{Audited, Story};
 use std::alloc::{AllocError, Global};
 
 /// What is written of a picture between the ends of its element.
@@ -40,8 +40,11 @@ fn parts_of_scene(alloc: Global, scene: &Scene<'_>) -> Result<Parts, AllocError>
 }
 
 /// What is written of the picture of what a script tells of one of its queries.
-pub fn parts_of<'a>(alloc: Global, asked: &'a Audited<'a>) -> Result<Parts, AllocError> {
-    let story = story_in(alloc, asked)?;
-    let scene = scene_of(alloc, asked, &story)?;
+pub fn parts_of<'a>(
+    alloc: Global,
+    asked: &'a Audited<'a>,
+    story: &'a Story,
+) -> Result<Parts, AllocError> {
+    let scene = scene_of(alloc, asked, story)?;
     parts_of_scene(alloc, &scene)
 }

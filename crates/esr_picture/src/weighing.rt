@@ -49,13 +49,11 @@ impl Places {
         self.places.get(position as usize).copied().unwrap_or(0) as usize
     }
 
-    /// What a lane costs behind so many updates.
+    /// What a lane costs behind so many updates. The places of its writers ascend, as those before the line are its first.
     fn cost_at(&self, chain: &Chain, place: usize) -> u64 {
         let version = chain
             .writers
-            .iter()
-            .filter(|writer| self.of(**writer) < place)
-            .count();
+            .partition_point(|writer| self.of(*writer) < place);
         chain.costs.get(version).copied().unwrap_or(0)
     }
 }

@@ -5,7 +5,7 @@ use crate::nearest::push_nearest;
 use crate::reads::push_reads;
 use crate::tale::{Ending, Tale};
 use esr_audit::Finding;
-use esr_story::{Audited, Story, nearest_moment, push_number, story_of, strict_sentence, verdict};
+use esr_story::{Audited, Story, nearest_moment, push_number, strict_sentence, verdict};
 use std::alloc::{AllocError, Global};
 
 /// So many points are listed at most, and then how many more there are.
@@ -152,16 +152,15 @@ fn moral(alloc: Global, finding: &Finding) -> Result<String, AllocError> {
     Ok(out)
 }
 
-/// The prose about a query.
-pub fn prose_of(alloc: Global, tale: &Tale<'_>) -> Result<Vec<Block>, AllocError> {
-    let story = story_of(alloc, tale.history, tale.query)?;
+/// The prose about a query of which the history tells this.
+pub fn prose_of(alloc: Global, tale: &Tale<'_>, story: &Story) -> Result<Vec<Block>, AllocError> {
     let mut blocks = Vec::new(alloc);
-    Block::push(&mut blocks, answer(alloc, tale, &story)?)?;
-    Block::push(&mut blocks, course(alloc, tale, &story)?)?;
-    push_reads(alloc, &mut blocks, tale, &story)?;
-    push_charges(alloc, &mut blocks, tale, &story)?;
+    Block::push(&mut blocks, answer(alloc, tale, story)?)?;
+    Block::push(&mut blocks, course(alloc, tale, story)?)?;
+    push_reads(alloc, &mut blocks, tale, story)?;
+    push_charges(alloc, &mut blocks, tale, story)?;
     if let Some(finding) = tale.finding {
-        push_nearest(alloc, &mut blocks, tale, &story, finding)?;
+        push_nearest(alloc, &mut blocks, tale, story, finding)?;
         if finding.import > 0 {
             Block::push(&mut blocks, moral(alloc, finding)?)?;
         }

@@ -4,7 +4,7 @@ use crate::prose::{Block, Kind, prose_of};
 use crate::tale::Tale;
 use esr_audit::{AuditError, Finding, audit_query};
 use esr_history::TxnId;
-use esr_story::{lines_of_entries, wrap};
+use esr_story::{story_of, wrap};
 use esr_telling::{Chronicle, Survey};
 use std::alloc::{AllocError, Global};
 
@@ -66,27 +66,22 @@ fn query_called(chronicle: &Chronicle<'_>, name: &str) -> Option<TxnId> {
 }
 
 /// The prose about a query of which this was found, if it has committed.
-fn prose_with(
+fn prose_with<'a>(
     alloc: Global,
-    chronicle: &Chronicle<'_>,
+    chronicle: &'a Chronicle<'a>,
     query: TxnId,
-    finding: Option<&Finding>,
+    finding: Option<&'a Finding>,
 ) -> Result<String, AllocError> {
-    let lines = lines_of_entries(
-        alloc,
-        chronicle.script,
-        &chronicle.transactions,
-        &chronicle.history,
-    )?;
     let tale = Tale {
         items: &chronicle.items,
         transactions: &chronicle.transactions,
         history: &chronicle.history,
-        lines: &lines,
+        lines: chronicle.lines,
         query,
         finding,
     };
-    let blocks = prose_of(alloc, &tale)?;
+    let story = story_of(alloc, tale.history, query)?;
+    let blocks = prose_of(alloc, &tale, &story)?;
     text_of(alloc, &blocks)
 }
 

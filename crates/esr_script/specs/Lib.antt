@@ -9,6 +9,7 @@ pub mod Ends
 pub mod Certify
 pub mod Ask
 pub mod Audit
+pub mod Copied
 pub mod Survey
 pub mod Replays
 pub mod Stages

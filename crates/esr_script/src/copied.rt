@@ -1,10 +1,9 @@
-//! A reader that keeps a copy of what passes. A history knows no lines, so who tells of a line of the script has to read
-//! the script once more.
+//! A reader that keeps a copy of what passes, for who tells of a line at fault, or looks at a bundle once more.
 
 ghost use Rattle.std.specs.Prelude.{◌≡◌};
 ghost use Rattle.std.specs.Io.{ReadsAtMost};
 ghost use Rattle.std.specs.Io.KnownBytes.{ReadConsumes};
-ghost use Rattle.esr_script.specs.Survey.{lower};
+ghost use Rattle.esr_script.specs.Copied.{lower};
 
 use std::alloc::Global;
 use std::io;

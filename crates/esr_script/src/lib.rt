@@ -15,6 +15,7 @@ mod engine;
 mod fault;
 mod lines;
 mod linting;
+mod numbering;
 mod pending;
 mod replaying;
 mod runs;

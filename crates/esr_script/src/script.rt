@@ -348,8 +348,8 @@ impl Script {
         }
     }
 
-    /// Ends the run, and gives what it leads to, with the bytes of the script.
-    pub fn chronicle(mut self, script: &[u8]) -> Result<Chronicle<'_>, RunFault>
+    /// Ends the run, and gives what it leads to, with the line of each entry.
+    pub fn chronicle(mut self, lines: &[u32]) -> Result<Chronicle<'_>, RunFault>
         ensures recorded { IfOk result (IsRecorded self) }
         ensures faults { IfErr result (λ e. e ≡ RunFault.NoMemory) }
     {
@@ -364,7 +364,7 @@ impl Script {
             items,
             transactions,
             history: stage.into_history(),
-            script,
+            lines,
         })
     }
 

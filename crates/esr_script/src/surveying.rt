@@ -6,12 +6,12 @@ ghost use Rattle.esr_base.specs.Watch.{inner, failed};
 ghost use Rattle.esr_script.specs.Ends.{IsReachedBy, IsWhole};
 ghost use Rattle.esr_script.specs.Parts.{is_read_fault, is_write_fault};
 ghost use Rattle.esr_script.specs.ReaderToWriter.{ReadsAndWrites};
-ghost use Rattle.esr_script.specs.Survey.{IsSurveyedBy, lower};
+ghost use Rattle.esr_script.specs.Survey.{IsSurveyedBy};
 ghost use Rattle.esr_script.specs.Text.{ScriptState, final};
 ghost use Rattle.esr_telling.specs.Ask.{IsRecorded};
 
-use crate::copied::Copied;
 use crate::fault::RunFault;
+use crate::numbering::Numbering;
 use crate::replaying::replay;
 use crate::script::Script;
 use crate::sending::send_all;
@@ -44,7 +44,7 @@ fn text_about<S: Survey>(
 fn text_of<S: Survey>(
     alloc: Global,
     script: Script,
-    copy: Option<&[u8]>,
+    lines: Option<&[u32]>,
     survey: &S,
 ) -> Result<Vec<u8>, RunFault>
     ensures text { IfOk result (λ text. S.IsTextOf survey.now script text.items) }
@@ -52,10 +52,10 @@ fn text_of<S: Survey>(
     ensures read { is_read_fault result ≡ false }
     ensures write { is_write_fault result ≡ false }
 {
-    let Some(bytes) = copy else {
+    let Some(lines) = lines else {
         return Err(RunFault::NoMemory);
     };
-    match script.chronicle(bytes) {
+    match script.chronicle(lines) {
         Ok(chronicle) => text_about(alloc, &chronicle, survey),
         Err(_) => Err(RunFault::NoMemory),
     }
@@ -64,19 +64,20 @@ fn text_of<S: Survey>(
 /// The text of a survey of a script.
 fn survey_text<R: Read, S: Survey, O: Observer>(
     alloc: Global,
-    reader: &mut Watched<Copied<R>>,
+    reader: &mut Watched<R>,
     survey: &S,
     observer: &mut O,
 ) -> Result<Vec<u8>, RunFault>
     requires reader { failed reader.old ≡ false }
-    ensures text { (input : List ℕ) → R.remaining (lower (inner reader.old)) ≡ Some input
+    ensures text { (input : List ℕ) → R.remaining (inner reader.old) ≡ Some input
         → IsReachedBy (λ text. S.IsTextOf survey.now (final input) text.items) (IsWhole input)
-        input (R.remaining (lower (inner reader.new))) result }
+        input (R.remaining (inner reader.new)) result }
     ensures reader { failed reader.new ≡ is_read_fault result }
     ensures write { is_write_fault result ≡ false }
 {
-    match replay(alloc, reader, observer) {
-        Ok(script) => text_of(alloc, script, reader.inner().copy(), survey),
+    let mut numbering = Numbering::new(alloc, observer);
+    match replay(alloc, reader, &mut numbering) {
+        Ok(script) => text_of(alloc, script, numbering.lines(), survey),
         Err(fault) => Err(fault),
     }
 }
@@ -89,14 +90,14 @@ fn survey_text<R: Read, S: Survey, O: Observer>(
 /// `Write` a prefix of the text.
 pub fn survey<R: Read, W: Write, S: Survey, O: Observer>(
     alloc: Global,
-    reader: &mut Watched<Copied<R>>,
+    reader: &mut Watched<R>,
     writer: &mut Watched<W>,
     survey: &S,
     observer: &mut O,
 ) -> Result<(), RunFault>
     requires reader { failed reader.old ≡ false }
     requires writer { failed writer.old ≡ false }
-    ensures { ReadsAndWrites (λ c. R.remaining (lower c)) W.contents reader.old reader.new writer.old writer.new
+    ensures { ReadsAndWrites R.remaining W.contents reader.old reader.new writer.old writer.new
         (λ input. IsSurveyedBy (S.IsTextOf survey.now (final input)) input) result }
 {
     let mut text = match survey_text(alloc, reader, survey, observer) {

@@ -1,5 +1,5 @@
-//! From which line of the script to which a transaction goes. The history knows no lines: the script is read once more
-//! for them, or they are counted for the script that the history would have. No clause says which they are.
+//! From which line of the script to which a transaction goes. The history knows no lines: they were kept while the script
+//! was answered, or are counted for the script that the history would have. No clause says which they are.
 
 ghost use Rattle.std.specs.Prelude.{◌≡◌};
 ghost use Rattle.esr_sheet.specs.Spans.{first_of, last_of};
@@ -7,7 +7,6 @@ ghost use Rattle.esr_sheet.specs.Spans.{first_of, last_of};
 use crate::tallies::txn_of;
 use esr_history::{Entry, History, Refusal, Reply, TxnId};
 use esr_items::Weighted;
-use esr_story::lines_of_entries;
 use esr_telling::Chronicle;
 use std::alloc::{AllocError, Global};
 
@@ -75,9 +74,8 @@ fn nowhere(alloc: Global, history: &History<Weighted>) -> Result<Spans, AllocErr
 /// The spans of the transactions of a script.
 pub fn spans_of(alloc: Global, chronicle: &Chronicle<'_>) -> Result<Spans, AllocError> {
     let history = &chronicle.history;
-    let lines = lines_of_entries(alloc, chronicle.script, &chronicle.transactions, history)?;
     let mut spans = nowhere(alloc, history)?;
-    for (place, line) in lines.iter().enumerate() {
+    for (place, line) in chronicle.lines.iter().enumerate() {
         if let Some(entry) = history.log().get(place) {
             spans.note(entry, *line);
         }

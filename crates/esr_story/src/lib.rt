@@ -1,20 +1,18 @@
 //! What happened to a query, and what everybody who tells of it shares: its story, which the history has (what it read
-//! and whose that was, what it was charged and by whom), the lines of the script that made it, numbers in groups, and the
-//! few sentences that stand above a picture and open its prose.
+//! and whose that was, what it was charged and by whom), numbers in groups, and the few sentences that stand above a
+//! picture and open its prose.
 //!
-//! Pictures, prose, pages and tables stand on this crate and not on one another, so that none waits for another's words.
+//! Pictures and prose stand on this crate and not on one another, so that neither waits for the other's words.
 //! It is safe and ends; what it says is promised by no clause.
 #![tactic(auto)]
 
 mod audited;
-mod lines;
 mod numbers;
 mod sentences;
 mod story;
 mod text;
 
 pub use audited::Audited;
-pub use lines::lines_of_entries;
 pub use numbers::{letters_of, number_letters, push_count, push_number, push_value};
 pub use sentences::{nearest_moment, sentences_of, strict_sentence, verdict};
 pub use story::{Cause, Charge, End, Sight, Story, Sum, story_of};

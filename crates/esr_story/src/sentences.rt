@@ -30,7 +30,12 @@ fn push_moment(out: &mut String, asked: &Audited<'_>, story: &Story) -> Result<(
     push_names(out, asked.transactions, before)
 }
 
-/// Whether what it read was ever true at one moment.
+/// Whether it is placed behind updates that had committed when it began, so that earlier moments do not count.
+fn has_to_be_behind(asked: &Audited<'_>) -> bool {
+    !asked.finding.problem.must().is_empty()
+}
+
+/// Whether what it read was ever true at one moment. That of a strict query may have been, before what it had to see.
 pub fn verdict(alloc: Global, asked: &Audited<'_>, story: &Story) -> Result<String, AllocError> {
     let query = name(asked, asked.finding.query);
     let mut out = String::new(alloc);
@@ -42,7 +47,11 @@ pub fn verdict(alloc: Global, asked: &Audited<'_>, story: &Story) -> Result<Stri
     out.push_str("What ")?;
     out.push_str(query)?;
     if asked.finding.distance > 0 {
-        out.push_str(" read was never true at one moment.")?;
+        out.push_str(if has_to_be_behind(asked) {
+            " read was true at no moment that a strict report may have."
+        } else {
+            " read was never true at one moment."
+        })?;
         return Ok(out);
     }
     out.push_str(" read was true at one moment, ")?;
@@ -58,10 +67,10 @@ pub fn nearest_moment(
     story: &Story,
 ) -> Result<String, AllocError> {
     let mut out = String::new(alloc);
-    out.push_str(if asked.finding.problem.must().is_empty() {
-        "The nearest moment, "
+    out.push_str(if has_to_be_behind(asked) {
+        "The nearest of these, "
     } else {
-        "The nearest moment that a strict report may have, "
+        "The nearest moment, "
     })?;
     push_moment(&mut out, asked, story)?;
     out.push_str(", differs by ")?;
@@ -142,7 +151,7 @@ pub fn sentences_of(
         LINE,
         &charge_sentence(alloc, asked, story)?,
     )?;
-    if !asked.finding.problem.must().is_empty() {
+    if has_to_be_behind(asked) {
         wrap(alloc, &mut lines, LINE, &strict_sentence(alloc, asked)?)?;
     }
     Ok(lines)

@@ -271,7 +271,8 @@ impl Story {
         Ok(())
     }
 
-    /// Notes that an update wrote another value over one that the query has read of it.
+    /// Notes that an update wrote another value over its own, which the query may have read. All sights are looked at, so
+    /// this is for such writes alone: where updates write each item once, it never comes.
     fn overwrite(&mut self, item: ItemId, update: TxnId, value: i64) {
         for sight in &mut self.sights {
             if sight.item == item && sight.writer == Some(update) {
@@ -336,7 +337,9 @@ impl Story {
         if before.reads == 0 {
             return Ok(());
         }
-        self.overwrite(item, update, value);
+        if before.writer == Some(update) {
+            self.overwrite(item, update, value);
+        }
         if self.has_ended {
             return Ok(());
         }

@@ -13,6 +13,6 @@ pub struct Chronicle<'a> {
     pub transactions: Names,
     /// The history after the whole script.
     pub history: History<Weighted>,
-    /// The bytes of the script, which have the lines that the history does not know.
-    pub script: &'a [u8],
+    /// The line of each entry of the history, from 1, which the history does not know.
+    pub lines: &'a [u32],
 }

@@ -21,12 +21,12 @@ pub struct Script<'a> {
 
 impl<'a> Script<'a> {
     /// What a script leads to, with the line of each entry.
-    pub fn new(chronicle: &'a Chronicle<'_>, lines: &'a [u32]) -> Script<'a> {
+    pub fn new(chronicle: &'a Chronicle<'_>) -> Script<'a> {
         Script {
             items: &chronicle.items,
             transactions: &chronicle.transactions,
             history: &chronicle.history,
-            lines,
+            lines: chronicle.lines,
         }
     }
 

@@ -14,7 +14,6 @@ use crate::sentences::Script;
 use crate::waits::{Latest, Wait, transaction_of};
 use esr_history::{Entry, Event, History, NoMemory, Refusal, Reply, TxnId};
 use esr_items::Weighted;
-use esr_story::lines_of_entries;
 use esr_telling::{Chronicle, Survey};
 use std::alloc::{AllocError, Global};
 
@@ -186,10 +185,9 @@ fn text_about(
     sought: Sought,
 ) -> Result<String, NoMemory> {
     let history = &chronicle.history;
-    let lines = lines_of_entries(alloc, chronicle.script, &chronicle.transactions, history)?;
     let mut telling = Telling {
         alloc,
-        script: Script::new(chronicle, &lines),
+        script: Script::new(chronicle),
         sought,
         replay: Replay::new(alloc, history)?,
         latest: Latest::new(alloc, history.begun_count())?,

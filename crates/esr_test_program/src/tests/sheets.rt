@@ -3,7 +3,7 @@
 
 use esr_history::Watched;
 use esr_lint::Unobserved;
-use esr_script::{Copied, survey, tell};
+use esr_script::{survey, tell};
 use esr_sheet::{AuditSheet, Data, ExplanationSheet, Format, Ledger};
 use esr_telling::{Survey, Telling};
 use std::alloc::Global;
@@ -81,7 +81,7 @@ const BANK: &str = "item checking 500\n\
 
 /// Compares what a survey of a script writes.
 fn writes<S: Survey>(rt: &impl Abort, alloc: Global, script: &str, survey_of: &S, text: &str) {
-    let mut reader = Watched::new(Copied::new(alloc, script.as_bytes()));
+    let mut reader = Watched::new(script.as_bytes());
     let mut writer = Watched::new(Vec::new(alloc));
     let ended = survey(alloc, &mut reader, &mut writer, survey_of, &mut Unobserved);
     assert!(rt; ended == Ok(()));
@@ -122,7 +122,7 @@ fn a_ledger_has_a_row_for_each_begin(rt: HostRuntime) {
 fn an_empty_ledger_has_its_heads(rt: HostRuntime) {
     let alloc = rt.alloc();
     let head = DAY_CSV.lines().next().unwrap_or("");
-    let mut reader = Watched::new(Copied::new(alloc, b"item a 1\n".as_slice()));
+    let mut reader = Watched::new(b"item a 1\n".as_slice());
     let mut writer = Watched::new(Vec::new(alloc));
     let ledger = Ledger {
         format: Format::Csv,

@@ -5,7 +5,7 @@ use esr_history::Watched;
 use esr_lint::Unobserved;
 use esr_page::Page;
 use esr_prose::Prose;
-use esr_script::{Copied, RunFault, survey};
+use esr_script::{RunFault, survey};
 use esr_telling::Survey;
 use std::alloc::Global;
 use std::process::Abort;
@@ -64,7 +64,7 @@ const DAY: &str = "# a day\n\
 
 /// Surveys a script, and looks for texts in what is written.
 fn has<S: Survey>(rt: &impl Abort, alloc: Global, script: &str, survey_of: &S, texts: &[&str]) {
-    let mut reader = Watched::new(Copied::new(alloc, script.as_bytes()));
+    let mut reader = Watched::new(script.as_bytes());
     let mut writer = Watched::new(Vec::new(alloc));
     let ended = survey(alloc, &mut reader, &mut writer, survey_of, &mut Unobserved);
     assert!(rt; ended == Ok(()));
@@ -86,6 +86,7 @@ fn a_report_of_the_bank_is_told(rt: HostRuntime) {
 fn what_became_of_values_and_queries_is_told(rt: HostRuntime) {
     let alloc = rt.alloc();
     let report = [
+        "What report read was true at no moment that a strict report may have.",
         "It is strict, and had to be\nbehind morning, which had committed when it began.",
         "report is a strict query that began in line 8 and committed in line 21.",
         "  - till 90, in line 13, which evening had written and not committed; it aborted\n    later, in line 19\n",
@@ -107,7 +108,7 @@ fn what_became_of_values_and_queries_is_told(rt: HostRuntime) {
 fn what_is_no_query_is_not_told(rt: HostRuntime) {
     let alloc = rt.alloc();
     for name in ["transfer", "checking", "<"] {
-        let mut reader = Watched::new(Copied::new(alloc, BANK.as_bytes()));
+        let mut reader = Watched::new(BANK.as_bytes());
         let mut writer = Watched::new(Vec::new(alloc));
         let ended = survey(
             alloc,

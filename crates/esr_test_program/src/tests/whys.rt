@@ -2,7 +2,7 @@
 
 use esr_history::Watched;
 use esr_lint::Unobserved;
-use esr_script::{Copied, RunFault, survey};
+use esr_script::{RunFault, survey};
 use esr_why::Why;
 use std::alloc::Global;
 use std::process::Abort;
@@ -72,7 +72,7 @@ line 23: read third a: blocked by the write lock of second; second is still acti
 
 /// Whether this is told of a script.
 fn tells(rt: &impl Abort, alloc: Global, script: &str, name: Option<&str>, wanted: &str) {
-    let mut reader = Watched::new(Copied::new(alloc, script.as_bytes()));
+    let mut reader = Watched::new(script.as_bytes());
     let mut writer = Watched::new(Vec::new(alloc));
     let ended = survey(
         alloc,
@@ -118,7 +118,7 @@ deadlock: transfer waits for other at line 10, other waits for transfer at line 
 #[test]
 fn nobody_is_not_told_of(rt: HostRuntime) {
     let alloc = rt.alloc();
-    let mut reader = Watched::new(Copied::new(alloc, CLOSING.as_bytes()));
+    let mut reader = Watched::new(CLOSING.as_bytes());
     let mut writer = Watched::new(Vec::new(alloc));
     let name = Some("savings");
     let ended = survey(

@@ -1,0 +1,63 @@
+//! The line of each entry. A history knows no lines, so who surveys a script has them kept while it is answered: 4 bytes
+//! an entry. Before, a copy of the script was kept, of some twenty bytes a line, and cut into lines once more. No clause
+//! says which they are, as none speaks of what an observer sees.
+
+use esr_lint::{Observer, Standing, is_error};
+use std::alloc::Global;
+
+/// Whether a line made an entry: it gave the machine an event, and was answered by no error.
+fn makes_entry(line: &[u8], answer: &[u8]) -> bool {
+    let gives_event = line.starts_with(b"read ")
+        || line.starts_with(b"write ")
+        || line.starts_with(b"begin ")
+        || line.starts_with(b"commit ")
+        || line.starts_with(b"abort ");
+    gives_event && !is_error(answer)
+}
+
+/// Keeps the number of each line that made an entry, and lets another observer look on.
+#[derive(Drop)]
+pub struct Numbering<'a, O> {
+    observer: &'a mut O,
+    lines: Vec<u32>,
+    is_whole: bool,
+}
+
+impl<'a, O> Numbering<'a, O> {
+    pub fn new(alloc: Global, observer: &'a mut O) -> Numbering<'a, O> {
+        Numbering {
+            observer,
+            lines: Vec::new(alloc),
+            is_whole: true,
+        }
+    }
+
+    /// The line of each entry, unless memory was refused for one.
+    pub fn lines(&self) -> Option<&[u32]> {
+        if self.is_whole {
+            Some(&self.lines)
+        } else {
+            None
+        }
+    }
+}
+
+impl<O: Observer> Observer for Numbering<'_, O> {
+    fn see_line(&mut self, number: u64, line: &[u8], answer: &[u8]) {
+        if makes_entry(line, answer) {
+            let number = u32::try_from(number).unwrap_or(u32::MAX);
+            if self.lines.push(number).is_err() {
+                self.is_whole = false;
+            }
+        }
+        self.observer.see_line(number, line, answer);
+    }
+
+    fn see_transaction(&mut self, name: &str, standing: Standing) {
+        self.observer.see_transaction(name, standing);
+    }
+
+    fn see_end(&mut self) {
+        self.observer.see_end();
+    }
+}
