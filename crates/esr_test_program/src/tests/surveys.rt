@@ -62,6 +62,23 @@ const DAY: &str = "# a day\n\
         abort other\n\
         commit report\n";
 
+/// Surveys a script, and compares how that ends and what is written.
+pub fn surveys<S: Survey>(
+    rt: &impl Abort,
+    alloc: Global,
+    script: &str,
+    survey_of: &S,
+    ends: Result<(), RunFault>,
+    text: &str,
+) {
+    let mut reader = Watched::new(Copied::new(alloc, script.as_bytes()));
+    let mut writer = Watched::new(Vec::new(alloc));
+    let ended = survey(alloc, &mut reader, &mut writer, survey_of, &mut Unobserved);
+    assert!(rt; ended == ends);
+    let written = from_utf8(writer.inner().as_slice()).unwrap_or("");
+    assert!(rt; written == text, "it is {}", written);
+}
+
 /// Surveys a script, and looks for texts in what is written.
 fn has<S: Survey>(rt: &impl Abort, alloc: Global, script: &str, survey_of: &S, texts: &[&str]) {
     let mut reader = Watched::new(Copied::new(alloc, script.as_bytes()));
@@ -106,18 +123,9 @@ fn what_became_of_values_and_queries_is_told(rt: HostRuntime) {
 #[test]
 fn what_is_no_query_is_not_told(rt: HostRuntime) {
     let alloc = rt.alloc();
+    let refused = Err(RunFault::NotACommittedQuery);
     for name in ["transfer", "checking", "<"] {
-        let mut reader = Watched::new(Copied::new(alloc, BANK.as_bytes()));
-        let mut writer = Watched::new(Vec::new(alloc));
-        let ended = survey(
-            alloc,
-            &mut reader,
-            &mut writer,
-            &Prose { name },
-            &mut Unobserved,
-        );
-        assert!(rt; ended == Err(RunFault::NotACommittedQuery));
-        assert!(rt; writer.inner().is_empty());
+        surveys(&rt, alloc, BANK, &Prose { name }, refused, "");
     }
 }
 
