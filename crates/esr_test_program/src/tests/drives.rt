@@ -1,12 +1,19 @@
 //! Drive files with the texts that they give. A drive's text is proved to be one of many, and a drive may answer a full
 //! history, receipts that do not match or out of memory whenever it likes: that it ends well only a test can show.
 
+ghost use Rattle.std.specs.Prelude.{◌≡◌, ◌≤◌, false};
+ghost use Rattle.esr_base.specs.Watch.{failed};
+
 mod failing;
 
 use crate::tests::devices::check_written;
 use esr_drive::{DriveFault, Form, NoGate, drive};
 use esr_history::Watched;
 use esr_lint::Unobserved;
+use std::alloc::Global;
+use std::io::{Read, Write};
+use std::sync::Wait;
+use std::thread::Threads;
 
 /// A drive file, how its drive ends, and what is written.
 struct Row {
@@ -253,21 +260,29 @@ static ROWS: [Row; 30] = [
     },
 ];
 
+/// Runs a drive file, and audits its queries by so many workers.
+fn drive_by<T: Threads + Wait + Sync, R: Read, W: Write>(
+    rt: &T,
+    alloc: Global,
+    reader: &mut Watched<R>,
+    writer: &mut Watched<W>,
+    workers: u64,
+) -> Result<(), DriveFault>
+    requires reader { failed reader.old ≡ false }
+    requires writer { failed writer.old ≡ false }
+    requires workers { (1 ≤ workers) × (workers ≤ 64) }
+{
+    let form = Form::Text { workers };
+    drive(rt, alloc, reader, writer, form, &NoGate, &mut Unobserved)
+}
+
 /// Which history comes is open, so a drive could always call it full; of one busy block only one can come.
 #[test]
 fn files_give_their_texts(rt: HostRuntime) {
     for row in table() {
         let mut reader = Watched::new(row.file.as_bytes());
         let mut writer = Watched::new(Vec::new(rt.alloc()));
-        let ended = drive(
-            &rt,
-            rt.alloc(),
-            &mut reader,
-            &mut writer,
-            Form::Text { workers: 1 },
-            &NoGate,
-            &mut Unobserved,
-        );
+        let ended = drive_by(&rt, rt.alloc(), &mut reader, &mut writer, 1);
         assert!(rt; ended == row.ended, "{} ends so", row.name);
         check_written(&rt, &writer, row.text, row.name);
     }
@@ -292,15 +307,7 @@ fn two_blocks_begin_in_one_of_two_orders(rt: HostRuntime) {
     for workers in 1..4 {
         let mut reader = Watched::new(TWO_BLOCKS.as_bytes());
         let mut writer = Watched::new(Vec::new(rt.alloc()));
-        let ended = drive(
-            &rt,
-            rt.alloc(),
-            &mut reader,
-            &mut writer,
-            Form::Text { workers },
-            &NoGate,
-            &mut Unobserved,
-        );
+        let ended = drive_by(&rt, rt.alloc(), &mut reader, &mut writer, workers);
         assert!(rt; ended == Ok(()));
         let text = writer.inner().as_slice();
         assert!(rt; text == TWO_TEXTS[0].as_bytes() || text == TWO_TEXTS[1].as_bytes());

@@ -1,11 +1,15 @@
 //! Queries drawn.
 
+ghost use Rattle.std.specs.Prelude.{◌≡◌, false};
+ghost use Rattle.esr_base.specs.Watch.{failed};
+
 use crate::tests::devices::{Way, check_cut, cut_after, narrow_until};
 use esr_history::Watched;
 use esr_lint::Unobserved;
 use esr_picture::Drawing;
 use esr_script::{RunFault, tell};
 use std::alloc::{AllocError, Global};
+use std::io::{Read, Write};
 use std::process::Abort;
 use std::str::from_utf8;
 
@@ -59,18 +63,24 @@ const TWICE: &str = "item a 7 weight 3\n\
         read q a\n\
         commit q\n";
 
+/// Draws the query of that name.
+fn draw<R: Read, W: Write>(
+    alloc: Global,
+    reader: &mut Watched<R>,
+    writer: &mut Watched<W>,
+    name: &str,
+) -> Result<(), RunFault>
+    requires reader { failed reader.old ≡ false }
+    requires writer { failed writer.old ≡ false }
+{
+    tell(alloc, reader, writer, name, &Drawing, &mut Unobserved)
+}
+
 /// Draws the query of that name, and looks for texts in what is written.
 fn has(rt: &impl Abort, alloc: Global, script: &str, name: &str, texts: &[&str]) {
     let mut reader = Watched::new(script.as_bytes());
     let mut writer = Watched::new(Vec::new(alloc));
-    let ended = tell(
-        alloc,
-        &mut reader,
-        &mut writer,
-        name,
-        &Drawing,
-        &mut Unobserved,
-    );
+    let ended = draw(alloc, &mut reader, &mut writer, name);
     assert!(rt; ended == Ok(()));
     let written = from_utf8(writer.inner().as_slice()).unwrap_or("");
     assert!(rt; written.starts_with("<svg ") && written.ends_with("</svg>\n"));
@@ -161,14 +171,7 @@ fn add_update(script: &mut String, i: u32) -> Result<(), AllocError> {
 fn count(alloc: Global, script: &str, text: &str) -> usize {
     let mut reader = Watched::new(script.as_bytes());
     let mut writer = Watched::new(Vec::new(alloc));
-    let _ = tell(
-        alloc,
-        &mut reader,
-        &mut writer,
-        "q",
-        &Drawing,
-        &mut Unobserved,
-    );
+    let _ = draw(alloc, &mut reader, &mut writer, "q");
     let written = from_utf8(writer.inner().as_slice()).unwrap_or("");
     written.matches(text).count()
 }
@@ -214,14 +217,7 @@ fn what_is_no_committed_query_is_not_drawn(rt: HostRuntime) {
     for name in ["transfer", "checking", "nobody", "<"] {
         let mut reader = Watched::new(BANK.as_bytes());
         let mut writer = Watched::new(Vec::new(alloc));
-        let ended = tell(
-            alloc,
-            &mut reader,
-            &mut writer,
-            name,
-            &Drawing,
-            &mut Unobserved,
-        );
+        let ended = draw(alloc, &mut reader, &mut writer, name);
         assert!(rt; ended == Err(RunFault::NotACommittedQuery));
         assert!(rt; writer.inner().is_empty());
     }
@@ -234,14 +230,7 @@ fn each_read_fails_in_turn(rt: HostRuntime) {
     for left in 0..BANK.len() + 1 {
         let mut reader = cut_after(BANK, 1, left);
         let mut writer = Watched::new(Vec::new(alloc));
-        let ended = tell(
-            alloc,
-            &mut reader,
-            &mut writer,
-            "report",
-            &Drawing,
-            &mut Unobserved,
-        );
+        let ended = draw(alloc, &mut reader, &mut writer, "report");
         assert!(rt; ended == Err(RunFault::Read));
         check_cut(&rt, &reader, &writer);
     }
@@ -253,14 +242,7 @@ fn writes_fail(rt: HostRuntime) {
     let alloc = rt.alloc();
     let mut reader = Watched::new(BANK.as_bytes());
     let mut whole = Watched::new(Vec::new(alloc));
-    let ended = tell(
-        alloc,
-        &mut reader,
-        &mut whole,
-        "report",
-        &Drawing,
-        &mut Unobserved,
-    );
+    let ended = draw(alloc, &mut reader, &mut whole, "report");
     assert!(rt; ended == Ok(()));
     for left in 0..20 {
         fails_after(&rt, alloc, left, whole.inner().as_slice());
@@ -271,14 +253,7 @@ fn writes_fail(rt: HostRuntime) {
 fn fails_after(rt: &impl Abort, alloc: Global, left: usize, whole: &[u8]) {
     let mut reader = Watched::new(BANK.as_bytes());
     let mut writer = narrow_until(alloc, 3, left, Way::Errs);
-    let ended = tell(
-        alloc,
-        &mut reader,
-        &mut writer,
-        "report",
-        &Drawing,
-        &mut Unobserved,
-    );
+    let ended = draw(alloc, &mut reader, &mut writer, "report");
     assert!(rt; ended == Err(RunFault::Write) && writer.failed() && !reader.failed());
     let taken = writer.inner().taken.as_slice();
     assert!(rt; taken.len() == left.saturating_mul(3) && whole.starts_with(taken));

@@ -1,6 +1,9 @@
 //! Scripts that are run, audited, certified and explained. What is written is proved against definitions, up to out of
 //! memory; that definitions say what the formats say, and that a run comes to its end, are tried on texts made by hand.
 
+ghost use Rattle.std.specs.Prelude.{◌≡◌, false};
+ghost use Rattle.esr_base.specs.Watch.{failed};
+
 mod audited;
 mod certified;
 mod explained;
@@ -14,7 +17,20 @@ use esr_lint::Unobserved;
 use esr_script::{RunFault, run};
 use rows::table;
 use std::alloc::Global;
+use std::io::{Read, Write};
 use std::process::Abort;
+
+/// Runs a script.
+pub fn run_script<R: Read, W: Write>(
+    alloc: Global,
+    reader: &mut Watched<R>,
+    writer: &mut Watched<W>,
+) -> Result<(), RunFault>
+    requires reader { failed reader.old ≡ false }
+    requires writer { failed writer.old ≡ false }
+{
+    run(alloc, reader, writer, &mut Unobserved)
+}
 
 /// Runs a script, and compares what is written with the text.
 fn answers(
@@ -27,7 +43,7 @@ fn answers(
 ) {
     let mut reader = Watched::new(script);
     let mut writer = Watched::new(Vec::new(alloc));
-    let ended = run(alloc, &mut reader, &mut writer, &mut Unobserved);
+    let ended = run_script(alloc, &mut reader, &mut writer);
     assert!(rt; ended == ends, "{} ends so", name);
     check_written(rt, &writer, text, name);
 }

@@ -1,9 +1,10 @@
 //! Ledgers, audits and explanations as sheets. No clause says what JSON and the text in columns have in them, nor which
 //! lines a transaction goes from and to.
 
+use crate::tests::surveys::surveys;
 use esr_history::Watched;
 use esr_lint::Unobserved;
-use esr_script::{survey, tell};
+use esr_script::tell;
 use esr_sheet::{AuditSheet, Data, ExplanationSheet, Format, Ledger};
 use esr_telling::{Survey, Telling};
 use std::alloc::Global;
@@ -34,6 +35,9 @@ const DAY: &str = "# One day of a shop\n\
         write evening till 3\n\
         abort other\n\
         begin late query 7\n";
+
+const HEADS: &str =
+    "number,name,kind,limit,charged,left,reads,writes,blocked_by_lock,blocked_by_import,blocked_by_export,end,distance,first_line,last_line\n";
 
 const DAY_CSV: &str = "\
 number,name,kind,limit,charged,left,reads,writes,blocked_by_lock,blocked_by_import,blocked_by_export,end,distance,first_line,last_line
@@ -81,11 +85,7 @@ const BANK: &str = "item checking 500\n\
 
 /// Compares what a survey of a script writes.
 fn writes<S: Survey>(rt: &impl Abort, alloc: Global, script: &str, survey_of: &S, text: &str) {
-    let mut reader = Watched::new(script.as_bytes());
-    let mut writer = Watched::new(Vec::new(alloc));
-    let ended = survey(alloc, &mut reader, &mut writer, survey_of, &mut Unobserved);
-    assert!(rt; ended == Ok(()));
-    assert!(rt; writer.inner().as_slice() == text.as_bytes());
+    surveys(rt, alloc, script, survey_of, Ok(()), text);
 }
 
 /// Compares what is told of the report of the bank.
@@ -121,15 +121,10 @@ fn a_ledger_has_a_row_for_each_begin(rt: HostRuntime) {
 #[test]
 fn an_empty_ledger_has_its_heads(rt: HostRuntime) {
     let alloc = rt.alloc();
-    let head = DAY_CSV.lines().next().unwrap_or("");
-    let mut reader = Watched::new(b"item a 1\n".as_slice());
-    let mut writer = Watched::new(Vec::new(alloc));
-    let ledger = Ledger {
+    let csv = Ledger {
         format: Format::Csv,
     };
-    let ended = survey(alloc, &mut reader, &mut writer, &ledger, &mut Unobserved);
-    assert!(rt; ended == Ok(()));
-    assert!(rt; writer.inner().strip_suffix(b"\n") == Some(head.as_bytes()));
+    writes(&rt, alloc, "item a 1\n", &csv, HEADS);
     let json = Ledger {
         format: Format::Json,
     };

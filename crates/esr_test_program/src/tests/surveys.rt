@@ -62,6 +62,23 @@ const DAY: &str = "# a day\n\
         abort other\n\
         commit report\n";
 
+/// Surveys a script, and compares how that ends and what is written.
+pub fn surveys<S: Survey>(
+    rt: &impl Abort,
+    alloc: Global,
+    script: &str,
+    survey_of: &S,
+    ends: Result<(), RunFault>,
+    text: &str,
+) {
+    let mut reader = Watched::new(script.as_bytes());
+    let mut writer = Watched::new(Vec::new(alloc));
+    let ended = survey(alloc, &mut reader, &mut writer, survey_of, &mut Unobserved);
+    assert!(rt; ended == ends);
+    let written = from_utf8(writer.inner().as_slice()).unwrap_or("");
+    assert!(rt; written == text, "it is {}", written);
+}
+
 /// Surveys a script, and looks for texts in what is written.
 fn has<S: Survey>(rt: &impl Abort, alloc: Global, script: &str, survey_of: &S, texts: &[&str]) {
     let mut reader = Watched::new(script.as_bytes());
@@ -86,7 +103,6 @@ fn a_report_of_the_bank_is_told(rt: HostRuntime) {
 fn what_became_of_values_and_queries_is_told(rt: HostRuntime) {
     let alloc = rt.alloc();
     let report = [
-        "What report read was true at no moment that a strict report may have.",
         "It is strict, and had to be\nbehind morning, which had committed when it began.",
         "report is a strict query that began in line 8 and committed in line 21.",
         "  - till 90, in line 13, which evening had written and not committed; it aborted\n    later, in line 19\n",
@@ -107,18 +123,9 @@ fn what_became_of_values_and_queries_is_told(rt: HostRuntime) {
 #[test]
 fn what_is_no_query_is_not_told(rt: HostRuntime) {
     let alloc = rt.alloc();
+    let refused = Err(RunFault::NotACommittedQuery);
     for name in ["transfer", "checking", "<"] {
-        let mut reader = Watched::new(BANK.as_bytes());
-        let mut writer = Watched::new(Vec::new(alloc));
-        let ended = survey(
-            alloc,
-            &mut reader,
-            &mut writer,
-            &Prose { name },
-            &mut Unobserved,
-        );
-        assert!(rt; ended == Err(RunFault::NotACommittedQuery));
-        assert!(rt; writer.inner().is_empty());
+        surveys(&rt, alloc, BANK, &Prose { name }, refused, "");
     }
 }
 

@@ -1,9 +1,8 @@
 //! That a watched device is asked, and that bytes are handed on: no clause can say either.
 
 use super::scripts::rows::table;
+use super::scripts::run_script;
 use esr_history::Watched;
-use esr_lint::Unobserved;
-use esr_script::run;
 use std::io;
 use std::io::{Read, Write};
 
@@ -82,7 +81,7 @@ fn a_run_hands_its_whole_output_on(rt: HostRuntime) {
             held: Vec::new(alloc),
             given: Vec::new(alloc),
         });
-        let ended = run(alloc, &mut reader, &mut writer, &mut Unobserved);
+        let ended = run_script(alloc, &mut reader, &mut writer);
         assert!(rt; ended == row.ended);
         let given = writer.inner().given.as_slice();
         assert!(rt; given == row.text.as_bytes(), "{} is handed on", row.name);

@@ -1,12 +1,10 @@
 //! Why lines were blocked, and who waits for whom. The amounts and the rings are proved; the words are in no clause.
 
-use esr_history::Watched;
-use esr_lint::Unobserved;
-use esr_script::{RunFault, survey};
+use crate::tests::surveys::surveys;
+use esr_script::RunFault;
 use esr_why::Why;
 use std::alloc::Global;
 use std::process::Abort;
-use std::str::from_utf8;
 
 /// A lock of each mode, two that wait for each other, and a limit that is used up.
 const CLOSING: &str = "item checking 500\n\
@@ -72,18 +70,7 @@ line 23: read third a: blocked by the write lock of second; second is still acti
 
 /// Whether this is told of a script.
 fn tells(rt: &impl Abort, alloc: Global, script: &str, name: Option<&str>, wanted: &str) {
-    let mut reader = Watched::new(script.as_bytes());
-    let mut writer = Watched::new(Vec::new(alloc));
-    let ended = survey(
-        alloc,
-        &mut reader,
-        &mut writer,
-        &Why { name },
-        &mut Unobserved,
-    );
-    assert!(rt; ended == Ok(()));
-    let written = from_utf8(writer.inner().as_slice()).unwrap_or("");
-    assert!(rt; written == wanted, "it is {}", written);
+    surveys(rt, alloc, script, &Why { name }, Ok(()), wanted);
 }
 
 /// Each kind of line that there is, in the words of the guide.
@@ -118,16 +105,7 @@ deadlock: transfer waits for other at line 10, other waits for transfer at line 
 #[test]
 fn nobody_is_not_told_of(rt: HostRuntime) {
     let alloc = rt.alloc();
-    let mut reader = Watched::new(CLOSING.as_bytes());
-    let mut writer = Watched::new(Vec::new(alloc));
     let name = Some("savings");
-    let ended = survey(
-        alloc,
-        &mut reader,
-        &mut writer,
-        &Why { name },
-        &mut Unobserved,
-    );
-    assert!(rt; ended == Err(RunFault::NotACommittedQuery));
-    assert!(rt; writer.inner().is_empty());
+    let refused = Err(RunFault::NotACommittedQuery);
+    surveys(&rt, alloc, CLOSING, &Why { name }, refused, "");
 }

@@ -1,9 +1,9 @@
 //! Readers and writers that fail, and readers that do not end.
 
+use super::drive_by;
 use crate::tests::devices::{Way, check_cut, cut_after, narrow_until};
-use esr_drive::{DriveFault, Form, NoGate, drive};
+use esr_drive::DriveFault;
 use esr_history::Watched;
-use esr_lint::Unobserved;
 use std::io;
 use std::io::Read;
 
@@ -36,15 +36,7 @@ fn a_failed_read_leaves_nothing_written(rt: HostRuntime) {
     for left in 0..7 {
         let mut reader = cut_after(FILE, 10, left);
         let mut writer = Watched::new(Vec::new(alloc));
-        let ended = drive(
-            &rt,
-            alloc,
-            &mut reader,
-            &mut writer,
-            Form::Text { workers: 1 },
-            &NoGate,
-            &mut Unobserved,
-        );
+        let ended = drive_by(&rt, alloc, &mut reader, &mut writer, 1);
         assert!(rt; ended == Err(DriveFault::Read));
         check_cut(&rt, &reader, &writer);
     }
@@ -57,15 +49,7 @@ fn a_failed_write_ends_the_text(rt: HostRuntime) {
     for left in 0..7 {
         let mut reader = Watched::new(FILE.as_bytes());
         let mut writer = narrow_until(alloc, 20, left, Way::TakesNone);
-        let ended = drive(
-            &rt,
-            alloc,
-            &mut reader,
-            &mut writer,
-            Form::Text { workers: 1 },
-            &NoGate,
-            &mut Unobserved,
-        );
+        let ended = drive_by(&rt, alloc, &mut reader, &mut writer, 1);
         let fine = left == 6;
         assert!(rt; (ended == Ok(())) == fine && writer.failed() != fine && !reader.failed());
         assert!(rt; fine || ended == Err(DriveFault::Write));
@@ -84,15 +68,7 @@ fn a_stream_without_end_is_not_read_to_its_end(rt: HostRuntime) {
     for (byte, fault) in streams {
         let mut reader = Watched::new(Endless { byte });
         let mut writer = Watched::new(Vec::new(rt.alloc()));
-        let ended = drive(
-            &rt,
-            rt.alloc(),
-            &mut reader,
-            &mut writer,
-            Form::Text { workers: 1 },
-            &NoGate,
-            &mut Unobserved,
-        );
+        let ended = drive_by(&rt, rt.alloc(), &mut reader, &mut writer, 1);
         assert!(rt; ended == Err(fault) && writer.inner().is_empty());
     }
 }

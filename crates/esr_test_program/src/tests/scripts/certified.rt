@@ -1,10 +1,14 @@
 //! Queries certified.
 
+ghost use Rattle.std.specs.Prelude.{◌≡◌, false};
+ghost use Rattle.esr_base.specs.Watch.{failed};
+
 use crate::tests::devices::{Way, check_cut, check_narrow, check_written, cut_after, narrow_until};
 use esr_history::Watched;
 use esr_lint::Unobserved;
 use esr_script::{RunFault, certify, certify_steps};
 use std::alloc::Global;
+use std::io::{Read, Write};
 use std::process::Abort;
 
 const THIRD_ITEM: &str = "item a 0\n\
@@ -53,6 +57,18 @@ static CUT_SHORT: [(&str, RunFault); 2] = [
         RunFault::NotACommittedQuery,
     ),
 ];
+
+/// Certifies the query q, without the count of augmentations.
+fn certify_q<R: Read, W: Write>(
+    alloc: Global,
+    reader: &mut Watched<R>,
+    writer: &mut Watched<W>,
+) -> Result<(), RunFault>
+    requires reader { failed reader.old ≡ false }
+    requires writer { failed writer.old ≡ false }
+{
+    certify(alloc, reader, writer, "q", &mut Unobserved)
+}
 
 fn certified(
     rt: &impl Abort,
@@ -186,7 +202,7 @@ fn each_read_fails_in_turn(rt: HostRuntime) {
     for left in 0..THIRD_ITEM.len() + 1 {
         let mut reader = cut_after(THIRD_ITEM, 1, left);
         let mut writer = Watched::new(Vec::new(alloc));
-        let ended = certify(alloc, &mut reader, &mut writer, "q", &mut Unobserved);
+        let ended = certify_q(alloc, &mut reader, &mut writer);
         assert!(rt; ended == Err(RunFault::Read));
         check_cut(&rt, &reader, &writer);
     }
@@ -196,7 +212,7 @@ fn each_read_fails_in_turn(rt: HostRuntime) {
 fn is_written(rt: &impl Abort, alloc: Global, left: usize, way: Way) -> bool {
     let mut reader = Watched::new(THIRD_ITEM.as_bytes());
     let mut writer = narrow_until(alloc, 3, left, way);
-    let ended = certify(alloc, &mut reader, &mut writer, "q", &mut Unobserved);
+    let ended = certify_q(alloc, &mut reader, &mut writer);
     let written = ended == Ok(());
     assert!(rt; written || ended == Err(RunFault::Write));
     assert!(rt; !reader.failed());

@@ -1,10 +1,15 @@
 //! Readers and writers that fail.
 
+ghost use Rattle.std.specs.Prelude.{◌≡◌, false};
+ghost use Rattle.esr_base.specs.Watch.{failed};
+
+use super::run_script;
 use crate::tests::devices::{Way, check_cut, check_narrow, cut_after, narrow_until};
 use esr_history::Watched;
 use esr_lint::Unobserved;
-use esr_script::{NoGate, RunFault, audit, run};
+use esr_script::{NoGate, RunFault, audit};
 use std::alloc::Global;
+use std::io::{Read, Write};
 use std::process::Abort;
 use std::thread::Threads;
 
@@ -43,7 +48,7 @@ fn each_read_fails_in_turn(rt: HostRuntime) {
     for left in 0..SCRIPT.len() + 1 {
         let mut reader = cut_after(SCRIPT, 1, left);
         let mut writer = Watched::new(Vec::new(alloc));
-        let ended = run(alloc, &mut reader, &mut writer, &mut Unobserved);
+        let ended = run_script(alloc, &mut reader, &mut writer);
         assert!(rt; ended == Err(RunFault::Read) && reader.failed() && !writer.failed());
         let written = writer.inner().as_slice();
         assert!(rt; TEXT.as_bytes().starts_with(written) && written.len() == count_written(left));
@@ -54,7 +59,7 @@ fn each_read_fails_in_turn(rt: HostRuntime) {
 fn is_written(rt: &impl Abort, alloc: Global, left: usize, way: Way) -> bool {
     let mut reader = Watched::new(SCRIPT.as_bytes());
     let mut writer = narrow_until(alloc, 3, left, way);
-    let ended = run(alloc, &mut reader, &mut writer, &mut Unobserved);
+    let ended = run_script(alloc, &mut reader, &mut writer);
     let written = ended == Ok(());
     assert!(rt; written || ended == Err(RunFault::Write));
     assert!(rt; !reader.failed());
@@ -77,6 +82,19 @@ fn each_write_fails_in_turn(rt: HostRuntime) {
 /// The audit of the script.
 const AUDIT: &str = "order u\ntotals import 0 export 0 entries 4\n";
 
+/// Audits a script by two workers.
+fn audit_by_two<T: Threads + Sync, R: Read, W: Write>(
+    rt: &T,
+    alloc: Global,
+    reader: &mut Watched<R>,
+    writer: &mut Watched<W>,
+) -> Result<(), RunFault>
+    requires reader { failed reader.old ≡ false }
+    requires writer { failed writer.old ≡ false }
+{
+    audit(rt, alloc, reader, writer, 2, &NoGate, &mut Unobserved)
+}
+
 /// Of a reader that does not tell its bytes no clause says what is written: the audit of half a script could be.
 #[test]
 fn each_read_of_an_audit_fails_in_turn(rt: HostRuntime) {
@@ -84,15 +102,7 @@ fn each_read_of_an_audit_fails_in_turn(rt: HostRuntime) {
     for left in 0..SCRIPT.len() + 1 {
         let mut reader = cut_after(SCRIPT, 1, left);
         let mut writer = Watched::new(Vec::new(alloc));
-        let ended = audit(
-            &rt,
-            alloc,
-            &mut reader,
-            &mut writer,
-            2,
-            &NoGate,
-            &mut Unobserved,
-        );
+        let ended = audit_by_two(&rt, alloc, &mut reader, &mut writer);
         assert!(rt; ended == Err(RunFault::Read));
         check_cut(&rt, &reader, &writer);
     }
@@ -107,15 +117,7 @@ fn audit_is_written<R: Abort + Threads + Sync>(
 ) -> bool {
     let mut reader = Watched::new(SCRIPT.as_bytes());
     let mut writer = narrow_until(alloc, 3, left, way);
-    let ended = audit(
-        rt,
-        alloc,
-        &mut reader,
-        &mut writer,
-        2,
-        &NoGate,
-        &mut Unobserved,
-    );
+    let ended = audit_by_two(rt, alloc, &mut reader, &mut writer);
     let written = ended == Ok(());
     assert!(rt; written || ended == Err(RunFault::Write));
     assert!(rt; !reader.failed());

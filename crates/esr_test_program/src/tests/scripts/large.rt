@@ -1,9 +1,8 @@
 //! Scripts that are made, since they are too long to write down.
 
-use super::answers;
+use super::{answers, run_script};
 use esr_history::Watched;
-use esr_lint::Unobserved;
-use esr_script::{RunFault, run};
+use esr_script::RunFault;
 use std::alloc::{AllocError, Global};
 use std::process::Abort;
 
@@ -220,7 +219,7 @@ fn numbered(
 fn ends_with(rt: &impl Abort, alloc: Global, script: &str, last: &str) {
     let mut reader = Watched::new(script.as_bytes());
     let mut writer = Watched::new(Vec::new(alloc));
-    let ended = run(alloc, &mut reader, &mut writer, &mut Unobserved);
+    let ended = run_script(alloc, &mut reader, &mut writer);
     assert!(rt; ended == Ok(()));
     assert!(rt; writer.inner().as_slice().ends_with(last.as_bytes()));
 }
