@@ -103,6 +103,7 @@ fn a_report_of_the_bank_is_told(rt: HostRuntime) {
 fn what_became_of_values_and_queries_is_told(rt: HostRuntime) {
     let alloc = rt.alloc();
     let report = [
+        "What report read was true at no moment that a strict report may have.",
         "It is strict, and had to be\nbehind morning, which had committed when it began.",
         "report is a strict query that began in line 8 and committed in line 21.",
         "  - till 90, in line 13, which evening had written and not committed; it aborted\n    later, in line 19\n",
