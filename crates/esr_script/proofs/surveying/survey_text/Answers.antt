@@ -6,9 +6,6 @@ use Rattle.esr_script.specs.Text.{ScriptState}
 use Rattle.esr_script.proofs.Ends.{reached_fault, reached_or_none}
 use Rattle.esr_script.proofs.surveying.survey_text.Goals as goal
 
-pub returns-in-Err-clause-text : goal.returns-in-Err-clause-text
-returns-in-Err-clause-text g c input known = grind (arith, reached_fault)
-
 pub returns-in-Ok-clause-text : goal.returns-in-Ok-clause-text
 returns-in-Ok-clause-text g c input known =
     let replayed = c.in-Ok.ensures.replay input known in
