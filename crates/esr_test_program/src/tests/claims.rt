@@ -5,7 +5,8 @@ use esr_claim::{claim_of, detail_of};
 use esr_history::Watched;
 use esr_lint::Unobserved;
 use esr_script::ask;
-use std::alloc::Global;
+use esr_telling::Asked;
+use std::alloc::{AllocError, Global};
 use std::process::Abort;
 use std::str::from_utf8;
 
@@ -32,19 +33,31 @@ const BUNDLE: &str =
 const CHANGED: &str =
     r#"{"certificate":{"back_flow":[0],"chain_flow":[[0,0,1],[1,0]],"set":[0,1],"worth":0},"problem":{"before":[[0,1]],"chains":[{"costs":[0,10,1],"item":0,"writers":[0,1]},{"costs":[8,0],"item":1,"writers":[1]}],"updates":[2,3]}}"#;
 
-/// Whether this is the line about a bundle and a query of the script.
+/// The line about a bundle and a query that was asked for.
+fn line_of(alloc: Global, asked: &Asked, name: &str, bundle: &str) -> Result<Vec<u8>, AllocError> {
+    let claim = claim_of(alloc, asked, bundle.as_bytes())?;
+    claim.line(alloc, name)
+}
+
+/// Whether that line is this one.
+fn is_line(alloc: Global, asked: &Asked, name: &str, bundle: &str, wanted: &str) -> bool {
+    match line_of(alloc, asked, name, bundle) {
+        Ok(line) => from_utf8(&line) == Ok(wanted),
+        Err(_) => false,
+    }
+}
+
+/// Compares the line about a bundle and a query of the script.
 fn claims(rt: &impl Abort, alloc: Global, name: &str, bundle: &str, wanted: &str) {
     let mut reader = Watched::new(SCRIPT.as_bytes());
     let Ok(asked) = ask(alloc, &mut reader, name, &mut Unobserved) else {
         panic!(rt; "a committed query");
     };
-    let Ok(claim) = claim_of(alloc, &asked, bundle.as_bytes()) else {
-        panic!(rt; "memory");
-    };
-    let Ok(line) = claim.line(alloc, name) else {
-        panic!(rt; "memory");
-    };
-    assert!(rt; from_utf8(&line) == Ok(wanted));
+    assert!(rt;
+        is_line(alloc, &asked, name, bundle, wanted),
+        "{} is told",
+        wanted
+    );
 }
 
 /// The same problem, another query's, a fault, and no bundle.
