@@ -74,7 +74,7 @@ impl Engine {
     }
 
     /// How many transactions have begun.
-    fn begun(&self) -> usize
+    fn count_begun(&self) -> usize
         ensures { result ≡ begun self.now }
     {
         self.machine.history().begun_count()
@@ -102,7 +102,7 @@ impl Engine {
             | Event::BeginQuery {
                 limit: _,
                 strict: _,
-            } => demand + 2 > MOST_ENTRIES || self.begun() >= MOST_TRANSACTIONS,
+            } => demand + 2 > MOST_ENTRIES || self.count_begun() >= MOST_TRANSACTIONS,
             Event::Commit { txn } | Event::Abort { txn } => {
                 demand >= MOST_ENTRIES && !self.is_active(txn)
             }
@@ -145,7 +145,7 @@ impl Engine {
         ensures counts { result ≡ counts_of self.now }
         ensures never_stuck { NeverStuck weighted self.now }
     {
-        let begun = self.begun();
+        let begun = self.count_begun();
         Counts {
             entries: self.machine.log().len() as u64,
             transactions: begun as u64,

@@ -75,7 +75,7 @@ fn told_of(
 }
 
 /// What is told of these queries.
-fn all_told(
+fn tell_all(
     alloc: Global,
     run: &Run,
     queries: &[Query<'_>],
@@ -91,7 +91,7 @@ fn all_told(
 }
 
 /// How often the lines of each block were blocked.
-fn all_blocked(alloc: Global, runners: &[Runner]) -> Result<Vec<u64>, AllocError>
+fn count_blocked(alloc: Global, runners: &[Runner]) -> Result<Vec<u64>, AllocError>
     ensures { IfOk result (λ v. v.items ≡ map (λ r. r.blocked) runners.now) }
 {
     let mut counts = Vec::new(alloc);
@@ -116,8 +116,8 @@ pub fn tell(alloc: Global, run: &Run, queries: &[Query<'_>]) -> Result<Tale, All
     ensures { IfOk result (λ tale. IsTaleOf (stage run.now.history.schedule run.now.runners.items) queries.now tale) }
 {
     Ok(Tale {
-        told: all_told(alloc, run, queries)?,
-        blocked: all_blocked(alloc, &run.runners)?,
+        told: tell_all(alloc, run, queries)?,
+        blocked: count_blocked(alloc, &run.runners)?,
         given_up: all_given_up(alloc, &run.runners)?,
     })
 }

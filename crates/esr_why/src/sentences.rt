@@ -103,7 +103,7 @@ impl<'a> Script<'a> {
             Side::Import => "import",
             Side::Export => "export",
         };
-        let (due, left, limit) = (shortfall.due, shortfall.left(), shortfall.limit);
+        let (due, left, limit) = (shortfall.due, shortfall.rest(), shortfall.limit);
         write!(
             out,
             "the {side} limit of {name}: {due} would be charged, {left} of {limit} is left"

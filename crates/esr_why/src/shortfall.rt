@@ -43,7 +43,7 @@ pub struct Shortfall {
 
 impl Shortfall {
     /// What is left of the limit.
-    pub fn left(self) -> u64
+    pub fn rest(self) -> u64
         ensures { result ≡ self.limit - self.used }
     {
         self.limit.saturating_sub(self.used)

@@ -1,8 +1,8 @@
--- Why `all_told` keeps its contract: the goal that is left to a proof of ours.
+-- Why `tell_all` keeps its contract: the goal that is left to a proof of ours.
 use Rattle.std.proofs.Common.{[]}
 use Rattle.esr_explore.specs.declared.query.Query.{Query}
 use Rattle.esr_explore.proofs.Telling.{told_more}
-use Rattle.esr_explore.proofs.tale.all_told.Goals as goal
+use Rattle.esr_explore.proofs.tale.tell_all.Goals as goal
 
 pub loop-query-preserved : goal.loop-query-preserved
 loop-query-preserved c =
