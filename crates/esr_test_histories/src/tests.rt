@@ -6,7 +6,7 @@ mod placements;
 mod plain;
 
 use Asked::{Commit, Query, Read, Strict, Update, Write};
-use audits::{played, played_in};
+use audits::{machine_after, play_all};
 use esr_core::{Machine, StepError};
 use esr_history::{Event, Reply, TxnId};
 use esr_items::{ItemId, Plain};
@@ -112,7 +112,7 @@ fn order_now(rt: &impl Abort, alloc: Global, m: &Machine<Plain>, q: u32) -> Orde
 
 /// The order of a query in the history of these events, all of which are accepted.
 fn order_in(rt: &impl Abort, alloc: Global, opening: &[i64], events: &[Asked], q: u32) -> Order {
-    let m = played_in(rt, alloc, opening, events);
+    let m = play_all(rt, alloc, opening, events);
     order_now(rt, alloc, &m, q)
 }
 
@@ -123,7 +123,7 @@ fn is_without(alloc: Global, m: &Machine<Plain>, t: u32) -> bool {
 
 /// Whether the events are accepted, and a transaction has no order then.
 fn has_none(alloc: Global, opening: &[i64], events: &[Asked], t: u32) -> bool {
-    match played(alloc, opening, events) {
+    match machine_after(alloc, opening, events) {
         Some(m) => is_without(alloc, &m, t),
         None => false,
     }
@@ -232,7 +232,7 @@ fn strict_report(rt: HostRuntime) {
 
 /// A query, and ten updates of one item, each after the one before it.
 fn one_after_another(rt: &impl Abort, alloc: Global) -> Machine<Plain> {
-    let mut m = played_in(rt, alloc, &[0], &[Query(9)]);
+    let mut m = play_all(rt, alloc, &[0], &[Query(9)]);
     for u in 2..12u32 {
         play_all(rt, &mut m, &[Update(9), Write(u, 0, 1), Commit(u)]);
     }

@@ -32,7 +32,7 @@ fn claims(rt: &impl Abort, board: &Board, seat: &mut BoardSeat, job: Option<u64>
 }
 
 /// The first seat claims two jobs, and the second the third.
-fn claimed(rt: &impl Abort, alloc: Global) -> (Board, BoardSeat, BoardSeat)
+fn claim_three(rt: &impl Abort, alloc: Global) -> (Board, BoardSeat, BoardSeat)
     ensures { IsSeatOf result.0 result.1 × IsSeatOf result.0 result.2 }
 {
     let (board, mut first, mut second) = three_jobs(rt, alloc);
@@ -60,7 +60,7 @@ fn close_with(
 /// Since others may claim in between, no clause says which number a claim gives; by one thread they come in order.
 #[test]
 fn every_claim_closes_the_board(rt: HostRuntime) {
-    let (board, mut first, second) = claimed(&rt, rt.alloc());
+    let (board, mut first, second) = claim_three(&rt, rt.alloc());
     claims(&rt, &board, &mut first, None);
     let mut given = Vec::new(rt.alloc());
     given.push(first).expect(&rt, "memory");
@@ -71,7 +71,7 @@ fn every_claim_closes_the_board(rt: HostRuntime) {
 /// With the next test it parts seats from their draws: a close that only counts seats would err in one of the two.
 #[test]
 fn a_seat_that_drew_is_missing(rt: HostRuntime) {
-    let (board, first, second) = claimed(&rt, rt.alloc());
+    let (board, first, second) = claim_three(&rt, rt.alloc());
     drop(first);
     assert!(rt; close_with(&rt, rt.alloc(), board, second) == Err(ClaimsMissing));
 }
@@ -99,7 +99,7 @@ fn an_unused_board_closes_with_no_seat(rt: HostRuntime) {
 }
 
 /// Why there is no board of so many jobs and seats.
-fn refused(alloc: Global, jobs: u64, seats: u64) -> Option<BoardError> {
+fn refusal_of(alloc: Global, jobs: u64, seats: u64) -> Option<BoardError> {
     Board::new(alloc, jobs, seats).err()
 }
 
@@ -116,7 +116,7 @@ fn a_board_has_few_jobs_and_seats(rt: HostRuntime) {
         (0, 1, None),
     ] {
         assert!(rt;
-            refused(alloc, *jobs, *seats) == *error,
+            refusal_of(alloc, *jobs, *seats) == *error,
             "{} jobs, {} seats",
             jobs,
             seats

@@ -266,7 +266,11 @@ fn certificate(alloc: Global, parts: Parts) -> Result<Certificate, AllocError> {
 }
 
 /// The certificate with its change.
-fn changed(alloc: Global, parts: Parts, change: Change) -> Result<Certificate, AllocError> {
+fn change_certificate(
+    alloc: Global,
+    parts: Parts,
+    change: Change,
+) -> Result<Certificate, AllocError> {
     let mut certificate = certificate(alloc, parts)?;
     match change {
         Nothing => {}
@@ -290,7 +294,7 @@ fn check_all(rt: &impl Abort, alloc: Global, asked: Asked, parts: Parts, cases: 
         panic!(rt; "a problem")
     };
     for (change, fault) in cases {
-        let Ok(certificate) = changed(alloc, parts, *change) else {
+        let Ok(certificate) = change_certificate(alloc, parts, *change) else {
             panic!(rt; "memory")
         };
         assert!(rt;

@@ -10,7 +10,7 @@ use std::process::Abort;
 const LARGEST: i64 = 1_000_000_000_000;
 
 /// A store of these values.
-fn stored(rt: &impl Abort, alloc: Global, values: &[i64]) -> Store
+fn store_of(rt: &impl Abort, alloc: Global, values: &[i64]) -> Store
     ensures { length result ≡ length values.now }
 {
     let Ok(values) = values.to_vec(alloc) else {
@@ -25,7 +25,7 @@ fn stored(rt: &impl Abort, alloc: Global, values: &[i64]) -> Store
 /// No clause can say that a store finds memory: one that never does would be proved, and keep no value at all.
 #[test]
 fn a_store_keeps_two_values_of_each_item(rt: HostRuntime) {
-    let mut store = stored(&rt, rt.alloc(), &[7, -LARGEST]);
+    let mut store = store_of(&rt, rt.alloc(), &[7, -LARGEST]);
     let a = ItemId(0);
     let b = ItemId(1);
     assert!(rt; store.len() == 2);
@@ -64,7 +64,7 @@ fn plain_distances_are_differences(rt: HostRuntime) {
 }
 
 /// A metric of these weights.
-fn weighted(rt: &impl Abort, alloc: Global, weights: &[u32]) -> Weighted {
+fn metric_of(rt: &impl Abort, alloc: Global, weights: &[u32]) -> Weighted {
     let Ok(weights) = weights.to_vec(alloc) else {
         panic!(rt; "memory")
     };
@@ -77,7 +77,7 @@ fn weighted(rt: &impl Abort, alloc: Global, weights: &[u32]) -> Weighted {
 /// A definition that forgets the weights is a metric too; and what an item without one counts is a definition's.
 #[test]
 fn weighted_distances_are_differences_times_weights(rt: HostRuntime) {
-    let metric = weighted(&rt, rt.alloc(), &[3, 1000]);
+    let metric = metric_of(&rt, rt.alloc(), &[3, 1000]);
     assert!(rt; metric.distance(ItemId(0), 107, 100) == 21);
     assert!(rt; metric.distance(ItemId(1), -LARGEST, LARGEST) == 2_000_000_000_000_000);
     assert!(rt; metric.distance(ItemId(2), 3, 5) == 2);

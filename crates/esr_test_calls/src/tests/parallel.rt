@@ -87,7 +87,7 @@ fn play(rt: &impl Abort, machine: &mut Machine<Plain>, events: &[Event]) {
 }
 
 /// The audit of a history by so many workers.
-fn audited<G: Gate + Sync, R: Threads + Abort + Sync>(
+fn audit_by<G: Gate + Sync, R: Threads + Abort + Sync>(
     rt: &R,
     alloc: Global,
     history: &History<Plain>,
@@ -109,7 +109,7 @@ fn is_of_the_first_report(found: &Finding) -> bool {
 }
 
 /// A machine that played the two updates over a report.
-fn played(rt: &impl Abort, alloc: Global) -> Machine<Plain> {
+fn machine_after_report(rt: &impl Abort, alloc: Global) -> Machine<Plain> {
     let mut machine = machine(rt, alloc);
     play(rt, &mut machine, &TWO_UPDATES_OVER_A_REPORT);
     machine
@@ -125,9 +125,9 @@ fn is_of_two_updates(book: &Book) -> bool {
 /// By its contract each audit may be out of memory: here one, two and the most workers find all that there is.
 #[test]
 fn each_number_of_workers_finds_the_same(rt: HostRuntime) {
-    let m = played(&rt, rt.alloc());
+    let m = machine_after_report(&rt, rt.alloc());
     for workers in [1, 2, 64] {
-        let book = audited(&rt, rt.alloc(), m.history(), workers, &NoGate);
+        let book = audit_by(&rt, rt.alloc(), m.history(), workers, &NoGate);
         assert!(rt; is_of_two_updates(&book));
     }
 }
@@ -135,7 +135,7 @@ fn each_number_of_workers_finds_the_same(rt: HostRuntime) {
 /// The most workers are a constant that no clause compares with the formats: one that lets 65 in could be proved.
 #[test]
 fn an_audit_has_1_to_64_workers(rt: HostRuntime) {
-    let m = played(&rt, rt.alloc());
+    let m = machine_after_report(&rt, rt.alloc());
     for workers in [0, 65] {
         let refused = audit_parallel(&rt, rt.alloc(), m.history(), workers, &NoGate);
         assert!(rt; refused.err() == Some(AuditError::WorkersOutOfRange));
@@ -146,17 +146,17 @@ fn an_audit_has_1_to_64_workers(rt: HostRuntime) {
 #[test]
 fn an_empty_history_has_no_findings(rt: HostRuntime) {
     let m = machine(&rt, rt.alloc());
-    let book = audited(&rt, rt.alloc(), m.history(), 4, &NoGate);
+    let book = audit_by(&rt, rt.alloc(), m.history(), 4, &NoGate);
     assert!(rt; book.order.is_empty() && book.findings.is_empty());
 }
 
 /// No clause says that threads run at once or call the gate: one worker for both jobs would wait there in vain.
 #[test]
 fn two_workers_at_once(rt: HostRuntime) {
-    let mut m = played(&rt, rt.alloc());
+    let mut m = machine_after_report(&rt, rt.alloc());
     play(&rt, &mut m, &A_SECOND_REPORT);
     let gate = Meeting::new();
-    let book = audited(&rt, rt.alloc(), m.history(), 2, &gate);
+    let book = audit_by(&rt, rt.alloc(), m.history(), 2, &gate);
     assert!(rt; book.findings.len() == 2);
     assert!(rt; is_of_the_first_report(&book.findings[0]) && book.findings[1].query == TxnId(4));
     gate.check(&rt);
@@ -179,7 +179,7 @@ fn one_seat(rt: &impl Abort, alloc: Global, jobs: u64) -> (Board, BoardSeat)
 /// The contract lets out of memory come in place of this refusal; what the seat drew is not lost by it.
 #[test]
 fn a_worker_refuses_what_is_no_committed_query(rt: HostRuntime) {
-    let m = played(&rt, rt.alloc());
+    let m = machine_after_report(&rt, rt.alloc());
     let (board, mut seat) = one_seat(&rt, rt.alloc(), 2);
     let jobs = [TxnId(1), TxnId(2)];
     let share = work(rt.alloc(), m.history(), &jobs, &board, &mut seat, &NoGate);
@@ -198,7 +198,7 @@ fn a_worker_refuses_what_is_no_committed_query(rt: HostRuntime) {
 /// By its contract a worker may draw its job and be out of memory, each time: here its share has the job's finding.
 #[test]
 fn a_worker_alone_does_all_jobs(rt: HostRuntime) {
-    let m = played(&rt, rt.alloc());
+    let m = machine_after_report(&rt, rt.alloc());
     let (board, mut seat) = one_seat(&rt, rt.alloc(), 1);
     let jobs = [TxnId(1)];
     let Ok(share) = work(rt.alloc(), m.history(), &jobs, &board, &mut seat, &NoGate) else {

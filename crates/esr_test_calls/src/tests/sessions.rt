@@ -63,12 +63,12 @@ fn four_sessions(rt: HostRuntime) {
     let closed = begin_and_commit::<Brand, _>(rt, alloc, Blank::new(LEDGER_PARTS), items, 0);
     let items = zeros(&rt, alloc, 0);
     let other = begin_and_commit::<Brand, _>(rt, alloc, Blank::new(LEDGER_PARTS), items, 1);
-    check_closed(&rt, &closed);
+    check_receipts(&rt, &closed);
     check_foreign(&rt, alloc, closed, other);
 }
 
 /// Each session called 200 times, and each receipt has the event and the reply of the entry at its place.
-fn check_closed(rt: &impl Abort, closed: &Closed<Plain>) {
+fn check_receipts(rt: &impl Abort, closed: &Closed<Plain>) {
     let log = closed.history.log();
     assert!(rt; log.len() == 800);
     for list in &closed.receipts {
@@ -169,11 +169,11 @@ fn close_twice<N: Naming, R: Wait + Abort>(
     };
     assert!(rt; error == missing);
     sessions.push(kept).expect(rt, "memory");
-    closed(rt, engine, sessions)
+    close_all(rt, engine, sessions)
 }
 
 /// Closes the engine with all its sessions.
-fn closed<N: Naming, R: Wait + Abort>(
+fn close_all<N: Naming, R: Wait + Abort>(
     rt: &R,
     engine: Engine<Plain, N>,
     sessions: Vec<Session<Plain, N>>,
@@ -242,7 +242,7 @@ where
     let first = write_apart(rt, first);
     read_five(&rt, &mut second);
     give_back(&rt, &mut sessions, first, second);
-    let closed = closed(&rt, engine, sessions);
+    let closed = close_all(&rt, engine, sessions);
     assert!(rt; closed.history.log().len() == 6);
     check_list_given_twice(&rt, alloc, closed);
 }
@@ -364,7 +364,7 @@ where
     let (mut first, mut second) = last_two(&rt, &mut sessions);
     block_on_a_write(&rt, &mut first, &mut second);
     give_back(&rt, &mut sessions, first, second);
-    let closed = closed(&rt, engine, sessions);
+    let closed = close_all(&rt, engine, sessions);
     check_turns(&rt, &closed);
     let late = idle.call(&rt, Event::BeginUpdate { limit: 0 });
     assert!(rt; late == Err(StepError::EngineClosed));
@@ -472,7 +472,7 @@ fn close_once_more<N: Naming, R: Wait + Abort>(
             let CloseError::NoMemory = refused.error else {
                 panic!(rt; "refused for another reason")
             };
-            closed(rt, refused.engine, refused.sessions)
+            close_all(rt, refused.engine, refused.sessions)
         }
     }
 }

@@ -1,7 +1,7 @@
 //! Audits of the worked histories.
 
 use super::Asked::{Commit, Query, Read, Update, Write};
-use super::placements::listed;
+use super::placements::least_or_again;
 use super::plain::agrees;
 use super::{
     Asked, BEHIND_AN_UPDATE, OVER_A_REPORT, STRICTLY_BEHIND_AN_UPDATE, THROUGH_A_THIRD_ITEM,
@@ -16,34 +16,38 @@ use std::alloc::Global;
 use std::process::Abort;
 
 /// A machine over items that open with these values, or None where memory is refused.
-fn opened_once(alloc: Global, opening: &[i64]) -> Option<Machine<Plain>> {
+fn open_once(alloc: Global, opening: &[i64]) -> Option<Machine<Plain>> {
     let values = opening.to_vec(alloc).ok()?;
     let store = Store::new(alloc, values).ok()?;
     Machine::new(alloc, store, Plain).ok()
 }
 
 /// The same, once more where memory is refused.
-pub(super) fn opened(alloc: Global, opening: &[i64]) -> Option<Machine<Plain>> {
-    match opened_once(alloc, opening) {
-        None => opened_once(alloc, opening),
+pub(super) fn open_or_again(alloc: Global, opening: &[i64]) -> Option<Machine<Plain>> {
+    match open_once(alloc, opening) {
+        None => open_once(alloc, opening),
         opened => opened,
     }
 }
 
 /// A machine that accepted all the events.
-pub(super) fn played(alloc: Global, opening: &[i64], events: &[Asked]) -> Option<Machine<Plain>> {
-    let mut m = opened(alloc, opening)?;
+pub(super) fn machine_after(
+    alloc: Global,
+    opening: &[i64],
+    events: &[Asked],
+) -> Option<Machine<Plain>> {
+    let mut m = open_or_again(alloc, opening)?;
     if play(&mut m, events) { Some(m) } else { None }
 }
 
 /// A machine that played these events, all of which it accepts.
-pub(super) fn played_in(
+pub(super) fn play_all(
     rt: &impl Abort,
     alloc: Global,
     opening: &[i64],
     events: &[Asked],
 ) -> Machine<Plain> {
-    let Some(m) = played(alloc, opening, events) else {
+    let Some(m) = machine_after(alloc, opening, events) else {
         panic!(rt; "a history")
     };
     m
@@ -89,7 +93,7 @@ fn finds(alloc: Global, m: &Machine<Plain>, row: Row) -> bool {
     match audit_of(alloc, m, row.query) {
         Ok(found) => {
             has(&found, row)
-                && listed(alloc, m, row.query) == Some((row.distance, row.before.len()))
+                && least_or_again(alloc, m, row.query) == Some((row.distance, row.before.len()))
                 && agrees(alloc, m, 1)
         }
         Err(_) => false,
@@ -98,7 +102,7 @@ fn finds(alloc: Global, m: &Machine<Plain>, row: Row) -> bool {
 
 /// The same, of the history of these events, all of which are accepted.
 fn finds_in(alloc: Global, opening: &[i64], events: &[Asked], row: Row) -> bool {
-    match played(alloc, opening, events) {
+    match machine_after(alloc, opening, events) {
         Some(m) => finds(alloc, &m, row),
         None => false,
     }
@@ -106,7 +110,7 @@ fn finds_in(alloc: Global, opening: &[i64], events: &[Asked], row: Row) -> bool 
 
 /// Whether the events are accepted, and the audit of a transaction is refused then.
 fn refuses_in(alloc: Global, opening: &[i64], events: &[Asked], t: u32) -> bool {
-    match played(alloc, opening, events) {
+    match machine_after(alloc, opening, events) {
         Some(m) => is_refused(alloc, &m, t),
         None => false,
     }
@@ -127,7 +131,7 @@ fn book_now(rt: &impl Abort, alloc: Global, m: &Machine<Plain>) -> Book {
 
 /// The audit of the whole history of these events, all of which are accepted.
 fn book_in(rt: &impl Abort, alloc: Global, opening: &[i64], events: &[Asked]) -> Book {
-    let m = played_in(rt, alloc, opening, events);
+    let m = play_all(rt, alloc, opening, events);
     book_now(rt, alloc, &m)
 }
 
@@ -317,7 +321,7 @@ const LIMIT: u64 = 2_000_000_000_000;
 fn values_at_the_edge(rt: HostRuntime) {
     let alloc = rt.alloc();
     let events = [Query(LIMIT), Update(LIMIT), Read(1, 0)];
-    let mut m = played_in(&rt, alloc, &[-EDGE], &events);
+    let mut m = play_all(&rt, alloc, &[-EDGE], &events);
     play_the_edge(&rt, &mut m);
     check_the_edge(&rt, alloc, &m);
 }

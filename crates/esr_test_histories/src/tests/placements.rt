@@ -2,7 +2,7 @@
 ghost use Rattle.std.specs.Prelude.{◌<◌};
 
 use super::Asked::{Commit, Query, Read, Strict, Update, Write};
-use super::audits::{audit_of, played};
+use super::audits::{audit_of, machine_after};
 use super::{Asked, accepts};
 use esr_core::Machine;
 use esr_history::{Entry, Event, Log, Reply};
@@ -134,7 +134,7 @@ fn keeps_conflicts(operations: &[Operation], order: &[u32]) -> bool {
 }
 
 /// What a transaction leaves in an item, if it wrote it.
-fn written(operations: &[Operation], u: u32, item: u32) -> Option<i64> {
+fn value_from(operations: &[Operation], u: u32, item: u32) -> Option<i64> {
     let mut value = None;
     for o in operations {
         if o.txn == u && o.item == item && o.write {
@@ -256,7 +256,7 @@ impl Small {
     fn value_after(&self, before: &[u32], item: u32) -> i64 {
         let mut value = self.opening.get(item as usize).copied().unwrap_or(0);
         for u in before {
-            value = written(&self.operations, *u, item).unwrap_or(value);
+            value = value_from(&self.operations, *u, item).unwrap_or(value);
         }
         value
     }
@@ -297,7 +297,7 @@ impl Small {
     }
 
     /// The updates at these positions, where there are so many.
-    fn ordered(&self, alloc: Global, positions: &[usize]) -> Result<Vec<u32>, AllocError> {
+    fn order_at(&self, alloc: Global, positions: &[usize]) -> Result<Vec<u32>, AllocError> {
         let mut order = Vec::new(alloc);
         for i in positions {
             if *i < self.updates.len() {
@@ -330,7 +330,7 @@ fn least(alloc: Global, m: &Machine<Plain>, q: u32) -> Result<(u64, usize), Allo
 }
 
 /// The same, once more where memory is refused.
-pub(super) fn listed(alloc: Global, m: &Machine<Plain>, q: u32) -> Option<(u64, usize)> {
+pub(super) fn least_or_again(alloc: Global, m: &Machine<Plain>, q: u32) -> Option<(u64, usize)> {
     match least(alloc, m, q) {
         Ok(found) => Some(found),
         Err(_) => least(alloc, m, q).ok(),
@@ -354,7 +354,7 @@ fn commit_all(m: &mut Machine<Plain>) {
 /// A history of query 1 and the updates 2, 3 and 4, which begin at once.
 fn small_history(alloc: Global, seed: u64) -> Option<Machine<Plain>> {
     let begins = [Query(1000), Update(1000), Update(1000), Update(1000)];
-    let mut m = played(alloc, &[0, 0], &begins)?;
+    let mut m = machine_after(alloc, &[0, 0], &begins)?;
     draw(&mut m, &mut Draws { state: seed }, 1, 2);
     commit_all(&mut m);
     Some(m)
@@ -364,7 +364,7 @@ fn small_history(alloc: Global, seed: u64) -> Option<Machine<Plain>> {
 /// committed. One that has not committed aborts, at most.
 fn strict_history(alloc: Global, seed: u64) -> Option<Machine<Plain>> {
     let mut draws = Draws { state: seed };
-    let mut m = played(alloc, &[0, 0], &[Update(1000), Update(1000), Update(1000)])?;
+    let mut m = machine_after(alloc, &[0, 0], &[Update(1000), Update(1000), Update(1000)])?;
     draw(&mut m, &mut draws, 4, 1);
     let _begun = accepts(&mut m, Strict(1000));
     draw(&mut m, &mut draws, 4, 1);
@@ -376,7 +376,7 @@ fn strict_history(alloc: Global, seed: u64) -> Option<Machine<Plain>> {
 
 /// The least distance of a query, and how many updates are before the position, as the audit
 /// finds them.
-fn audited(alloc: Global, m: &Machine<Plain>, q: u32) -> Option<(u64, usize)> {
+fn audit_result(alloc: Global, m: &Machine<Plain>, q: u32) -> Option<(u64, usize)> {
     let found = audit_of(alloc, m, q).ok()?;
     Some((found.distance, found.before.len()))
 }
@@ -384,17 +384,17 @@ fn audited(alloc: Global, m: &Machine<Plain>, q: u32) -> Option<(u64, usize)> {
 /// What the audit finds of the query of a history, and what the plain program does.
 fn small_row(alloc: Global, seed: u64) -> Option<((u64, usize), Option<(u64, usize)>)> {
     let m = small_history(alloc, seed)?;
-    both_found(alloc, &m, 1)
+    compare(alloc, &m, 1)
 }
 
 /// What the audit finds of a query, and what the plain program does.
-fn both_found(
+fn compare(
     alloc: Global,
     m: &Machine<Plain>,
     q: u32,
 ) -> Option<((u64, usize), Option<(u64, usize)>)> {
-    let found = audited(alloc, m, q)?;
-    Some((found, listed(alloc, m, q)))
+    let found = audit_result(alloc, m, q)?;
+    Some((found, least_or_again(alloc, m, q)))
 }
 
 /// A wrong definition of a placement would be proved: a plain program that lists them all must find the same.
@@ -426,16 +426,16 @@ fn least_if_free(alloc: Global, m: &Machine<Plain>, q: u32) -> Option<u64> {
 /// were not strict.
 fn strict_row(alloc: Global, seed: u64) -> Option<((u64, usize), Option<(u64, usize)>, u64)> {
     let m = strict_history(alloc, seed)?;
-    all_found(alloc, &m, 4)
+    compare_all(alloc, &m, 4)
 }
 
 /// The same of a query.
-fn all_found(
+fn compare_all(
     alloc: Global,
     m: &Machine<Plain>,
     q: u32,
 ) -> Option<((u64, usize), Option<(u64, usize)>, u64)> {
-    let (found, plain) = both_found(alloc, m, q)?;
+    let (found, plain) = compare(alloc, m, q)?;
     let free = least_if_free(alloc, m, q)?;
     Some((found, plain, free))
 }

@@ -1,7 +1,7 @@
 //! Plain forms beside the fast ones: scans of the log, a plain list of locks, and all pairs of updates that conflict.
 
 use super::Asked::{Commit, Query, Read, Strict, Update, Write};
-use super::audits::opened;
+use super::audits::open_or_again;
 use super::placements::Draws;
 use super::{Asked, accepts, order_of};
 use esr_core::Machine;
@@ -12,7 +12,7 @@ use std::alloc::{AllocError, Global};
 use std::process::Abort;
 
 /// The entry at a place, if there is one and it is accepted.
-fn accepted(log: &Log, i: usize) -> Option<Entry> {
+fn accepted_entry(log: &Log, i: usize) -> Option<Entry> {
     match log.get(i) {
         Some(entry) if !entry.is_refused() => Some(entry),
         _ => None,
@@ -30,7 +30,7 @@ fn item_in(entry: Entry) -> Option<u32> {
 
 /// The entry at a place, if it is an accepted operation on an item.
 fn accepted_on(log: &Log, i: usize, x: u32) -> Option<Entry> {
-    match accepted(log, i) {
+    match accepted_entry(log, i) {
         Some(entry) if item_in(entry) == Some(x) => Some(entry),
         _ => None,
     }
@@ -38,7 +38,7 @@ fn accepted_on(log: &Log, i: usize, x: u32) -> Option<Entry> {
 
 /// The entry at a place, if it is accepted and a transaction's.
 fn accepted_of(log: &Log, i: usize, t: u32) -> Option<Entry> {
-    match accepted(log, i) {
+    match accepted_entry(log, i) {
         Some(entry) if txn_in(entry) == Some(t) => Some(entry),
         _ => None,
     }
@@ -388,7 +388,7 @@ fn charge_at(
     i: usize,
 ) -> u64 {
     let log = history.log();
-    let Some(entry) = accepted(log, i) else {
+    let Some(entry) = accepted_entry(log, i) else {
         return 0;
     };
     let Some(x) = item_in(entry) else {
@@ -468,7 +468,7 @@ fn position_of(commits: &[TxnId], t: u32) -> Option<usize> {
 
 /// The operation in the entry at a place, if it is one of these updates.
 fn operation_at(log: &Log, at: usize, commits: &[TxnId]) -> Option<Operation> {
-    let entry = accepted(log, at)?;
+    let entry = accepted_entry(log, at)?;
     let item = item_in(entry)?;
     let position = position_of(commits, txn_in(entry)?)?;
     let write = written_in(entry).is_some();
@@ -538,7 +538,7 @@ fn mark(marks: &mut [bool], i: usize) {
 
 /// The updates to which a row of an order's pairs leads from one, itself among them. The pairs are
 /// in order and go upward.
-fn reached(alloc: Global, order: &Order, i: usize) -> Result<Vec<bool>, AllocError> {
+fn reach_of(alloc: Global, order: &Order, i: usize) -> Result<Vec<bool>, AllocError> {
     let mut marks = vec![in alloc; false; order.commits().len()]?;
     mark(&mut marks, i);
     for (from, to) in order.before() {
@@ -550,7 +550,7 @@ fn reached(alloc: Global, order: &Order, i: usize) -> Result<Vec<bool>, AllocErr
 }
 
 /// Whether all operations that are behind one of these, and conflict with it, are of marked updates.
-fn all_marked(operations: &[Operation], own: &[Operation], marks: &[bool]) -> bool {
+fn are_all_marked(operations: &[Operation], own: &[Operation], marks: &[bool]) -> bool {
     for late in operations {
         if !is_marked(marks, late.position) && is_behind(own, *late) {
             return false;
@@ -562,9 +562,9 @@ fn all_marked(operations: &[Operation], own: &[Operation], marks: &[bool]) -> bo
 /// Whether rows of an order's pairs lead from an update to all that conflict with it and come after
 /// it.
 fn row_agrees(alloc: Global, order: &Order, operations: &[Operation], i: usize) -> Option<bool> {
-    let marks = reached(alloc, order, i).ok()?;
+    let marks = reach_of(alloc, order, i).ok()?;
     let own = own(alloc, operations, i).ok()?;
-    Some(all_marked(operations, &own, &marks))
+    Some(are_all_marked(operations, &own, &marks))
 }
 
 fn rows_agree(alloc: Global, order: &Order, operations: &[Operation]) -> Option<bool> {
@@ -801,8 +801,8 @@ fn round(m: &mut Machine<Plain>, draws: &mut Draws, begun: u32) {
 }
 
 /// A history of 64 items and 500 transactions, of which eight run at a time.
-fn generated(alloc: Global, seed: u64) -> Option<Machine<Plain>> {
-    let mut m = opened(alloc, &[0; 64])?;
+fn draw_history(alloc: Global, seed: u64) -> Option<Machine<Plain>> {
+    let mut m = open_or_again(alloc, &[0; 64])?;
     let mut draws = Draws { state: seed };
     for begun in 1..501u32 {
         round(&mut m, &mut draws, begun);
@@ -845,13 +845,13 @@ fn counts(log: &Log) -> (u32, u32, u32) {
 /// Fast forms are proved against definitions that may be wrong: scans that share nothing with them must say the same.
 #[test]
 fn fast_forms_are_the_plain_ones(rt: HostRuntime) {
-    let Some(m) = generated(rt.alloc(), 11) else {
+    let Some(m) = draw_history(rt.alloc(), 11) else {
         panic!(rt; "a history")
     };
-    check_generated(&rt, rt.alloc(), &m);
+    check_draw(&rt, rt.alloc(), &m);
 }
 
-fn check_generated(rt: &impl Abort, alloc: Global, m: &Machine<Plain>) {
+fn check_draw(rt: &impl Abort, alloc: Global, m: &Machine<Plain>) {
     let (blocked, aborts, strict) = counts(m.log());
     assert!(rt; blocked > 50 && aborts > 30 && strict > 50);
     assert!(rt; m.log().len() > 4000);

@@ -12,7 +12,7 @@ use std::alloc::{AllocError, Global};
 use std::process::Abort;
 
 /// The bundle of the row with its change.
-fn changed(alloc: Global, row: &Row) -> Result<String, AllocError> {
+fn change_bundle(alloc: Global, row: &Row) -> Result<String, AllocError> {
     let (before, after) = match row.bundle.split_once(row.old) {
         Some(parts) => parts,
         None => ("", row.bundle),
@@ -36,7 +36,7 @@ fn gives(rt: &impl Abort, alloc: Global, text: &str, line: &str) {
 #[test]
 fn bundles_give_their_verdicts(rt: HostRuntime) {
     for row in table() {
-        let text = changed(rt.alloc(), row).expect(&rt, "memory");
+        let text = change_bundle(rt.alloc(), row).expect(&rt, "memory");
         gives(&rt, rt.alloc(), text.as_str(), row.line);
     }
 }
@@ -61,14 +61,14 @@ fn the_empty_input_is_no_json(rt: HostRuntime) {
 }
 
 /// Reads a bundle, and writes it.
-fn rewritten(alloc: Global, text: &str) -> Option<Vec<u8>> {
+fn rewrite(alloc: Global, text: &str) -> Option<Vec<u8>> {
     let (problem, certificate) = from_json(alloc, text.as_bytes()).ok()?;
     to_json(alloc, &problem, &certificate).ok()
 }
 
 /// Whether a bundle is written as it was read.
 fn is_rewritten(alloc: Global, text: &str) -> bool {
-    match rewritten(alloc, text) {
+    match rewrite(alloc, text) {
         Some(written) => written.as_slice() == text.as_bytes(),
         None => false,
     }

@@ -6,7 +6,7 @@ use esr_history::Watched;
 use std::alloc::Global;
 
 /// What is judged of the bytes.
-fn judged(alloc: Global, bytes: &[u8]) -> Result<Verdict, JudgeFault> {
+fn verdict_on(alloc: Global, bytes: &[u8]) -> Result<Verdict, JudgeFault> {
     let mut reader = Watched::new(bytes);
     let mut writer = Watched::new(Vec::new(alloc));
     judge(alloc, &mut reader, &mut writer)
@@ -17,7 +17,7 @@ fn judged(alloc: Global, bytes: &[u8]) -> Result<Verdict, JudgeFault> {
 fn no_proper_prefix_is_json(rt: HostRuntime) {
     let bytes = TWO_UPDATES.as_bytes();
     for count in 0..bytes.len() {
-        let verdict = judged(rt.alloc(), &bytes[..count]);
+        let verdict = verdict_on(rt.alloc(), &bytes[..count]);
         assert!(rt; verdict == Ok(Verdict::Bad(1)), "{} bytes", count);
     }
 }
@@ -30,7 +30,7 @@ fn two_hundred_brackets_are_no_json(rt: HostRuntime) {
     for _ in 0..200 {
         brackets.push(b']').expect(&rt, "memory");
     }
-    assert!(rt; judged(alloc, brackets.as_slice()) == Ok(Verdict::Bad(1)));
+    assert!(rt; verdict_on(alloc, brackets.as_slice()) == Ok(Verdict::Bad(1)));
 }
 
 /// What is text is a definition's: one that passes over a byte of no text would be proved, and judge what is not there.
@@ -41,5 +41,5 @@ fn a_byte_that_is_no_text_is_no_json(rt: HostRuntime) {
     bytes
         .extend_from_slice(TWO_UPDATES.as_bytes())
         .expect(&rt, "memory");
-    assert!(rt; judged(alloc, bytes.as_slice()) == Ok(Verdict::Bad(1)));
+    assert!(rt; verdict_on(alloc, bytes.as_slice()) == Ok(Verdict::Bad(1)));
 }

@@ -70,7 +70,7 @@ fn certify_q<R: Read, W: Write>(
     certify(alloc, reader, writer, "q", &mut Unobserved)
 }
 
-fn certified(
+fn check_bundle(
     rt: &impl Abort,
     alloc: Global,
     script: &str,
@@ -93,8 +93,8 @@ fn certified(
 /// Which maximum flow a bundle holds no clause says; here there is one alone, and it goes back along the pair.
 #[test]
 fn order_through_a_third_item_is_certified(rt: HostRuntime) {
-    certified(&rt, rt.alloc(), THIRD_ITEM, "q", false, Ok(()), BUNDLE);
-    certified(
+    check_bundle(&rt, rt.alloc(), THIRD_ITEM, "q", false, Ok(()), BUNDLE);
+    check_bundle(
         &rt,
         rt.alloc(),
         THIRD_ITEM,
@@ -108,7 +108,7 @@ fn order_through_a_third_item_is_certified(rt: HostRuntime) {
 /// A bundle's text is a definition's: one that leaves out an empty list, or a chain without writers, would be proved.
 #[test]
 fn queries_that_read_little_are_certified(rt: HostRuntime) {
-    certified(
+    check_bundle(
         &rt,
         rt.alloc(),
         LITTLE,
@@ -117,7 +117,7 @@ fn queries_that_read_little_are_certified(rt: HostRuntime) {
         Ok(()),
         "{\"certificate\":{\"back_flow\":[],\"chain_flow\":[],\"set\":[],\"worth\":0},\"problem\":{\"before\":[],\"chains\":[],\"updates\":[]}}\n",
     );
-    certified(
+    check_bundle(
         &rt,
         rt.alloc(),
         LITTLE,
@@ -131,7 +131,7 @@ fn queries_that_read_little_are_certified(rt: HostRuntime) {
 /// An update that wrote nothing that was read is in no list of the bundle; the next one has position 0 there.
 #[test]
 fn an_update_without_a_part_is_left_out(rt: HostRuntime) {
-    certified(
+    check_bundle(
         &rt,
         rt.alloc(),
         "item a 0\n\
@@ -155,7 +155,7 @@ fn an_update_without_a_part_is_left_out(rt: HostRuntime) {
 /// A strict query's bundle says what its set must hold, and what flows to that.
 #[test]
 fn strict_report_is_certified(rt: HostRuntime) {
-    certified(
+    check_bundle(
         &rt,
         rt.alloc(),
         "item a 0\n\
@@ -180,18 +180,18 @@ fn strict_report_is_certified(rt: HostRuntime) {
 fn what_is_no_committed_query_is_refused(rt: HostRuntime) {
     let refused = Err(RunFault::NotACommittedQuery);
     // The name of an item, a word that is no name, the name of an update, and a name in an empty script.
-    certified(&rt, rt.alloc(), LITTLE, "a", false, refused, "");
-    certified(&rt, rt.alloc(), LITTLE, "no name", true, refused, "");
-    certified(&rt, rt.alloc(), THIRD_ITEM, "u1", false, refused, "");
-    certified(&rt, rt.alloc(), "", "q", false, refused, "");
+    check_bundle(&rt, rt.alloc(), LITTLE, "a", false, refused, "");
+    check_bundle(&rt, rt.alloc(), LITTLE, "no name", true, refused, "");
+    check_bundle(&rt, rt.alloc(), THIRD_ITEM, "u1", false, refused, "");
+    check_bundle(&rt, rt.alloc(), "", "q", false, refused, "");
 }
 
 /// The contract lets out of memory come in place of each fault: the one that ended the script has to be told.
 #[test]
 fn nothing_is_written_after_a_fault(rt: HostRuntime) {
     for (script, fault) in &CUT_SHORT {
-        certified(&rt, rt.alloc(), script, "q", false, Err(*fault), "");
-        certified(&rt, rt.alloc(), script, "q", true, Err(*fault), "");
+        check_bundle(&rt, rt.alloc(), script, "q", false, Err(*fault), "");
+        check_bundle(&rt, rt.alloc(), script, "q", true, Err(*fault), "");
     }
 }
 

@@ -104,7 +104,7 @@ const BETWEEN_EXPLAINED: &str = "read a 3 nearest 3 off 0\n\
         after w\n\
         distance 1 import 2\n";
 
-fn explained(
+fn check_explanation(
     rt: &impl Abort,
     alloc: Global,
     script: &str,
@@ -129,13 +129,13 @@ fn explained(
 /// The lines are those of a definition: one that tells a charge's step, or what it left, an event late would be proved.
 #[test]
 fn charges_of_the_bank_are_explained(rt: HostRuntime) {
-    explained(&rt, rt.alloc(), BANK, "report", Ok(()), BANK_EXPLAINED);
+    check_explanation(&rt, rt.alloc(), BANK, "report", Ok(()), BANK_EXPLAINED);
 }
 
 /// A definition could forget weights: values 2 apart are charged 1800 here; or what a strict report must be behind.
 #[test]
 fn strict_and_weighted_queries_are_explained(rt: HostRuntime) {
-    explained(
+    check_explanation(
         &rt,
         rt.alloc(),
         STRICT,
@@ -147,14 +147,14 @@ fn strict_and_weighted_queries_are_explained(rt: HostRuntime) {
             after -\n\
             distance 5 import 5\n",
     );
-    explained(&rt, rt.alloc(), WEIGHTED, "q", Ok(()), WEIGHTED_EXPLAINED);
+    check_explanation(&rt, rt.alloc(), WEIGHTED, "q", Ok(()), WEIGHTED_EXPLAINED);
 }
 
 /// A definition could set current values beside the reads, or tell one that is made twice once, and would be proved.
 #[test]
 fn reads_are_told_beside_the_nearest_placement(rt: HostRuntime) {
-    explained(&rt, rt.alloc(), TORN, "q", Ok(()), TORN_EXPLAINED);
-    explained(&rt, rt.alloc(), BETWEEN, "q", Ok(()), BETWEEN_EXPLAINED);
+    check_explanation(&rt, rt.alloc(), TORN, "q", Ok(()), TORN_EXPLAINED);
+    check_explanation(&rt, rt.alloc(), BETWEEN, "q", Ok(()), BETWEEN_EXPLAINED);
 }
 
 /// The contract lets out of memory come in place of this refusal, also where the query is still active.
@@ -163,7 +163,7 @@ fn only_committed_queries_are_explained(rt: HostRuntime) {
     let none = Err(RunFault::NotACommittedQuery);
     let open = "item a 0\nbegin q query 9\nread q a\n";
     for name in &["nobody", "transfer", "checking", ""] {
-        explained(&rt, rt.alloc(), BANK, name, none, "");
+        check_explanation(&rt, rt.alloc(), BANK, name, none, "");
     }
-    explained(&rt, rt.alloc(), open, "q", none, "");
+    check_explanation(&rt, rt.alloc(), open, "q", none, "");
 }

@@ -200,7 +200,7 @@ fn bytes_that_are_no_text(rt: HostRuntime) {
 }
 
 /// The lines of so many numbers, and then others.
-fn numbered(
+fn number_lines(
     alloc: Global,
     before: &str,
     after: &str,
@@ -228,7 +228,7 @@ fn ends_with(rt: &impl Abort, alloc: Global, script: &str, last: &str) {
 #[test]
 fn at_most_4096_items_are_declared(rt: HostRuntime) {
     let others = "begin u update 0\nread u x4095\nread u x4096\n";
-    let script = numbered(rt.alloc(), "item x", " 0\n", 4097, others).expect(&rt, "memory");
+    let script = number_lines(rt.alloc(), "item x", " 0\n", 4097, others).expect(&rt, "memory");
     let last =
         "item x4095 0\nerror 5 too many items\nbegun u 1\nu x4095 0\nrefused 3 no such item\n";
     ends_with(&rt, rt.alloc(), script.as_str(), last);
@@ -237,7 +237,9 @@ fn at_most_4096_items_are_declared(rt: HostRuntime) {
 /// No clause can say that 65,535 transactions find memory: a run that is always out of it before would be proved.
 #[test]
 fn at_most_65535_transactions_begin(rt: HostRuntime) {
-    let script = numbered(rt.alloc(), "begin t", " update 0\n", 65536, "").expect(&rt, "memory");
+    let script = number_lines(rt.alloc(), "begin t", " update 0\n", 65536, "").expect(
+        &rt, "memory",
+    );
     let last = "\nbegun t65534 65535\nrefused 7 too many transactions\n";
     ends_with(&rt, rt.alloc(), script.as_str(), last);
 }
