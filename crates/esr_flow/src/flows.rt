@@ -3,8 +3,6 @@
 //! It is one pass over the arcs, in the order of their numbers: those of a chain lie together, and what each node is
 //! given and gives is summed beside it. By the rows of the nodes each amount would be read twice, and no two that lie
 //! together.
-//! An arc that carries nothing adds nothing, and is not looked up: half of an audit's arcs are pairs, of which hardly one
-//! in a thousand carries anything.
 ghost use Rattle.std.specs.Prelude.{◌≡◌, ◌≢◌, ℕ, ◌+◌, ◌<◌, ◌≤◌, true, length, get_or, set, IfOk, IfSome};
 ghost use Rattle.esr_cert.specs.Network.{arc_at};
 ghost use Rattle.esr_cert.specs.Flow.{within, amount_at, inflow, outflow, IsFlow, worth};
