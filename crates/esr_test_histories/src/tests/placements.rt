@@ -312,7 +312,7 @@ impl Small {
     fn least(&self, alloc: Global) -> Result<(u64, usize), AllocError> {
         let mut least = (u64::MAX, 0);
         for positions in &ORDERS {
-            let order = self.ordered(alloc, positions)?;
+            let order = self.order_at(alloc, positions)?;
             let (distance, n) = self.least_in(&order);
             let is_less = distance < least.0 || distance == least.0 && n < least.1;
             if keeps_conflicts(&self.operations, &order) && is_less {
