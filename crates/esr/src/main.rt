@@ -12,14 +12,14 @@ ghost use Rattle.esr_cli.specs.Job.{work_of, HasWorkers as HasItsWorkers};
 ghost use Rattle.esr_drive.specs.Drive.{HasWorkers};
 
 mod fault;
-mod judging;
+mod judgement;
 mod meter;
 mod open;
 mod output;
 mod work;
 
 use crate::fault::{DriveText, RunText, line_at_fault};
-use crate::judging::{Question, check};
+use crate::judgement::{Question, check};
 use crate::meter::is_shown;
 use crate::open::open_file;
 use crate::work::{Certifying, Running, TellingOf, audit_script, survey_script, work_on};

@@ -1,7 +1,7 @@
 //! Measures the calls of sessions on one engine, beside the steps of a machine that one thread has to itself.
 
 ghost use Rattle.std.specs.Prelude.{◌≡◌, ◌<◌, [], map};
-ghost use Rattle.esr_session.specs.declared.naming.TheConstants.{LEDGER_PARTS};
+ghost use Rattle.esr_session.specs.declared.engine_name.TheConstants.{LEDGER_PARTS};
 
 use crate::draws::Draws;
 use anyhow::{Result, anyhow};

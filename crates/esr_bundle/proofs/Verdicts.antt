@@ -9,8 +9,8 @@ use Rattle.esr_cert.specs.Faults.{fault_number, bundle_fault_number}
 use Rattle.esr_cert.specs.declared.certificate.Fault.{Fault}
 use Rattle.esr_cert.specs.declared.problem.BundleFault.{BundleFault}
 use Rattle.esr_cert.specs.declared.problem.BundleFault.TheVariants.{Json, Shape, Range, NoMemory}
-use Rattle.esr_bundle.specs.declared.judging.Verdict.{Verdict}
-use Rattle.esr_bundle.specs.declared.judging.Verdict.TheVariants.{Valid, Invalid, Bad}
+use Rattle.esr_bundle.specs.declared.judgement.Verdict.{Verdict}
+use Rattle.esr_bundle.specs.declared.judgement.Verdict.TheVariants.{Valid, Invalid, Bad}
 use Rattle.esr_bundle.specs.Reading.{StandsFor, IsReadingOf}
 use Rattle.esr_bundle.specs.Judge.{IsVerdictOf, verdict_for}
 

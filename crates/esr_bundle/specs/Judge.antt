@@ -7,11 +7,11 @@ use Rattle.esr_cert.specs.Certificate.{Certificate, fault}
 use Rattle.esr_cert.specs.Faults.{fault_number, bundle_fault_number}
 use Rattle.esr_cert.specs.declared.certificate.Fault.{Fault}
 use Rattle.esr_cert.specs.declared.problem.BundleFault.{BundleFault}
-use Rattle.esr_bundle.specs.declared.judging.Verdict.{Verdict}
-use Rattle.esr_bundle.specs.declared.judging.Verdict.TheVariants.{Valid, Invalid, Bad}
-use Rattle.esr_bundle.specs.declared.judging.JudgeFault.{JudgeFault}
-use Rattle.esr_bundle.specs.declared.judging.JudgeFault.TheVariants as ends
-use Rattle.esr_bundle.specs.declared.judging.TheConstants.{MAX_BYTES}
+use Rattle.esr_bundle.specs.declared.judgement.Verdict.{Verdict}
+use Rattle.esr_bundle.specs.declared.judgement.Verdict.TheVariants.{Valid, Invalid, Bad}
+use Rattle.esr_bundle.specs.declared.judgement.JudgeFault.{JudgeFault}
+use Rattle.esr_bundle.specs.declared.judgement.JudgeFault.TheVariants as ends
+use Rattle.esr_bundle.specs.declared.judgement.TheConstants.{MAX_BYTES}
 use Rattle.esr_bundle.specs.Reading.{Means}
 
 -- ---- the verdict

@@ -8,11 +8,11 @@
 
 mod draft;
 mod fields;
-mod judging;
-mod reading;
+mod judgement;
+mod reader;
 mod sound;
-mod writing;
+mod writer;
 
-pub use judging::{JudgeFault, Verdict, judge, verdict_of};
-pub use reading::from_json;
-pub use writing::to_json;
+pub use judgement::{JudgeFault, Verdict, judge, verdict_of};
+pub use reader::from_json;
+pub use writer::to_json;

@@ -14,7 +14,7 @@ use Rattle.esr_c.specs.Answers.{reply_fields, status_number}
 use Rattle.esr_c.specs.Many.{AreAnswered, IsAnsweredStatus, IsEnd, IsFullFor, IsOne, after_all, after_one, event_of, events_in, none_refused_before, replies_to}
 use Rattle.esr_c.specs.declared.engine.Status.{Status}
 use Rattle.esr_c.specs.declared.engine.Status.TheVariants.{Done, Full, NoSuchEvent}
-use Rattle.esr_c.specs.declared.many.EsrEvent.{EsrEvent}
+use Rattle.esr_c.specs.declared.batch.EsrEvent.{EsrEvent}
 use Rattle.esr_c.specs.declared.reply.EsrReply.{EsrReply}
 
 after_push : (h : Schedule) (es : List Event) (e : Event) → after_all h (es ++ e ∷ []) ≡ after_one (after_all h es) e

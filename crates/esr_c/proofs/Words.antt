@@ -25,7 +25,7 @@ use Rattle.std.proofs.alloc.Global.TheLaws as heap_laws
 use Rattle.std.specs.contracts.impls.GlobalAllocator.TheImpl as Heap
 use Rattle.esr_c.specs.Owned.{owned}
 use Rattle.esr_c.specs.contracts.handle.EngineHandle as handle
-use Rattle.esr_c.specs.contracts.loose.Loose as loose
+use Rattle.esr_c.specs.contracts.pointer.Loose as loose
 
 abbrev pub alone : Val → Val
 alone v = vstruct (vcons v vnil)

@@ -32,8 +32,8 @@ use Rattle.esr_audit.specs.Findings.{IsAnswer, IsFindingOf}
 use Rattle.esr_audit.specs.declared.finding.Finding.{Finding}
 use Rattle.esr_bundle.specs.Bundle.{bundle}
 use Rattle.esr_bundle.specs.Judge.{IsVerdictOf}
-use Rattle.esr_bundle.specs.declared.judging.Verdict.{Verdict}
-use Rattle.esr_bundle.specs.declared.judging.Verdict.TheVariants.{Valid, Invalid, Bad}
+use Rattle.esr_bundle.specs.declared.judgement.Verdict.{Verdict}
+use Rattle.esr_bundle.specs.declared.judgement.Verdict.TheVariants.{Valid, Invalid, Bad}
 use Rattle.esr_c.specs.declared.account.EsrAccount.{EsrAccount}
 use Rattle.esr_c.specs.declared.audit.EsrFinding.{EsrFinding}
 use Rattle.esr_c.specs.declared.audit.EsrTotals.{EsrTotals}

@@ -8,7 +8,7 @@ use Rattle.esr_history.specs.Events.{is_refusal}
 use Rattle.esr_history.specs.Machine.{Schedule, extended, reply_to}
 use Rattle.esr_engine.specs.Room.{is_full}
 use Rattle.esr_c.specs.Answers.{reply_fields}
-use Rattle.esr_c.specs.declared.many.EsrEvent.{EsrEvent}
+use Rattle.esr_c.specs.declared.batch.EsrEvent.{EsrEvent}
 use Rattle.esr_c.specs.declared.reply.EsrReply.{EsrReply}
 
 -- the event of a kind, if there is one of that kind

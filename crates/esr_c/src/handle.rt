@@ -1,10 +1,10 @@
 //! An engine that is handed to C, as its pointer: the few functions at the engine's own type whose proofs are by hand
-//! (`wrap`, `unwrap`, `nothing`). They make no call but those of `loose`.
+//! (`wrap`, `unwrap`, `nothing`). They make no call but those of `pointer`.
 
 ghost use Rattle.std.specs.Prelude.{◌≡◌, Option, Some, None, IsSome};
 ghost use Rattle.esr_history.specs.Machine.{Schedule};
 
-use crate::loose::{Loose, fasten, loosen};
+use crate::pointer::{Loose, fasten, loosen};
 use esr_engine::Engine;
 use std::alloc::Global;
 use std::marker::Model;

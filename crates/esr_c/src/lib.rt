@@ -25,30 +25,30 @@ ghost use Rattle.esr_c.specs.Answers.{opened, IsEventCall, IsForUpdateCall, IsTo
 
 mod account;
 mod audit;
+mod batch;
 mod engine;
 mod handle;
-mod loose;
-mod many;
 mod past;
+mod pointer;
 mod reply;
-mod telling;
+mod texts;
 mod verdict;
 
 pub use account::EsrAccount;
 use account::show_account;
 pub use audit::{EsrFinding, EsrTotals};
 use audit::{show_bundle, show_finding, show_values, totals_of};
+pub use batch::EsrEvent;
+use batch::answer_all;
 pub use engine::EsrEngine;
 use engine::{Status, end, go_on, go_on_aborting, open, open_with, out_of, read_for_update, step};
 use esr_engine::Counts;
 use esr_history::{Event, TxnId};
 use esr_items::ItemId;
-pub use many::EsrEvent;
-use many::answer_all;
 use past::{show_ledger, show_script};
 pub use reply::EsrReply;
 use std::alloc::Global;
-use telling::{show_explanation, show_picture};
+use texts::{show_explanation, show_picture};
 pub use verdict::EsrVerdict;
 use verdict::show_verdict;
 

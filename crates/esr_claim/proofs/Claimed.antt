@@ -12,7 +12,7 @@ use Rattle.esr_audit.specs.Problems as problems
 use Rattle.esr_bundle.specs.Reading.{IsReadingOf, Means}
 use Rattle.esr_telling.specs.Ask.{IsAnswered}
 use Rattle.esr_telling.specs.State.{ScriptState, transaction_called}
-use Rattle.esr_telling.specs.declared.asked.Asked.{Asked}
+use Rattle.esr_telling.specs.declared.query.Asked.{Asked}
 use Rattle.esr_claim.specs.declared.claim.Claim.{Claim}
 use Rattle.esr_claim.specs.declared.claim.Claim.TheVariants.{Of, NotOf, Invalid, Bad}
 use Rattle.esr_claim.specs.Claims.{IsClaim, IsClaimOf, ShowsDistance}

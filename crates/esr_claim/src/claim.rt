@@ -7,7 +7,7 @@ ghost use Rattle.esr_telling.specs.Ask.{IsAnswered};
 ghost use Rattle.esr_telling.specs.State.{ScriptState};
 ghost use Rattle.esr_claim.specs.Claims.{IsClaim, IsClaimOf, ShowsDistance, claim_line};
 
-use crate::same::is_same;
+use crate::comparison::is_same;
 use esr_bundle::from_json;
 use esr_cert::{BundleFault, Certificate, Problem, check};
 use esr_telling::Asked;

@@ -7,8 +7,8 @@
 #![tactic(auto)]
 
 mod claim;
+mod comparison;
 mod detail;
-mod same;
 
 pub use claim::{Claim, claim_of};
 pub use detail::detail_of;

@@ -11,7 +11,7 @@ use Rattle.esr_plan.specs.declared.call.Call.{Call}
 use Rattle.esr_plan.specs.Calls.{command_of, all_answers, AreAnswered, AreResolved}
 use Rattle.esr_plan.specs.Blocks.{AreBlocks}
 use Rattle.esr_plan.specs.declared.fault.DriveFault.{DriveFault}
-use Rattle.esr_drive.specs.declared.driven.Driven.{Driven}
+use Rattle.esr_drive.specs.declared.blocks.Driven.{Driven}
 use Rattle.esr_drive.specs.Faults.{IsEngineFault}
 
 -- A legal history over these opening values and weights, whose entries the receipts of the blocks name, with the last

@@ -4,14 +4,14 @@
 //! legal history.
 #![tactic(auto)]
 
-mod driven;
-mod driving;
+mod blocks;
 mod findings;
 mod form;
+mod pipeline;
 mod run;
 mod threads;
 
-pub use driving::drive;
 pub use esr_board::{Gate, NoGate};
 pub use esr_plan::DriveFault;
 pub use form::Form;
+pub use pipeline::drive;

@@ -3,7 +3,7 @@ use Rattle.std.proofs.Common.{◌≡◌, ◌++◌, ℕ, List, ◌∙◌, ap, ari
 use Rattle.esr_items.specs.Weights.{weighted}
 use Rattle.esr_history.specs.Machine.{Schedule}
 use Rattle.esr_audit.specs.Findings.{summary, summary_of}
-use Rattle.esr_telling.specs.declared.asked.Asked.{Asked}
+use Rattle.esr_telling.specs.declared.query.Asked.{Asked}
 use Rattle.esr_telling.specs.Ask.{IsAnswered}
 use Rattle.esr_telling.specs.State.{ScriptState, transaction_called}
 use Rattle.esr_explain.specs.Explain.{explanation}

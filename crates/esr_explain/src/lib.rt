@@ -6,10 +6,10 @@
 
 mod accesses;
 mod charges;
-mod explaining;
 mod others;
+mod query;
 mod reads;
 mod text;
 
-pub use explaining::Explaining;
+pub use query::Explaining;
 pub use text::explanation;

@@ -6,8 +6,8 @@
 //! next line of a block.
 #![tactic(auto)]
 
-mod exploring;
 mod measure;
+mod pipeline;
 mod query;
 mod report;
 mod run;
@@ -16,6 +16,6 @@ mod summary;
 mod tale;
 mod ways;
 
-pub use exploring::{Search, explore};
 pub use measure::Measure;
+pub use pipeline::{Search, explore};
 pub use ways::{ExploreFault, MOST_LINES};

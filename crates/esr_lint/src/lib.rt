@@ -10,18 +10,18 @@
 
 mod answer;
 mod forms;
-mod keeping;
+mod kept_line;
 mod listing;
 mod near;
 mod observer;
 mod place;
 mod reason;
-mod telling;
+mod teller;
 
 pub use answer::{Fault, fault_of, is_error};
-pub use keeping::KeptLine;
+pub use kept_line::KeptLine;
 pub use listing::Listing;
 pub use observer::{End, Observer, Standing, Unobserved};
 pub use place::{Place, Source};
 pub use reason::{Finding, NumberFault, Reason, find_reason};
-pub use telling::{NoQuery, Teller, When};
+pub use teller::{NoQuery, Teller, When};

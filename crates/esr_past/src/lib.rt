@@ -6,10 +6,10 @@
 //! it.
 #![tactic(auto)]
 
-mod by_names;
-mod naming;
+mod given_names;
+mod names;
 mod spelling;
 
-pub use by_names::named_script;
-pub use naming::{item_names, transaction_names};
+pub use given_names::named_script;
+pub use names::{item_names, transaction_names};
 pub use spelling::script;

@@ -2,11 +2,11 @@
 //!
 //! Of few updates all are. Else a lane needs those that bound its version at the line and the one nearest to what was
 //! read; what is between is one dotted piece with a count. Lanes that are off come first, and then those without which
-//! the picture would contradict its line (`weighing`). These are drawn also where there is no room for the updates that
+//! the picture would contradict its line (`costs`). These are drawn also where there is no room for the updates that
 //! they need, and the line then crosses a dotted piece: a lane that was left out would take what it is off out of the
 //! sum, and the sum is what the picture is about.
 
-use crate::weighing::{Costs, Places, against};
+use crate::costs::{Costs, Places, against};
 use esr_cert::{Chain, Problem};
 use std::alloc::{AllocError, Global};
 

@@ -11,6 +11,7 @@
 
 mod boxes;
 mod choice;
+mod costs;
 mod drawing;
 mod elements;
 mod frame;
@@ -22,8 +23,7 @@ mod order;
 mod scene;
 mod sights;
 mod svg;
-mod weighing;
-mod written;
+mod values;
 
 pub use drawing::{Drawing, picture, picture_with};
 pub use markup::markup_or_nothing;

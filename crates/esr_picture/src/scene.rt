@@ -7,7 +7,7 @@ use crate::choice::{Choice, MOST_LANES, MOST_UPDATES, choose};
 use crate::frame::Frame;
 use crate::order::{Arrow, Slots, arrows};
 use crate::sights::{LaneReads, Strays, count_of, reads_of, seen_by_writer, strays_of};
-use crate::written::{Written, written_by};
+use crate::values::{Written, written_by};
 use esr_cert::Chain;
 use esr_items::{ItemId, Metric};
 use esr_report::name_of_transaction;

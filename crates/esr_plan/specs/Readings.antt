@@ -3,7 +3,7 @@ use Rattle.std.specs.Prelude.{◌≡◌, ℕ, ◌<◌, ◌≤◌, List, ◌++◌
 use Rattle.esr_line.specs.declared.limits.TheConstants.{MAX_LINES, MAX_LINE_BYTES}
 use Rattle.esr_line.specs.Lines.{lines}
 use Rattle.esr_plan.specs.Plan.{cut_fault, plan_of, DriveFault}
-use Rattle.esr_plan.specs.declared.reading.Mark.{Mark}
+use Rattle.esr_plan.specs.declared.reader.Mark.{Mark}
 use Rattle.esr_plan.specs.declared.fault.DriveFault.TheVariants as fault
 
 -- the bytes from the first line on that is not whole yet

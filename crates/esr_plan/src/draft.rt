@@ -14,7 +14,7 @@ ghost use Rattle.esr_plan.specs.Drafts.{plan_in, current_calls, IsSound, IsWrong
 
 use crate::call::{Call, Caller, Kind, Operand};
 use crate::fault::DriveFault;
-use crate::reading::first_line;
+use crate::reader::first_line;
 use esr_items::{ItemId, LARGEST_VALUE, LARGEST_WEIGHT, MOST_ITEMS};
 use esr_line::{Line, Parsed, parse_line};
 use esr_report::Names;

@@ -7,11 +7,11 @@
 
 mod charges;
 mod nearest;
+mod paragraphs;
 mod prose;
 mod reads;
 mod tale;
-mod telling;
 
+pub use paragraphs::Prose;
 pub use prose::{Block, Kind, prose_of};
 pub use tale::Tale;
-pub use telling::Prose;

@@ -5,7 +5,7 @@ use Rattle.esr_history.specs.Queries.{is_committed_query}
 use Rattle.esr_base.specs.Watch.{BeginsWith}
 use Rattle.esr_script.specs.declared.fault.RunFault.TheVariants as fault
 use Rattle.esr_script.specs.Text.{ScriptState, transaction_called, final, RunFault}
-use Rattle.esr_telling.specs.declared.asked.Asked.{Asked}
+use Rattle.esr_telling.specs.declared.query.Asked.{Asked}
 use Rattle.esr_telling.specs.Ask.{IsAnswered}
 use Rattle.esr_script.specs.Ask.{IsAsked}
 use Rattle.esr_script.specs.Ends.{IsWhole, IsReachedBy, IsWrittenBy}

@@ -10,7 +10,7 @@ use Rattle.esr_script.specs.Text.{ScriptState, transaction_called, Outcome, answ
 use Rattle.esr_cert.specs.Views.{certificate_of}
 use Rattle.esr_audit.specs.declared.finding.Finding.{Finding}
 use Rattle.esr_audit.proofs.SameSet.{same_set}
-use Rattle.esr_telling.specs.declared.asked.Asked.{Asked}
+use Rattle.esr_telling.specs.declared.query.Asked.{Asked}
 use Rattle.esr_telling.specs.Ask.{IsFound, IsAnswered}
 use Rattle.esr_script.specs.Certify.{IsBundleLine}
 use Rattle.esr_script.specs.Ends.{EndsBy}

@@ -1,6 +1,6 @@
 -- Asking a script for one of its queries.
 use Rattle.std.specs.Prelude.{ℕ, List, Option, Result}
-use Rattle.esr_telling.specs.declared.asked.Asked.{Asked}
+use Rattle.esr_telling.specs.declared.query.Asked.{Asked}
 use Rattle.esr_telling.specs.Ask.{IsAnswered}
 use Rattle.esr_script.specs.Text.{final, RunFault}
 use Rattle.esr_script.specs.Ends.{IsReachedBy, IsNoQuery}

@@ -1,5 +1,5 @@
 -- A reader of which a copy is kept.
-use Rattle.esr_script.specs.declared.copied.Copied.{Copied}
+use Rattle.esr_script.specs.declared.copier.Copied.{Copied}
 
 -- `c.lower`
 abbrev pub lower : {R : Type 0} → Copied R → R

@@ -5,36 +5,36 @@
 //! serves those whose lines are dropped: audits of whole scripts, and all that is told of one query.
 #![tactic(auto)]
 
-mod ahead;
-mod asked;
-mod auditing;
+mod answers;
+mod audits;
 mod book;
-mod certifying;
-mod copied;
+mod bundles;
+mod copier;
 mod engine;
+mod entry_lines;
 mod fault;
+mod input;
+mod inspection;
 mod lines;
-mod linting;
-mod numbering;
-mod pending;
-mod replaying;
+mod output;
+mod query;
+mod query_text;
 mod runs;
 mod script;
-mod sending;
+mod script_text;
+mod silent_run;
 mod sink;
 mod stage;
-mod surveying;
-mod telling;
 
-pub use asked::ask;
-pub use auditing::audit;
-pub use certifying::{certify, certify_steps};
-pub use copied::Copied;
+pub use audits::audit;
+pub use bundles::{certify, certify_steps};
+pub use copier::Copied;
 pub use esr_board::{Gate, NoGate};
 pub use esr_line::{INPUT_ROOM, Line, MAX_LINE_BYTES, MAX_LINES, Parsed, parse_line};
 pub use fault::RunFault;
-pub use linting::lint;
+pub use inspection::lint;
+pub use output::send_all;
+pub use query::ask;
+pub use query_text::tell;
 pub use runs::run;
-pub use sending::send_all;
-pub use surveying::survey;
-pub use telling::tell;
+pub use script_text::survey;

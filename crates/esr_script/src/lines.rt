@@ -1,6 +1,6 @@
 //! Goes over the lines of a script, from its reader to a sink.
 //!
-//! Bytes that were read and not used yet are in `pending`, text that the sink has not taken yet in `out`. Between two
+//! Bytes that were read and not used yet are in `input`, text that the sink has not taken yet in `out`. Between two
 //! steps the lines so far, answered one after another, have led to the script's state and to the text that was taken
 //! with that in `out` behind it (`Standing`). The text is taken before the input is waited for, so that whoever types
 //! lines sees each answered, and where much of it has come together.
@@ -13,9 +13,9 @@ ghost use Rattle.esr_script.specs.Text.{start};
 ghost use Rattle.esr_script.specs.Parts.{IsHeldRun, is_read_fault, is_write_fault};
 ghost use Rattle.esr_script.specs.Replays.{IsReplay};
 
-use crate::ahead::{answer_last, answer_next};
+use crate::answers::{answer_last, answer_next};
 use crate::fault::RunFault;
-use crate::pending::Pending;
+use crate::input::Pending;
 use crate::script::Script;
 use crate::sink::Sink;
 use esr_history::Watched;

@@ -11,10 +11,10 @@ ghost use Rattle.esr_script.specs.Parts.{IsHeldRun, is_read_fault, is_write_faul
 ghost use Rattle.esr_script.specs.ReaderToWriter.{ReadsAndWrites};
 
 use crate::fault::RunFault;
+use crate::input::Pending;
 use crate::lines::answer_lines;
-use crate::pending::Pending;
+use crate::output::{OUTPUT_ROOM, send_all};
 use crate::script::Script;
-use crate::sending::{OUTPUT_ROOM, send_all};
 use esr_history::Watched;
 use esr_lint::Observer;
 use std::alloc::Global;

@@ -9,7 +9,7 @@ ghost use Rattle.esr_base.specs.Watch.{inner, failed, BeginsWith};
 ghost use Rattle.esr_script.specs.Parts.{is_write_fault};
 
 use crate::fault::RunFault;
-use crate::sending::send_all;
+use crate::output::send_all;
 use esr_history::Watched;
 use std::io::Write;
 

@@ -7,16 +7,16 @@
 //!
 //! A close counts the receipts before it compares them: where there are too few it is refused for that, and needs no
 //! memory to see it. Receipts are compared where they lie; none is copied.
-ghost use Rattle.esr_session.specs.declared.naming.TheConstants.{LEDGER_PARTS, MOST_SESSIONS};
+ghost use Rattle.esr_session.specs.declared.engine_name.TheConstants.{LEDGER_PARTS, MOST_SESSIONS};
 ghost use Rattle.std.specs.Prelude.{◌≡◌, ◌+◌, ◌<◌, ◌≤◌, [], true, length, Some, None, All, IfOk, OnOk, IfErr, OnErr, vec_len, map, vec_capacity};
 ghost use Rattle.esr_history.specs.Machine.{IsLegal};
 ghost use Rattle.esr_session.specs.Receipts.{Matches, IsVerdict, count_in};
 ghost use Rattle.esr_session.specs.Engine.{is_missing, AreTotals, IsRefusal, Sessions};
 ghost use Rattle.esr_session.specs.declared.engine.TheConstants.{SEAL};
 
-use crate::locked::{Locked, Pocket};
-use crate::matching::match_all;
-use crate::naming::{Cut, Naming};
+use crate::engine_name::{Cut, Naming};
+use crate::lock::{Locked, Pocket};
+use crate::matcher::match_all;
 use crate::receipt::{CloseError, Receipt};
 use crate::session::Session;
 use esr_core::{Machine, Totals};

@@ -6,15 +6,15 @@
 #![tactic(auto)]
 
 mod engine;
-mod locked;
-mod matching;
-mod naming;
+mod engine_name;
+mod lock;
+mod matcher;
 mod receipt;
 mod session;
 
 pub use engine::{CloseRefused, Closed, Engine};
-pub use locked::{Locked, Pocket, step_on};
-pub use matching::{HasReceipts, match_receipts};
-pub use naming::{LEDGER_PARTS, MOST_SESSIONS, Naming};
+pub use engine_name::{LEDGER_PARTS, MOST_SESSIONS, Naming};
+pub use lock::{Locked, Pocket, step_on};
+pub use matcher::{HasReceipts, match_receipts};
 pub use receipt::{CloseError, Receipt};
 pub use session::Session;

@@ -7,9 +7,9 @@ ghost use Rattle.esr_base.specs.declared.limits.TheConstants.{MOST_ENTRIES};
 ghost use Rattle.esr_session.specs.Receipts.{IsReceipt, AreBlocked, is_blocked, is_block};
 ghost use Rattle.esr_session.specs.declared.receipt.Receipt.{Receipt};
 
-use crate::locked::{Locked, Pocket, step_on};
-use crate::matching::HasReceipts;
-use crate::naming::Naming;
+use crate::engine_name::Naming;
+use crate::lock::{Locked, Pocket, step_on};
+use crate::matcher::HasReceipts;
 use crate::receipt::Receipt;
 use esr_core::StepError;
 use esr_history::{Event, Refusal, Reply};

@@ -6,14 +6,14 @@
 //! It is safe and ends; what it says is promised by no clause.
 #![tactic(auto)]
 
-mod audited;
 mod numbers;
 mod sentences;
 mod story;
+mod subject;
 mod text;
 
-pub use audited::Audited;
 pub use numbers::{letters_of, number_letters, push_count, push_number, push_value};
 pub use sentences::{nearest_moment, sentences_of, strict_sentence, verdict};
 pub use story::{Cause, Charge, End, Sight, Story, Sum, story_of};
+pub use subject::Audited;
 pub use text::{MOST_NAMES, push_names, push_rest, wrap};

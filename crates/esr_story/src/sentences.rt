@@ -1,9 +1,9 @@
 //! What a picture says in words above its lanes, and prose too: whether what the query read was ever true at one moment, where the
 //! nearest is, what it was charged and by whom, and which updates it had to be behind.
 
-use crate::audited::Audited;
 use crate::numbers::push_number;
 use crate::story::{Story, Sum};
+use crate::subject::Audited;
 use crate::text::{MOST_NAMES, push_names, push_rest, wrap};
 use esr_history::TxnId;
 use esr_report::name_of_transaction;

@@ -11,7 +11,7 @@ use Rattle.esr_order.specs.Near.{AreNear}
 use Rattle.esr_audit.specs.declared.finding.Finding.{Finding}
 use Rattle.esr_audit.specs.Findings.{summary, summary_of}
 use Rattle.esr_audit.specs.Problems.{StandsFor}
-use Rattle.esr_telling.specs.declared.asked.Asked.{Asked}
+use Rattle.esr_telling.specs.declared.query.Asked.{Asked}
 use Rattle.esr_telling.specs.declared.chronicle.Chronicle.{Chronicle}
 use Rattle.esr_telling.specs.State.{ScriptState, transaction_called}
 

@@ -3,12 +3,12 @@
 //! no telling waits for the proof of what runs them.
 #![tactic(auto)]
 
-mod asked;
 mod chronicle;
+mod query;
 mod survey;
 mod telling;
 
-pub use asked::Asked;
 pub use chronicle::Chronicle;
+pub use query::Asked;
 pub use survey::Survey;
 pub use telling::Telling;

@@ -7,7 +7,7 @@
 
 ghost use Rattle.std.specs.Prelude.{ℕ, List, IfOk};
 
-use crate::asked::Asked;
+use crate::query::Asked;
 use std::alloc::{AllocError, Global};
 
 /// A text that is told of a query of a script.

@@ -6,10 +6,10 @@
 //! That a drawn order is as likely as another is promised by nothing.
 #![tactic(auto)]
 
-mod counting;
-mod drawing;
+mod count;
+mod draws;
 mod orders;
 
-pub use counting::count_orders;
-pub use drawing::draw_order;
+pub use count::count_orders;
+pub use draws::draw_order;
 pub use orders::{MOST_ORDERS, all_orders};

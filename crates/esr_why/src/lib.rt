@@ -8,10 +8,10 @@
 //! may be blocked at half of them.
 #![tactic(auto)]
 
+mod reasons;
 mod replay;
 mod sentences;
 mod shortfall;
 mod waits;
-mod why;
 
-pub use why::Why;
+pub use reasons::Why;

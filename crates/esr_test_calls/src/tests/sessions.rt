@@ -1,6 +1,6 @@
 //! Sessions on threads of their own.
 ghost use Rattle.std.specs.Prelude.{◌≡◌, ◌≤◌, [], map};
-ghost use Rattle.esr_session.specs.declared.naming.TheConstants.{LEDGER_PARTS, MOST_SESSIONS};
+ghost use Rattle.esr_session.specs.declared.engine_name.TheConstants.{LEDGER_PARTS, MOST_SESSIONS};
 
 use esr_core::StepError;
 use esr_history::{Event, Log, Refusal, Reply, TxnId};

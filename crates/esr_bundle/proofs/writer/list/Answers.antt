@@ -1,0 +1,17 @@
+-- Why `list` keeps its contract: the goals that are left to a proof of ours.
+use Rattle.std.proofs.Common.{[], ◌∷◌, ◌++◌, ◌∙◌, map, take, sym, ap}
+use Rattle.std.proofs.lemmas.List.{map_more, map_push}
+use Rattle.serde_json.specs.View.{view}
+use Rattle.esr_bundle.proofs.writer.list.Goals as goal
+
+pub loop-one-preserved : goal.loop-one-preserved
+loop-one-preserved g c =
+    let shown = g.T.Written.shown in
+    let list = c.args.list.now in
+    let i = c.loop-one.one-index in
+    let tree = c.in_ok-tree.field-0 in
+    ap (map view) c.in_ok-push.ensures.items
+    ∙ map_push view c.loop-one.items.items tree
+    ∙ ap (λ ds. ds ++ view tree ∷ []) c.loop-one.invariant
+    ∙ ap (λ d. map shown (take i list) ++ d ∷ []) c.in_ok-tree.ensures
+    ∙ sym (map_more shown list i c.one-item.result c.loop-one-test.true ∙ ap (λ one. map shown (take i list) ++ shown one ∷ []) (sym c.one-item.is))

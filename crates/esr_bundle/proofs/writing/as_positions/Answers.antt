@@ -1,6 +1,0 @@
--- Why `as_positions` keeps its contract: the goals that are left to a proof of ours.
-use Rattle.esr_bundle.proofs.Wide.{all_positions}
-use Rattle.esr_bundle.proofs.writing.as_positions.Goals as goal
-
-pub returns-clause-fits : goal.returns-clause-fits
-returns-clause-fits c = all_positions c.args.list.now c.type_inv.list

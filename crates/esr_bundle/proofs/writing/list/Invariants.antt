@@ -1,7 +1,0 @@
--- What holds at each turn of the loop in `list`.
-use Rattle.std.proofs.Common.{◌≡◌, map, take}
-use Rattle.serde_json.specs.View.{view}
-use Rattle.esr_bundle.proofs.writing.list.Given as goal
-
-abbrev pub invariant-loop-one : goal.invariant-loop-one
-invariant-loop-one g l = map view l.items.items ≡ map g.T.Written.shown (take l.one-index l.list)

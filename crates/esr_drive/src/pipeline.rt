@@ -1,0 +1,207 @@
+//! A drive, from its reader to its writer. Where a read or a write has failed, the drive ends so, whatever else came.
+
+ghost use Rattle.esr_board.specs.declared.board.TheConstants.{MOST_SEATS};
+ghost use Rattle.std.specs.Prelude.{◌≡◌, ℕ, List, ◌≤◌, ◌↔◌, true, false, None, map, IfOk, IfErr, IfSome, IsErrOf, IsTrue};
+ghost use Rattle.esr_line.specs.Lines.{lines};
+ghost use Rattle.std.specs.Io.KnownBytes.{Appends};
+ghost use Rattle.esr_base.specs.Watch.{inner, failed};
+ghost use Rattle.esr_past.specs.Again.{IsPast};
+ghost use Rattle.esr_drive.specs.Drive.{HasWorkers, IsDriveBy, IsDriveText, Tells};
+ghost use Rattle.esr_plan.specs.Text.{names_of, text_of};
+ghost use Rattle.esr_drive.specs.Driven.{IsDriven};
+ghost use Rattle.esr_items.specs.Weights.{weighted};
+ghost use Rattle.esr_session.specs.Engine.{AreTotals};
+ghost use Rattle.esr_plan.specs.Calls.{all_answers};
+ghost use Rattle.esr_drive.specs.Faults.{IsTextFault, IsEngineFault};
+ghost use Rattle.esr_plan.specs.Sheets.{plan_in, IsSound};
+ghost use Rattle.esr_plan.specs.Plan.{cut_fault, weights_of};
+
+use crate::blocks::{Driven, drive_blocks};
+use crate::findings::push_findings;
+use crate::form::Form;
+use esr_board::Gate;
+use esr_history::Watched;
+use esr_items::Store;
+use esr_lint::Observer;
+use esr_past::named_script;
+use esr_plan::{
+    DriveFault, Sheet, begun_names, metric_of, push_blocks, push_items, read_all, sheet_of,
+};
+use esr_report::totals_line;
+use esr_session::LEDGER_PARTS;
+use std::alloc::{AllocError, Global};
+use std::io::{Read, Write};
+use std::marker::Brand;
+use std::sync::Wait;
+use std::sync::ledger::Blank;
+use std::thread::Threads;
+
+/// Reads a drive file to its end, runs each of its blocks by a session on a thread of its own, and
+/// writes what came of them, in the form that is asked for. The observer sees the line at fault, if there is one.
+pub fn drive<R: Threads + Wait + Sync, I: Read, O: Write, G: Gate + Sync, V: Observer>(
+    rt: &R,
+    alloc: Global,
+    reader: &mut Watched<I>,
+    writer: &mut Watched<O>,
+    form: Form,
+    gate: &G,
+    observer: &mut V,
+) -> Result<(), DriveFault>
+    requires reader { failed reader.old ≡ false }
+    requires writer { failed writer.old ≡ false }
+    requires workers { HasWorkers form }
+    ensures text { IfSome (I.remaining (inner reader.old)) (λ input. (written : List ℕ)
+        × Appends (O.contents (inner writer.old)) (O.contents (inner writer.new)) written
+        × IsDriveBy form input (I.remaining (inner reader.new)) result written) }
+
+    // Where a read or a write has failed, the drive ends so.
+    ensures reader { IsTrue (failed reader.new) ↔ IsErrOf result DriveFault.Read }
+    ensures writer { IsTrue (failed writer.new) ↔ IsErrOf result DriveFault.Write }
+{
+    let bytes = read_all(alloc, reader)?;
+    let out = text_in(rt, alloc, &bytes, form, gate, observer)?;
+    writer.send_all(&out).map_err(|_| DriveFault::Write)
+}
+
+/// The text of the file.
+fn text_in<R: Threads + Wait + Sync, G: Gate + Sync, V: Observer>(
+    rt: &R,
+    alloc: Global,
+    bytes: &[u8],
+    form: Form,
+    gate: &G,
+    observer: &mut V,
+) -> Result<Vec<u8>, DriveFault>
+    requires read { cut_fault 0 (lines bytes.now) ≡ None }
+    requires workers { HasWorkers form }
+    ensures text { IfOk result (λ out. IsDriveText form bytes.now out.items) }
+    ensures faults { IfErr result (IsTextFault bytes.now) }
+{
+    let sheet = match sheet_of(alloc, bytes) {
+        Ok(sheet) => sheet,
+        Err(fault) => {
+            show_line(bytes, fault, observer);
+            return Err(fault);
+        }
+    };
+    let driven = match run_sheet(rt, alloc, &sheet, gate) {
+        Ok(driven) => driven,
+        Err(fault) => return Err(fault),
+    };
+    match text_from(rt, alloc, form, &sheet, &driven) {
+        Ok(out) => Ok(out),
+        Err(_) => Err(DriveFault::NoMemory),
+    }
+}
+
+/// Lets the observer see the line at fault.
+fn show_line<V: Observer>(bytes: &[u8], fault: DriveFault, observer: &mut V) {
+    let DriveFault::BadScript { line: number, .. } = fault else {
+        return;
+    };
+    let mut count = 0u64;
+    for line in bytes.split(|b| *b == b'\n') {
+        count = count.saturating_add(1);
+        if count == number {
+            return observer.see_line(number, line, b"error");
+        }
+    }
+}
+
+/// Runs the blocks of a plan on an engine of their own.
+fn run_sheet<R: Threads + Wait + Sync, G: Gate + Sync>(
+    rt: &R,
+    alloc: Global,
+    sheet: &Sheet<'_>,
+    gate: &G,
+) -> Result<Driven, DriveFault>
+    requires { IsSound sheet.now }
+    ensures ok { IfOk result (λ d. IsDriven sheet.now.values.items (weights_of sheet.now.weights.items)
+        (map (λ b. b.items) sheet.now.blocks.items) d.history.schedule (map (λ r. r.items) d.replies.items)) }
+    ensures totals { IfOk result (λ d. AreTotals weighted d.history.schedule d.totals) }
+    ensures err { IfErr result (IsEngineFault (map (λ b. b.items) sheet.now.blocks.items)) }
+{
+    let items = Store::of_valid(alloc, &sheet.values)?;
+    let metric = metric_of(alloc, sheet.weights.as_slice())?;
+    drive_blocks::<Brand, R, G>(
+        rt,
+        alloc,
+        Blank::new(LEDGER_PARTS),
+        items,
+        metric,
+        sheet.blocks.as_slice(),
+        gate,
+    )
+}
+
+/// The text of what the blocks of a plan left, in the form that is asked for.
+fn text_from<R: Threads + Sync>(
+    rt: &R,
+    alloc: Global,
+    form: Form,
+    sheet: &Sheet<'_>,
+    driven: &Driven,
+) -> Result<Vec<u8>, AllocError>
+    requires workers { HasWorkers form }
+    requires sound { IsSound sheet.now }
+    requires driven { IsDriven sheet.now.values.items (weights_of sheet.now.weights.items)
+        (map (λ b. b.items) sheet.now.blocks.items) driven.now.history.schedule
+        (map (λ r. r.items) driven.now.replies.items) }
+    requires totals { AreTotals weighted driven.now.history.schedule driven.now.totals }
+    ensures { IfOk result (λ out. Tells form (plan_in sheet.now) driven.now.history.schedule
+        (all_answers (map (λ b. b.items) sheet.now.blocks.items) (map (λ r. r.items) driven.now.replies.items)) out.items) }
+{
+    match form {
+        Form::Text { workers } => answers_from(rt, alloc, workers, sheet, driven),
+        Form::Script => script_from(alloc, sheet, driven),
+    }
+}
+
+/// The history that the blocks of a plan left, as a script.
+fn script_from(alloc: Global, sheet: &Sheet<'_>, driven: &Driven) -> Result<Vec<u8>, AllocError>
+    requires driven { IsDriven sheet.now.values.items (weights_of sheet.now.weights.items)
+        (map (λ b. b.items) sheet.now.blocks.items) driven.now.history.schedule
+        (map (λ r. r.items) driven.now.replies.items) }
+    ensures { IfOk result (λ out. IsPast sheet.now.names (names_of driven.now.history.schedule
+        (all_answers (map (λ b. b.items) sheet.now.blocks.items) (map (λ r. r.items) driven.now.replies.items)))
+        driven.now.history.schedule out.items) }
+{
+    let blocks = sheet.blocks.as_slice();
+    let replies = driven.replies.as_slice();
+    let names = begun_names(alloc, &driven.history, blocks, replies)?;
+    named_script(alloc, &sheet.names, &names, &driven.history)
+}
+
+/// The answers of the blocks of a plan, what is found of each query, and the totals.
+fn answers_from<R: Threads + Sync>(
+    rt: &R,
+    alloc: Global,
+    workers: u64,
+    sheet: &Sheet<'_>,
+    driven: &Driven,
+) -> Result<Vec<u8>, AllocError>
+    requires workers { (1 ≤ workers) × (workers ≤ MOST_SEATS) }
+    requires sound { IsSound sheet.now }
+    requires driven { IsDriven sheet.now.values.items (weights_of sheet.now.weights.items)
+        (map (λ b. b.items) sheet.now.blocks.items) driven.now.history.schedule
+        (map (λ r. r.items) driven.now.replies.items) }
+    requires totals { AreTotals weighted driven.now.history.schedule driven.now.totals }
+    ensures { IfOk result (λ out. out.items ≡ text_of (plan_in sheet.now) driven.now.history.schedule
+        (all_answers (map (λ b. b.items) sheet.now.blocks.items) (map (λ r. r.items) driven.now.replies.items))) }
+{
+    let blocks = sheet.blocks.as_slice();
+    let replies = driven.replies.as_slice();
+    let totals = driven.totals;
+    let names = begun_names(alloc, &driven.history, blocks, replies)?;
+    let mut out = Vec::new(alloc);
+    push_items(
+        &mut out,
+        &sheet.names,
+        sheet.values.as_slice(),
+        sheet.weights.as_slice(),
+    )?;
+    push_blocks(&mut out, &names, blocks, replies)?;
+    push_findings(rt, alloc, &mut out, &driven.history, &names, workers)?;
+    totals_line(&mut out, totals.import, totals.export, totals.entries)?;
+    Ok(out)
+}

@@ -1,6 +1,0 @@
--- What holds at each turn of the loop in `replies_of`.
-use Rattle.std.proofs.Common.{◌≡◌, map}
-use Rattle.esr_explore.proofs.exploring.replies_of.Given as goal
-
-abbrev pub invariant-loop-runner : goal.invariant-loop-runner
-invariant-loop-runner l = map (λ r. r.items) l.replies.items ≡ map (λ r. r.replies) l.yielded

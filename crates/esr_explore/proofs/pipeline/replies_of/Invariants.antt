@@ -1,0 +1,6 @@
+-- What holds at each turn of the loop in `replies_of`.
+use Rattle.std.proofs.Common.{◌≡◌, map}
+use Rattle.esr_explore.proofs.pipeline.replies_of.Given as goal
+
+abbrev pub invariant-loop-runner : goal.invariant-loop-runner
+invariant-loop-runner l = map (λ r. r.items) l.replies.items ≡ map (λ r. r.replies) l.yielded

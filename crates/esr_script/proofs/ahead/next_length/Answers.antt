@@ -1,6 +1,0 @@
--- Why `next_length` keeps its contract: the goals that are left to a proof of ours.
-use Rattle.std.proofs.Common.{rules}
-use Rattle.esr_script.proofs.ahead.next_length.Goals as goal
-
-pub returns-in-Line-clause-long : goal.returns-in-Line-clause-long
-returns-in-Line-clause-long c = search rules

@@ -1,0 +1,24 @@
+-- Why `audit` keeps its contract: the goals that are left to a proof of ours.
+use Rattle.std.proofs.Common.{◌≡◌, [], ℕ, Vec, arith, rules}
+use Rattle.std.specs.declared.alloc.Global.{Global}
+use Rattle.esr_base.specs.Watch.{inner}
+use Rattle.esr_script.specs.Audit.{audit_output}
+use Rattle.esr_script.specs.Text.{final}
+use Rattle.std.proofs.KnownBytes.{Appends-nil}
+use Rattle.esr_script.proofs.Ends.{written_fault, written_sent}
+use Rattle.esr_script.proofs.audits.audit.Goals as goal
+
+pub returns-in-Err : goal.returns-in-Err
+returns-in-Err g c = record {
+  text = λ input known. let left = g.R.Read.remaining (inner c.prepare.new.reader) in
+      ([], Appends-nil _, written_fault input left (λ (out : Vec ℕ Global). out.items ≡ audit_output (final input)) _ _ c.in-Err.fault (c.in-Err.ensures.ready input known));
+  reader = search rules;
+  writer = search rules;
+}
+
+pub returns : goal.returns
+returns g c = record {
+  text = λ input known. grind (arith, written_sent);
+  reader = search rules;
+  writer = search rules;
+}

@@ -1,0 +1,6 @@
+-- Why `certify` keeps its contract: the goals that are left to a proof of ours.
+use Rattle.esr_script.proofs.bundles.certify.Goals as goal
+
+-- by what the call ensures, and by nothing else
+pub returns : goal.returns
+returns g c = search c.tell.ensures depth 1

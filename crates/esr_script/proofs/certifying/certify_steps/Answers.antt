@@ -1,6 +1,0 @@
--- Why `certify_steps` keeps its contract: the goals that are left to a proof of ours.
-use Rattle.esr_script.proofs.certifying.certify_steps.Goals as goal
-
--- by what the call ensures, and by nothing else
-pub returns : goal.returns
-returns g c = search c.tell.ensures depth 1

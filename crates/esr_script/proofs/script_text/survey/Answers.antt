@@ -1,0 +1,19 @@
+-- Why `survey` keeps its contract: the goals that are left to a proof of ours.
+use Rattle.std.proofs.Common.{[], arith, rules}
+use Rattle.std.proofs.KnownBytes.{Appends-nil}
+use Rattle.esr_script.proofs.Ends.{written_fault, written_sent}
+use Rattle.esr_script.proofs.script_text.survey.Goals as goal
+
+pub returns-in-Err : goal.returns-in-Err
+returns-in-Err g c = record {
+  text = λ input known. ([], Appends-nil _, grind (arith, written_fault, c.in-Err.ensures.text input known));
+  reader = search rules;
+  writer = search rules;
+}
+
+pub returns : goal.returns
+returns g c = record {
+  text = λ input known. grind (arith, written_sent);
+  reader = search rules;
+  writer = search rules;
+}

@@ -1,5 +1,0 @@
--- Why `text_about` keeps its contract: the goals that are left to a proof of ours.
-use Rattle.esr_script.proofs.surveying.text_about.Goals as goal
-
-pub returns-in-Ok-Some-clause-text : goal.returns-in-Ok-Some-clause-text
-returns-in-Ok-Some-clause-text g c s recorded = rw c.in-Ok-Some.field-0-is at (c.in-Ok-Some.ensures s recorded)

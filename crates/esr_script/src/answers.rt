@@ -1,0 +1,117 @@
+//! Answers the lines in the bytes ahead, whether their text is to be written or dropped. A line is looked at where it
+//! lies in the input buffer; none is copied. Who looks on sees each with its answer, and changes nothing.
+
+ghost use Rattle.esr_line.specs.declared.limits.TheConstants.{MAX_LINES, MAX_LINE_BYTES};
+ghost use Rattle.std.specs.Prelude.{◌≡◌, ◌≢◌, ℕ, List, ◌+◌, ◌++◌, ◌≤◌, ◌⊎◌, Option, Err, OnOk, IfOk, IfErr, IsErrOf, false, length};
+ghost use Rattle.std.specs.Io.KnownBytes.{IsAtEnd};
+ghost use Rattle.esr_script.specs.Replays.{IsReplay};
+ghost use Rattle.esr_line.specs.Lines.{line_len, IsNext};
+ghost use Rattle.esr_script.specs.Text.{Obeys, answer};
+ghost use Rattle.esr_script.specs.Parts.{Standing, IsHeldRun, is_read_fault, is_write_fault};
+
+use crate::fault::RunFault;
+use crate::input::Pending;
+use crate::script::Script;
+use esr_line::{MAX_LINES, Next};
+use esr_lint::Observer;
+
+/// The count of bytes of the line that is next, where it may be answered.
+fn next_length(next: Next, count: u64) -> Result<usize, RunFault>
+    requires { next ≢ Next.More }
+    ensures ok { IfOk result (λ length. (next ≡ Next.Line length) × (count ≢ MAX_LINES)) }
+    ensures many { IsErrOf result RunFault.TooManyLines → count ≡ MAX_LINES }
+    ensures long { IsErrOf result RunFault.LineTooLong → (next ≡ Next.TooLong) × (count ≢ MAX_LINES) }
+    ensures faults { IfErr result (λ e. (e ≡ RunFault.TooManyLines) ⊎ (e ≡ RunFault.LineTooLong)) }
+{
+    if count == MAX_LINES {
+        return Err(RunFault::TooManyLines);
+    }
+    match next {
+        Next::Line(length) => Ok(length),
+        Next::TooLong => Err(RunFault::LineTooLong),
+        Next::More => unreachable!(),
+    }
+}
+
+/// Answers a line that has so many before it, and lets the observer see it with its answer.
+fn answer<O: Observer>(
+    line: &[u8],
+    count: u64,
+    script: &mut Script,
+    out: &mut Vec<u8>,
+    observer: &mut O,
+) -> Result<(), RunFault>
+    requires { count ≤ MAX_LINES }
+    ensures { Obeys (answer script.old line.now) script.new out.old.items out.new.items result }
+{
+    let before = out.len();
+    if let Err(fault) = script.answer(line, out) {
+        return Err(fault);
+    }
+    observer.see_line(count + 1, line, out.get(before..).unwrap_or(&[]));
+    Ok(())
+}
+
+/// Answers the next line, and goes on after its line feed.
+pub fn answer_next<O: Observer>(
+    next: Next,
+    pending: &mut Pending,
+    count: u64,
+    script: &mut Script,
+    out: &mut Vec<u8>,
+    observer: &mut O,
+) -> Result<(), RunFault>
+    requires next { IsNext next pending.old }
+    requires there { next ≢ Next.More }
+    requires count { count ≤ MAX_LINES }
+    ensures few { OnOk result (count ≢ MAX_LINES) }
+    ensures text { OnOk result ((text : List ℕ) × (out.new.items ≡ out.old.items ++ text)
+        × ((input written : List ℕ) (left : Option (List ℕ)) → Standing input left pending.old count script.old written
+        → Standing input left pending.new (count + 1) script.new (written ++ text))) }
+    ensures held { IfErr result (λ e. (input sent : List ℕ) (left : Option (List ℕ))
+        → Standing input left pending.old count script.old (sent ++ out.old.items)
+        → IsHeldRun input left out.new.items (Err e) sent) }
+    ensures replay { IfErr result (λ e. (input written : List ℕ) (left : Option (List ℕ))
+        → Standing input left pending.old count script.old written → IsReplay input left (Err e) script.new) }
+    ensures read { is_read_fault result ≡ false }
+    ensures write { is_write_fault result ≡ false }
+{
+    let length = match next_length(next, count) {
+        Ok(length) => length,
+        Err(fault) => return Err(fault),
+    };
+    if let Err(fault) = answer(&pending.bytes()[..length], count, script, out, observer) {
+        return Err(fault);
+    }
+    pending.skip(length + 1);
+    Ok(())
+}
+
+/// Answers the line that has no line feed, where there is one.
+pub fn answer_last<O: Observer>(
+    pending: &Pending,
+    count: u64,
+    script: &mut Script,
+    out: &mut Vec<u8>,
+    observer: &mut O,
+) -> Result<(), RunFault>
+    requires short { length pending.now ≤ MAX_LINE_BYTES }
+    requires count { count ≤ MAX_LINES }
+    ensures held { (input sent : List ℕ) (left : Option (List ℕ))
+        → Standing input left pending.now count script.old (sent ++ out.old.items)
+        → IsAtEnd left → line_len pending.now ≡ length pending.now → IsHeldRun input left out.new.items result sent }
+    ensures replay { (input written : List ℕ) (left : Option (List ℕ))
+        → Standing input left pending.now count script.old written
+        → IsAtEnd left → line_len pending.now ≡ length pending.now → IsReplay input left result script.new }
+    ensures read { is_read_fault result ≡ false }
+    ensures write { is_write_fault result ≡ false }
+{
+    let line = pending.bytes();
+    if line.is_empty() {
+        return Ok(());
+    }
+    if count == MAX_LINES {
+        return Err(RunFault::TooManyLines);
+    }
+    answer(line, count, script, out, observer)
+}

@@ -1,0 +1,34 @@
+//! Goes over a script for what is wrong in it: nothing is written, and the observer sees the lines and then the
+//! transactions.
+
+ghost use Rattle.std.specs.Prelude.{◌≡◌, ⊤, ℕ, List, Some, false};
+ghost use Rattle.esr_base.specs.Watch.{inner, failed};
+ghost use Rattle.esr_script.specs.Ends.{IsReachedBy};
+ghost use Rattle.esr_script.specs.Parts.{is_read_fault};
+
+use crate::fault::RunFault;
+use crate::silent_run::replay;
+use esr_history::Watched;
+use esr_lint::Observer;
+use std::alloc::Global;
+use std::io::Read;
+
+/// Runs a script without writing its output, and lets the observer see each line, and then each transaction.
+pub fn lint<R: Read, O: Observer>(
+    alloc: Global,
+    reader: &mut Watched<R>,
+    observer: &mut O,
+) -> Result<(), RunFault>
+    requires { failed reader.old ≡ false }
+    ensures end { (input : List ℕ) → R.remaining (inner reader.old) ≡ Some input
+        → IsReachedBy (λ _. ⊤) ⊥ input (R.remaining (inner reader.new)) result }
+    ensures reader { failed reader.new ≡ is_read_fault result }
+{
+    match replay(alloc, reader, observer) {
+        Ok(script) => {
+            script.show_transactions(observer);
+            Ok(())
+        }
+        Err(fault) => Err(fault),
+    }
+}

@@ -1,0 +1,39 @@
+//! Asks a script for one of its queries: the whole script is run without its output, and the query is audited. A name
+//! that is bound to nothing stands for transaction 0, as in a script, so it is no committed query, and no rule for the
+//! spelling of an argument is needed.
+
+ghost use Rattle.std.specs.Prelude.{◌≡◌, ℕ, List, Some, false};
+ghost use Rattle.esr_base.specs.Watch.{inner, failed};
+ghost use Rattle.esr_script.specs.Ask.{IsAsked};
+ghost use Rattle.esr_script.specs.Parts.{is_read_fault, is_write_fault};
+
+use crate::fault::RunFault;
+use crate::silent_run::replay;
+use esr_history::Watched;
+use esr_lint::Observer;
+use esr_telling::Asked;
+use std::alloc::Global;
+use std::io::Read;
+
+/// Runs a script without writing its output, and tells of its query of that name.
+///
+/// # Errors
+/// `NotACommittedQuery` exactly where the run has no fault and the name is that of no committed query. `LineTooLong`,
+/// `HistoryFull` and `TooManyLines` where `run` would end so. `Write` never comes.
+pub fn ask<R: Read, O: Observer>(
+    alloc: Global,
+    reader: &mut Watched<R>,
+    name: &str,
+    observer: &mut O,
+) -> Result<Asked, RunFault>
+    requires reader { failed reader.old ≡ false }
+    ensures asked { (input : List ℕ) → R.remaining (inner reader.old) ≡ Some input
+        → IsAsked input name.now (R.remaining (inner reader.new)) result }
+    ensures reader { failed reader.new ≡ is_read_fault result }
+    ensures write { is_write_fault result ≡ false }
+{
+    match replay(alloc, reader, observer) {
+        Ok(script) => script.tell_of(name, observer),
+        Err(fault) => Err(fault),
+    }
+}

@@ -1,0 +1,78 @@
+//! Tells of a query of a script: the whole script is run without its output, and a text of the query is written,
+//! whatever the telling. After a fault other than a failed write nothing was written.
+
+ghost use Rattle.std.specs.Prelude.{◌≡◌, ℕ, List, IfOk, IfErr, Ok, true, false, Some};
+ghost use Rattle.esr_base.specs.Watch.{inner, failed};
+ghost use Rattle.esr_script.specs.Ends.{IsReachedBy, IsNoQuery, IsToldBy, is_query};
+ghost use Rattle.esr_script.specs.Parts.{is_read_fault, is_write_fault};
+ghost use Rattle.esr_script.specs.ReaderToWriter.{ReadsAndWrites};
+ghost use Rattle.esr_script.specs.Text.{final};
+
+use crate::fault::RunFault;
+use crate::output::send_all;
+use crate::query::ask;
+use esr_history::Watched;
+use esr_lint::Observer;
+use esr_telling::Telling;
+use std::alloc::{AllocError, Global};
+use std::io::{Read, Write};
+
+/// What was made, with the fault of the run where it was not.
+fn text_or_fault(text: Result<Vec<u8>, AllocError>) -> Result<Vec<u8>, RunFault>
+    ensures ok { IfOk result (λ made. text ≡ Ok made) }
+    ensures faults { IfErr result (λ e. e ≡ RunFault.NoMemory) }
+    ensures read { is_read_fault result ≡ false }
+    ensures write { is_write_fault result ≡ false }
+{
+    match text {
+        Ok(text) => Ok(text),
+        Err(_) => Err(RunFault::NoMemory),
+    }
+}
+
+/// The text of what a script tells of its query of that name.
+fn telling_text<R: Read, T: Telling, O: Observer>(
+    alloc: Global,
+    reader: &mut Watched<R>,
+    name: &str,
+    telling: &T,
+    observer: &mut O,
+) -> Result<Vec<u8>, RunFault>
+    requires reader { failed reader.old ≡ false }
+    ensures text { (input : List ℕ) → R.remaining (inner reader.old) ≡ Some input
+        → IsReachedBy (λ text. (is_query input name.now ≡ true)
+        × T.IsTextOf telling.now (final input) name.now text.items)
+        (IsNoQuery input name.now) input (R.remaining (inner reader.new)) result }
+    ensures reader { failed reader.new ≡ is_read_fault result }
+    ensures write { is_write_fault result ≡ false }
+{
+    match ask(alloc, reader, name, observer) {
+        Ok(mut asked) => text_or_fault(telling.text_of(alloc, &mut asked)),
+        Err(fault) => Err(fault),
+    }
+}
+
+/// Runs a script without writing its output, and writes the text of what it tells of its query of that name.
+///
+/// # Errors
+/// As `ask` has them; `NoMemory` also where no text is made. After a fault other than `Write` nothing was written,
+/// after `Write` a prefix of the text.
+pub fn tell<R: Read, W: Write, T: Telling, O: Observer>(
+    alloc: Global,
+    reader: &mut Watched<R>,
+    writer: &mut Watched<W>,
+    name: &str,
+    telling: &T,
+    observer: &mut O,
+) -> Result<(), RunFault>
+    requires reader { failed reader.old ≡ false }
+    requires writer { failed writer.old ≡ false }
+    ensures { ReadsAndWrites R.remaining W.contents reader.old reader.new writer.old writer.new
+        (λ input. IsToldBy (T.IsTextOf telling.now (final input) name.now) input name.now) result }
+{
+    let mut text = match telling_text(alloc, reader, name, telling, observer) {
+        Ok(text) => text,
+        Err(fault) => return Err(fault),
+    };
+    send_all(&mut text, writer)
+}

@@ -1,0 +1,50 @@
+//! Goes over a whole script without its output. A fault at the last line leaves nothing written, since the lines are
+//! made and dropped by the code that writes them in a run.
+
+ghost use Rattle.std.specs.Prelude.{◌≡◌, ℕ, List, Some, false};
+ghost use Rattle.esr_base.specs.Watch.{inner, failed};
+ghost use Rattle.esr_script.specs.Text.{final};
+ghost use Rattle.esr_script.specs.Ends.{IsReachedBy};
+ghost use Rattle.esr_script.specs.Parts.{is_read_fault, is_write_fault};
+
+use crate::fault::RunFault;
+use crate::input::Pending;
+use crate::lines::answer_lines;
+use crate::script::Script;
+use crate::sink::Dropped;
+use esr_history::Watched;
+use esr_lint::Observer;
+use std::alloc::Global;
+use std::io::Read;
+
+/// What a run keeps after all lines of the input. Their output is dropped.
+pub fn replay<R: Read, O: Observer>(
+    alloc: Global,
+    reader: &mut Watched<R>,
+    observer: &mut O,
+) -> Result<Script, RunFault>
+    requires reader { failed reader.old ≡ false }
+    ensures replay { (input : List ℕ) → R.remaining (inner reader.old) ≡ Some input
+        → IsReachedBy (λ script. final input ≡ script) ⊥ input (R.remaining (inner reader.new)) result }
+    ensures reader { failed reader.new ≡ is_read_fault result }
+    ensures write { is_write_fault result ≡ false }
+{
+    let Ok(mut pending) = Pending::new(alloc) else {
+        return Err(RunFault::NoMemory);
+    };
+    let mut script = Script::new(alloc);
+    let mut out = Vec::new(alloc);
+    let ended = answer_lines(
+        reader,
+        &mut Dropped,
+        &mut pending,
+        &mut script,
+        &mut out,
+        observer,
+    );
+    observer.see_end();
+    match ended {
+        Ok(()) => Ok(script),
+        Err(fault) => Err(fault),
+    }
+}

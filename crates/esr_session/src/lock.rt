@@ -1,0 +1,125 @@
+//! What an engine's lock holds, and one call under it.
+//!
+//! The invariant of `Locked` is the whole story of threads: the machine is one over the engine's opening values and
+//! metric, and the total of all shares is the number of its entries. A call steps the machine once and adds one receipt
+//! and one to its share, all in one hold. Answers come in the order closed, full, memory; all memory is taken before
+//! the machine steps, first the room for a receipt, then the machine's own.
+ghost use Rattle.std.specs.Prelude.{◌≡◌, ◌+◌, ◌↔◌, [], ◌∷◌, ◌++◌, length, Some, None, IfOk, OnOk, OnErr, IsErrOf, IsSomeAnd, ◌≤◌, Option, MatchOption, List};
+ghost use Rattle.esr_history.specs.Machine.{IsLegal, reply_to, extended, Schedule};
+ghost use Rattle.esr_session.specs.Receipts.{IsReceipt, receipt};
+ghost use Rattle.esr_base.specs.declared.limits.TheConstants.{MOST_ENTRIES};
+ghost use Rattle.esr_session.specs.declared.engine.TheConstants.{SEAL};
+ghost use Rattle.esr_session.specs.declared.receipt.Receipt.{Receipt};
+
+use crate::engine_name::Naming;
+use crate::receipt::Receipt;
+use esr_core::{Machine, StepError};
+use esr_history::{Event, MOST_ENTRIES, Reply};
+use esr_items::Metric;
+use std::marker::Model;
+use std::sync::ledger::{Book, Share};
+
+/// What an engine's lock holds: the machine until the engine is closed, and the total of the answered calls.
+/// Contracts see the machine's history.
+///
+/// While the engine is open the total is the length of the history and `SEAL` more, the engine's own share; after a
+/// close it is at most `MOST_ENTRIES`. So whoever has the engine's share knows that the engine is open.
+#[derive(Drop)]
+pub struct Locked<M: Metric, N: Naming> {
+    pub(crate) machine: Option<Machine<M>>,
+    pub(crate) total: Book<N>,
+}
+
+impl<M: Metric, N: Naming> Model for Locked<M, N> {
+    ghost Value = { Option Schedule };
+
+    ghost view = { λ l. l.machine };
+
+    ghost invariant = { λ l. MatchOption l.machine (l.total.total ≤ MOST_ENTRIES)
+        (λ h. (h.opening ≡ N.opening) × (h.weights ≡ N.weights) × (l.total.total ≡ length h.entries + SEAL)) };
+}
+
+/// The receipts of one session, each of which counts one in the share.
+#[derive(Drop)]
+pub struct Pocket<N: Naming> {
+    pub(crate) receipts: Vec<Receipt>,
+    pub(crate) share: Share<N>,
+}
+
+impl<N: Naming> Model for Pocket<N> {
+    ghost Value = { List Receipt };
+
+    ghost view = { λ p. p.receipts.items };
+
+    ghost invariant = { λ p. (p.share.parts ≡ 1) × (p.share.amount ≡ length p.receipts.items) };
+}
+
+/// The receipt of the entry at a place.
+fn receipt(place: usize, event: Event, reply: Reply) -> Receipt
+    ensures { result ≡ receipt place event reply }
+{
+    Receipt {
+        at: place as u64,
+        event,
+        reply,
+    }
+}
+
+/// One call under the lock: one step of the machine, whose receipt is added to the pocket.
+///
+/// # Errors
+/// `EngineClosed` exactly where the engine is closed, `HistoryFull` exactly where the history has 1,000,000 entries,
+/// `NoMemory` if an allocation failed. After an error nothing has changed.
+pub fn step_on<M: Metric, N: Naming>(
+    locked: &mut Locked<M, N>,
+    pocket: &mut Pocket<N>,
+    event: Event,
+) -> Result<Receipt, StepError>
+    ensures step { IfOk result (λ r. IsSomeAnd locked.old (λ h.
+        (r ≡ receipt (length h.entries) event (reply_to M.distance_by h event))
+        × (locked.new ≡ Some (extended h event r.reply)))) }
+    ensures receipt { IfOk result (IsReceipt M.distance_by N.opening N.weights) }
+    ensures pocket { IfOk result (λ r. pocket.new ≡ pocket.old ++ r ∷ []) }
+    ensures err { OnErr result ((locked.new ≡ locked.old) × (pocket.new ≡ pocket.old)) }
+    ensures closed { (IsErrOf result StepError.EngineClosed) ↔ (locked.old ≡ None) }
+    ensures full { (IsErrOf result StepError.HistoryFull)
+        ↔ IsSomeAnd locked.old (λ h. length h.entries ≡ MOST_ENTRIES) }
+{
+    match &mut locked.machine {
+        Some(machine) => step_in(machine, &mut locked.total, pocket, event),
+        None => Err(StepError::EngineClosed),
+    }
+}
+
+/// The same at an open engine.
+fn step_in<M: Metric, N: Naming>(
+    machine: &mut Machine<M>,
+    total: &mut Book<N>,
+    pocket: &mut Pocket<N>,
+    event: Event,
+) -> Result<Receipt, StepError>
+    ensures step { IfOk result (λ r. (r ≡ receipt (length machine.old.entries) event
+        (reply_to M.distance_by machine.old event))
+        × (machine.new ≡ extended machine.old event r.reply)) }
+    ensures total { OnOk result (total.new.total ≡ total.old.total + 1) }
+    ensures legal { OnOk result (IsLegal M.distance_by machine.new) }
+    ensures pocket { IfOk result (λ r. pocket.new ≡ pocket.old ++ r ∷ []) }
+    ensures err { OnErr result ((machine.new ≡ machine.old) × (pocket.new ≡ pocket.old)
+        × (total.new.total ≡ total.old.total)) }
+    ensures never_closed { ¬ IsErrOf result StepError.EngineClosed }
+    ensures full { (IsErrOf result StepError.HistoryFull) ↔ (length machine.old.entries ≡ MOST_ENTRIES) }
+{
+    let place = machine.log().len();
+    if place == MOST_ENTRIES {
+        return Err(StepError::HistoryFull);
+    }
+    if pocket.receipts.reserve(1).is_err() {
+        return Err(StepError::NoMemory);
+    }
+    let reply = machine.step(event)?;
+    let _legal = machine.log(); // brings the history's legality into the proof
+    let receipt = receipt(place, event, reply);
+    pocket.receipts.push_reserved(receipt);
+    total.add(&mut pocket.share, 1);
+    Ok(receipt)
+}
