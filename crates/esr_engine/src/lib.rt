@@ -15,7 +15,7 @@ mod audit;
 mod engine;
 mod for_update;
 mod opening;
-mod renewal;
+mod renewals;
 
 pub use account::{Account, Kind, Standing};
 pub use engine::{Counts, Engine, Unanswered};

@@ -5,7 +5,7 @@ ghost use Rattle.std.specs.Prelude.{◌≤◌, IfOk, length};
 ghost use Rattle.esr_base.specs.declared.limits.TheConstants.{MOST_ENTRIES};
 ghost use Rattle.esr_past.specs.Again.{IsPast};
 
-use crate::names::spelled_names;
+use crate::name_tables::spelled_names;
 use crate::spelling::script;
 use esr_history::History;
 use esr_items::Weighted;

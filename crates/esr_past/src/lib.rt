@@ -7,9 +7,9 @@
 #![tactic(auto)]
 
 mod given_names;
-mod names;
+mod name_tables;
 mod spelling;
 
 pub use given_names::named_script;
-pub use names::{item_names, transaction_names};
+pub use name_tables::{item_names, transaction_names};
 pub use spelling::script;

@@ -6,7 +6,7 @@
 #![tactic(auto)]
 
 mod answers;
-mod audits;
+mod audit_text;
 mod book;
 mod bundles;
 mod copier;
@@ -26,7 +26,7 @@ mod silent_run;
 mod sink;
 mod stage;
 
-pub use audits::audit;
+pub use audit_text::audit;
 pub use bundles::{certify, certify_steps};
 pub use copier::Copied;
 pub use esr_board::{Gate, NoGate};

@@ -5,7 +5,7 @@ use Rattle.esr_base.specs.Watch.{inner}
 use Rattle.esr_script.specs.Audit.{audit_output}
 use Rattle.esr_script.specs.Text.{ScriptState, final}
 use Rattle.esr_script.proofs.Ends.{reached_fault, reached_then}
-use Rattle.esr_script.proofs.audits.prepare.Goals as goal
+use Rattle.esr_script.proofs.audit_text.prepare.Goals as goal
 
 pub returns-in-Err-clause-ready : goal.returns-in-Err-clause-ready
 returns-in-Err-clause-ready g c input known = grind (arith, reached_fault)

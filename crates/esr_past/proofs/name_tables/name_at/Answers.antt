@@ -1,7 +1,7 @@
 -- Why `name_at` keeps its contract: the goals that are left to a proof of ours.
 use Rattle.std.proofs.Common.{[], ap, ◌∙◌, unwrap_or}
 use Rattle.std.proofs.lemmas.Option.{unwrap_or-slice_get}
-use Rattle.esr_past.proofs.names.name_at.Goals as goal
+use Rattle.esr_past.proofs.name_tables.name_at.Goals as goal
 
 pub returns-in-None : goal.returns-in-None
 returns-in-None g c =

@@ -2,7 +2,7 @@
 use Rattle.std.proofs.Common.{ℕ, nat_eq, rules}
 use Rattle.std.proofs.lemmas.Iterator.Consumers.{map_from_collect}
 use Rattle.std.proofs.lemmas.Iterator.Splits.{YieldsList-from_slice_split}
-use Rattle.esr_past.proofs.names.names_in.Goals as goal
+use Rattle.esr_past.proofs.name_tables.names_in.Goals as goal
 
 pub returns : goal.returns
 returns c =

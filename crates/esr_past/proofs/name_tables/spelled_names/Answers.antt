@@ -3,7 +3,7 @@ use Rattle.std.proofs.Common.{◌≡◌, ◌∙◌, List, ℕ, ap, arith, length
 use Rattle.std.specs.Borrow.{Bor}
 use Rattle.std.proofs.lemmas.List.{length-map}
 use Rattle.esr_past.proofs.Names.{first_long}
-use Rattle.esr_past.proofs.names.spelled_names.Goals as goal
+use Rattle.esr_past.proofs.name_tables.spelled_names.Goals as goal
 
 pub names_for_lines-requires : goal.names_for_lines-requires
 names_for_lines-requires g c =

@@ -3,7 +3,7 @@ use Rattle.std.proofs.Common.{◌≡◌, ◌+◌, ◌∙◌, ap, arith, length, 
 use Rattle.std.proofs.lemmas.List.FromFn.{length-map-range_with_len, map-range_with_len_more}
 use Rattle.esr_past.specs.Naming.{numbered, all_numbered}
 use Rattle.esr_past.proofs.Numbers.{unbound}
-use Rattle.esr_past.proofs.names.names_by_number.Goals as goal
+use Rattle.esr_past.proofs.name_tables.names_by_number.Goals as goal
 
 pub bind-requires-clause-unbound : goal.bind-requires-clause-unbound
 bind-requires-clause-unbound c =

@@ -6,7 +6,7 @@ use Rattle.esr_script.specs.Audit.{audit_output}
 use Rattle.esr_script.specs.Text.{final}
 use Rattle.std.proofs.KnownBytes.{Appends-nil}
 use Rattle.esr_script.proofs.Ends.{written_fault, written_sent}
-use Rattle.esr_script.proofs.audits.audit.Goals as goal
+use Rattle.esr_script.proofs.audit_text.audit.Goals as goal
 
 pub returns-in-Err : goal.returns-in-Err
 returns-in-Err g c = record {

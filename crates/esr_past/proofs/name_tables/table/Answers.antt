@@ -1,7 +1,7 @@
 -- Why `table` keeps its contract: the goals that are left to a proof of ours.
 use Rattle.std.proofs.Common.{sym}
 use Rattle.esr_past.proofs.Tables.{pushed, refused, repeated}
-use Rattle.esr_past.proofs.names.table.Goals as goal
+use Rattle.esr_past.proofs.name_tables.table.Goals as goal
 
 pub returns-in_default : goal.returns-in_default
 returns-in_default c = sym (refused c.args.words.now c.loop-word.word-index _ c.loop-word-test.true c.in_default.ensures)
