@@ -6,7 +6,7 @@ mod placements;
 mod plain;
 
 use Asked::{Commit, Query, Read, Strict, Update, Write};
-use audits::{machine_after, machine_playing};
+use audits::{machine_after, play_machine};
 use esr_core::{Machine, StepError};
 use esr_history::{Event, Reply, TxnId};
 use esr_items::{ItemId, Plain};
@@ -112,7 +112,7 @@ fn order_now(rt: &impl Abort, alloc: Global, m: &Machine<Plain>, q: u32) -> Orde
 
 /// The order of a query in the history of these events, all of which are accepted.
 fn order_in(rt: &impl Abort, alloc: Global, opening: &[i64], events: &[Asked], q: u32) -> Order {
-    let m = machine_playing(rt, alloc, opening, events);
+    let m = play_machine(rt, alloc, opening, events);
     order_now(rt, alloc, &m, q)
 }
 
@@ -232,7 +232,7 @@ fn strict_report(rt: HostRuntime) {
 
 /// A query, and ten updates of one item, each after the one before it.
 fn one_after_another(rt: &impl Abort, alloc: Global) -> Machine<Plain> {
-    let mut m = machine_playing(rt, alloc, &[0], &[Query(9)]);
+    let mut m = play_machine(rt, alloc, &[0], &[Query(9)]);
     for u in 2..12u32 {
         play_all(rt, &mut m, &[Update(9), Write(u, 0, 1), Commit(u)]);
     }

@@ -158,7 +158,7 @@ const OF_SEEN: [Case; 5] = [
     (Set(&[]), Some(Fault::SetNotClosed)),
 ];
 
-fn refused() -> &'static [(Asked<'static>, BundleFault)] {
+fn faulty_problems() -> &'static [(Asked<'static>, BundleFault)] {
     &REFUSED
 }
 
@@ -347,7 +347,7 @@ fn a_problem_keeps_its_parts(rt: HostRuntime) {
 /// The contract lets out of memory come in place of each fault; and that shape comes before range is a definition's.
 #[test]
 fn a_problem_keeps_its_rules(rt: HostRuntime) {
-    for (i, (asked, fault)) in refused().iter().enumerate() {
+    for (i, (asked, fault)) in faulty_problems().iter().enumerate() {
         assert!(rt; problem(rt.alloc(), *asked).err() == Some(*fault), "at {i}");
     }
     assert!(rt; BundleFault::Range.number() == 3);

@@ -29,7 +29,7 @@ fn zeros(rt: &impl Abort, alloc: Global, count: usize) -> Store {
 }
 
 /// An engine over these items, and so many sessions on it. Where memory is refused for these, it is asked for once more.
-fn opened<N: Naming, R: Abort>(
+fn open_sessions<N: Naming, R: Abort>(
     rt: &R,
     alloc: Global,
     blank: Blank,
@@ -117,7 +117,7 @@ where
     requires opening { map (λ w. w.committed) items ≡ N.opening }
     requires weights { [] ≡ N.weights }
 {
-    let (engine, sessions) = opened::<N, R>(&rt, alloc, blank, items, 4);
+    let (engine, sessions) = open_sessions::<N, R>(&rt, alloc, blank, items, 4);
     let back = run_all(rt, alloc, sessions, limit);
     close_twice(&rt, engine, back)
 }
@@ -237,7 +237,7 @@ where
     requires opening { map (λ w. w.committed) items ≡ N.opening }
     requires weights { [] ≡ N.weights }
 {
-    let (engine, mut sessions) = opened::<N, R>(&rt, alloc, blank, items, 2);
+    let (engine, mut sessions) = open_sessions::<N, R>(&rt, alloc, blank, items, 2);
     let (first, mut second) = last_two(&rt, &mut sessions);
     let first = write_apart(rt, first);
     read_five(&rt, &mut second);
@@ -294,7 +294,7 @@ fn call<N: Naming, R: Wait>(
 /// The second transaction reads item 0, as the fifth entry.
 fn read_five<N: Naming, R: Wait + Abort>(rt: &R, session: &mut Session<Plain, N>) {
     let _begun = call(rt, session, Event::BeginUpdate { limit: 0 });
-    let Some(read) = call(rt, session, reading(2)) else {
+    let Some(read) = call(rt, session, read_event(2)) else {
         panic!(rt; "a read")
     };
     let _committed = call(rt, session, Event::Commit { txn: TxnId(2) });
@@ -318,19 +318,19 @@ fn check_list_given_twice(rt: &impl Abort, alloc: Global, closed: Closed<Plain>)
 fn write_five<N: Naming, R: Wait>(rt: &R, session: Session<Plain, N>) -> Session<Plain, N> {
     let mut session = session;
     let _begun = call(rt, &mut session, Event::BeginUpdate { limit: 0 });
-    let _wrote = call(rt, &mut session, writing(1));
+    let _wrote = call(rt, &mut session, write_event(1));
     let _committed = call(rt, &mut session, Event::Commit { txn: TxnId(1) });
     session
 }
 
-fn reading(txn: u32) -> Event {
+fn read_event(txn: u32) -> Event {
     Event::Read {
         txn: TxnId(txn),
         item: ItemId(0),
     }
 }
 
-fn writing(txn: u32) -> Event {
+fn write_event(txn: u32) -> Event {
     Event::Write {
         txn: TxnId(txn),
         item: ItemId(0),
@@ -357,7 +357,7 @@ where
     requires opening { map (λ w. w.committed) items ≡ N.opening }
     requires weights { [] ≡ N.weights }
 {
-    let (engine, mut sessions) = opened::<N, R>(&rt, alloc, blank, items, 3);
+    let (engine, mut sessions) = open_sessions::<N, R>(&rt, alloc, blank, items, 3);
     let Some(mut idle) = sessions.pop() else {
         panic!(rt; "three sessions")
     };
@@ -377,9 +377,9 @@ fn block_on_a_write<N: Naming, R: Wait + Abort>(
     second: &mut Session<Plain, N>,
 ) {
     let _begun = call(rt, first, Event::BeginUpdate { limit: 0 });
-    let _wrote = call(rt, first, writing(1));
+    let _wrote = call(rt, first, write_event(1));
     let _begun = call(rt, second, Event::BeginUpdate { limit: 0 });
-    let Some(blocked) = call_in_three_turns(rt, second, reading(2)) else {
+    let Some(blocked) = call_in_three_turns(rt, second, read_event(2)) else {
         panic!(rt; "a reply")
     };
     assert!(rt; blocked.reply == Reply::Refused(Refusal::BlockedByLock(TxnId(1))));
@@ -423,7 +423,7 @@ where
     requires opening { map (λ w. w.committed) items ≡ N.opening }
     requires weights { [] ≡ N.weights }
 {
-    let (engine, mut sessions) = opened::<N, R>(&rt, alloc, blank, items, 2);
+    let (engine, mut sessions) = open_sessions::<N, R>(&rt, alloc, blank, items, 2);
     for session in &mut sessions {
         write_once_more(&rt, session);
     }
@@ -438,7 +438,7 @@ fn write_once_more<N: Naming, R: Wait + Abort>(rt: &R, session: &mut Session<Pla
     let Reply::Begun(txn) = begun else {
         panic!(rt; "no update begun")
     };
-    let wrote = insist(rt, session, writing(txn.0));
+    let wrote = insist(rt, session, write_event(txn.0));
     assert!(rt; wrote == Reply::Wrote);
     let committed = insist(rt, session, Event::Commit { txn });
     assert!(rt; committed == Reply::Committed);

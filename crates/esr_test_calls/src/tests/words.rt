@@ -170,13 +170,13 @@ fn tasks() -> &'static [(Words, Task<'static>)] {
 }
 
 /// The job that the words ask for, or why there is none.
-fn asked(alloc: Global, words: Words) -> Result<Job<'static>, Error> {
+fn job_of(alloc: Global, words: Words) -> Result<Job<'static>, Error> {
     command(alloc, words)
 }
 
 /// The work that the words ask for.
 fn task_of(alloc: Global, words: Words) -> Option<Task<'static>> {
-    match asked(alloc, words) {
+    match job_of(alloc, words) {
         Ok(job) => Some(job.task),
         Err(_) => None,
     }
@@ -217,7 +217,7 @@ fn files() -> &'static [(Words, Option<&'static str>, bool)] {
 
 /// Whether the words name this file, and ask so for `--bail`.
 fn names_file(alloc: Global, words: Words, file: Option<&str>, bail: bool) -> bool {
-    match asked(alloc, words) {
+    match job_of(alloc, words) {
         Ok(job) => job.file == file && job.bail == bail,
         Err(_) => false,
     }
@@ -279,7 +279,7 @@ fn ways() -> &'static [(Words, Progress, Option<Format>)] {
 
 /// Whether the words ask for this.
 fn asks_so(alloc: Global, words: Words, progress: Progress, format: Option<Format>) -> bool {
-    match asked(alloc, words) {
+    match job_of(alloc, words) {
         Ok(job) => job.progress == progress && job.format == format,
         Err(_) => false,
     }
@@ -359,7 +359,7 @@ static OTHERS: [(Words, ErrorKind, i32); 18] = [
 
 /// Compares what is said of words with this, and the exit status.
 fn check_words(rt: &impl Abort, alloc: Global, words: Words, kind: ErrorKind, status: i32) {
-    let Err(error) = asked(alloc, words) else {
+    let Err(error) = job_of(alloc, words) else {
         panic!(rt; "{:?} asks for no job", words)
     };
     assert!(rt;
@@ -383,7 +383,7 @@ fn other_words_are_mistakes_or_ask_for_help(rt: HostRuntime) {
 
 /// Whether the help that these words ask for teaches the lines of a script.
 fn teaches_lines(alloc: Global, words: Words) -> bool {
-    let Err(error) = asked(alloc, words) else {
+    let Err(error) = job_of(alloc, words) else {
         return false;
     };
     match error.to_string(alloc) {

@@ -41,7 +41,7 @@ pub(super) fn machine_after(
 }
 
 /// A machine that played these events, all of which it accepts.
-pub(super) fn machine_playing(
+pub(super) fn play_machine(
     rt: &impl Abort,
     alloc: Global,
     opening: &[i64],
@@ -131,7 +131,7 @@ fn book_now(rt: &impl Abort, alloc: Global, m: &Machine<Plain>) -> Book {
 
 /// The audit of the whole history of these events, all of which are accepted.
 fn book_in(rt: &impl Abort, alloc: Global, opening: &[i64], events: &[Asked]) -> Book {
-    let m = machine_playing(rt, alloc, opening, events);
+    let m = play_machine(rt, alloc, opening, events);
     book_now(rt, alloc, &m)
 }
 
@@ -321,7 +321,7 @@ const LIMIT: u64 = 2_000_000_000_000;
 fn values_at_the_edge(rt: HostRuntime) {
     let alloc = rt.alloc();
     let events = [Query(LIMIT), Update(LIMIT), Read(1, 0)];
-    let mut m = machine_playing(&rt, alloc, &[-EDGE], &events);
+    let mut m = play_machine(&rt, alloc, &[-EDGE], &events);
     play_the_edge(&rt, &mut m);
     check_the_edge(&rt, alloc, &m);
 }

@@ -495,7 +495,11 @@ fn operations_in(
 }
 
 /// The operations of the update at a position.
-fn own(alloc: Global, operations: &[Operation], i: usize) -> Result<Vec<Operation>, AllocError> {
+fn own_operations(
+    alloc: Global,
+    operations: &[Operation],
+    i: usize,
+) -> Result<Vec<Operation>, AllocError> {
     let mut own = Vec::new(alloc);
     for o in operations {
         if o.position == i {
@@ -563,7 +567,7 @@ fn are_all_marked(operations: &[Operation], own: &[Operation], marks: &[bool]) -
 /// it.
 fn row_agrees(alloc: Global, order: &Order, operations: &[Operation], i: usize) -> Option<bool> {
     let marks = reach_of(alloc, order, i).ok()?;
-    let own = own(alloc, operations, i).ok()?;
+    let own = own_operations(alloc, operations, i).ok()?;
     Some(are_all_marked(operations, &own, &marks))
 }
 
@@ -579,7 +583,7 @@ fn rows_agree(alloc: Global, order: &Order, operations: &[Operation]) -> Option<
 /// Whether the updates of each pair of an order are two that conflict.
 fn pairs_conflict(alloc: Global, order: &Order, operations: &[Operation]) -> Option<bool> {
     for (i, j) in order.before() {
-        let own = own(alloc, operations, *i as usize).ok()?;
+        let own = own_operations(alloc, operations, *i as usize).ok()?;
         if i == j || !conflict(operations, &own, *j as usize) {
             return Some(false);
         }
