@@ -1,5 +1,5 @@
 -- Whether a transaction is active, by the place of its end; and that there is always room for the end of one that is.
-use Rattle.std.proofs.Common.{◌≡◌, ◌≤◌, ◌+◌, ◌-◌, ℕ, List, [], ◌∷◌, ◌++◌, length-append, Bool, true, false, not, ◌&&◌, ◌||◌, ◌==◌, refl, sym, ◌∙◌, ap, arith, Option, None, Some, is_some, is_none, map, filter, if◌then◌else◌, nat_le}
+use Rattle.std.proofs.Common.{◌≡◌, ◌≤◌, ◌+◌, ◌-◌, ℕ, List, [], ◌∷◌, ◌++◌, length-append, Bool, true, false, not, ◌&&◌, ◌||◌, ◌==◌, refl, sym, subst, ◌∙◌, ap, arith, Option, None, Some, is_some, is_none, map, filter, if◌then◌else◌, nat_le}
 use Rattle.std.specs.List.{last_or, list_any, filter_map}
 use Rattle.std.proofs.lemmas.List.{take-append-le}
 use Rattle.esr_order.specs.Index.{Indexed, IsIndexOf}
