@@ -49,7 +49,11 @@ impl Index {
     pub fn of<M: Metric>(alloc: Global, history: &History<M>) -> Result<Index, AllocError>
         ensures { IfOk result (IsWholeIndexOf history.now.schedule.entries) }
     {
-        let mut index = Index::new(alloc);
+        let mut index = Index {
+            read: 0,
+            commits: Vec::new(alloc),
+            rows: AccessRows::with_room(alloc, history.log().len())?,
+        };
         index.extend(history)?;
         Ok(index)
     }

@@ -45,7 +45,7 @@ impl Model for AccessRows {
 }
 
 impl AccessRows {
-    ghost use Rattle.std.specs.Prelude.{◌≡◌, ◌⊎◌, ◌<◌, [], ℕ, All, IsTrue, OnOk, length, map};
+    ghost use Rattle.std.specs.Prelude.{◌≡◌, ◌⊎◌, ◌<◌, [], ℕ, All, IsTrue, IfOk, OnOk, length, map};
     ghost use Rattle.esr_history.specs.Events.{is_committed};
     ghost use Rattle.esr_history.specs.Machine.{done};
     ghost use Rattle.esr_order.specs.Scans.{accesses_in};
@@ -59,6 +59,17 @@ impl AccessRows {
             spans: Vec::new(alloc),
             accesses: Vec::new(alloc),
         }
+    }
+
+    /// No rows, with room for so many accesses: a list that grows leaves each smaller list that it had been behind in
+    /// the heap.
+    pub fn with_room(alloc: Global, accesses: usize) -> Result<AccessRows, AllocError>
+        ensures { IfOk result (λ rows. rows ≡ []) }
+    {
+        Ok(AccessRows {
+            spans: Vec::new(alloc),
+            accesses: Vec::with_capacity(alloc, accesses)?,
+        })
     }
 
     /// The row of a transaction, empty where there is none.
