@@ -15,6 +15,7 @@ ghost use Rattle.esr_cert.specs.Certificate.{Certifies};
 ghost use Rattle.esr_cert.specs.Problem.{in_set, IsSmallestLeast};
 ghost use Rattle.esr_cert.specs.Views.{certificate_of};
 ghost use Rattle.esr_order.specs.Orders.{IsOrderAmong};
+ghost use Rattle.esr_order.specs.Index.{IsWholeIndexOf};
 ghost use Rattle.esr_order.specs.Near.{AreNear};
 ghost use Rattle.esr_audit.specs.Findings.{IsAnswer, IsCounted, IsFinding, IsFindingOf, IsBook};
 
@@ -25,7 +26,7 @@ use esr_cert::{Certificate, Problem};
 use esr_flow::{Network, find_certificate, solve};
 use esr_history::{History, NoMemory, TxnId};
 use esr_items::Metric;
-use esr_order::Order;
+use esr_order::{Index, Order};
 use std::alloc::{AllocError, Global};
 
 /// The update at a position.
@@ -140,6 +141,28 @@ pub fn audit_query_in<M: Metric>(
     ensures workers { ¬ IsErrOf result AuditError.WorkersOutOfRange }
 {
     let order = Order::near_in(alloc, history, committed, q)?;
+    Ok(find(alloc, history, order, q)?)
+}
+
+/// The same for a caller who keeps an index of the history, which has read it whole: then what updates did is not listed
+/// anew for each query.
+///
+/// # Errors
+/// Those of `audit_query`.
+pub fn audit_query_by_index<M: Metric>(
+    alloc: Global,
+    history: &History<M>,
+    index: &Index,
+    q: TxnId,
+) -> Result<Finding, AuditError>
+    requires { IsWholeIndexOf history.now.schedule.entries index.now }
+    ensures query { IfOk result (λ f. f.query ≡ q) }
+    ensures finding { IfOk result (IsFindingOf M.distance_by history.now.schedule q.0) }
+    ensures refused { IsErrOf result AuditError.NotACommittedQuery
+        ↔ (is_committed_query history.now.schedule q.0 ≡ false) }
+    ensures workers { ¬ IsErrOf result AuditError.WorkersOutOfRange }
+{
+    let order = Order::near_by_index(alloc, history, index, q)?;
     Ok(find(alloc, history, order, q)?)
 }
 

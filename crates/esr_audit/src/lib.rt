@@ -13,7 +13,9 @@ mod problem;
 mod reads;
 mod stretches;
 
-pub use audit::{audit_history, audit_query, audit_query_in, certify_with_steps};
+pub use audit::{
+    audit_history, audit_query, audit_query_by_index, audit_query_in, certify_with_steps,
+};
 pub use commits::{CommitLists, commit_lists};
 pub use finding::{AuditError, Book, Finding, Summaries, Summary};
 pub use stretches::{Stretch, TxnList};

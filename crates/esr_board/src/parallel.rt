@@ -4,7 +4,7 @@
 //! finding itself for a book, or its summary, a line of it. All functions up to `pages_by` are about any such `T`, and
 //! what they promise is said by the relation of the conversion, `from_gives`.
 //!
-//! The history is shared by reference, and nothing else but the word of the board. Each finding is put at the place of
+//! The history and an index of it are shared by reference, and nothing else but the word of the board. Each finding is put at the place of
 //! its job, so the book is in the order of the jobs. The workers are joined and give all seats back, so the board
 //! always closes: `unreachable!()` says so, and is proved, in place of a second audit that never runs.
 
@@ -12,12 +12,12 @@ ghost use Rattle.std.specs.Prelude.{◌≡◌, ℕ, ◌<◌, ◌≤◌, ◌↔�
 ghost use Rattle.std.specs.List.{AllZip};
 ghost use Rattle.esr_history.specs.declared.event.Entry.{Entry};
 ghost use Rattle.esr_history.specs.Legal.{along};
-ghost use Rattle.esr_history.specs.Machine.{IsLegal, done};
-ghost use Rattle.esr_history.specs.Operations.{commit_order};
+ghost use Rattle.esr_history.specs.Machine.{IsLegal};
 ghost use Rattle.esr_history.specs.Serial.{IsSerializable, committed_updates};
 ghost use Rattle.esr_history.specs.Totals.{IsWithinLimits};
 ghost use Rattle.esr_audit.specs.Findings.{IsAnswer, IsBook, AreSummaries, committed_queries};
 ghost use Rattle.esr_audit.specs.Stretches.{listed};
+ghost use Rattle.esr_order.specs.Index.{IsWholeIndexOf};
 ghost use Rattle.esr_board.specs.declared.board.TheConstants.{MOST_JOBS};
 ghost use Rattle.esr_board.specs.Claims.{times, count_past};
 ghost use Rattle.esr_board.specs.Boards.{IsSeatOf, drawn, all_drawn, jobs_of};
@@ -29,6 +29,7 @@ use crate::worker::{Share, Worked, take_turns};
 use esr_audit::{AuditError, Book, CommitLists, Finding, Summaries, commit_lists};
 use esr_history::{History, TxnId};
 use esr_items::Metric;
+use esr_order::Index;
 use std::alloc::{AllocError, Global};
 use std::thread;
 use std::thread::Threads;
@@ -67,13 +68,13 @@ fn shares<M: Metric + Sync, R: Threads + Sync, G: Gate + Sync, T: From<Finding> 
     rt: &R,
     alloc: Global,
     history: &History<M>,
-    committed: &[TxnId],
+    index: &Index,
     jobs: &[TxnId],
     board: &Board,
     seats: Vec<BoardSeat>,
     gate: &G,
 ) -> Result<Vec<Worked<T>>, AllocError>
-    requires list { map (λ t. t.0) committed.now ≡ commit_order (done history.now.schedule) }
+    requires index { IsWholeIndexOf history.now.schedule.entries index.now }
     requires seats { All (λ s. IsSeatOf board.now s × (drawn s ≡ [])) seats.items }
     requires jobs { (length jobs.now ≡ jobs_of board.now) × AreCommitted history.now.schedule jobs.now }
     ensures { IfOk result (λ v. (vec_len v ≡ vec_len seats)
@@ -85,9 +86,9 @@ fn shares<M: Metric + Sync, R: Threads + Sync, G: Gate + Sync, T: From<Finding> 
         &|seat: BoardSeat| -> Worked<T>
             requires { IsSeatOf board.now seat × (drawn seat ≡ []) × (length jobs.now ≡ jobs_of board.now)
                 × AreCommitted history.now.schedule jobs.now
-                × (map (λ t. t.0) committed.now ≡ commit_order (done history.now.schedule)) }
+                × IsWholeIndexOf history.now.schedule.entries index.now }
             ensures { IsWorked T.from_gives M.distance_by history.entry.now.schedule jobs.entry.now board.entry.now result }
-        { take_turns(alloc, history, committed, jobs, board, seat, gate) },
+        { take_turns(alloc, history, index, jobs, board, seat, gate) },
     )
 }
 
@@ -177,12 +178,12 @@ fn kept_by<M: Metric + Sync, R: Threads + Sync, G: Gate + Sync, T: From<Finding>
     rt: &R,
     alloc: Global,
     history: &History<M>,
-    committed: &[TxnId],
+    index: &Index,
     jobs: &[TxnId],
     workers: u64,
     gate: &G,
 ) -> Result<Vec<T>, AuditError>
-    requires list { map (λ t. t.0) committed.now ≡ commit_order (done history.now.schedule) }
+    requires index { IsWholeIndexOf history.now.schedule.entries index.now }
     requires jobs { (length jobs.now ≤ MOST_JOBS) × AreCommitted history.now.schedule jobs.now }
     requires workers { (1 ≤ workers) × (workers ≤ MOST_SEATS) }
     ensures kept { IfOk result (λ v. AllZip (IsKeptOf T.from_gives M.distance_by history.now.schedule)
@@ -196,7 +197,7 @@ fn kept_by<M: Metric + Sync, R: Threads + Sync, G: Gate + Sync, T: From<Finding>
         Err(BoardError::TooManyJobs) => unreachable!(),
         Err(BoardError::SeatsOutOfRange) => unreachable!(),
     };
-    let Ok(all) = shares(rt, alloc, history, committed, jobs, &board, seats, gate) else {
+    let Ok(all) = shares(rt, alloc, history, index, jobs, &board, seats, gate) else {
         return Err(AuditError::NoMemory);
     };
     let KeptAndSeats { slots, seats } = match gather(alloc, history, jobs, &board, all) {
@@ -235,7 +236,7 @@ fn pages_by<M: Metric + Sync, R: Threads + Sync, G: Gate + Sync, T: From<Finding
     }
     let Ok(
         CommitLists {
-            all,
+            all: _,
             updates,
             queries,
         },
@@ -243,7 +244,10 @@ fn pages_by<M: Metric + Sync, R: Threads + Sync, G: Gate + Sync, T: From<Finding
     else {
         return Err(AuditError::NoMemory);
     };
-    match kept_by(rt, alloc, history, &all, &queries, workers, gate) {
+    let Ok(index) = Index::of(alloc, history) else {
+        return Err(AuditError::NoMemory);
+    };
+    match kept_by(rt, alloc, history, &index, &queries, workers, gate) {
         Ok(kept) => Ok(Pages {
             order: updates,
             kept,

@@ -1,8 +1,9 @@
 -- Whether a transaction is active, by the place of its end; and that there is always room for the end of one that is.
-use Rattle.std.proofs.Common.{◌≡◌, ◌≤◌, ◌+◌, ◌-◌, ℕ, List, [], ◌∷◌, ◌++◌, length-append, Bool, true, false, not, ◌&&◌, ◌||◌, ◌==◌, refl, sym, ◌∙◌, ap, arith, Option, None, Some, is_some, is_none, map, filter, if◌then◌else◌, nat_le}
+use Rattle.std.proofs.Common.{◌≡◌, ◌≤◌, ◌+◌, ◌-◌, ℕ, List, [], ◌∷◌, ◌++◌, length-append, Bool, true, false, not, ◌&&◌, ◌||◌, ◌==◌, refl, sym, subst, ◌∙◌, ap, arith, Option, None, Some, is_some, is_none, map, filter, if◌then◌else◌, nat_le}
 use Rattle.std.specs.List.{last_or, list_any, filter_map}
 use Rattle.std.proofs.lemmas.List.{take-append-le}
 use Rattle.esr_order.specs.Index.{Indexed, IsIndexOf}
+use Rattle.esr_order.specs.AccessRows.{AreRowsOf}
 use Rattle.esr_order.specs.Scans.{commit_in}
 use Rattle.std.proofs.lemmas.Bool.{false≢true}
 use Rattle.esr_history.specs.declared.back_links.Facts.{Facts}
@@ -115,4 +116,5 @@ pub index_later : (es more : List Entry) (i : Indexed) → IsIndexOf es i → Is
 index_later es more i is = record {
   few = omega (arith, length-append es more, is.few);
   commits = is.commits ∙ ap (filter_map commit_in) (sym (take-append-le i.read es more is.few));
+  rows = subst (λ first. AreRowsOf first i.rows) (sym (take-append-le i.read es more is.few)) is.rows;
 }

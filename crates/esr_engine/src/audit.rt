@@ -1,4 +1,4 @@
-//! Audits by an index that lives with the engine: who committed is read once, and extended by what is new, so that an
+//! Audits by an index that lives with the engine: who committed and what updates did is read once, and extended by what is new, so that an
 //! audit of a long history costs what is near its query.
 
 ghost use Rattle.std.specs.Prelude.{◌≡◌, ◌↔◌, false, IfOk, IsErrOf};
@@ -7,7 +7,7 @@ ghost use Rattle.esr_history.specs.Queries.{is_committed_query};
 ghost use Rattle.esr_audit.specs.Findings.{IsFindingOf};
 
 use crate::engine::Engine;
-use esr_audit::{AuditError, Finding, audit_query, audit_query_in};
+use esr_audit::{AuditError, Finding, audit_query, audit_query_by_index};
 use esr_history::TxnId;
 use std::alloc::Global;
 
@@ -17,7 +17,6 @@ impl Engine {
     /// # Errors
     /// `NotACommittedQuery` exactly where the transaction is no query or has not committed, `NoMemory` if an allocation
     /// failed.
-    #[tactic(auto, using(esr_order::proofs::Indexes::index_whole))]
     pub fn audit(&mut self, alloc: Global, q: TxnId) -> Result<Finding, AuditError>
         ensures same { self.new ≡ self.old }
         ensures query { IfOk result (λ f. f.query ≡ q) }
@@ -28,6 +27,6 @@ impl Engine {
         if self.index.extend(self.machine.history()).is_err() {
             return audit_query(alloc, self.machine.history(), q); // the index may wait, a refusal may not
         }
-        audit_query_in(alloc, self.machine.history(), self.index.commits(), q)
+        audit_query_by_index(alloc, self.machine.history(), &self.index, q)
     }
 }

@@ -99,7 +99,7 @@ in_numbers : (ts : List TxnId) (n : ℕ) → In n (map (λ (t : TxnId). t.0) ts)
 in_numbers [] n i = absurd i
 in_numbers (t ∷ ts) n i = ⊎_elim (λ e. (t, inl refl, e)) (λ j. let r = in_numbers ts n j in (r.0, inr r.1, r.2)) i
 
-numbers_in : (ts : List TxnId) (t : TxnId) → In t ts → In t.0 (map (λ (t : TxnId). t.0) ts)
+pub numbers_in : (ts : List TxnId) (t : TxnId) → In t ts → In t.0 (map (λ (t : TxnId). t.0) ts)
 numbers_in [] t i = absurd i
 numbers_in (u ∷ ts) t i = ⊎_elim (λ e. inl (ap (λ (t : TxnId). t.0) e)) (λ j. inr (numbers_in ts t j)) i
 

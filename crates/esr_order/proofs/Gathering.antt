@@ -45,7 +45,7 @@ Pairs-reverse R (x ∷ xs) p =
 -- ---- one more step of an item
 
 abbrev pub no_access : Access
-no_access = record { txn = record { 0 = 0 }; item = record { 0 = 0 }; writes = false; value = pos 0 }
+no_access = record { item = record { 0 = 0 }; writes = false; value = pos 0 }
 
 abbrev pub no_txn : TxnId
 no_txn = record { 0 = 0 }

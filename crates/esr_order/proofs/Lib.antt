@@ -15,6 +15,8 @@ pub mod Accessed
 pub mod Sparse
 pub mod Spans
 pub mod Commits
+pub mod Settled
+pub mod Rowed
 pub mod Indexes
 pub mod Amid
 pub mod NearLaws

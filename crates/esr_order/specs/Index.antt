@@ -2,14 +2,21 @@
 use Rattle.std.specs.Prelude.{◌≡◌, ◌≤◌, ℕ, List, length, take, filter_map}
 use Rattle.esr_base.specs.declared.numbers.TxnId.{TxnId}
 use Rattle.esr_history.specs.declared.event.Entry.{Entry}
-use Rattle.esr_order.specs.Scans.{commit_in}
+use Rattle.esr_order.specs.Scans.{Access, commit_in}
+use Rattle.esr_order.specs.AccessRows.{AreRowsOf}
 
--- how many entries were read, and who committed in them
+-- how many entries were read, who committed in them, and what updates among these did
 pub record Indexed : Type 0 where
   pub read : ℕ
   pub commits : List TxnId
+  pub rows : List (List Access)
 
 -- they are the first of these entries
 pub record IsIndexOf (entries : List Entry) (i : Indexed) : Type 0 where
   pub few : i.read ≤ length entries
   pub commits : i.commits ≡ filter_map commit_in (take i.read entries)
+  pub rows : AreRowsOf (take i.read entries) i.rows
+
+-- and all of these entries
+abbrev pub IsWholeIndexOf : List Entry → Indexed → Type 0
+IsWholeIndexOf entries i = IsIndexOf entries i × (i.read ≡ length entries)

@@ -64,7 +64,7 @@ is_strict_begin (Some e) = begins_strictly e.event
 
 -- what was done in an entry, if that is an accepted read or write
 abbrev pub access_of : Operation → Access
-access_of o = record { txn = record { 0 = o.txn }; item = record { 0 = o.item }; writes = o.writes; value = o.value }
+access_of o = record { item = record { 0 = o.item }; writes = o.writes; value = o.value }
 
 abbrev pub access_in : Entry → Option Access
 access_in e = if_accepted (λ n. option_map access_of (operation_of n)) e

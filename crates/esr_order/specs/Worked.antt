@@ -1,10 +1,12 @@
--- Worked examples: distances of placements, and chains of versions.
-use Rattle.std.specs.Prelude.{◌≡◌, pos, [], ◌∷◌, true, Some, None, refl, map}
+-- Worked examples: distances of placements, chains of versions, and the row of an update.
+use Rattle.std.specs.Prelude.{◌≡◌, ℕ, ℤ, pos, [], ◌∷◌, true, false, Some, None, refl, map, take}
+use Rattle.esr_history.specs.Events.{accepted, is_committed}
 use Rattle.esr_history.specs.Worked.{plain}
 use Rattle.esr_history.specs.WorkedOrder.{order_through_a_third_item, two_updates_over_a_report, strict_report}
 use Rattle.esr_order.specs.Placements.{placement_distance}
 use Rattle.esr_order.specs.Chains.{chain_of}
 use Rattle.esr_order.specs.Least.{least_set, least_cost}
+use Rattle.esr_order.specs.Scans.{Access, accesses_in}
 
 -- before both updates, between them, and after both
 third_item_placed : map (placement_distance plain order_through_a_third_item 1 (2 ∷ 3 ∷ [])) (0 ∷ 1 ∷ 2 ∷ [])
@@ -42,3 +44,16 @@ two_updates_cost = refl
 -- a strict query has the update that it must have seen
 strict_least : least_set plain (strict_report true) 2 ≡ 1 ∷ []
 strict_least = refl
+
+-- What an update has written while it runs, when it has committed, and in the whole history: once it has committed, which
+-- is when it gets a row, nothing is added.
+abbrev wrote : ℕ → ℤ → Access
+wrote x v = record { item = record { 0 = x }; writes = true; value = v }
+
+third_item_row : map (λ n. accesses_in (take n order_through_a_third_item.entries) 2) (5 ∷ 7 ∷ 12 ∷ [])
+    ≡ (wrote 0 (pos 6) ∷ []) ∷ (wrote 0 (pos 6) ∷ wrote 2 (pos 1) ∷ []) ∷ (wrote 0 (pos 6) ∷ wrote 2 (pos 1) ∷ []) ∷ []
+third_item_row = refl
+
+third_item_over : map (λ n. is_committed (accepted (take n order_through_a_third_item.entries)) 2) (5 ∷ 7 ∷ 12 ∷ [])
+    ≡ false ∷ true ∷ true ∷ []
+third_item_over = refl

@@ -10,14 +10,10 @@ use std::alloc::{AllocError, Global};
 
 /// An accepted read or write of an item. The value is the one that was read, or the one that was
 /// written.
-///
-/// The numbers of the item and of the transaction do not lie side by side, as they do in an event: they were copied
-/// together then, in one load of what two stores had just written, and to wait for these took half of a walk.
 #[derive(Clone, Copy)]
 pub struct Access {
     pub item: ItemId,
     pub value: i64,
-    pub txn: TxnId,
     pub writes: bool,
 }
 
@@ -39,14 +35,16 @@ pub fn access_in(entry: Entry) -> Option<Access>
         return None;
     }
     match entry.event {
-        Event::Read { txn, item } => Some(Access {
-            txn,
+        Event::Read { txn: _, item } => Some(Access {
             item,
             writes: false,
             value: answer_of(entry.reply),
         }),
-        Event::Write { txn, item, value } => Some(Access {
-            txn,
+        Event::Write {
+            txn: _,
+            item,
+            value,
+        } => Some(Access {
             item,
             writes: true,
             value,

@@ -1,20 +1,25 @@
-//! Who committed in a history, kept while it grows.
+//! Who committed in a history, and what the updates among them did, kept while it grows.
 //!
-//! An audit needs the transactions that committed, in the order of their commits. To list them anew is to look at how each
-//! transaction ended, and to put the ends in order. So who audits one query after another keeps an index, which reads
+//! An audit needs the transactions that committed, in the order of their commits, and what the updates among them read and
+//! wrote. To list the first anew is to look at how each transaction ended, and to put the ends in order; to list the
+//! second is a walk along the links of each. So who audits one query after another keeps an index, which reads
 //! each entry of the log once, lends it to each audit, and extends it by the entries that are new. It does not hold the
-//! history: that it is the index of the entries that it has read is a relation (`IsIndexOf`), which longer logs keep.
+//! history: that it is the index of the entries that it has read is a relation (`IsIndexOf`), which longer logs keep,
+//! since nothing of it depends on what is done later.
+use crate::rows::AccessRows;
 use crate::scan::push_committer;
 use esr_history::{History, TxnId};
 use esr_items::Metric;
 use std::alloc::{AllocError, Global};
 use std::marker::Model;
 
-/// The transactions that committed in the entries that were read, in the order of their commits.
+/// The transactions that committed in the entries that were read, in the order of their commits, and what the updates
+/// among them did.
 #[derive(Drop)]
 pub struct Index {
     read: usize,
     commits: Vec<TxnId>,
+    rows: AccessRows,
 }
 
 impl Model for Index {
@@ -22,21 +27,35 @@ impl Model for Index {
 
     ghost Value = { Indexed };
 
-    ghost view = { λ i. record { read = i.read; commits = i.commits.items } };
+    ghost view = { λ i. record { read = i.read; commits = i.commits.items; rows = i.rows } };
 }
 
 impl Index {
-    ghost use Rattle.std.specs.Prelude.{◌≡◌, [], OnOk, length};
-    ghost use Rattle.esr_order.specs.Index.{IsIndexOf};
+    ghost use Rattle.std.specs.Prelude.{◌≡◌, [], IfOk, OnOk, length};
+    ghost use Rattle.esr_order.specs.Index.{IsIndexOf, IsWholeIndexOf};
 
     /// The index of no entries.
     pub fn new(alloc: Global) -> Index
-        ensures { result ≡ record { read = 0; commits = [] } }
+        ensures { result ≡ record { read = 0; commits = []; rows = [] } }
     {
         Index {
             read: 0,
             commits: Vec::new(alloc),
+            rows: AccessRows::new(alloc),
         }
+    }
+
+    /// The index of a history.
+    pub fn of<M: Metric>(alloc: Global, history: &History<M>) -> Result<Index, AllocError>
+        ensures { IfOk result (IsWholeIndexOf history.now.schedule.entries) }
+    {
+        let mut index = Index {
+            read: 0,
+            commits: Vec::new(alloc),
+            rows: AccessRows::with_room(alloc, history.log().len())?,
+        };
+        index.extend(history)?;
+        Ok(index)
     }
 
     /// Reads the entries that are new. An error leaves it the index of the entries that it has read.
@@ -47,6 +66,7 @@ impl Index {
     {
         let log = history.log();
         let count = log.len();
+        let first = self.commits.len();
         'entries: while self.read < count {
             let Some(entry) = log.get(self.read) else {
                 unreachable!()
@@ -54,7 +74,7 @@ impl Index {
             push_committer(&mut self.commits, entry)?;
             self.read += 1;
         }
-        Ok(())
+        self.rows.extend(history, &self.commits[first..])
     }
 
     /// The transactions that committed.
@@ -62,5 +82,12 @@ impl Index {
         ensures { result.now ≡ self.now.commits }
     {
         &self.commits
+    }
+
+    /// What committed updates did.
+    pub(crate) fn rows(&self) -> &AccessRows
+        ensures { result.now ≡ self.now.rows }
+    {
+        &self.rows
     }
 }

@@ -13,6 +13,7 @@ mod laws;
 mod links;
 mod operations;
 mod order;
+mod rows;
 mod scan;
 mod search;
 mod ties;

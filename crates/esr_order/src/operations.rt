@@ -12,15 +12,17 @@ ghost use Rattle.std.specs.Prelude.{◌≡◌, ◌<◌, ◌≤◌, ◌++◌, [],
 ghost use Rattle.std.specs.List.{range_with_len};
 ghost use Rattle.esr_base.specs.declared.limits.TheConstants.{MOST_TRANSACTIONS};
 ghost use Rattle.esr_order.specs.UpdateOperations.{UpdateOperation};
+ghost use Rattle.esr_order.specs.AccessRows.{AreRowsOf};
 ghost use Rattle.esr_order.specs.Turns.{operation_at, update_operations};
 ghost use Rattle.esr_order.specs.Listing.{IsBelow};
 ghost use Rattle.esr_order.specs.Ties.{on_item, AreTies, AreNextPaired};
 ghost use Rattle.esr_order.specs.Chains.{chain_from, last_by_update, seen_links};
 ghost use Rattle.esr_order.specs.Later.{with_operation, readers_with, ties_of, turn_ties, AreLater};
 
-use crate::accesses::{Access, list_accesses};
+use crate::accesses::Access;
 use crate::chains::{latest_writer, put_write, turn_all};
 use crate::links::Links;
+use crate::rows::AccessRows;
 use crate::ties::{put_in_order, tie_back};
 use esr_history::{History, TxnId};
 use esr_items::Metric;
@@ -118,16 +120,18 @@ pub struct PairsAndChains {
     pub chains: Vec<Links>,
 }
 
-/// Goes back over updates, along their links: adds what they did to the chains and the readers of each item, in which
+/// Goes back over updates: adds what they did to the chains and the readers of each item, in which
 /// nothing is yet, and the pairs that tie them. At the end it turns the pairs and the chains round.
 fn gather_into<M: Metric>(
     alloc: Global,
     history: &History<M>,
+    rows: &AccessRows,
     updates: &[TxnId],
     chains: &mut [Links],
     readers: &mut [Vec<u32>],
     pairs: &mut Vec<(u32, u32)>,
 ) -> Result<(), AllocError>
+    requires rows { AreRowsOf history.now.schedule.entries rows.now }
     requires few { length updates.now ≤ MOST_TRANSACTIONS }
     requires linked { length chains.old ≡ length history.now.schedule.opening }
     requires read { length readers.old ≡ length history.now.schedule.opening }
@@ -147,7 +151,7 @@ fn gather_into<M: Metric>(
     let mut accesses = Vec::new(alloc);
     let mut ties = Vec::new(alloc);
     for i in (0..updates.len()).rev() {
-        list_accesses(history, updates[i], &mut accesses)?;
+        rows.list(history, updates[i], &mut accesses)?;
         ties.clear();
         put_turn(chains, readers, &accesses, i as u32, &mut ties)?;
         put_in_order(&mut ties);
@@ -158,14 +162,16 @@ fn gather_into<M: Metric>(
     Ok(())
 }
 
-/// Gathers what is needed of updates in one pass back over them. It goes along their links. For each item there may be
+/// Gathers what is needed of updates in one pass back over them. For each item there may be
 /// a count of writers to make room for.
 pub fn gather<M: Metric>(
     alloc: Global,
     history: &History<M>,
+    rows: &AccessRows,
     updates: &[TxnId],
     writers: &[u32],
 ) -> Result<PairsAndChains, AllocError>
+    requires rows { AreRowsOf history.now.schedule.entries rows.now }
     requires few { length updates.now ≤ MOST_TRANSACTIONS }
     ensures ascending { IfOk result (λ g. AllPairs IsBelow g.pairs.items) }
     ensures tied { IfOk result (λ g. AreTies (update_operations history.now.schedule updates.now) g.pairs.items) }
@@ -183,6 +189,7 @@ pub fn gather<M: Metric>(
     gather_into(
         alloc,
         history,
+        rows,
         updates,
         &mut chains,
         &mut readers,

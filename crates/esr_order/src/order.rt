@@ -13,14 +13,18 @@ ghost use Rattle.esr_history.specs.Queries.{is_committed_query, must};
 ghost use Rattle.esr_order.specs.Chains.{seen_links, nth};
 ghost use Rattle.esr_order.specs.declared.order.OrderError.TheVariants.{NoMemory};
 ghost use Rattle.esr_order.specs.Orders.{Ordered, IsOrderOf, IsOrderAmong, chain_at, operations_of};
+ghost use Rattle.esr_order.specs.AccessRows.{AreRowsOf};
+ghost use Rattle.esr_order.specs.Index.{IsWholeIndexOf};
 ghost use Rattle.esr_order.specs.Near.{AreNear};
 ghost use Rattle.esr_order.specs.Placements.{is_among};
 ghost use Rattle.esr_history.specs.Serial.{is_before};
 ghost use Rattle.esr_history.specs.Machine.{done};
 ghost use Rattle.esr_history.specs.Operations.{commit_order, operations};
 
+use crate::index::Index;
 use crate::links::Links;
 use crate::operations::gather;
+use crate::rows::AccessRows;
 use crate::scan::{committed, count_must, is_committed_query, updates_before};
 use crate::search::near_of;
 use esr_history::{History, TxnId};
@@ -84,10 +88,12 @@ fn first_positions(alloc: Global, n: usize) -> Result<Vec<u32>, AllocError>
 fn among<M: Metric>(
     alloc: Global,
     history: &History<M>,
+    rows: &AccessRows,
     commits: Vec<TxnId>,
     first: usize,
     writers: &[u32],
 ) -> Result<Order, AllocError>
+    requires rows { AreRowsOf history.now.schedule.entries rows.now }
     requires once { AllPairs (λ t u. t ≢ u) (map (λ t. t.0) commits.items) }
     requires few { length commits.items ≤ MOST_TRANSACTIONS }
     requires keeps { AllPairs (λ u v. is_before history.now.schedule v u ≡ false) (map (λ t. t.0) commits.items) }
@@ -99,7 +105,7 @@ fn among<M: Metric>(
         (filter (λ p. is_among (map (λ t. t.0) commits.items) p.txn) (operations history.now.schedule))) }
 {
     let _legal = history.log(); // brings the invariant into the proof
-    let gathered = gather(alloc, history, &commits, writers)?;
+    let gathered = gather(alloc, history, rows, &commits, writers)?;
     let must = first_positions(alloc, first)?;
     Ok(Order {
         commits,
@@ -107,6 +113,32 @@ fn among<M: Metric>(
         must,
         chains: gathered.chains,
     })
+}
+
+/// The order among the near updates of a query, beside the list of all that committed and rows of what they did.
+fn near_with<M: Metric>(
+    alloc: Global,
+    history: &History<M>,
+    committed: &[TxnId],
+    rows: &AccessRows,
+    q: TxnId,
+) -> Result<Order, OrderError>
+    requires list { map (λ t. t.0) committed.now ≡ commit_order (done history.now.schedule) }
+    requires rows { AreRowsOf history.now.schedule.entries rows.now }
+    ensures near { IfOk result (λ o. AreNear history.now.schedule q.0 (map (λ t. t.0) o.commits)) }
+    ensures ok { IfOk result (λ o. IsOrderAmong history.now.schedule q.0 (map (λ t. t.0) o.commits) o) }
+    ensures refused { IsErrOf result OrderError.NotACommittedQuery
+        ↔ (is_committed_query history.now.schedule q.0 ≡ false) }
+{
+    let _legal = history.log(); // brings the invariant into the proof
+    if !is_committed_query(history, q) {
+        return Err(OrderError::NotACommittedQuery);
+    }
+    let updates = updates_before(alloc, history, committed, q)?;
+    let first = count_must(alloc, history, &updates, q)?;
+    let near = near_of(alloc, history, rows, &updates, first, q)?;
+    let order = among(alloc, history, rows, near.updates, first, &near.writes)?;
+    Ok(order)
 }
 
 impl Order {
@@ -124,7 +156,8 @@ impl Order {
         let committed = committed(alloc, history)?;
         let commits = updates_before(alloc, history, &committed, q)?;
         let first = count_must(alloc, history, &commits, q)?;
-        let order = among(alloc, history, commits, first, &[])?;
+        let rows = AccessRows::new(alloc);
+        let order = among(alloc, history, &rows, commits, first, &[])?;
         Ok(order)
     }
 
@@ -162,15 +195,24 @@ impl Order {
         ensures refused { IsErrOf result OrderError.NotACommittedQuery
             ↔ (is_committed_query history.now.schedule q.0 ≡ false) }
     {
-        let _legal = history.log(); // brings the invariant into the proof
-        if !is_committed_query(history, q) {
-            return Err(OrderError::NotACommittedQuery);
-        }
-        let updates = updates_before(alloc, history, committed, q)?;
-        let first = count_must(alloc, history, &updates, q)?;
-        let near = near_of(alloc, history, &updates, first, q)?;
-        let order = among(alloc, history, near.updates, first, &near.writes)?;
-        Ok(order)
+        near_with(alloc, history, committed, &AccessRows::new(alloc), q)
+    }
+
+    /// The same for a caller who keeps an index of the history, which has read it whole.
+    #[tactic(auto, using(crate::proofs::Indexes::index_whole, crate::proofs::Indexes::index_rows))]
+    pub fn near_by_index<M: Metric>(
+        alloc: Global,
+        history: &History<M>,
+        index: &Index,
+        q: TxnId,
+    ) -> Result<Order, OrderError>
+        requires { IsWholeIndexOf history.now.schedule.entries index.now }
+        ensures near { IfOk result (λ o. AreNear history.now.schedule q.0 (map (λ t. t.0) o.commits)) }
+        ensures ok { IfOk result (λ o. IsOrderAmong history.now.schedule q.0 (map (λ t. t.0) o.commits) o) }
+        ensures refused { IsErrOf result OrderError.NotACommittedQuery
+            ↔ (is_committed_query history.now.schedule q.0 ≡ false) }
+    {
+        near_with(alloc, history, index.commits(), index.rows(), q)
     }
 
     /// The updates of the order, in commit order: those that committed before the query

@@ -86,7 +86,7 @@ pub fn committed<M: Metric>(alloc: Global, history: &History<M>) -> Result<Vec<T
 }
 
 /// Whether the transaction is an update.
-fn is_update<M: Metric>(history: &History<M>, t: TxnId) -> bool
+pub fn is_update<M: Metric>(history: &History<M>, t: TxnId) -> bool
     ensures { result ≡ is_update (done history.now.schedule) t.0 }
 {
     match history.facts(t) {

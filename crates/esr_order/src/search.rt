@@ -11,11 +11,13 @@
 ghost use Rattle.std.specs.Prelude.{◌≡◌, ◌<◌, ◌||◌, ℕ, true, false, IfOk, All, length, map};
 ghost use Rattle.std.specs.List.{list_any};
 ghost use Rattle.esr_history.specs.Queries.{updates_of, must};
+ghost use Rattle.esr_order.specs.AccessRows.{AreRowsOf};
 ghost use Rattle.esr_order.specs.Near.{AreNear};
 ghost use Rattle.esr_order.specs.Scans.{accesses_in};
 ghost use Rattle.esr_order.specs.Seeking.{marked, is_access, seen_items, conflicts_with};
 
-use crate::accesses::{Access, accesses_of, list_accesses};
+use crate::accesses::{Access, accesses_of};
+use crate::rows::AccessRows;
 use esr_history::{History, TxnId};
 use esr_items::Metric;
 use std::alloc::{AllocError, Global};
@@ -120,10 +122,12 @@ pub struct Near {
 pub fn near_of<M: Metric>(
     alloc: Global,
     history: &History<M>,
+    rows: &AccessRows,
     updates: &[TxnId],
     first: usize,
     q: TxnId,
 ) -> Result<Near, AllocError>
+    requires rows { AreRowsOf history.now.schedule.entries rows.now }
     requires updates { map (λ t. t.0) updates.now ≡ updates_of history.now.schedule q.0 }
     requires first { first ≡ length (must history.now.schedule q.0) }
     ensures near { IfOk result (λ n. AreNear history.now.schedule q.0 (map (λ t. t.0) n.updates.items)) }
@@ -134,7 +138,7 @@ pub fn near_of<M: Metric>(
     let mut near = Vec::new(alloc);
     let mut accesses = Vec::new(alloc);
     for i in (0..updates.len()).rev() {
-        list_accesses(history, updates[i], &mut accesses)?;
+        rows.list(history, updates[i], &mut accesses)?;
         if i < first || items.conflict(&accesses) {
             items.add(&accesses);
             count_writes(&mut writes, &accesses);

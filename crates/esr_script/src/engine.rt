@@ -1,6 +1,6 @@
 //! The machine of a script, and an index of its history.
 //!
-//! A script may ask for one audit after another, and each needs to know who committed. The index is kept from one to the
+//! A script may ask for one audit after another, and each needs to know who committed and what updates did. The index is kept from one to the
 //! next: a line that asks for an audit reads the entries that are new, and a script that asks for none pays nothing. What
 //! the index has read stays the beginning of the log, since the machine only adds to it.
 ghost use Rattle.std.specs.Prelude.{◌≡◌, IfOk, OnErr, IsErrOf, false, true, length};
@@ -11,7 +11,7 @@ ghost use Rattle.esr_history.specs.Queries.{is_committed_query};
 ghost use Rattle.esr_audit.specs.Findings.{IsFindingOf};
 ghost use Rattle.esr_items.specs.Weights.{weighted};
 
-use esr_audit::{AuditError, Finding, audit_query_in};
+use esr_audit::{AuditError, Finding, audit_query_by_index};
 use esr_core::{Machine, StepError, Totals};
 use esr_history::{Event, History, Reply, TxnId};
 use esr_items::Weighted;
@@ -96,6 +96,6 @@ impl Engine {
         if self.index.extend(history).is_err() {
             return Err(AuditError::NoMemory);
         }
-        audit_query_in(alloc, history, self.index.commits(), q)
+        audit_query_by_index(alloc, history, &self.index, q)
     }
 }

@@ -6,9 +6,8 @@
 //! So there is one loop of claims and audits, `draw`, for all that may be kept of a finding: what `T::from` makes of it.
 
 ghost use Rattle.std.specs.Prelude.{[], ◌≡◌, ◌≢◌, ℕ, ◌<◌, length, map, IfOk, IfErr, List, Any, false};
-ghost use Rattle.esr_history.specs.Machine.{done};
-ghost use Rattle.esr_history.specs.Operations.{commit_order};
 ghost use Rattle.esr_history.specs.Queries.{is_committed_query};
+ghost use Rattle.esr_order.specs.Index.{IsWholeIndexOf};
 ghost use Rattle.esr_board.specs.Claims.{count_past, Drew};
 ghost use Rattle.esr_board.specs.Boards.{IsSeatOf, drawn, jobs_of};
 ghost use Rattle.esr_board.specs.Shares.{AreCommitted, AreFound, AreKept, IsWorked, query_of};
@@ -16,23 +15,24 @@ ghost use Rattle.esr_board.specs.Shares.{AreCommitted, AreFound, AreKept, IsWork
 use super::{Share, Worked};
 use crate::board::{Board, BoardSeat};
 use crate::gate::Gate;
-use esr_audit::{AuditError, Finding, audit_query_in, commit_lists};
+use esr_audit::{AuditError, Finding, audit_query_by_index};
 use esr_history::{History, TxnId};
 use esr_items::Metric;
+use esr_order::Index;
 use std::alloc::Global;
 
-/// Claims jobs and audits their queries until no job is left, and keeps of each finding what `T` is of it. All that
-/// committed is given, so that no audit lists it anew.
+/// Claims jobs and audits their queries until no job is left, and keeps of each finding what `T` is of it. An index of the
+/// history is given, so that no audit reads it anew.
 fn draw<M: Metric, G: Gate, T: From<Finding> + Drop>(
     alloc: Global,
     history: &History<M>,
-    committed: &[TxnId],
+    index: &Index,
     jobs: &[TxnId],
     board: &Board,
     seat: &mut BoardSeat,
     gate: &G,
 ) -> Result<Share<T>, AuditError>
-    requires list { map (λ t. t.0) committed.now ≡ commit_order (done history.now.schedule) }
+    requires index { IsWholeIndexOf history.now.schedule.entries index.now }
     requires seat { IsSeatOf board.now seat.old }
     requires jobs { length jobs.now ≡ jobs_of board.now }
     ensures seat { IsSeatOf board.now seat.new }
@@ -50,7 +50,7 @@ fn draw<M: Metric, G: Gate, T: From<Finding> + Drop>(
     let mut found = Vec::new(alloc);
     while let Some(job) = board.claim(seat) {
         gate.enter(job, jobs.len() as u64);
-        let finding = match audit_query_in(alloc, history, committed, jobs[job as usize]) {
+        let finding = match audit_query_by_index(alloc, history, index, jobs[job as usize]) {
             Ok(finding) => finding,
             Err(failed) => return Err(failed),
         };
@@ -91,27 +91,27 @@ pub fn work<M: Metric, G: Gate>(
         ≡ false)) js)) }
     ensures other { IfErr result (λ e. e ≢ AuditError.WorkersOutOfRange) }
 {
-    let Ok(lists) = commit_lists(alloc, history) else {
+    let Ok(index) = Index::of(alloc, history) else {
         return Err(AuditError::NoMemory);
     };
-    draw::<M, G, Finding>(alloc, history, &lists.all, jobs, board, seat, gate)
+    draw::<M, G, Finding>(alloc, history, &index, jobs, board, seat, gate)
 }
 
 /// All turns of one worker, with a seat that has drawn nothing.
 pub(crate) fn take_turns<M: Metric, G: Gate, T: From<Finding> + Drop>(
     alloc: Global,
     history: &History<M>,
-    committed: &[TxnId],
+    index: &Index,
     jobs: &[TxnId],
     board: &Board,
     mut seat: BoardSeat,
     gate: &G,
 ) -> Worked<T>
-    requires list { map (λ t. t.0) committed.now ≡ commit_order (done history.now.schedule) }
+    requires index { IsWholeIndexOf history.now.schedule.entries index.now }
     requires seat { IsSeatOf board.now seat × (drawn seat ≡ []) }
     requires jobs { (length jobs.now ≡ jobs_of board.now) × AreCommitted history.now.schedule jobs.now }
     ensures { IsWorked T.from_gives M.distance_by history.now.schedule jobs.now board.now result }
 {
-    let share = draw(alloc, history, committed, jobs, board, &mut seat, gate);
+    let share = draw(alloc, history, index, jobs, board, &mut seat, gate);
     Worked { share, seat }
 }

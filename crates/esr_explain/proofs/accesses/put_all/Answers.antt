@@ -10,7 +10,7 @@ use Rattle.esr_explain.proofs.accesses.put_all.Goals.{then-access+then-x-len, el
 
 pub loop-access-preserved : goal.loop-access-preserved
 loop-access-preserved c =
-    let d : Access = record { txn = record { 0 = 0 }; item = record { 0 = 0 }; writes = false; value = pos 0 } in
+    let d : Access = record { item = record { 0 = 0 }; writes = false; value = pos 0 } in
     let xs = c.args.accesses.now in let k = c.loop-access.access-index in let vs = c.loop-access.values.items in
     let next : put vs (get_or xs k d) ≡ _ = ap (λ l. put l (get_or xs k d)) c.loop-access.invariant ∙ sym (put_more c.args.values.now.items xs k d c.loop-access-test.true) in
     elim c.if-access.branch [

@@ -13,7 +13,7 @@ use Rattle.esr_explain.proofs.reads.push_lines.Goals.{then-not-access+in_ok-read
 
 pub loop-access-preserved : goal.loop-access-preserved
 loop-access-preserved c =
-    let d : Access = record { txn = record { 0 = 0 }; item = record { 0 = 0 }; writes = false; value = pos 0 } in
+    let d : Access = record { item = record { 0 = 0 }; writes = false; value = pos 0 } in
     let xs = c.args.accesses.now in let k = c.loop-access.access-index in let out = c.args.out.now.items in
     let D : ℕ → ℤ → ℤ → ℕ = weighted c.args.metric.now in let items = c.args.items.now in
     let a : Access = get_or xs k d in

@@ -15,12 +15,12 @@ use Rattle.esr_order.proofs.operations.gather_into.Goals as goal
 
 pub put_turn-requires-clause-linked : goal.put_turn-requires-clause-linked
 put_turn-requires-clause-linked g c =
-    subst (λ l. All (λ (a : Access). a.item.0 < length c.loop-i.chains) l) (sym (c.deref.ensures.value ∙ c.in_ok-list_accesses.ensures))
+    subst (λ l. All (λ (a : Access). a.item.0 < length c.loop-i.chains) l) (sym (c.deref.ensures.value ∙ c.in_ok-list.ensures))
     (accesses_inside g.M.Metric.distance_by c.args.history.now.schedule c.log-legal.ensures.legal _ (length c.loop-i.chains) c.loop-i.invariant.0)
 
 pub put_turn-requires-clause-read : goal.put_turn-requires-clause-read
 put_turn-requires-clause-read g c =
-    subst (λ l. All (λ (a : Access). a.item.0 < length c.loop-i.readers) l) (sym (c.deref.ensures.value ∙ c.in_ok-list_accesses.ensures))
+    subst (λ l. All (λ (a : Access). a.item.0 < length c.loop-i.readers) l) (sym (c.deref.ensures.value ∙ c.in_ok-list.ensures))
     (accesses_inside g.M.Metric.distance_by c.args.history.now.schedule c.log-legal.ensures.legal _ (length c.loop-i.readers) c.loop-i.invariant.1)
 
 pub loop-i-preserved : goal.loop-i-preserved
@@ -32,7 +32,7 @@ loop-i-preserved g c =
     let inside : i < length updates = omega (arith, c.loop-i-test.true, c.loop-i.auto.i) in
     let steps = rest h updates c.loop-i.i in
     let before = c.loop-i.invariant.2.later in
-    let made = c.deref.ensures.value ∙ c.in_ok-list_accesses.ensures in (
+    let made = c.deref.ensures.value ∙ c.in_ok-list.ensures in (
       c.in_ok-put_turn.ensures.chains_len ∙ c.loop-i.invariant.0,
       c.in_ok-put_turn.ensures.readers_len ∙ c.loop-i.invariant.1,
       gathered_more h updates i c.loop-i.i next inside no_txn (map seen_links c.loop-i.chains) (map (λ r. r.items) c.loop-i.readers) c.loop-i.pairs.items c.loop-i.invariant.2 c.deref.result.now made

@@ -1,12 +1,12 @@
--- Why `Order::near_in` keeps its contract: the goals that are left to a proof of ours.
+-- Why `near_with` keeps its contract: the goals that are left to a proof of ours.
 use Rattle.std.proofs.Common.{◌∙◌, map, sym, ap, subst}
 use Rattle.esr_base.specs.declared.numbers.TxnId.{TxnId}
 use Rattle.esr_order.specs.Near.{AreNear}
 use Rattle.esr_order.specs.Orders.{IsOrderAmong}
 use Rattle.esr_order.proofs.Commits.{updates_are, query_begun}
 use Rattle.esr_order.proofs.NearFound.{IsNearRun, near_run}
-use Rattle.esr_order.proofs.order.Order.near_in.Goals as goal
-use Rattle.esr_order.proofs.order.Order.near_in.Goals.{After-deref-3}
+use Rattle.esr_order.proofs.order.near_with.Goals as goal
+use Rattle.esr_order.proofs.order.near_with.Goals.{After-deref-3}
 
 pub count_must-requires-clause-begun : goal.count_must-requires-clause-begun
 count_must-requires-clause-begun g c = query_begun c.args.history.now.schedule c.args.q.0 (sym c.is_committed_query.ensures ∙ c.if-not-is_committed_query.false)
@@ -14,14 +14,14 @@ count_must-requires-clause-begun g c = query_begun c.args.history.now.schedule c
 pub count_must-requires-clause-updates : goal.count_must-requires-clause-updates
 count_must-requires-clause-updates g c =
     ap (map (λ t. t.0)) c.deref.ensures.value
-    ∙ updates_are c.args.history.now.schedule c.args.q.0 c.args.committed.now c.requires c.in_ok-updates.updates.items c.in_ok-updates.ensures
+    ∙ updates_are c.args.history.now.schedule c.args.q.0 c.args.committed.now c.requires.list c.in_ok-updates.updates.items c.in_ok-updates.ensures
 
 pub near_of-requires-clause-updates : goal.near_of-requires-clause-updates
 near_of-requires-clause-updates g c =
     ap (map (λ t. t.0)) c.deref-2.ensures.value
-    ∙ updates_are c.args.history.now.schedule c.args.q.0 c.args.committed.now c.requires c.in_ok-updates.updates.items c.in_ok-updates.ensures
+    ∙ updates_are c.args.history.now.schedule c.args.q.0 c.args.committed.now c.requires.list c.in_ok-updates.updates.items c.in_ok-updates.ensures
 
-run : (g : Rattle.esr_order.proofs.order.Order.near_in.Given.Over) (c : After-deref-3 g) → IsNearRun c.args.history.now.schedule c.args.q.0 c.in_ok-first.first c.in_ok-near.near.updates.items
+run : (g : Rattle.esr_order.proofs.order.near_with.Given.Over) (c : After-deref-3 g) → IsNearRun c.args.history.now.schedule c.args.q.0 c.in_ok-first.first c.in_ok-near.near.updates.items
 run g c = near_run g.M.Metric.distance_by c.args.history.now.schedule c.args.q.0 c.log-legal.ensures.legal c.in_ok-near.near.updates.items c.in_ok-near.ensures.near c.in_ok-first.first c.in_ok-first.ensures
 
 pub among-requires-clause-once : goal.among-requires-clause-once

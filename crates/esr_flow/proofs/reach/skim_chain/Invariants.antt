@@ -1,0 +1,7 @@
+-- What holds at each turn of the loop in `skim_chain`.
+use Rattle.esr_flow.specs.Graph.{net_of}
+use Rattle.esr_flow.specs.Reached.{AreReached}
+use Rattle.esr_flow.proofs.reach.skim_chain.Given as goal
+
+abbrev pub invariant-loop-j : goal.invariant-loop-j
+invariant-loop-j l = AreReached (net_of l.graph) l.flow l.marks

@@ -1,0 +1,7 @@
+-- What holds at each turn of the loop in `skim_chains`.
+use Rattle.esr_flow.specs.Graph.{net_of}
+use Rattle.esr_flow.specs.Reached.{AreReached}
+use Rattle.esr_flow.proofs.reach.skim_chains.Given as goal
+
+abbrev pub invariant-loop-chain : goal.invariant-loop-chain
+invariant-loop-chain l = AreReached (net_of l.graph) l.flow l.marks

@@ -1,0 +1,154 @@
+//! What updates that have committed read and wrote, kept while the history grows.
+//!
+//! An update does nothing more once it has committed. So what it did is settled then: it is listed once, along the links
+//! of the log, and kept in a row by the update's number. An audit takes it from there, once to find who is near and once
+//! for pairs and chains, where 251 audits of one script walked along the links of 65,000 updates 251 times, from entry to
+//! entry. The rows lie in one list, one after another in the order of commits, which is the order in which audits go over
+//! them.
+//!
+//! A row that is not there, as that of a query, is listed along the links. So nothing rests on which rows there are, and
+//! with no rows at all (`AccessRows::new`) the same is found. Rejected: the pairs into each update, with a chain for each
+//! item, which are settled too. They take more room (4 bytes for a pair and 12 for a write, where a row takes 16 for an
+//! operation, and pairs have to be put in order anew for each query, since they are listed by their first update).
+use crate::accesses::{Access, list_accesses};
+use crate::scan::is_update;
+use esr_history::{History, TxnId};
+use esr_items::Metric;
+use std::alloc::{AllocError, Global};
+use std::marker::Model;
+
+/// Where a row lies.
+#[derive(Clone, Copy)]
+struct Span {
+    begin: u32,
+    end: u32,
+}
+
+/// What committed updates read and wrote, in a row each.
+#[derive(Drop)]
+pub struct AccessRows {
+    /// Where each row lies, by the number of the transaction.
+    spans: Vec<Span>,
+    accesses: Vec<Access>,
+}
+
+impl Model for AccessRows {
+    ghost use Rattle.std.specs.Prelude.{List, map, All, length};
+    ghost use Rattle.esr_order.specs.Scans.{Access as AccessValue};
+    ghost use Rattle.esr_order.specs.AccessRows.{row_in, IsWithin};
+
+    ghost Value = { List (List AccessValue) };
+
+    ghost view = { λ r. map (row_in r.accesses.items) r.spans.items };
+
+    ghost invariant = { λ r. All (IsWithin (length r.accesses.items)) r.spans.items };
+}
+
+impl AccessRows {
+    ghost use Rattle.std.specs.Prelude.{◌≡◌, ◌⊎◌, ◌<◌, [], ℕ, All, IsTrue, IfOk, OnOk, length, map};
+    ghost use Rattle.esr_history.specs.Events.{is_committed};
+    ghost use Rattle.esr_history.specs.Machine.{done};
+    ghost use Rattle.esr_order.specs.Scans.{accesses_in};
+    ghost use Rattle.esr_order.specs.AccessRows.{row_at, AreRowsOf};
+
+    /// No rows.
+    pub fn new(alloc: Global) -> AccessRows
+        ensures { result ≡ [] }
+    {
+        AccessRows {
+            spans: Vec::new(alloc),
+            accesses: Vec::new(alloc),
+        }
+    }
+
+    /// No rows, with room for so many accesses: a list that grows leaves each smaller list that it had been behind in
+    /// the heap.
+    pub fn with_room(alloc: Global, accesses: usize) -> Result<AccessRows, AllocError>
+        ensures { IfOk result (λ rows. rows ≡ []) }
+    {
+        Ok(AccessRows {
+            spans: Vec::new(alloc),
+            accesses: Vec::with_capacity(alloc, accesses)?,
+        })
+    }
+
+    /// The row of a transaction, empty where there is none.
+    fn row(&self, t: TxnId) -> &[Access]
+        ensures { result.now ≡ row_at self.now t.0 }
+    {
+        match self.spans.get(t.0 as usize) {
+            None => &[],
+            Some(span) => &self.accesses[span.begin as usize..span.end as usize],
+        }
+    }
+
+    /// Makes places for the rows of the transactions up to a number.
+    fn make_places(&mut self, last: usize) -> Result<(), AllocError>
+        ensures rows { (u : ℕ) → row_at self.new u ≡ row_at self.old u }
+        ensures place { OnOk result (last < length self.new) }
+    {
+        while self.spans.len() <= last {
+            self.spans.push(Span { begin: 0, end: 0 })?;
+        }
+        Ok(())
+    }
+
+    /// Puts down a row of a transaction.
+    fn put(&mut self, t: TxnId, row: &[Access]) -> Result<(), AllocError>
+        ensures others { (u : ℕ) → (row_at self.new u ≡ row_at self.old u)
+            ⊎ ((u ≡ t.0) × (row_at self.new u ≡ row.now)) }
+        ensures row { OnOk result (row_at self.new t.0 ≡ row.now) }
+    {
+        self.make_places(t.0 as usize)?;
+        let begin = self.accesses.len();
+        self.accesses.extend_from_slice(row)?;
+        let end = self.accesses.len();
+        if end > u32::MAX as usize {
+            return Err(AllocError);
+        }
+        self.spans[t.0 as usize] = Span {
+            begin: begin as u32,
+            end: end as u32,
+        };
+        Ok(())
+    }
+
+    /// Puts down what those of these committed transactions did that are updates. An error leaves rows of the history.
+    pub fn extend<M: Metric>(
+        &mut self,
+        history: &History<M>,
+        commits: &[TxnId],
+    ) -> Result<(), AllocError>
+        requires rows { AreRowsOf history.now.schedule.entries self.old }
+        requires committed { All (λ t. IsTrue (is_committed (done history.now.schedule) t.0)) commits.now }
+        ensures { AreRowsOf history.now.schedule.entries self.new }
+    {
+        let mut accesses = Vec::new(*self.accesses.allocator());
+        for t in commits {
+            if is_update(history, *t) {
+                list_accesses(history, *t, &mut accesses)?;
+                self.put(*t, &accesses)?;
+            }
+        }
+        Ok(())
+    }
+
+    /// Lists what a transaction read and wrote, in order, in place of what the list had: its row, or what is found along
+    /// the links of the transaction.
+    pub fn list<M: Metric>(
+        &self,
+        history: &History<M>,
+        t: TxnId,
+        accesses: &mut Vec<Access>,
+    ) -> Result<(), AllocError>
+        requires { AreRowsOf history.now.schedule.entries self.now }
+        ensures { OnOk result (accesses.new.items ≡ accesses_in history.now.schedule.entries t.0) }
+    {
+        let row = self.row(t);
+        if row.is_empty() {
+            return list_accesses(history, t, accesses);
+        }
+        accesses.clear();
+        accesses.extend_from_slice(row)
+    }
+}
