@@ -144,9 +144,9 @@ fn put<T: MadeWith<Global> + Drop, const N: usize>(list: &mut SmallVec<T, N>, at
     }
 }
 
-/// Adds a reader, and answers whether it was not there.
-#[inline(always)]
-pub fn add_reader(readers: &mut Readers, t: TxnId) -> bool
+/// Adds a reader to a list that may have others, and answers whether it was not there.
+#[inline(never)]
+fn add_among(readers: &mut Readers, t: TxnId) -> bool
     requires ascending { IsAscendingBy (λ r. r.update.0) readers.old.items }
     requires room { HasRoomFor readers.old 1 }
     ensures items { readers.new.items ≡ placed (λ r. r.update.0) t.0 (reader t) (λ r. r) readers.old.items }
@@ -159,6 +159,21 @@ pub fn add_reader(readers: &mut Readers, t: TxnId) -> bool
             true
         }
     }
+}
+
+/// Adds a reader, and answers whether it was not there. Most are the first, and then there is nothing to search.
+#[inline(always)]
+pub fn add_reader(readers: &mut Readers, t: TxnId) -> bool
+    requires ascending { IsAscendingBy (λ r. r.update.0) readers.old.items }
+    requires room { HasRoomFor readers.old 1 }
+    ensures items { readers.new.items ≡ placed (λ r. r.update.0) t.0 (reader t) (λ r. r) readers.old.items }
+    ensures fresh { result ≡ not (list_any (λ r. r.update.0 == t.0) readers.old.items) }
+{
+    if readers.is_empty() {
+        readers.push_reserved(Reader { update: t });
+        return true;
+    }
+    add_among(readers, t)
 }
 
 /// Counts one more read of a query, and answers whether it had none.
@@ -184,8 +199,23 @@ pub fn count_read(queries: &mut Queries, q: TxnId) -> bool
     }
 }
 
-/// Drops the row of a transaction.
-pub fn drop_row<R: Numbered + MadeWith<Global> + Drop, const N: usize>(
+/// Drops the only row, if it is of the transaction.
+#[inline(always)]
+fn drop_only<R: Numbered + MadeWith<Global> + Drop, const N: usize>(
+    rows: &mut SmallVec<R, N>,
+    t: TxnId,
+)
+    requires { length rows.old.items ≡ 1 }
+    ensures { rows.new.items ≡ filter (λ r. not (R.number r == t.0)) rows.old.items }
+{
+    if rows[0].number() == t.0 {
+        let _ = rows.pop();
+    }
+}
+
+/// Drops the row of a transaction from a list that may have others.
+#[inline(never)]
+fn drop_among<R: Numbered + MadeWith<Global> + Drop, const N: usize>(
     rows: &mut SmallVec<R, N>,
     t: TxnId,
 )
@@ -194,5 +224,21 @@ pub fn drop_row<R: Numbered + MadeWith<Global> + Drop, const N: usize>(
 {
     if let Ok(at) = place_of(rows, t) {
         let _ = rows.remove(at);
+    }
+}
+
+/// Drops the row of a transaction. Most lists are empty, or have no other row, and then there is nothing to search.
+#[inline(always)]
+pub fn drop_row<R: Numbered + MadeWith<Global> + Drop, const N: usize>(
+    rows: &mut SmallVec<R, N>,
+    t: TxnId,
+)
+    requires { IsAscendingBy R.number rows.old.items }
+    ensures { rows.new.items ≡ filter (λ r. not (R.number r == t.0)) rows.old.items }
+{
+    match rows.len() {
+        0 => {}
+        1 => drop_only(rows, t),
+        _ => drop_among(rows, t),
     }
 }
