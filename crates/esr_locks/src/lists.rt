@@ -91,12 +91,18 @@ fn grow<T: MadeWith<Global> + Drop, const N: usize>(
     list.reserve(1)
 }
 
-/// Makes room for one more element. A full list is rare, and the test is shorter than the call.
+/// Makes room for one more element. A full list is rare, and so is one that has left the row: what lies in the row is
+/// told by its length alone.
+#[inline(always)]
 pub fn reserve_one<T: MadeWith<Global> + Drop, const N: usize>(
     list: &mut SmallVec<T, N>,
 ) -> Result<(), AllocError>
     ensures { MakesRoom list.old list.new result }
 {
+    if list.len() < N {
+        let _room = list.capacity(); // N or more: brought into the proof, and dead when it runs
+        return Ok(());
+    }
     if list.len() < list.capacity() {
         return Ok(());
     }
