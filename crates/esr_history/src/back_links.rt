@@ -191,6 +191,7 @@ impl BackLinks {
     }
 
     /// Notes an accepted begin.
+    #[inline(always)]
     fn add_begin(&mut self, query: bool, limit: u64, code: u32)
         requires { HasRoomToBegin 1 self.old }
         ensures on_item { self.new.on_item ≡ self.old.on_item }

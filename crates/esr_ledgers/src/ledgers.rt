@@ -82,6 +82,7 @@ fn first_over(accounts: &[Account], charges: &[(TxnId, u64)]) -> Option<(TxnId, 
 }
 
 /// Puts an account at its place. Most come last, and then none is moved.
+#[inline(always)]
 fn put_account(accounts: &mut Vec<Account>, at: usize, account: Account) -> Result<(), AllocError>
     requires { at ≤ length accounts.old.items }
     ensures ok { OnOk result (accounts.new.items ≡ insert accounts.old.items at account) }
@@ -131,6 +132,7 @@ impl Ledgers {
     }
 
     /// Opens the account of a query, which may import up to this limit.
+    #[inline(always)]
     pub fn open_query(&mut self, q: TxnId, limit: u64) -> Result<(), NoMemory>
         requires { is_open self.old q.0 ≡ false }
         ensures ok { OnOk result (self.new ≡ with_account self.old (new_account true q limit)) }
@@ -140,6 +142,7 @@ impl Ledgers {
     }
 
     /// Opens the account of an update, which may export up to this limit.
+    #[inline(always)]
     pub fn open_update(&mut self, u: TxnId, limit: u64) -> Result<(), NoMemory>
         requires { is_open self.old u.0 ≡ false }
         ensures ok { OnOk result (self.new ≡ with_account self.old (new_account false u limit)) }
@@ -148,6 +151,7 @@ impl Ledgers {
         self.open(u, false, limit)
     }
 
+    #[inline(always)]
     fn open(&mut self, number: TxnId, query: bool, limit: u64) -> Result<(), NoMemory>
         requires { is_open self.old number.0 ≡ false }
         ensures ok { OnOk result (self.new ≡ with_account self.old (new_account query number limit)) }
