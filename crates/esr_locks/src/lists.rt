@@ -2,7 +2,8 @@
 //!
 //! Most items never have more than a few readers, and the first lock on each item would otherwise ask for memory twice:
 //! so up to four readers and two queries lie in the row itself, which takes no more place than what would point to an
-//! allocation.
+//! allocation. Most lists are empty, or have one element, which is the one that is asked for: that comes first, and the
+//! search stands apart, since a call of it costs each event the registers that it saves.
 
 ghost use Rattle.std.specs.Prelude.{◌≡◌, ℕ, ◌<◌, ◌≤◌, ◌==◌, length, filter, find, not, All, IfOk, IfErr, option_map};
 ghost use Rattle.std.specs.List.{list_any, insert, AllByRecursion};
