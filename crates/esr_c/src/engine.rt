@@ -160,7 +160,8 @@ fn answer(answered: Result<Reply, Unanswered>, reply: &mut EsrReply) -> Status
     }
 }
 
-/// Answers an event.
+/// Answers an event. The engine goes out of its place and back into it, and the rest of the variable stays: this is
+/// part of the cost of each event.
 #[inline(always)]
 pub(crate) fn step(
     alloc: Global,
@@ -171,11 +172,12 @@ pub(crate) fn step(
     ensures { IsEventCall event variable.old.held.history variable.new.held.history reply.old reply.new
         (status_number result) }
 {
-    let Some(mut engine) = out_of(alloc, variable) else {
+    if !variable.is_open {
         return Status::Closed;
-    };
+    }
+    let mut engine = take(alloc, mem::replace(&mut variable.held, nothing()));
     let status = answer(engine.step(event), reply);
-    *variable = open_with(engine);
+    variable.held = give(engine);
     status
 }
 

@@ -106,6 +106,20 @@ fn set_key(table: &mut [u32], key: u32, code: u32)
     }
 }
 
+/// Sets what a table has at a key, if it has that key, and gives what it had, 0 where there is no such place.
+#[inline(always)]
+fn exchange(table: &mut [u32], key: u32, code: u32) -> u32
+    ensures had { result ≡ slice_index_or table.old key 0 }
+    ensures set { table.new ≡ slice_set table.old key code }
+{
+    if (key as usize) < table.len() {
+        let had = table[key as usize];
+        table[key as usize] = code;
+        return had;
+    }
+    0
+}
+
 /// The place in a table, where there is one.
 fn place(code: u32) -> Option<u64>
     ensures { result ≡ decoded code }
@@ -191,6 +205,7 @@ impl BackLinks {
     }
 
     /// Notes an accepted begin.
+    #[inline(always)]
     fn add_begin(&mut self, query: bool, limit: u64, code: u32)
         requires { HasRoomToBegin 1 self.old }
         ensures on_item { self.new.on_item ≡ self.old.on_item }
@@ -207,10 +222,13 @@ impl BackLinks {
         self.begins.push_reserved(Begin { query, limit });
     }
 
-    /// Notes an accepted event, whose place has the code.
+    /// Notes an accepted event, whose place has the code, and gives the codes of the places that it links to: one look-up
+    /// for each table.
     #[inline(always)]
-    fn note(&mut self, event: Event, code: u32)
+    fn note(&mut self, event: Event, reply: Reply, code: u32) -> (u32, u32)
         requires { HasRoomToBegin 1 self.old }
+        ensures item { result.0 ≡ key_at self.old.items.items (item_of event) }
+        ensures txn { result.1 ≡ key_at self.old.txns.items (txn_of event reply) }
         ensures on_item { self.new.on_item ≡ self.old.on_item }
         ensures of_txn { self.new.of_txn ≡ self.old.of_txn }
         ensures items { self.new.items.items ≡ with_key self.old.items.items (item_of event) code }
@@ -219,6 +237,7 @@ impl BackLinks {
         ensures begins { self.new.begins.items ≡ begins_after self.old.begins.items event }
         ensures room { (k : ℕ) → HasRoomToBegin (k + 1) self.old → HasRoomToBegin k self.new }
     {
+        let begun = at_key(&self.txns, begun_by(reply));
         match event {
             Event::BeginUpdate { limit } => self.add_begin(false, limit, code),
             Event::BeginQuery { limit, strict: _ } => self.add_begin(true, limit, code),
@@ -228,27 +247,44 @@ impl BackLinks {
                 item,
                 value: _,
             } => {
-                set_key(&mut self.items, item.0, code);
-                set_key(&mut self.txns, txn.0, code);
+                let on_item = exchange(&mut self.items, item.0, code);
+                return (on_item, exchange(&mut self.txns, txn.0, code));
             }
             Event::Commit { txn } | Event::Abort { txn } => {
-                set_key(&mut self.txns, txn.0, code);
                 set_key(&mut self.ends, txn.0, code);
+                return (0, exchange(&mut self.txns, txn.0, code));
             }
         }
+        (0, begun)
     }
 
-    /// The links of the next entry, and the code of its place.
-    #[inline(always)]
-    fn next(&self, entry: Entry) -> (u32, u32, u32)
-        requires { length self.now.on_item.items + 1 < 2 ^ 32 }
+    /// The codes of the places that an entry links to.
+    fn last(&self, entry: Entry) -> (u32, u32)
         ensures item { result.0 ≡ key_at self.now.items.items (item_in entry) }
         ensures txn { result.1 ≡ key_at self.now.txns.items (txn_in entry) }
-        ensures code { result.2 ≡ length self.now.on_item.items + 1 }
     {
-        let on_item = at_key(&self.items, item_of(entry.event));
-        let of_txn = at_key(&self.txns, txn_of(entry.event, entry.reply));
-        (on_item, of_txn, self.on_item.len() as u32 + 1)
+        (
+            at_key(&self.items, item_of(entry.event)),
+            at_key(&self.txns, txn_of(entry.event, entry.reply)),
+        )
+    }
+
+    /// Adds the codes of the places that an entry links to, for which there is room.
+    #[inline(always)]
+    fn link(&mut self, on_item: u32, of_txn: u32)
+        requires item_room { length self.old.on_item.items < vec_capacity self.old.on_item }
+        requires txn_room { length self.old.of_txn.items < vec_capacity self.old.of_txn }
+        ensures on_item { self.new.on_item.items ≡ self.old.on_item.items ++ on_item ∷ [] }
+        ensures of_txn { self.new.of_txn.items ≡ self.old.of_txn.items ++ of_txn ∷ [] }
+        ensures item_capacity { vec_capacity self.new.on_item ≡ vec_capacity self.old.on_item }
+        ensures txn_capacity { vec_capacity self.new.of_txn ≡ vec_capacity self.old.of_txn }
+        ensures items { self.new.items ≡ self.old.items }
+        ensures txns { self.new.txns ≡ self.old.txns }
+        ensures ends { self.new.ends ≡ self.old.ends }
+        ensures begins { self.new.begins ≡ self.old.begins }
+    {
+        self.on_item.push_reserved(on_item);
+        self.of_txn.push_reserved(of_txn);
     }
 
     /// Adds an entry, for which there is room.
@@ -259,12 +295,14 @@ impl BackLinks {
             → IsNumbered es entry.event entry.reply → AreLinks n (es ++ entry ∷ []) self.new }
         ensures room { (k : ℕ) → HasRoom (k + 1) self.old → HasRoom k self.new }
     {
-        let (on_item, of_txn, code) = self.next(entry);
-        self.on_item.push_reserved(on_item);
-        self.of_txn.push_reserved(of_txn);
-        if !entry.is_refused() {
-            self.note(entry.event, code);
+        if entry.is_refused() {
+            let (on_item, of_txn) = self.last(entry);
+            self.link(on_item, of_txn);
+            return;
         }
+        let code = self.on_item.len() as u32 + 1;
+        let (on_item, of_txn) = self.note(entry.event, entry.reply, code);
+        self.link(on_item, of_txn);
     }
 
     /// The place of the accepted operation before the one at a place, on the same item.

@@ -3,13 +3,14 @@
 //! The totals are one number: imports and exports are equal by the type, so one sum is both. Sums that could pass 64
 //! bits are taken in 128.
 
-ghost use Rattle.std.specs.Prelude.{◌≡◌, ◌+◌, ◌<◌, ◌≤◌, ◌^◌, [], true, false, All, OnOk, OnErr, find};
+ghost use Rattle.std.specs.Prelude.{◌≡◌, ◌+◌, ◌<◌, ◌≤◌, ◌^◌, [], true, false, All, OnOk, OnErr, find, length};
+ghost use Rattle.std.specs.List.{insert};
 ghost use Rattle.esr_history.specs.Ascending.{IsAscendingBy};
 ghost use Rattle.esr_ledgers.specs.Books.{number, is_open, is_open_query, is_open_update, account_amount, new_account, with_account, total_of, would_pass, quote_of, charged_to_queries, charged, AreCharges, imports, exports};
 
 use crate::account::{Account, find_account, place_of, raise};
 use esr_history::{NoMemory, TxnId};
-use std::alloc::Global;
+use std::alloc::{AllocError, Global};
 use std::marker::Model;
 
 /// Whether an update may be charged.
@@ -80,6 +81,24 @@ fn first_over(accounts: &[Account], charges: &[(TxnId, u64)]) -> Option<(TxnId, 
     None
 }
 
+/// Puts an account at its place. Most come last, and then none is moved.
+#[inline(always)]
+fn put_account(accounts: &mut Vec<Account>, at: usize, account: Account) -> Result<(), AllocError>
+    requires { at ≤ length accounts.old.items }
+    ensures ok { OnOk result (accounts.new.items ≡ insert accounts.old.items at account) }
+    ensures err { OnErr result (accounts.new.items ≡ accounts.old.items) }
+{
+    if at == accounts.len() {
+        accounts.reserve(1)?;
+        accounts.push_reserved(account);
+        return Ok(());
+    }
+    match accounts.insert(at, account) {
+        Ok(()) => Ok(()),
+        Err(_) => Err(AllocError),
+    }
+}
+
 /// Adds each amount to the account of its query.
 fn import_each(accounts: &mut Vec<Account>, charges: &[(TxnId, u64)])
     requires ascending { IsAscendingBy number accounts.old.items }
@@ -113,6 +132,7 @@ impl Ledgers {
     }
 
     /// Opens the account of a query, which may import up to this limit.
+    #[inline(always)]
     pub fn open_query(&mut self, q: TxnId, limit: u64) -> Result<(), NoMemory>
         requires { is_open self.old q.0 ≡ false }
         ensures ok { OnOk result (self.new ≡ with_account self.old (new_account true q limit)) }
@@ -122,6 +142,7 @@ impl Ledgers {
     }
 
     /// Opens the account of an update, which may export up to this limit.
+    #[inline(always)]
     pub fn open_update(&mut self, u: TxnId, limit: u64) -> Result<(), NoMemory>
         requires { is_open self.old u.0 ≡ false }
         ensures ok { OnOk result (self.new ≡ with_account self.old (new_account false u limit)) }
@@ -130,6 +151,7 @@ impl Ledgers {
         self.open(u, false, limit)
     }
 
+    #[inline(always)]
     fn open(&mut self, number: TxnId, query: bool, limit: u64) -> Result<(), NoMemory>
         requires { is_open self.old number.0 ≡ false }
         ensures ok { OnOk result (self.new ≡ with_account self.old (new_account query number limit)) }
@@ -145,7 +167,7 @@ impl Ledgers {
             limit,
             amount: 0,
         };
-        if self.accounts.insert(at, account).is_err() {
+        if put_account(&mut self.accounts, at, account).is_err() {
             return Err(NoMemory);
         }
         Ok(())

@@ -2,7 +2,8 @@
 //!
 //! Most items never have more than a few readers, and the first lock on each item would otherwise ask for memory twice:
 //! so up to four readers and two queries lie in the row itself, which takes no more place than what would point to an
-//! allocation.
+//! allocation. Most lists are empty, or have one element, which is the one that is asked for: that comes first, and the
+//! search stands apart, since a call of it costs each event the registers that it saves.
 
 ghost use Rattle.std.specs.Prelude.{◌≡◌, ℕ, ◌<◌, ◌≤◌, ◌==◌, length, filter, find, not, All, IfOk, IfErr, option_map};
 ghost use Rattle.std.specs.List.{list_any, insert, AllByRecursion};
@@ -91,12 +92,18 @@ fn grow<T: MadeWith<Global> + Drop, const N: usize>(
     list.reserve(1)
 }
 
-/// Makes room for one more element. A full list is rare, and the test is shorter than the call.
+/// Makes room for one more element. A full list is rare, and so is one that has left the row: what lies in the row is
+/// told by its length alone.
+#[inline(always)]
 pub fn reserve_one<T: MadeWith<Global> + Drop, const N: usize>(
     list: &mut SmallVec<T, N>,
 ) -> Result<(), AllocError>
     ensures { MakesRoom list.old list.new result }
 {
+    if list.len() < N {
+        let _room = list.capacity(); // N or more: brought into the proof, and dead when it runs
+        return Ok(());
+    }
     if list.len() < list.capacity() {
         return Ok(());
     }
@@ -144,9 +151,9 @@ fn put<T: MadeWith<Global> + Drop, const N: usize>(list: &mut SmallVec<T, N>, at
     }
 }
 
-/// Adds a reader, and answers whether it was not there.
-#[inline(always)]
-pub fn add_reader(readers: &mut Readers, t: TxnId) -> bool
+/// Adds a reader to a list that may have others, and answers whether it was not there.
+#[inline(never)]
+fn add_among(readers: &mut Readers, t: TxnId) -> bool
     requires ascending { IsAscendingBy (λ r. r.update.0) readers.old.items }
     requires room { HasRoomFor readers.old 1 }
     ensures items { readers.new.items ≡ placed (λ r. r.update.0) t.0 (reader t) (λ r. r) readers.old.items }
@@ -159,6 +166,21 @@ pub fn add_reader(readers: &mut Readers, t: TxnId) -> bool
             true
         }
     }
+}
+
+/// Adds a reader, and answers whether it was not there. Most are the first, and then there is nothing to search.
+#[inline(always)]
+pub fn add_reader(readers: &mut Readers, t: TxnId) -> bool
+    requires ascending { IsAscendingBy (λ r. r.update.0) readers.old.items }
+    requires room { HasRoomFor readers.old 1 }
+    ensures items { readers.new.items ≡ placed (λ r. r.update.0) t.0 (reader t) (λ r. r) readers.old.items }
+    ensures fresh { result ≡ not (list_any (λ r. r.update.0 == t.0) readers.old.items) }
+{
+    if readers.is_empty() {
+        readers.push_reserved(Reader { update: t });
+        return true;
+    }
+    add_among(readers, t)
 }
 
 /// Counts one more read of a query, and answers whether it had none.
@@ -184,8 +206,23 @@ pub fn count_read(queries: &mut Queries, q: TxnId) -> bool
     }
 }
 
-/// Drops the row of a transaction.
-pub fn drop_row<R: Numbered + MadeWith<Global> + Drop, const N: usize>(
+/// Drops the only row, if it is of the transaction.
+#[inline(always)]
+fn drop_only<R: Numbered + MadeWith<Global> + Drop, const N: usize>(
+    rows: &mut SmallVec<R, N>,
+    t: TxnId,
+)
+    requires { length rows.old.items ≡ 1 }
+    ensures { rows.new.items ≡ filter (λ r. not (R.number r == t.0)) rows.old.items }
+{
+    if rows[0].number() == t.0 {
+        let _ = rows.pop();
+    }
+}
+
+/// Drops the row of a transaction from a list that may have others.
+#[inline(never)]
+fn drop_among<R: Numbered + MadeWith<Global> + Drop, const N: usize>(
     rows: &mut SmallVec<R, N>,
     t: TxnId,
 )
@@ -194,5 +231,21 @@ pub fn drop_row<R: Numbered + MadeWith<Global> + Drop, const N: usize>(
 {
     if let Ok(at) = place_of(rows, t) {
         let _ = rows.remove(at);
+    }
+}
+
+/// Drops the row of a transaction. Most lists are empty, or have no other row, and then there is nothing to search.
+#[inline(always)]
+pub fn drop_row<R: Numbered + MadeWith<Global> + Drop, const N: usize>(
+    rows: &mut SmallVec<R, N>,
+    t: TxnId,
+)
+    requires { IsAscendingBy R.number rows.old.items }
+    ensures { rows.new.items ≡ filter (λ r. not (R.number r == t.0)) rows.old.items }
+{
+    match rows.len() {
+        0 => {}
+        1 => drop_only(rows, t),
+        _ => drop_among(rows, t),
     }
 }

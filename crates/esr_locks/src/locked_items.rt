@@ -41,6 +41,7 @@ impl LockedItems {
     }
 
     /// Makes room for one more item.
+    #[inline(always)]
     pub fn reserve(&mut self) -> Result<(), AllocError>
         ensures items { self.new.items ≡ self.old.items }
         ensures ok { OnOk result (0 < self.new.room) }

@@ -60,7 +60,10 @@ fn writer_is(writer: Option<TxnId>, t: TxnId) -> bool
 fn writer_unless(writer: Option<TxnId>, t: TxnId) -> Option<TxnId>
     ensures { result ≡ (if unwrap_or (option_map (λ u. u.0 == t.0) writer) false then None else writer) }
 {
-    if writer_is(writer, t) { None } else { writer }
+    match writer {
+        Some(u) if u.0 != t.0 => Some(u),
+        _ => None,
+    }
 }
 
 /// The smaller of two ids, either of which may be absent.

@@ -22,7 +22,6 @@ use esr_history::{NoMemory, TxnId};
 use esr_items::ItemId;
 use std::alloc::{AllocError, Global};
 use std::marker::Model;
-use std::mem;
 
 /// The locks on each item, by two-phase locking: a transaction holds its locks until they are
 /// released together. Updates read and write, queries read.
@@ -89,17 +88,26 @@ fn make_lists(held: &mut Vec<LockedItems>, alloc: Global, t: TxnId) -> Result<()
     add_lists(held, alloc, t)
 }
 
-/// Takes out the list of a transaction.
-fn take_list(held: &mut Vec<LockedItems>, alloc: Global, t: TxnId) -> LockedItems
-    ensures taken { result.items ≡ (held_at held.old.items t.0).items }
-    ensures left { (u : ℕ) → (held_at held.new.items u).items
+/// The items in the list of a transaction.
+fn listed(held: &[LockedItems], t: TxnId) -> &[ItemId]
+    ensures { result.now ≡ (held_at held.now t.0).items }
+{
+    let at = t.0 as usize;
+    if at < held.len() {
+        held[at].items()
+    } else {
+        &[]
+    }
+}
+
+/// Leaves the list of a transaction empty, and frees what it had on the heap.
+fn empty_list(held: &mut Vec<LockedItems>, alloc: Global, t: TxnId)
+    ensures { (u : ℕ) → (held_at held.new.items u).items
         ≡ (if t.0 == u then [] else (held_at held.old.items u).items) }
 {
     let at = t.0 as usize;
     if at < held.len() {
-        mem::replace(&mut held[at], LockedItems::new(alloc))
-    } else {
-        LockedItems::new(alloc)
+        held[at] = LockedItems::new(alloc);
     }
 }
 
@@ -183,12 +191,7 @@ impl LockTable {
         ensures listed { (x : ℕ) → x < length self.now.locks → has_lock (locks_at self.now.locks x) t.0 ≡ true
             → lists_item result.now x ≡ true }
     {
-        let at = t.0 as usize;
-        if at < self.held.len() {
-            self.held[at].items()
-        } else {
-            &[]
-        }
+        listed(&self.held, t)
     }
 
     /// Makes room for one more lock of a transaction on an item. It fails only where there is none
@@ -264,7 +267,7 @@ impl LockTable {
     pub fn release(&mut self, t: TxnId)
         ensures { self.new.locks ≡ map (released t.0) self.old.locks }
     {
-        let held = take_list(&mut self.held, self.alloc, t);
-        release_each(&mut self.rows, held.items(), t);
+        release_each(&mut self.rows, listed(&self.held, t), t);
+        empty_list(&mut self.held, self.alloc, t);
     }
 }

@@ -15,7 +15,7 @@ unreachable-requires c =
     let fresh : is_open c.self.inside.accounts.items c.args.number.0 ≡ false = rw c.self.view_is c.requires in
     false≢true (sym fresh ∙ any_place number c.args.number.0 c.in-Ok.field-0 c.self.inside.accounts.items (new_account c.args.query c.args.number c.args.limit) place)
 
-put : (c : Else-is_err) → c.insert.new.self.items ≡ insert c.self.inside.accounts.items c.in-Err.at (new_account c.args.query c.args.number c.args.limit)
+put : (c : Else-is_err) → c.put_account.new.accounts.items ≡ insert c.self.inside.accounts.items c.in-Err.at (new_account c.args.query c.args.number c.args.limit)
 put c = grind (arith, common_steps)
 
 placed_is : (c : Else-is_err) → insert c.self.inside.accounts.items c.in-Err.at (new_account c.args.query c.args.number c.args.limit) ≡ with_account c.self.inside.accounts.items (new_account c.args.query c.args.number c.args.limit)

@@ -13,11 +13,11 @@ each c x l = grind (arith, common_steps)
 
 pub invariant_of-self : goal.invariant_of-self
 invariant_of-self c =
-    IsTable-released c.self.inside.rows.items c.self.inside.held.items c.self.invariant c.args.t.0 c.release_each.new.rows.items c.take_list-held.new.held.items
-    c.release_each.ensures.len (each (goal.at.invariant_of-self c).After-release_each) c.take_list-held.ensures.left
+    IsTable-released c.self.inside.rows.items c.self.inside.held.items c.self.invariant c.args.t.0 c.release_each.new.rows.items c.empty_list.new.held.items
+    c.release_each.ensures.len (each (goal.at.invariant_of-self c).After-release_each) c.empty_list.ensures
 
 pub returns : goal.returns
 returns c =
     subst (λ (v : Table). map (λ (r : RowOf). r.locks) c.release_each.new.rows.items ≡ map (released c.args.t.0) v.locks) c.self.view_is
-    (released_all c.self.inside.rows.items c.self.inside.held.items c.self.invariant c.args.t.0 c.release_each.new.rows.items c.take_list-held.new.held.items
-    c.release_each.ensures.len (each (goal.at.returns c).After-release_each) c.take_list-held.ensures.left)
+    (released_all c.self.inside.rows.items c.self.inside.held.items c.self.invariant c.args.t.0 c.release_each.new.rows.items c.empty_list.new.held.items
+    c.release_each.ensures.len (each (goal.at.returns c).After-release_each) c.empty_list.ensures)

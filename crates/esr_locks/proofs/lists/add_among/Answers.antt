@@ -1,8 +1,8 @@
--- Why `add_reader` keeps its contract: the goals that are left to a proof of ours.
+-- Why `add_among` keeps its contract: the goals that are left to a proof of ours.
 use Rattle.std.proofs.Common.{sym, ap, not, arith}
 use Rattle.esr_history.proofs.Ascending.{placed_same, placed_gap, any_place, any_gap}
 use Rattle.esr_locks.specs.Rows.{reader}
-use Rattle.esr_locks.proofs.lists.add_reader.Goals as goal
+use Rattle.esr_locks.proofs.lists.add_among.Goals as goal
 
 pub returns-in-Ok-clause-items : goal.returns-in-Ok-clause-items
 returns-in-Ok-clause-items c = sym (placed_same (λ r. r.update.0) c.args.t.0 c.in-Ok.field-0 (reader c.args.t) c.args.readers.now.items c.requires.ascending c.in-Ok.ensures.found)

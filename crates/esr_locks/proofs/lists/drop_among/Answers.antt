@@ -1,7 +1,7 @@
--- Why `drop_row` keeps its contract: the goals that are left to a proof of ours.
+-- Why `drop_among` keeps its contract: the goals that are left to a proof of ours.
 use Rattle.std.proofs.Common.{◌∙◌, sym}
 use Rattle.esr_history.proofs.Ascending.{others_at, others_gap}
-use Rattle.esr_locks.proofs.lists.drop_row.Goals as goal
+use Rattle.esr_locks.proofs.lists.drop_among.Goals as goal
 
 pub returns-in-Ok : goal.returns-in-Ok
 returns-in-Ok g c = c.remove.ensures.items ∙ sym (others_at g.R.Numbered.number c.args.t.0 c.in-Ok.at c.args.rows.now.items c.remove.result c.requires c.in-Ok.ensures.found)
