@@ -1,34 +1,35 @@
--- Calls of a block, one after another.
-use Rattle.std.proofs.Common.{◌≡◌, ℕ, ℤ, zero, suc, ◌+◌, ◌<◌, true, List, [], ◌∷◌, ◌++◌, length, length-append, take, get_or, Option, Some, None, unwrap_or, refl, ap, ap₂, sym, subst, ◌∙◌, arith, inl, inr, one-add, append_assoc, slice_get, option_and_then}
+-- Calls of a block, one after another, some of them given again.
+use Rattle.std.proofs.Common.{◌≡◌, ◌⊎◌, ℕ, zero, suc, ◌+◌, ◌-◌, ◌*◌, ◌<◌, ◌≤◌, true, List, [], ◌∷◌, ◌++◌, All, length, length-append, take, take_all, get_or, Option, Some, None, unwrap_or, refl, ap, ap₂, sym, subst, ◌∙◌, arith, inl, inr, one-add, append_assoc, append-nil, slice_get, option_and_then, option_map}
 use Rattle.std.specs.List.{position, position_or_len}
-use Rattle.std.proofs.lemmas.List.{take_more, get_or_default}
+use Rattle.std.proofs.lemmas.List.{take_more}
+use Rattle.std.proofs.lemmas.Option.{slice_get_within, slice_get_past, slice_get_cases, get_or_from_slice_get, none-some, same_Some}
 use Rattle.std.proofs.lemmas.List.Elements.{All-push}
 use Rattle.std.proofs.lemmas.Bool.{cases_Bool}
 use Rattle.esr_history.specs.declared.event.Event.{Event}
 use Rattle.esr_history.specs.declared.event.Event.TheVariants as event
 use Rattle.esr_history.specs.declared.event.Reply.{Reply}
 use Rattle.esr_base.specs.declared.numbers.TxnId.{TxnId}
-use Rattle.esr_history.specs.Machine.{Distance}
 use Rattle.esr_session.specs.declared.receipt.Receipt.{Receipt}
-use Rattle.esr_session.specs.Receipts.{AreBlocked, is_blocked}
+use Rattle.esr_session.specs.Receipts.{is_blocked}
 use Rattle.esr_plan.specs.declared.call.Kind.TheVariants as kind
 use Rattle.esr_plan.specs.declared.call.Call.{Call}
 use Rattle.esr_plan.specs.declared.call.Call.TheVariants as call
-use Rattle.esr_plan.specs.Calls.{command_of, answers_of, number_by, event_by, place_of, IsResolved, AreResolved}
-use Rattle.esr_plan.specs.Blocks.{Answered, IsRun, AreRuns, more, event_of, begins, number_in, number_got, transaction_called}
+use Rattle.esr_drive.specs.Runs.{IsBlockRun, IsUnderWay, next_event}
+use Rattle.esr_plan.specs.Calls.{command_of, answers_of, number_by, event_by, place_of, IsResolved}
+use Rattle.esr_plan.specs.Blocks.{Answered, IsRun, AreRuns, start, more, event_of, begins, number_in, number_got, transaction_called}
 
--- what a patient call leaves is a run
-pub run_of : (d : Distance) (o : List ℤ) (w : List ℕ) (e : Event) (r : Receipt) (blocked : List Receipt)
-    → AreBlocked d o w e blocked → r.event ≡ e → length blocked < 100 → (is_blocked r.reply ≡ true → length blocked + 1 ≡ 100)
+-- what was given again until it was not blocked, or for the 100th time, is a run
+run_of : (e : Event) (r : Receipt) (blocked : List Receipt)
+    → All (λ s. (s.event ≡ e) × (is_blocked s.reply ≡ true)) blocked → r.event ≡ e → length blocked < 100 → (is_blocked r.reply ≡ true → length blocked + 1 ≡ 100)
     → IsRun e r.reply (blocked ++ r ∷ [])
-run_of d o w e r blocked all same few patient =
+run_of e r blocked all same few patient =
     let len = length-append blocked (r ∷ []) in
     record {
       blocked = blocked;
       last = r;
       parts = refl;
       events = All-push (λ (s : Receipt). s.event ≡ e) blocked r (λ k x lt. (all k x lt).0) same;
-      were_blocked = λ k x lt. (all k x lt).2;
+      were_blocked = λ k x lt. (all k x lt).1;
       most = omega (arith, len, few);
       patient = λ b. let all_turns = patient b in omega (arith, len, all_turns);
       reply_is = refl;
@@ -115,19 +116,120 @@ event_resolved names calls replies (call.Begin name kind.Update limit) e is = re
 event_resolved names calls replies (call.Begin name kind.Query limit) e is = refl
 event_resolved names calls replies (call.Begin name kind.StrictQuery limit) e is = refl
 
--- one more call with its receipts
-pub block_more : (names : List (List ℕ)) (d : Distance) (o : List ℤ) (w : List ℕ) (calls : List Call) (replies seen : List Reply) (i : ℕ) (x : Call) (e : Event) (r : Receipt) (old new blocked : List Receipt)
-    → seen ≡ replies → i < length calls → length replies ≡ i → AreResolved names calls → AreRuns names (answers_of (take i calls) replies) old
-    → e ≡ event_by seen (get_or calls i x)
-    → new ≡ old ++ blocked ++ r ∷ [] → AreBlocked d o w e blocked → length blocked < 100 → (is_blocked r.reply ≡ true → length blocked + 1 ≡ 100) → r.event ≡ e
-    → AreRuns names (answers_of (take (i + 1) calls) (replies ++ r.reply ∷ [])) new
-block_more names d o w calls replies seen i x e r old new blocked same lt len resolved runs makes grown all few patient is =
-    let c = get_or calls i x in
-    let earlier = answers_of (take i calls) replies in
-    let taken : length (take i calls) ≡ length replies = length_taken i calls lt ∙ sym len in
-    let makes_it : event_of names earlier (command_of c) ≡ Some e =
-    event_resolved names (take i calls) replies c taken (resolved i x lt) ∙ ap Some (sym (makes ∙ ap (λ l. event_by l c) same)) in
-    let on = more earlier old (command_of c) e r.reply (blocked ++ r ∷ []) runs makes_it (run_of d o w e r blocked all is few patient) in
-    let answers = answers_more calls replies i c r.reply lt len (get_or_default calls i x c lt) in
-    subst (λ (l : List Receipt). AreRuns names (answers_of (take (i + 1) calls) (replies ++ r.reply ∷ [])) l) (sym (grown ∙ append_assoc old blocked (r ∷ [])))
-    (subst (λ (l : List Answered). AreRuns names l (old ++ (blocked ++ r ∷ []))) (sym answers) on)
+-- ---- a block under way
+
+-- where there is a next event, a call has it
+call_next : (replies : List Reply) (e : Event) (o : Option Call) → option_map (event_by replies) o ≡ Some e
+    → (c : Call) × (o ≡ Some c) × (event_by replies c ≡ e)
+call_next replies e None is = absurd (none-some _ is)
+call_next replies e (Some c) is = (c, refl, same_Some _ _ is)
+
+pub begun : (calls : List Call) → IsUnderWay calls [] 0 []
+begun calls = record {
+  few = omega arith;
+  done = [];
+  again = [];
+  parts = refl;
+  runs = λ names resolved. start;
+  were_blocked = λ k x lt. absurd (omega (arith, lt));
+  times = refl;
+  most = omega arith;
+}
+
+-- the next call was blocked once more
+pub blocked_again : (calls : List Call) (replies : List Reply) (blocked : ℕ) (receipts : List Receipt) (r : Receipt)
+    → IsUnderWay calls replies blocked receipts → next_event calls replies ≡ Some r.event → is_blocked r.reply ≡ true → IsUnderWay calls replies (blocked + 1) (receipts ++ r ∷ [])
+blocked_again calls replies blocked receipts r way next is = record {
+  few = way.few;
+  done = way.done;
+  again = way.again ++ r ∷ [];
+  parts = ap (λ (rs : List Receipt). rs ++ r ∷ []) way.parts ∙ append_assoc way.done way.again (r ∷ []);
+  runs = way.runs;
+  were_blocked = All-push (λ (s : Receipt). (next_event calls replies ≡ Some s.event) × (is_blocked s.reply ≡ true)) way.again r way.were_blocked (next, is);
+  times = omega (arith, length-append way.again (r ∷ []), way.times);
+  most = way.most;
+}
+
+-- the next call was answered for the last time
+pub answered : (calls : List Call) (replies : List Reply) (blocked : ℕ) (receipts : List Receipt) (r : Receipt)
+    → IsUnderWay calls replies blocked receipts → next_event calls replies ≡ Some r.event → blocked < 100 → (is_blocked r.reply ≡ true → blocked + 1 ≡ 100)
+    → IsUnderWay calls (replies ++ r.reply ∷ []) 0 (receipts ++ r ∷ [])
+answered calls replies blocked receipts r way next few patient =
+    let i = length replies in
+    let found = call_next replies r.event (slice_get calls i) next in
+    let c = found.0 in
+    let lt : i < length calls = slice_get_within calls i c found.1 in
+    let is : get_or calls i c ≡ c = get_or_from_slice_get calls i c c found.1 in
+    let len : length (replies ++ r.reply ∷ []) ≡ i + 1 = length-append replies (r.reply ∷ []) in
+    let run : IsRun r.event r.reply (way.again ++ r ∷ []) =
+    run_of r.event r way.again (λ k s below. let b = way.were_blocked k s below in (same_Some _ _ (sym b.0 ∙ next), b.1)) refl (omega (arith, way.times, few)) (λ b. let p = patient b in omega (arith, way.times, p)) in
+    record {
+      few = omega (arith, len, lt);
+      done = way.done ++ (way.again ++ r ∷ []);
+      again = [];
+      parts = ap (λ (rs : List Receipt). rs ++ r ∷ []) way.parts ∙ append_assoc way.done way.again (r ∷ []) ∙ sym (append-nil (way.done ++ (way.again ++ r ∷ [])));
+      runs = λ names resolved.
+          let earlier = answers_of (take i calls) replies in
+          let resolved_it : IsResolved names (take i calls) c = subst (λ (x : Call). IsResolved names (take i calls) x) is (resolved i c lt) in
+          let makes : event_of names earlier (command_of c) ≡ Some r.event =
+          event_resolved names (take i calls) replies c (length_taken i calls lt) resolved_it ∙ ap Some found.2 in
+          let on = more earlier way.done (command_of c) r.event r.reply (way.again ++ r ∷ []) (way.runs names resolved) makes run in
+          let answers = answers_more calls replies i c r.reply lt refl (sym is) in
+          subst (λ (n : ℕ). AreRuns names (answers_of (take n calls) (replies ++ r.reply ∷ [])) (way.done ++ (way.again ++ r ∷ []))) (sym len)
+          (subst (λ (l : List Answered). AreRuns names l (way.done ++ (way.again ++ r ∷ []))) (sym answers) on);
+      were_blocked = λ k x below. absurd (omega (arith, below));
+      times = refl;
+      most = omega (arith, len, way.most, way.times, few, length-append way.done (way.again ++ r ∷ []), length-append way.again (r ∷ []));
+    }
+
+-- where all calls were answered nothing was given again since
+none_again : (calls : List Call) (replies : List Reply) (again : List Receipt) → length calls ≤ length replies
+    → All (λ r. (next_event calls replies ≡ Some r.event) × (is_blocked r.reply ≡ true)) again → again ≡ []
+none_again calls replies [] le all = refl
+none_again calls replies (r ∷ again) le all =
+    let none : next_event calls replies ≡ None = ap (option_map (event_by replies)) (slice_get_past calls (length replies) le) in
+    absurd (none-some _ (sym none ∙ (all 0 r (omega arith)).0))
+
+pub few_calls : (calls : List Call) (replies : List Reply) (blocked : ℕ) (receipts : List Receipt) → IsUnderWay calls replies blocked receipts → blocked < 100
+    → length receipts ≤ 100 * length calls
+few_calls calls replies blocked receipts way few =
+    let len = ap length way.parts ∙ length-append way.done way.again in
+    let split : (length calls ≤ length replies) ⊎ (length replies < length calls) = grind arith in
+    elim split [
+      | inl le ↦
+          let none = ap length (none_again calls replies way.again le way.were_blocked) in
+          omega (arith, len, none, way.most, way.few)
+      | inr lt ↦ omega (arith, len, way.times, few, way.most, lt)
+    ]
+
+-- a block whose calls were all answered is run
+pub block_run : (calls : List Call) (replies : List Reply) (blocked : ℕ) (receipts : List Receipt) → IsUnderWay calls replies blocked receipts → length calls ≤ length replies
+    → IsBlockRun calls replies receipts
+block_run calls replies blocked receipts way le =
+    let all : receipts ≡ way.done = way.parts ∙ ap (λ (rs : List Receipt). way.done ++ rs) (none_again calls replies way.again le way.were_blocked) ∙ append-nil way.done in
+    record {
+      every = omega (arith, le, way.few);
+      runs = λ names resolved.
+          subst (λ (rs : List Receipt). AreRuns names (answers_of calls replies) rs) (sym all)
+          (subst (λ (l : List Call). AreRuns names (answers_of l replies) way.done) (take_all (length replies) calls le) (way.runs names resolved));
+    }
+
+-- ---- how far a block still has to go
+
+has_next : (calls : List Call) (replies : List Reply) → length replies < length calls → next_event calls replies ≡ None → ⊥
+has_next calls replies lt none = elim (slice_get_cases calls (length replies)).1 [
+  | inl found ↦ none-some _ (sym none ∙ ap (option_map (event_by replies)) found.2)
+  | inr past ↦ absurd (omega (arith, past.0, lt))
+]
+
+not_zero : (n : ℕ) → (n ≡ 0 → ⊥) → 1 ≤ n
+not_zero zero not = absurd (not refl)
+not_zero (suc n) not = omega arith
+
+-- where there is a next event a hold of the lock brings the end nearer
+pub nearer : (calls : List Call) (replies : List Reply) (m n : ℕ) (old made new : List Receipt) → length calls ≡ m → length replies < m
+    → (n ≡ 0 → next_event calls replies ≡ None) → new ≡ old ++ made → n ≡ length made → length new ≤ 100 * m
+    → 100 * m + 1 - length new < 100 * m + 1 - length old
+nearer calls replies m n old made new len lt none grown count few =
+    let some = not_zero n (λ zero. has_next calls replies (omega (arith, len, lt)) (none zero)) in
+    omega (arith, some, count, few, ap length grown, length-append old made)

@@ -1,10 +1,28 @@
 -- What a session's thread gives back.
-use Rattle.std.specs.Prelude.{◌≡◌, ℕ, List, length, ◌<◌, slice_index_or}
+use Rattle.std.specs.Prelude.{◌≡◌, ℕ, List, All, length, ◌<◌, ◌≤◌, ◌*◌, ◌++◌, true, Option, Some, take, slice_get, slice_index_or, option_map}
+use Rattle.esr_history.specs.declared.event.Event.{Event}
 use Rattle.esr_history.specs.declared.event.Reply.{Reply}
 use Rattle.esr_session.specs.declared.receipt.Receipt.{Receipt}
+use Rattle.esr_session.specs.Receipts.{is_blocked}
 use Rattle.esr_plan.specs.declared.call.Call.{Call}
-use Rattle.esr_plan.specs.Calls.{AreResolved, answers_of}
+use Rattle.esr_plan.specs.Calls.{AreResolved, answers_of, event_by}
 use Rattle.esr_plan.specs.Blocks.{AreRuns}
+
+-- the event of the next call, by the last replies to those before it
+abbrev pub next_event : List Call → List Reply → Option Event
+next_event calls replies = option_map (event_by replies) (slice_get calls (length replies))
+
+-- the first calls of the block were answered, the last time so, and after them the next one was blocked so often
+pub record IsUnderWay (calls : List Call) (replies : List Reply) (blocked : ℕ) (receipts : List Receipt) : Type 0 where
+  pub few : length replies ≤ length calls
+  pub done : List Receipt
+  pub again : List Receipt
+  pub parts : receipts ≡ done ++ again
+  pub runs : (names : List (List ℕ)) → AreResolved names calls
+      → AreRuns names (answers_of (take (length replies) calls) replies) done
+  pub were_blocked : All (λ r. (next_event calls replies ≡ Some r.event) × (is_blocked r.reply ≡ true)) again
+  pub times : length again ≡ blocked
+  pub most : length done ≤ 100 * length replies
 
 -- all calls of the block were answered, the last time so; the names are those of the items
 pub record IsBlockRun (calls : List Call) (replies : List Reply) (receipts : List Receipt) : Type 0 where

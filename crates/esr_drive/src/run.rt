@@ -1,22 +1,64 @@
 //! Runs the blocks of a plan, each by a session on a thread of its own. A line that is blocked is given again, up to
 //! 100 times in all, and its last answer counts.
+//!
+//! A block answers several lines in one hold of the engine's lock, and the others wait meanwhile, so a hold has a bound.
+//! The bound grows with what the block has behind it: the first lines take the lock one by one, so that short blocks
+//! still come between each other, as a drive is there to show. A long block answers 1,024 lines in a hold, about a tenth
+//! of a millisecond; to wake a thread that sleeps takes some tens of microseconds, which a much shorter hold would not
+//! outweigh. A blocked line ends a hold. To let another thread run (`yield_now`) before the line is given again halved
+//! how often that is, and was slower where other programs want the processors too.
 
-ghost use Rattle.std.specs.Prelude.{◌≡◌, ◌<◌, ◌≤◌, ◌+◌, ◌*◌, List, [], ◌∷◌, ◌++◌, true, IfOk, length};
-ghost use Rattle.esr_items.specs.Weights.{weighted};
-ghost use Rattle.esr_session.specs.declared.receipt.Receipt.{Receipt};
-ghost use Rattle.esr_session.specs.Receipts.{AreBlocked, is_blocked};
+ghost use Rattle.std.specs.Prelude.{◌≡◌, ◌≤◌, ◌<◌, ◌*◌, [], IfOk, length, vec_capacity};
+ghost use Rattle.esr_drive.specs.declared.run.TheConstants.{MOST_LINES};
 ghost use Rattle.esr_drive.specs.Runs.{IsBlockRun};
 
 use esr_core::StepError;
 use esr_history::{Event, Reply};
 use esr_items::Weighted;
 use esr_plan::{Call, event_of};
-use esr_session::{Naming, Receipt, Session};
+use esr_session::{Asker, Naming, Receipt, Session, is_blocked};
 use std::alloc::Global;
 use std::sync::Wait;
 
 /// The most calls for one line.
 const TURNS: u32 = 100;
+
+/// The most lines that a block has answered in one hold of the lock.
+const MOST_LINES: usize = 1024;
+
+/// A block under way: its calls, the last replies to the first of them, and how often the next one was blocked.
+#[derive(Drop)]
+struct Progress<'a, 't> {
+    calls: &'a [Call<'t>],
+    replies: Vec<Reply>,
+    blocked: u32,
+    ghost room: { length calls.now ≤ vec_capacity replies },
+    ghost few: { blocked < 100 },
+}
+
+impl Asker for Progress<'_, '_> {
+    ghost use Rattle.std.specs.Prelude.{◌≡◌};
+    ghost use Rattle.esr_drive.specs.Runs.{IsUnderWay, next_event};
+
+    ghost Became = { λ first receipts now. (now.calls.now ≡ first.calls.now)
+        × IsUnderWay now.calls.now now.replies.items now.blocked receipts };
+
+    ghost next = { λ progress. next_event progress.calls.now progress.replies.items };
+
+    fn next(&self) -> Option<Event> {
+        let call = self.calls.get(self.replies.len())?;
+        Some(event_of(&self.replies, *call))
+    }
+
+    fn hear(&mut self, receipt: Receipt) {
+        if is_blocked(receipt.reply) && self.blocked + 1 < TURNS {
+            self.blocked += 1;
+        } else {
+            self.replies.push_reserved(receipt.reply);
+            self.blocked = 0;
+        }
+    }
+}
 
 /// A session after its block, with the last reply to each call, or why the block was not run to its end.
 #[derive(Drop)]
@@ -41,19 +83,15 @@ pub fn run_block<N: Naming, R: Wait>(
     Ran { session, outcome }
 }
 
-/// Gives an event until it is not blocked, at most 100 times.
-fn call_in_turns<N: Naming, R: Wait>(
-    rt: &R,
-    session: &mut Session<Weighted, N>,
-    event: Event,
-) -> Result<Receipt, StepError>
-    ensures turns { IfOk result (λ r. (blocked : List Receipt) × (session.new ≡ session.old ++ blocked ++ r ∷ [])
-        × AreBlocked weighted N.opening N.weights event blocked × (length blocked < 100)
-        × (is_blocked r.reply ≡ true → length blocked + 1 ≡ 100)) }
-    ensures event { IfOk result (λ r. r.event ≡ event) }
-    ensures most { length session.new ≤ length session.old + 100 }
+/// How many lines a block answers in its next hold of the lock, after so many.
+fn lines_of_hold(answered: usize) -> usize
+    ensures { (1 ≤ result) × (result ≤ MOST_LINES) }
 {
-    session.call_patient(rt, event, TURNS)
+    if answered / 8 < MOST_LINES {
+        answered / 8 + 1
+    } else {
+        MOST_LINES
+    }
 }
 
 /// The last replies to the calls.
@@ -67,15 +105,18 @@ fn call_all<N: Naming, R: Wait>(
     ensures run { IfOk result (λ replies. IsBlockRun calls.now replies.items session.new) }
     ensures most { length session.new ≤ 100 * length calls.now }
 {
-    let Ok(mut replies) = Vec::with_capacity(alloc, calls.len()) else {
+    let Ok(replies) = Vec::with_capacity(alloc, calls.len()) else {
         return Err(StepError::NoMemory);
     };
-    for i in 0..calls.len() {
-        let event = event_of(&replies, calls[i]);
-        match call_in_turns(rt, session, event) {
-            Ok(receipt) => replies.push_reserved(receipt.reply),
-            Err(error) => return Err(error),
-        }
+    let mut progress = Progress {
+        calls,
+        replies,
+        blocked: 0,
+    };
+    while progress.replies.len() < calls.len() {
+        let most = lines_of_hold(progress.replies.len());
+        session.call_several(rt, &mut progress, most)?;
     }
+    let Progress { replies, .. } = progress;
     Ok(replies)
 }

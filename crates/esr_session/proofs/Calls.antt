@@ -1,5 +1,5 @@
 -- Calls that are given again.
-use Rattle.std.proofs.Common.{◌≡◌, ℕ, true, List, [], ◌∷◌, ◌++◌, Result, Ok, Err, IfErr, ℤ}
+use Rattle.std.proofs.Common.{◌≡◌, ◌∙◌, ℕ, ◌+◌, true, List, [], ◌∷◌, ◌++◌, All, Result, Ok, Err, IfErr, ℤ, length, length-append, append_assoc, ap, arith}
 use Rattle.std.proofs.lemmas.List.Elements.{All-push}
 use Rattle.esr_history.specs.Machine.{Distance}
 use Rattle.esr_history.specs.declared.event.Event.{Event}
@@ -13,3 +13,15 @@ blocked_more d opening weights event rs r all same stands blocked =
 pub if_err : {T E : Type 0} (r : Result T E) (P : Type 0) → P → IfErr r (λ _. P)
 if_err (Ok x) P p = tt
 if_err (Err e) P p = p
+
+-- one more call after these
+pub one_more : (P : Receipt → Type 0) (old now new : List Receipt) (n : ℕ) (r : Receipt)
+    → (more : List Receipt) × (now ≡ old ++ more) × (length more ≡ n) × All P more → new ≡ now ++ r ∷ [] → P r
+    → (more : List Receipt) × (new ≡ old ++ more) × (length more ≡ n + 1) × All P more
+one_more P old now new n r so_far grown stands =
+    let more = so_far.0 in (
+      more ++ r ∷ [],
+      grown ∙ ap (λ (rs : List Receipt). rs ++ r ∷ []) so_far.1 ∙ append_assoc old more (r ∷ []),
+      omega (arith, length-append more (r ∷ []), so_far.2),
+      All-push P more r so_far.3 stands,
+    )

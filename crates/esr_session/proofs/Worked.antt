@@ -1,5 +1,5 @@
 -- Why a close is refused: one call was answered, and no session came.
-use Rattle.std.proofs.Common.{◌≡◌, ℕ, ℤ, pos, List, [], ◌∷◌, length, refl, arith}
+use Rattle.std.proofs.Common.{ℕ, ℤ, pos, List, [], ◌∷◌, refl, arith}
 use Rattle.esr_items.specs.Weights.{weighted}
 use Rattle.esr_history.specs.declared.event.Event.TheVariants.{BeginUpdate}
 use Rattle.esr_history.specs.declared.event.Reply.TheVariants.{Begun}

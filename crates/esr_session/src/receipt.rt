@@ -1,6 +1,8 @@
 //! Receipts of answered calls, and why receipts do not match a history.
+ghost use Rattle.std.specs.Prelude.{◌≡◌};
+ghost use Rattle.esr_session.specs.Receipts.{is_block, is_blocked};
 
-use esr_history::{Event, Reply};
+use esr_history::{Event, Refusal, Reply};
 use thiserror::Error;
 
 /// That a call was answered: its place in the history (counted from 0), its event and its reply.
@@ -24,4 +26,26 @@ pub enum CloseError {
     /// An allocation failed.
     #[error("out of memory")]
     NoMemory,
+}
+
+/// Whether the event is blocked, so that it may be answered otherwise when it is given again.
+fn is_block(why: Refusal) -> bool
+    ensures { result ≡ is_block why }
+{
+    match why {
+        Refusal::BlockedByLock(_) => true,
+        Refusal::BlockedByImport(_) => true,
+        Refusal::BlockedByExport(_) => true,
+        _ => false,
+    }
+}
+
+/// Whether the reply is that the event is blocked, by a lock or a limit.
+pub fn is_blocked(reply: Reply) -> bool
+    ensures { result ≡ is_blocked reply }
+{
+    match reply {
+        Reply::Refused(why) => is_block(why),
+        _ => false,
+    }
 }

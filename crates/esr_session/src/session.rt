@@ -2,17 +2,18 @@
 //!
 //! A session knows nothing of its engine between two calls, since others call it too; so its contract speaks of the
 //! receipt that a call leaves, and `step_on`, under the lock, says the rest.
-ghost use Rattle.std.specs.Prelude.{◌≡◌, ◌+◌, ◌<◌, ◌≤◌, List, [], ◌∷◌, ◌++◌, true, length, IfOk, OnErr, IfErr};
+ghost use Rattle.std.specs.Prelude.{◌≡◌, ◌+◌, ◌<◌, ◌≤◌, List, [], ◌∷◌, ◌++◌, true, length, All, None, IfOk, OnErr, IfErr};
 ghost use Rattle.esr_base.specs.declared.limits.TheConstants.{MOST_ENTRIES};
-ghost use Rattle.esr_session.specs.Receipts.{IsReceipt, AreBlocked, is_blocked, is_block};
+ghost use Rattle.esr_session.specs.Receipts.{IsReceipt, AreBlocked, is_blocked};
 ghost use Rattle.esr_session.specs.declared.receipt.Receipt.{Receipt};
 
+use crate::asker::{Asker, step_several};
 use crate::engine_name::Naming;
 use crate::lock::{Locked, Pocket, step_on};
 use crate::matcher::HasReceipts;
-use crate::receipt::Receipt;
+use crate::receipt::{Receipt, is_blocked};
 use esr_core::StepError;
-use esr_history::{Event, Refusal, Reply};
+use esr_history::Event;
 use esr_items::Metric;
 use std::alloc::Global;
 use std::marker::Model;
@@ -85,33 +86,31 @@ impl<M: Metric + Drop, N: Naming> Session<M, N> {
     {
         let mut last = self.call(rt, event)?;
         for _turn in 1..turns {
-            if !may_change(last.reply) {
+            if !is_blocked(last.reply) {
                 return Ok(last);
             }
             last = self.call(rt, event)?;
         }
         Ok(last)
     }
-}
 
-/// Whether the event is blocked, so that it may be answered otherwise when it is given again.
-fn is_block(why: Refusal) -> bool
-    ensures { result ≡ is_block why }
-{
-    match why {
-        Refusal::BlockedByLock(_) => true,
-        Refusal::BlockedByImport(_) => true,
-        Refusal::BlockedByExport(_) => true,
-        _ => false,
-    }
-}
-
-/// Whether the reply is that the event is blocked.
-fn may_change(reply: Reply) -> bool
-    ensures { result ≡ is_blocked reply }
-{
-    match reply {
-        Reply::Refused(why) => is_block(why),
-        _ => false,
+    /// Takes the lock once, and calls for the asker until a call is blocked or it asks nothing more, at most `most`
+    /// times; how many calls were answered. None only where nothing was asked.
+    ///
+    /// # Errors
+    /// Those of `step_on`, at the first call that answers one.
+    pub fn call_several<R: Wait, A: Asker>(
+        &mut self,
+        rt: &R,
+        asker: &mut A,
+        most: usize,
+    ) -> Result<usize, StepError>
+        ensures receipts { (more : List Receipt) × (self.new ≡ self.old ++ more) × (length more ≤ most)
+            × All (IsReceipt M.distance_by N.opening N.weights) more × IfOk result (λ n. n ≡ length more) }
+        ensures asker { (first : A) → A.Became first self.old asker.old → A.Became first self.new asker.new }
+        ensures none { IfOk result (λ n. 1 ≤ most → n ≡ 0 → A.next asker.old ≡ None) }
+    {
+        let mut locked = self.shared.lock(rt);
+        step_several(&mut *locked, &mut self.pocket, asker, most)
     }
 }

@@ -1,39 +1,51 @@
 -- Why `call_all` keeps its contract: the goals that are left to a proof of ours.
-use Rattle.std.proofs.Common.{arith, ap, ◌+◌, ◌≤◌, length, [], List, take, sym, subst, rules, take_all}
-use Rattle.esr_items.specs.Weights.{weighted}
+use Rattle.std.proofs.Common.{rules, arith, ap, ◌<◌, ◌≤◌, length, [], List, refl, sym, subst, ◌∙◌}
 use Rattle.esr_history.specs.declared.event.Reply.{Reply}
 use Rattle.esr_session.specs.declared.receipt.Receipt.{Receipt}
-use Rattle.esr_plan.specs.Blocks.{AreRuns, start}
-use Rattle.esr_plan.specs.Calls.{answers_of}
 use Rattle.esr_plan.specs.declared.call.Call.{Call}
-use Rattle.esr_drive.proofs.Calling.{block_more}
+use Rattle.esr_drive.specs.Runs.{IsBlockRun, IsUnderWay}
+use Rattle.esr_drive.proofs.Calling.{begun, few_calls, block_run, nearer}
 use Rattle.esr_drive.proofs.run.call_all.Goals as goal
 
-pub loop-i-init : goal.loop-i-init
-loop-i-init g c =
-    (search rules, search rules, λ names resolved. subst (λ (l : List Receipt). AreRuns names [] l) (sym c.requires) start, omega (arith, ap length c.requires))
+pub loop-progress-init : goal.loop-progress-init
+loop-progress-init g c =
+    let none = subst (λ (rs : List Receipt). IsUnderWay c.args.calls.now [] 0 rs) (sym c.requires) (begun c.args.calls.now) in
+    (refl, subst (λ (l : List Reply). IsUnderWay c.args.calls.now l 0 c.args.session.now) (sym c.in-Ok.ensures.items) none)
 
-pub loop-i-preserved : goal.loop-i-preserved
-loop-i-preserved g c =
-    let inv = c.loop-i.invariant in
-    let ok = c.in-Ok-call_in_turns.ensures.turns in
-    let r = c.in-Ok-call_in_turns.receipt in (
-      search rules,
-      search rules,
-      λ names resolved.
-          subst (λ (l : List Reply). AreRuns names (answers_of (take (c.loop-i.i + 1) c.args.calls.now) l) c.call_in_turns.new.session) (sym c.push_reserved.ensures.items)
-          (block_more names weighted g.N.Naming.opening g.N.Naming.weights c.args.calls.now c.loop-i.replies.items c.deref.result.now c.loop-i.i _ c.event_of-event.result r c.loop-i.session c.call_in_turns.new.session ok.0 c.deref.ensures.value c.loop-i-test.true (search rules) resolved (inv.2 names resolved) c.event_of-event.ensures ok.1 ok.2 ok.3 ok.4 c.in-Ok-call_in_turns.ensures.event),
-      omega (arith, inv.3, c.call_in_turns.ensures.most),
-    )
+pub loop-progress-smaller : goal.loop-progress-smaller
+loop-progress-smaller g c =
+    let inv = c.loop-progress.invariant in
+    let old = c.loop-progress.progress in
+    let new = c.call_several.new.asker in
+    let heard = c.call_several.ensures.asker old (refl, inv.1) in
+    let made = c.in_ok-call_several.ensures.receipts in
+    let len = ap length inv.0 in
+    let lt : length old.replies.items < length c.args.calls.now = search rules in
+    let few = few_calls new.calls.now new.replies.items new.blocked c.call_several.new.self heard.1 new.few in
+    nearer old.calls.now old.replies.items (length c.args.calls.now) c.in_ok-call_several.field-0 c.loop-progress.session made.0 c.call_several.new.self len lt (c.in_ok-call_several.ensures.none c.lines_of_hold-most.ensures.0) made.1 made.4 (omega (arith, few, ap length heard.0, len))
 
-pub returns-in-Err-clause-most : goal.returns-in-Err-clause-most
-returns-in-Err-clause-most g c = omega (arith, c.loop-i.invariant.3, c.call_in_turns.ensures.most, c.loop-i-test.true)
+pub loop-progress-preserved : goal.loop-progress-preserved
+loop-progress-preserved g c =
+    let heard = c.call_several.ensures.asker c.loop-progress.progress (refl, c.loop-progress.invariant.1) in
+    (heard.0 ∙ c.loop-progress.invariant.0, heard.1)
+
+pub returns-in_err-call_several-clause-most : goal.returns-in_err-call_several-clause-most
+returns-in_err-call_several-clause-most g c =
+    let new = c.call_several.new.asker in
+    let heard = c.call_several.ensures.asker c.loop-progress.progress (refl, c.loop-progress.invariant.1) in
+    let few = few_calls new.calls.now new.replies.items new.blocked c.call_several.new.self heard.1 new.few in
+    omega (arith, few, ap length heard.0, ap length c.loop-progress.invariant.0)
 
 pub returns-clause-run : goal.returns-clause-run
 returns-clause-run g c =
-    let le : length c.args.calls.now ≤ c.loop-i.i = search rules in
-    record {
-      every = search rules;
-      runs = λ names resolved.
-          subst (λ (l : List Call). AreRuns names (answers_of l c.loop-i.replies.items) c.loop-i.session) (take_all c.loop-i.i c.args.calls.now le) (c.loop-i.invariant.2 names resolved);
-    }
+    let inv = c.loop-progress.invariant in
+    let at = c.loop-progress.progress in
+    let le : length c.args.calls.now ≤ length at.replies.items = search rules in
+    subst (λ (l : List Call). IsBlockRun l at.replies.items c.loop-progress.session) inv.0
+    (block_run at.calls.now at.replies.items at.blocked c.loop-progress.session inv.1 (omega (arith, le, ap length inv.0)))
+
+pub returns-clause-most : goal.returns-clause-most
+returns-clause-most g c =
+    let inv = c.loop-progress.invariant in
+    let at = c.loop-progress.progress in
+    omega (arith, few_calls at.calls.now at.replies.items at.blocked c.loop-progress.session inv.1 at.few, ap length inv.0)

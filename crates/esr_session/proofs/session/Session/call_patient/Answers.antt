@@ -8,7 +8,7 @@ pub returns-in_err-last-2-clause-err : goal.returns-in_err-last-2-clause-err
 returns-in_err-last-2-clause-err g c =
     let inv = c.loop-turn.invariant in
     let last = c.loop-turn.last in
-    let blocked : is_blocked last.reply ≡ true = sym c.may_change.ensures ∙ c.if-not-may_change.false in
+    let blocked : is_blocked last.reply ≡ true = sym c.is_blocked.ensures ∙ c.if-not-is_blocked.false in
     let all : (rs : List Receipt) × (c.call-in-loop-turn.new.self ≡ c.args.self.now ++ rs) × AreBlocked g.M.Metric.distance_by g.N.Naming.opening g.N.Naming.weights c.args.event rs × (length rs < c.args.turns) = (
       inv.0 ++ last ∷ [],
       c.in_err-last-2.ensures.err ∙ (inv.1 ∙ append_assoc c.args.self.now inv.0 (last ∷ [])),
@@ -22,7 +22,7 @@ loop-turn-preserved g c =
     let inv = c.loop-turn.invariant in
     let last = c.loop-turn.last in
     let next = c.in_ok-last-2.last in
-    let blocked : is_blocked last.reply ≡ true = sym c.may_change.ensures ∙ c.if-not-may_change.false in
+    let blocked : is_blocked last.reply ≡ true = sym c.is_blocked.ensures ∙ c.if-not-is_blocked.false in
     let so_far : c.loop-turn.self ≡ c.args.self.now ++ (inv.0 ++ last ∷ []) = inv.1 ∙ append_assoc c.args.self.now inv.0 (last ∷ []) in (
       inv.0 ++ last ∷ [],
       c.in_ok-last-2.ensures.pocket ∙ ap (λ (rs : List Receipt). rs ++ next ∷ []) so_far,
