@@ -11,32 +11,23 @@ ghost use Rattle.esr_base.specs.Watch.{failed};
 ghost use Rattle.esr_cli.specs.Job.{work_of, HasWorkers as HasItsWorkers};
 ghost use Rattle.esr_drive.specs.Drive.{HasWorkers};
 
-mod fault;
-mod judgement;
-mod meter;
-mod open;
-mod output;
-mod work;
-
-use crate::fault::{DriveText, RunText, line_at_fault};
-use crate::judgement::{Question, check};
-use crate::meter::is_shown;
-use crate::open::open_file;
-use crate::work::{Certifying, Running, TellingOf, audit_script, survey_script, work_on};
 use esr_cli::{Format, Job, Progress, Task, command};
 use esr_drive::{Form, NoGate, drive};
 use esr_explain::Explaining;
 use esr_explore::{ExploreFault, Measure, Search, explore};
 use esr_history::Watched;
-use esr_lint::{KeptLine, Listing, Source};
+use esr_lint::{KeptLine, Source};
 use esr_page::Page;
 use esr_picture::Drawing;
-use esr_prose::Prose;
-use esr_script::{Copied, lint};
+use esr_prose::{Passage, Prose};
+use esr_script::Copied;
 use esr_sheet::{AuditSheet, Data, ExplanationSheet, Ledger};
 use esr_why::Why;
+use esr_work::{
+    Certifying, DriveText, Question, Running, TellingOf, audit_script, check, fail, is_shown,
+    line_at_fault, list_faults, open_file, survey_script, work_on,
+};
 use std::alloc::AllocError;
-use std::fmt::Display;
 use std::io;
 use std::io::Read;
 use std::process::ExitCode;
@@ -133,7 +124,14 @@ fn do_task<
             let work = TellingOf { name, telling };
             work_on(rt, shows, job, source, input, &work)
         }
-        Task::Page { worst } => survey_script(rt, shows, job, source, input, &Page { worst }),
+        Task::Page { worst } => {
+            let page = Page {
+                worst,
+                picture: &Drawing,
+                words: &Passage,
+            };
+            survey_script(rt, shows, job, source, input, &page)
+        }
         Task::Audit { workers } => match data_of(job.format) {
             Some(data) => survey_script(rt, shows, job, source, input, &AuditSheet { data }),
             None => audit_script(rt, shows, job, source, input, workers),
@@ -298,37 +296,4 @@ fn lint_each<'a, R: Input + Print + Eprint + Files + AllocGlobal + Clock + Threa
         }
     }
     worst
-}
-
-/// Lists what is wrong in a script.
-fn list_faults<I: Read + Drop>(
-    rt: &(impl Print + Eprint + AllocGlobal),
-    source: Source<'_>,
-    input: I,
-) -> u8 {
-    let alloc = rt.alloc();
-    let mut reader = Watched::new(input);
-    let mut listing = Listing::new(alloc, io::writer(rt), source);
-    let ended = lint(alloc, &mut reader, &mut listing);
-    let written = listing.finish();
-    match ended {
-        Err(fault) => fail(
-            rt,
-            &RunText {
-                source,
-                fault,
-                line: listing.next_line(),
-                query: None,
-            },
-            1,
-        ),
-        Ok(()) if !written => fail(rt, &"write failed", 1),
-        Ok(()) => u8::from(listing.count() > 0),
-    }
-}
-
-/// One line on standard error, and the status, which stays where standard error takes nothing.
-pub fn fail(rt: &impl Eprint, text: &impl Display, status: u8) -> u8 {
-    let _ = eprintln!(rt; "esr: {text}");
-    status
 }

@@ -1,6 +1,6 @@
 -- What a page is.
 use Rattle.std.specs.Prelude.{◌≡◌, ℕ, List, [], ◌∷◌, ◌++◌, codes}
-use Rattle.esr_picture.specs.Markup.{IsMarkup}
+use Rattle.esr_text.specs.Markup.{IsMarkup}
 
 -- one document of one element, in which each other element is closed
 abbrev pub IsPage : List ℕ → Type 0

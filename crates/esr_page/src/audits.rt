@@ -11,6 +11,7 @@ use esr_audit::{CommitLists, Finding, audit_query_in, commit_lists};
 use esr_cert::Certificate;
 use esr_history::{History, TxnId};
 use esr_items::Weighted;
+use esr_text::first;
 use std::alloc::{AllocError, Global};
 
 /// So many updates the problems that are kept have together at most.
@@ -49,7 +50,7 @@ fn rank_of(finding: &Finding) -> (u64, u64, u32) {
 fn count_kept(findings: &[Finding], count: usize) -> usize {
     let mut updates = 0usize;
     let mut kept = 0usize;
-    for finding in findings.iter().take(count) {
+    for finding in first(findings, count) {
         updates = updates.saturating_add(finding.problem.updates().len());
         if updates <= MOST_UPDATES {
             kept = kept.saturating_add(1);
@@ -74,36 +75,63 @@ impl Audits {
         }
     }
 
-    /// Keeps a finding, if it is among so many that were farthest off.
-    fn keep(
+    /// How many of the findings that are kept come before one that is not among them.
+    fn place_of(&self, finding: &Finding) -> usize {
+        let rank = rank_of(finding);
+        let mut place = 0usize;
+        for other in &self.farthest {
+            if rank < rank_of(other) {
+                return place;
+            }
+            place = place.saturating_add(1);
+        }
+        place
+    }
+
+    /// Keeps a finding at its place, and so many of all.
+    fn insert(
         &mut self,
         alloc: Global,
+        place: usize,
         mut finding: Finding,
         count: usize,
     ) -> Result<(), AllocError> {
-        let next = rank_of(&finding);
-        let place = self
-            .farthest
-            .iter()
-            .position(|other| next < rank_of(other))
-            .unwrap_or(self.farthest.len());
-        if place >= count {
-            return Ok(());
-        }
         drop_flow(alloc, &mut finding.certificate);
+        let place = place.min(self.farthest.len());
         self.farthest.insert(place, finding)?;
         let kept = count_kept(&self.farthest, count);
         self.farthest.truncate(kept);
         Ok(())
     }
 
-    /// Notes what was found of a query.
-    fn note(&mut self, alloc: Global, finding: Finding, count: usize) -> Result<(), AllocError> {
+    /// Notes how far a query was off.
+    fn note(&mut self, finding: &Finding) -> Result<(), AllocError> {
         self.found.push(Found {
             query: finding.query,
             distance: finding.distance,
         })?;
-        self.keep(alloc, finding, count)
+        Ok(())
+    }
+
+    /// Audits a query, notes what is found of it, and keeps it, if it is among so many that were farthest off.
+    fn audit(
+        &mut self,
+        alloc: Global,
+        history: &History<Weighted>,
+        committed: &[TxnId],
+        query: TxnId,
+        count: usize,
+    ) -> Result<(), AllocError>
+        requires { map (λ t. t.0) committed.now ≡ commit_order (done history.now.schedule) }
+    {
+        let finding = finding_in(alloc, history, committed, query)?;
+        self.note(&finding)?;
+        let place = self.place_of(&finding);
+        if place < count {
+            self.insert(alloc, place, finding, count)
+        } else {
+            Ok(())
+        }
     }
 
     /// What was found of a query, if that was kept.
@@ -145,8 +173,7 @@ pub fn audit_all(
     };
     let mut audits = Audits::new(alloc, updates);
     for query in &queries {
-        let finding = finding_in(alloc, history, &all, *query)?;
-        audits.note(alloc, finding, count)?;
+        audits.audit(alloc, history, &all, *query, count)?;
     }
     Ok(audits)
 }

@@ -6,7 +6,7 @@
 
 use crate::audits::Found;
 use crate::rows::{Row, Rows};
-use esr_story::{push_count, push_number};
+use esr_text::{first, push_count, push_number};
 use std::alloc::{AllocError, Global};
 
 /// So many queries have names below their columns.
@@ -81,7 +81,7 @@ fn push_columns(
     found: &[Found],
     top: u64,
 ) -> Result<(), AllocError> {
-    for found in found.iter().take(MOST_COLUMNS) {
+    for found in first(found, MOST_COLUMNS) {
         if let Some(row) = all.of(found.query) {
             push_column(out, row, top)?;
         }
@@ -161,7 +161,17 @@ pub fn push_chart(
         return out.push_str("<p>No query has committed.</p>\n");
     }
     let charges = charges_of(alloc, &all.rows)?;
-    let top = top_of(&all.rows, &charges);
+    push_charted(out, all, found, &charges)
+}
+
+/// The chart of some committed queries, which were charged this.
+fn push_charted(
+    out: &mut String,
+    all: &mut Rows<'_>,
+    found: &[Found],
+    charges: &[u64],
+) -> Result<(), AllocError> {
+    let top = top_of(&all.rows, charges);
     out.push_str("<h2>Committed queries, in the order of their commits</h2>\n")?;
     let class = if found.len() > MOST_NAMED {
         "chart many"
@@ -174,5 +184,5 @@ pub fn push_chart(
     )?;
     push_columns(out, all, found, top)?;
     out.push_str("</ol></div>\n")?;
-    push_legend(out, top, &charges)
+    push_legend(out, top, charges)
 }

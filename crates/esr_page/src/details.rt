@@ -1,31 +1,36 @@
-//! Picture and prose of the queries that were farthest off.
+//! Picture and prose of the queries that were farthest off. A page is given what makes these, and does not know it.
 
 use crate::audits::{Audits, rank};
+use crate::page::Page;
 use crate::rows::{Row, Rows};
 use esr_audit::{AuditError, Finding, audit_query};
 use esr_history::TxnId;
-use esr_picture::picture_with;
-use esr_prose::{Block, Kind, Tale, prose_of};
 use esr_report::name_of_transaction;
-use esr_story::{Audited, push_number, story_of};
+use esr_story::{Audited, Part, Story, story_of};
 use esr_telling::Chronicle;
+use esr_text::{first, push_number};
 use std::alloc::{AllocError, Global};
 
-/// Marks so many queries that were farthest off, and gives them, the farthest first.
-pub fn tell_farthest(
-    alloc: Global,
-    all: &mut Rows<'_>,
-    count: usize,
-) -> Result<Vec<TxnId>, AllocError> {
+/// The committed queries, those that were farthest off first.
+fn farthest(alloc: Global, rows: &[Row<'_>]) -> Result<Vec<(u64, u64, u32)>, AllocError> {
     let mut ranks = Vec::new(alloc);
-    for row in &all.rows {
+    for row in rows {
         if let Some(distance) = row.distance() {
             ranks.push(rank(distance, row.charged, row.query))?;
         }
     }
     ranks.sort_unstable();
+    Ok(ranks)
+}
+
+/// Marks the queries of these ranks, and gives them.
+fn mark(
+    alloc: Global,
+    all: &mut Rows<'_>,
+    ranks: &[(u64, u64, u32)],
+) -> Result<Vec<TxnId>, AllocError> {
     let mut told = Vec::new(alloc);
-    for (_, _, number) in ranks.iter().take(count) {
+    for (_, _, number) in ranks {
         let query = TxnId(*number);
         if let Some(row) = all.of(query) {
             row.is_told = true;
@@ -35,23 +40,17 @@ pub fn tell_farthest(
     Ok(told)
 }
 
-/// Blocks of prose.
-fn push_blocks(out: &mut String, blocks: &[Block]) -> Result<(), AllocError> {
-    let mut is_in_list = false;
-    for block in blocks {
-        let is_point = block.kind == Kind::Point;
-        if is_point != is_in_list {
-            out.push_str(if is_point { "<ul>\n" } else { "</ul>\n" })?;
-            is_in_list = is_point;
-        }
-        out.push_str(if is_point { "<li>" } else { "<p>" })?;
-        out.push_str(&block.words)?;
-        out.push_str(if is_point { "</li>\n" } else { "</p>\n" })?;
-    }
-    out.push_str(if is_in_list { "</ul>\n" } else { "" })
+/// Marks so many queries that were farthest off, and gives them, the farthest first.
+pub fn tell_farthest(
+    alloc: Global,
+    all: &mut Rows<'_>,
+    count: usize,
+) -> Result<Vec<TxnId>, AllocError> {
+    let ranks = farthest(alloc, &all.rows)?;
+    mark(alloc, all, first(&ranks, count))
 }
 
-/// The heading of a query.
+/// The heading of a query, and the start of its picture.
 fn push_heading(out: &mut String, name: &str, distance: u64) -> Result<(), AllocError> {
     write!(out, "<section id='q-{name}'><h3>{name}: ")?;
     if distance == 0 {
@@ -60,88 +59,104 @@ fn push_heading(out: &mut String, name: &str, distance: u64) -> Result<(), Alloc
         out.push_str("off by ")?;
         push_number(out, distance)?;
     }
-    out.push_str("</h3>\n")
-}
-
-/// A query with picture and prose.
-fn push_told<'a>(
-    alloc: Global,
-    out: &mut String,
-    chronicle: &'a Chronicle<'a>,
-    finding: &'a Finding,
-) -> Result<(), AllocError> {
-    let story = story_of(alloc, &chronicle.history, finding.query)?;
-    let audited = Audited {
-        items: &chronicle.items,
-        transactions: &chronicle.transactions,
-        history: &chronicle.history,
-        finding,
-    };
-    let tale = Tale {
-        items: &chronicle.items,
-        transactions: &chronicle.transactions,
-        history: &chronicle.history,
-        lines: chronicle.lines,
-        query: finding.query,
-        finding: Some(finding),
-    };
-    let name = name_of_transaction(&chronicle.transactions, finding.query);
-    push_heading(out, name, finding.distance)?;
     write!(
         out,
-        "<div class='wide' tabindex='0' role='group' aria-label='Picture of {name}'>\n"
-    )?;
-    out.push_str(&picture_with(alloc, &audited, &story)?)?;
-    out.push_str("</div>\n")?;
-    push_blocks(out, &prose_of(alloc, &tale, &story)?)?;
-    write!(
-        out,
-        "<p><a href='#r-{name}'>{name} in the table</a></p></section>\n"
+        "</h3>\n<div class='wide' tabindex='0' role='group' aria-label='Picture of {name}'>\n"
     )
 }
 
-/// A query with picture and prose, after one more audit where what was found is not kept.
-fn push_query(
-    alloc: Global,
-    out: &mut String,
-    chronicle: &Chronicle<'_>,
-    audits: &Audits,
-    query: TxnId,
-) -> Result<(), AllocError> {
-    if let Some(finding) = audits.finding_of(query) {
-        return push_told(alloc, out, chronicle, finding);
+impl<P: Part, W: Part> Page<'_, P, W> {
+    /// Picture and words of a query of which the history tells this.
+    fn push_parts(
+        &self,
+        alloc: Global,
+        out: &mut String,
+        audited: &Audited<'_>,
+        lines: &[u32],
+        story: &Story,
+    ) -> Result<(), AllocError> {
+        self.picture.push(alloc, out, audited, lines, story)?;
+        out.push_str("</div>\n")?;
+        self.words.push(alloc, out, audited, lines, story)
     }
-    match audit_query(alloc, &chronicle.history, query) {
-        Ok(finding) => push_told(alloc, out, chronicle, &finding),
-        Err(AuditError::NoMemory) => Err(AllocError),
-        Err(_) => Ok(()),
+
+    /// Picture and words of a query, within its section.
+    fn push(
+        &self,
+        alloc: Global,
+        out: &mut String,
+        audited: &Audited<'_>,
+        lines: &[u32],
+    ) -> Result<(), AllocError> {
+        let story = story_of(alloc, audited.history, audited.finding.query)?;
+        self.push_parts(alloc, out, audited, lines, &story)
+    }
+
+    /// A query with picture and words.
+    fn push_told(
+        &self,
+        alloc: Global,
+        out: &mut String,
+        chronicle: &Chronicle<'_>,
+        finding: &Finding,
+    ) -> Result<(), AllocError> {
+        let audited = Audited {
+            items: &chronicle.items,
+            transactions: &chronicle.transactions,
+            history: &chronicle.history,
+            finding,
+        };
+        let name = name_of_transaction(&chronicle.transactions, finding.query);
+        push_heading(out, name, finding.distance)?;
+        self.push(alloc, out, &audited, chronicle.lines)?;
+        write!(
+            out,
+            "<p><a href='#r-{name}'>{name} in the table</a></p></section>\n"
+        )
+    }
+
+    /// A query with picture and words, after one more audit where what was found is not kept.
+    fn push_query(
+        &self,
+        alloc: Global,
+        out: &mut String,
+        chronicle: &Chronicle<'_>,
+        audits: &Audits,
+        query: TxnId,
+    ) -> Result<(), AllocError> {
+        if let Some(finding) = audits.finding_of(query) {
+            return self.push_told(alloc, out, chronicle, finding);
+        }
+        match audit_query(alloc, &chronicle.history, query) {
+            Ok(finding) => self.push_told(alloc, out, chronicle, &finding),
+            Err(AuditError::NoMemory) => Err(AllocError),
+            Err(_) => Ok(()),
+        }
+    }
+
+    /// Picture and words of these queries.
+    pub fn push_details(
+        &self,
+        alloc: Global,
+        out: &mut String,
+        chronicle: &Chronicle<'_>,
+        audits: &Audits,
+        told: &[TxnId],
+    ) -> Result<(), AllocError> {
+        for query in told {
+            self.push_query(alloc, out, chronicle, audits, *query)?;
+        }
+        Ok(())
     }
 }
 
-/// What queries are told in full: those that were farthest off, or where none was off, those that were charged most.
-fn heading_of(rows: &[Row<'_>]) -> &'static str {
-    if rows.iter().any(|row| row.distance().unwrap_or(0) > 0) {
+/// What queries are told in full, if any are: those that were farthest off, or where none was off, those that were charged most.
+pub fn heading_of(rows: &[Row<'_>], told: &[TxnId]) -> &'static str {
+    if told.is_empty() {
+        ""
+    } else if rows.iter().any(|row| row.distance().unwrap_or(0) > 0) {
         "<h2>The farthest off</h2>\n"
     } else {
         "<h2>None was off; these were charged most</h2>\n"
     }
-}
-
-/// Picture and prose of these queries.
-pub fn push_details(
-    alloc: Global,
-    out: &mut String,
-    chronicle: &Chronicle<'_>,
-    audits: &Audits,
-    rows: &[Row<'_>],
-    told: &[TxnId],
-) -> Result<(), AllocError> {
-    if told.is_empty() {
-        return Ok(());
-    }
-    out.push_str(heading_of(rows))?;
-    for query in told {
-        push_query(alloc, out, chronicle, audits, *query)?;
-    }
-    Ok(())
 }

@@ -5,22 +5,24 @@ ghost use Rattle.esr_page.specs.Page.{IsPage};
 
 use crate::audits::{Audits, audit_all};
 use crate::chart::push_chart;
-use crate::details::{push_details, tell_farthest};
-use crate::rows::{Row, rows_of};
-use crate::style::{HEAD, SCRIPT};
+use crate::details::{heading_of, tell_farthest};
+use crate::rows::{Row, Rows, rows_of};
+use crate::style::{head, script};
 use crate::table::push_table;
 use esr_history::TxnId;
-use esr_picture::markup_or_nothing;
 use esr_report::{Names, name_of_transaction};
-use esr_story::{push_count, push_number};
+use esr_story::Part;
 use esr_telling::{Chronicle, Survey};
+use esr_text::{markup_or_nothing, push_count, push_number};
 use std::alloc::{AllocError, Global};
 
 /// The page about a script.
 #[derive(Drop)]
-pub struct Page {
+pub struct Page<'a, P, W> {
     /// Of how many queries picture and prose are told, those that were farthest off.
     pub worst: u64,
+    pub picture: &'a P,
+    pub words: &'a W,
 }
 
 /// What the queries were off and charged together, of those that committed.
@@ -92,60 +94,83 @@ fn push_order(out: &mut String, names: &Names, order: &[TxnId]) -> Result<(), Al
     )?;
     push_count(out, order.len() as u64, " update", " updates")?;
     out.push_str("</summary>\n<p class='order'>")?;
-    for (place, update) in order.iter().enumerate() {
-        if place > 0 {
-            out.push_str(", ")?;
-        }
+    let mut joint = "";
+    for update in order {
+        out.push_str(joint)?;
         out.push_str(name_of_transaction(names, *update))?;
+        joint = ", ";
     }
     out.push_str("</p></details>\n")
 }
 
-/// What the document has within its outermost element.
-fn body_of(
+/// What stands above the queries that are told in full: the sums, the chart and the table.
+fn push_overview(
     alloc: Global,
-    chronicle: &Chronicle<'_>,
+    out: &mut String,
+    all: &mut Rows<'_>,
     audits: &Audits,
-    count: usize,
-) -> Result<String, AllocError> {
-    let mut all = rows_of(alloc, chronicle, &audits.found)?;
-    let told = tell_farthest(alloc, &mut all, count)?;
-    let mut out = String::new(alloc);
-    out.push_str(HEAD)?;
-    push_sums(&mut out, totals_of(&all.rows), audits.order.len() as u64)?;
-    push_chart(alloc, &mut out, &mut all, &audits.found)?;
-    push_table(&mut out, &all.rows)?;
-    push_details(alloc, &mut out, chronicle, audits, &all.rows, &told)?;
-    push_order(&mut out, &chronicle.transactions, &audits.order)?;
-    out.push_str(SCRIPT)?;
-    Ok(out)
+) -> Result<(), AllocError> {
+    out.push_str(head())?;
+    push_sums(out, totals_of(&all.rows), audits.order.len() as u64)?;
+    push_chart(alloc, out, all, &audits.found)?;
+    push_table(out, &all.rows)
 }
 
-/// The page about a script of which this was found. What is written promises nothing, so it is tested to be markup
-/// before it is put into the document, and nothing stands for it where it is not; that never comes.
-fn page_of(
-    alloc: Global,
-    chronicle: &Chronicle<'_>,
-    audits: &Audits,
-    count: usize,
-) -> Result<Vec<u8>, AllocError>
+/// The document with this body. What is written promises nothing, so it is tested to be markup before it is put into the
+/// document, and nothing stands for it where it is not; that never comes.
+fn document(alloc: Global, body: String) -> Result<Vec<u8>, AllocError>
     ensures { IfOk result (λ text. IsPage text.items) }
 {
-    let body = markup_or_nothing(alloc, body_of(alloc, chronicle, audits, count)?)?;
+    let body = markup_or_nothing(alloc, body)?;
     let text = format!(in alloc; "<!DOCTYPE html><html lang='en'>{body}</html>\n")?;
     Ok(text.into_bytes())
 }
 
-/// The page about a script.
-fn page_about(alloc: Global, chronicle: &Chronicle<'_>, worst: u64) -> Result<Vec<u8>, AllocError>
-    ensures { IfOk result (λ text. IsPage text.items) }
-{
-    let count = usize::try_from(worst).unwrap_or(usize::MAX);
-    let audits = audit_all(alloc, &chronicle.history, count)?;
-    page_of(alloc, chronicle, &audits, count)
+impl<P: Part, W: Part> Page<'_, P, W> {
+    /// All that the document has within its outermost element, one after another.
+    fn push_body(
+        &self,
+        alloc: Global,
+        out: &mut String,
+        chronicle: &Chronicle<'_>,
+        audits: &Audits,
+        all: &mut Rows<'_>,
+        told: &[TxnId],
+    ) -> Result<(), AllocError> {
+        push_overview(alloc, out, all, audits)?;
+        out.push_str(heading_of(&all.rows, told))?;
+        self.push_details(alloc, out, chronicle, audits, told)?;
+        push_order(out, &chronicle.transactions, &audits.order)?;
+        out.push_str(script())
+    }
+
+    /// What the document has within its outermost element.
+    fn body(
+        &self,
+        alloc: Global,
+        chronicle: &Chronicle<'_>,
+        audits: &Audits,
+        count: usize,
+    ) -> Result<String, AllocError> {
+        let mut all = rows_of(alloc, chronicle, &audits.found)?;
+        let told = tell_farthest(alloc, &mut all, count)?;
+        let mut out = String::new(alloc);
+        self.push_body(alloc, &mut out, chronicle, audits, &mut all, &told)?;
+        Ok(out)
+    }
+
+    /// The page about a script.
+    fn about(&self, alloc: Global, chronicle: &Chronicle<'_>) -> Result<Vec<u8>, AllocError>
+        ensures { IfOk result (λ text. IsPage text.items) }
+    {
+        let count = usize::try_from(self.worst).unwrap_or(usize::MAX);
+        let audits = audit_all(alloc, &chronicle.history, count)?;
+        let body = self.body(alloc, chronicle, &audits, count)?;
+        document(alloc, body)
+    }
 }
 
-impl Survey for Page {
+impl<P: Part, W: Part> Survey for Page<'_, P, W> {
     ghost IsTextOf = { λ _ _ text. IsPage text };
 
     fn text_of(
@@ -153,7 +178,7 @@ impl Survey for Page {
         alloc: Global,
         chronicle: &Chronicle<'_>,
     ) -> Result<Option<Vec<u8>>, AllocError> {
-        match page_about(alloc, chronicle, self.worst) {
+        match self.about(alloc, chronicle) {
             Ok(text) => Ok(Some(text)),
             Err(error) => Err(error),
         }

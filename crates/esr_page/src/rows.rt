@@ -59,33 +59,48 @@ pub struct Rows<'a> {
     place_of: Vec<Option<usize>>,
 }
 
+/// A query, as it began and ended, if it is one.
+fn row_of<'a>(chronicle: &'a Chronicle<'_>, query: TxnId) -> Option<Row<'a>> {
+    let facts = chronicle.history.facts(query)?;
+    if !facts.query {
+        return None;
+    }
+    Some(Row {
+        query,
+        name: name_of_transaction(&chronicle.transactions, query),
+        is_strict: false,
+        limit: facts.limit,
+        charged: chronicle.history.import(query),
+        reads: 0,
+        end: end_of(&chronicle.history, facts.end),
+        is_told: false,
+    })
+}
+
 /// The queries, as they began and ended.
 fn queries_of<'a>(alloc: Global, chronicle: &'a Chronicle<'_>) -> Result<Rows<'a>, AllocError> {
-    let history = &chronicle.history;
-    let count = history.begun_count();
+    let begun = chronicle.history.begun_count();
+    let last = u32::try_from(begun).unwrap_or(u32::MAX);
     let mut rows = Vec::new(alloc);
-    let mut place_of = vec![in alloc; None; count.saturating_add(1)]?;
-    for (number, place) in (0u32..65_536).zip(place_of.iter_mut()) {
-        let query = TxnId(number);
-        let Some(facts) = history.facts(query) else {
-            continue;
-        };
-        if !facts.query {
-            continue;
+    for number in 0..last.saturating_add(1) {
+        if let Some(row) = row_of(chronicle, TxnId(number)) {
+            rows.push(row)?;
         }
-        *place = Some(rows.len());
-        rows.push(Row {
-            query,
-            name: name_of_transaction(&chronicle.transactions, query),
-            is_strict: false,
-            limit: facts.limit,
-            charged: history.import(query),
-            reads: 0,
-            end: end_of(history, facts.end),
-            is_told: false,
-        })?;
     }
+    let mut place_of = vec![in alloc; None; begun.saturating_add(1)]?;
+    put_places(&mut place_of, &rows);
     Ok(Rows { rows, place_of })
+}
+
+/// Puts the place of each row at the number of its query.
+fn put_places(place_of: &mut [Option<usize>], rows: &[Row<'_>]) {
+    let mut next = 0usize;
+    for row in rows {
+        if let Some(place) = place_of.get_mut(row.query.0 as usize) {
+            *place = Some(next);
+        }
+        next = next.saturating_add(1);
+    }
 }
 
 impl<'a> Rows<'a> {

@@ -1,8 +1,18 @@
 //! The fixed parts of the page: its head with the style, and the script that sorts the table. On paper the buttons of its
 //! head have no boxes: a head that has any is not repeated on each sheet.
 
-/// The head, and the start of the body. Classes have three letters or more, since pictures bring some of one letter.
-pub const HEAD: &str = "
+/// The head, and the start of the body.
+pub fn head() -> &'static str {
+    HEAD
+}
+
+/// The script, and the end of the body.
+pub fn script() -> &'static str {
+    SCRIPT
+}
+
+// Classes have three letters or more, since pictures bring some of one letter.
+static HEAD: &str = "
 <head>
 <meta charset='utf-8'/>
 <meta name='viewport' content='width=device-width, initial-scale=1'/>
@@ -59,8 +69,8 @@ tr:target,section:target h3{outline:2px solid var(--link)}
 <h1>How far the reports were off</h1>
 ";
 
-/// The script that lets a press on a heading of the table sort by its column, and the end of the body.
-pub const SCRIPT: &str = "</main>
+// The script lets a press on a heading of the table sort by its column.
+static SCRIPT: &str = "</main>
 <script>
 for(const [at,head] of document.querySelectorAll('thead th').entries()){
 const button=document.createElement('button');

@@ -2,7 +2,7 @@
 //! column sorts by it.
 
 use crate::rows::{End, Row};
-use esr_story::push_number;
+use esr_text::{first, push_number};
 use std::alloc::AllocError;
 
 /// So many rows there are at most.
@@ -65,7 +65,7 @@ pub fn push_table(out: &mut String, rows: &[Row<'_>]) -> Result<(), AllocError> 
         return Ok(());
     }
     out.push_str(HEADINGS)?;
-    for row in rows.iter().take(MOST_ROWS) {
+    for row in first(rows, MOST_ROWS) {
         push_row(out, row)?;
     }
     out.push_str("</tbody></table></div>\n")?;

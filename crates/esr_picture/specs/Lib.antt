@@ -1,4 +1,3 @@
--- When bytes are a picture, and what markup is: pages are markup too.
+-- When bytes are a picture.
 
 pub mod Picture
-pub mod Markup

@@ -1,6 +1,6 @@
 -- What a picture is.
 use Rattle.std.specs.Prelude.{◌≡◌, ◌≢◌, ◌≤◌, ℕ, List, [], ◌∷◌, ◌++◌, codes, drop, length}
-use Rattle.esr_picture.specs.Markup.{Attributes, IsMarkup}
+use Rattle.esr_text.specs.Markup.{Attributes, IsMarkup}
 
 -- no place of the text begins with the word
 abbrev pub Lacks : List ℕ → List ℕ → Type 0

@@ -8,16 +8,12 @@
 
 use crate::costs::{Costs, Places, against};
 use esr_cert::{Chain, Problem};
+use esr_svg::MOST_LANES;
+use esr_text::first;
 use std::alloc::{AllocError, Global};
-
-/// So many updates are drawn at most.
-pub const MOST_UPDATES: usize = 30;
 
 /// Where a query has no more updates than this, all are drawn, if there is room.
 const FEW_UPDATES: usize = 8;
-
-/// So many lanes are drawn at most.
-pub const MOST_LANES: usize = 24;
 
 /// Where the line crosses a lane: the version there, and what the reads of the item are off from it.
 #[derive(Clone, Copy)]
@@ -82,21 +78,37 @@ fn crossings(
 /// The lanes, those that are off most first, and those that are off alike as they come.
 fn ranking(alloc: Global, crossings: &[Crossing]) -> Result<Vec<usize>, AllocError> {
     let mut ranks = Vec::new(alloc);
-    for (lane, crossing) in crossings.iter().enumerate() {
+    let mut lane = 0usize;
+    for crossing in crossings {
         ranks.push((u64::MAX - crossing.off, lane))?;
+        lane = lane.saturating_add(1);
     }
     ranks.sort_unstable();
-    ranks.iter().map(|rank| rank.1).collect(alloc)
+    lanes_of(alloc, &ranks)
+}
+
+/// The lanes of some ranks.
+fn lanes_of(alloc: Global, ranks: &[(u64, usize)]) -> Result<Vec<usize>, AllocError> {
+    let mut lanes = Vec::new(alloc);
+    for (_, lane) in ranks {
+        lanes.push(*lane)?;
+    }
+    Ok(lanes)
 }
 
 /// The version of least cost, the first such.
 fn nearest(chain: &Chain) -> usize {
-    let least = chain.costs.iter().copied().min().unwrap_or(0);
-    chain
-        .costs
-        .iter()
-        .position(|cost| *cost == least)
-        .unwrap_or(0)
+    let mut least = u64::MAX;
+    let mut nearest = 0usize;
+    let mut version = 0usize;
+    for cost in &chain.costs {
+        if *cost < least {
+            least = *cost;
+            nearest = version;
+        }
+        version = version.saturating_add(1);
+    }
+    nearest
 }
 
 /// The update that ends a version of the item, if one does.
@@ -107,6 +119,16 @@ fn end_of(chain: &Chain, version: usize) -> Option<u32> {
 /// The update that made a version of the item, unless it is the opening value.
 fn maker_of(chain: &Chain, version: usize) -> Option<u32> {
     end_of(chain, version.checked_sub(1)?)
+}
+
+/// Adds an update, if there is one, that is neither there nor drawn yet.
+fn push_new(new: &mut Vec<u32>, update: Option<u32>, drawn: &[u32]) -> Result<(), AllocError> {
+    if let Some(update) = update {
+        if !drawn.contains(&update) && !new.contains(&update) {
+            new.push(update)?;
+        }
+    }
+    Ok(())
 }
 
 /// Those updates that make or end the version at the line or another one, and are not drawn yet.
@@ -124,10 +146,8 @@ fn bounds_of(
         end_of(chain, other),
     ];
     let mut new = Vec::new(alloc);
-    for update in bounds.iter().flatten() {
-        if !drawn.contains(update) && !new.contains(update) {
-            new.push(*update)?;
-        }
+    for bound in &bounds {
+        push_new(&mut new, *bound, drawn)?;
     }
     Ok(new)
 }
@@ -151,9 +171,25 @@ fn candidates_of(
 ) -> Result<Candidates, AllocError> {
     let chains = problem.chains();
     let ranking = ranking(alloc, crossings)?;
-    let mut lanes: Vec<usize> = Vec::new(alloc);
     let mut costs = Costs::none(alloc, problem.updates().len())?;
-    for lane in ranking.iter().take(MOST_LANES) {
+    let mut lanes = off_lanes(alloc, &mut costs, chains, crossings, places, &ranking)?;
+    push_speaking_against(&mut lanes, &mut costs, chains, crossings, places)?;
+    let needed = lanes.len();
+    push_others(&mut lanes, &ranking)?;
+    Ok(Candidates { lanes, needed })
+}
+
+/// The lanes that are off, as many as may be drawn, with what they cost together.
+fn off_lanes(
+    alloc: Global,
+    costs: &mut Costs,
+    chains: &[Chain],
+    crossings: &[Crossing],
+    places: &Places,
+    ranking: &[usize],
+) -> Result<Vec<usize>, AllocError> {
+    let mut lanes = Vec::new(alloc);
+    for lane in first(ranking, MOST_LANES) {
         if let (Some(chain), Some(crossing)) = (chains.get(*lane), crossings.get(*lane)) {
             if crossing.off > 0 {
                 costs.add(chain, places);
@@ -161,10 +197,7 @@ fn candidates_of(
             }
         }
     }
-    push_speaking_against(&mut lanes, &mut costs, chains, crossings, places)?;
-    let needed = lanes.len();
-    push_others(&mut lanes, &ranking)?;
-    Ok(Candidates { lanes, needed })
+    Ok(lanes)
 }
 
 /// Adds the lanes without which others would be cheaper elsewhere than at the line.
@@ -192,7 +225,7 @@ fn push_speaking_against(
 
 /// Adds the first of the other lanes, as many as may be drawn.
 fn push_others(lanes: &mut Vec<usize>, ranking: &[usize]) -> Result<(), AllocError> {
-    for lane in ranking.iter().take(MOST_LANES * 3) {
+    for lane in first(ranking, MOST_LANES * 3) {
         if !lanes.contains(lane) {
             lanes.push(*lane)?;
         }
@@ -251,12 +284,14 @@ fn draw_lanes(
     most: usize,
 ) -> Result<Vec<usize>, AllocError> {
     let mut lanes = Vec::new(alloc);
-    for (place, lane) in candidates.lanes.iter().enumerate() {
+    let mut place = 0usize;
+    for lane in &candidates.lanes {
         if let (Some(chain), Some(crossing)) = (chains.get(*lane), crossings.get(*lane)) {
             let needs = needs(alloc, chain, *crossing, drawn, most)?;
             let is_needed = place < candidates.needed;
             draw_lane(&mut lanes, drawn, *lane, needs, is_needed)?;
         }
+        place = place.saturating_add(1);
     }
     Ok(lanes)
 }

@@ -5,13 +5,14 @@
 //! never comes: each part that is written closes what it opens, and none has that name.
 
 ghost use Rattle.std.specs.Prelude.{◌≡◌, IfOk, codes, true, string_bytes};
-ghost use Rattle.esr_picture.specs.Markup.{Attributes, IsMarkup};
+ghost use Rattle.esr_text.specs.Markup.{Attributes, IsMarkup};
 ghost use Rattle.esr_picture.specs.Picture.{IsSvg, IsWithin, Lacks};
 
-use crate::markup::{is_attributes, is_markup};
-use crate::svg::{Parts, parts_of};
-use esr_story::{Audited, Story, story_of};
+use crate::scene::scene_of;
+use esr_story::{Audited, Part, Story, story_of};
+use esr_svg::{Parts, parts_of};
 use esr_telling::{Asked, Telling};
+use esr_text::{is_attributes, is_markup};
 use std::alloc::{AllocError, Global};
 
 /// Whether a text has a word nowhere.
@@ -63,14 +64,15 @@ fn element(alloc: Global, parts: Parts) -> Result<String, AllocError>
 }
 
 /// The picture of the audit of a query of which the history tells this.
-pub fn picture_with<'a>(
+fn picture_with<'a>(
     alloc: Global,
     audited: &'a Audited<'a>,
     story: &'a Story,
 ) -> Result<String, AllocError>
     ensures { IfOk result (λ text. IsSvg (string_bytes text)) }
 {
-    let parts = parts_of(alloc, audited, story)?;
+    let scene = scene_of(alloc, audited, story)?;
+    let parts = parts_of(alloc, &scene)?;
     element(alloc, parts)
 }
 
@@ -90,7 +92,7 @@ fn draw<'a>(alloc: Global, audited: &'a Audited<'a>) -> Result<Vec<u8>, AllocErr
     Ok(text.into_bytes())
 }
 
-/// A picture of the audit of a query: an SVG.
+/// A picture of the audit of a query: an SVG, by itself or as a part of a page.
 pub struct Drawing;
 
 impl Telling for Drawing {
@@ -104,5 +106,18 @@ impl Telling for Drawing {
             finding: &asked.finding,
         };
         draw(alloc, &audited)
+    }
+}
+
+impl Part for Drawing {
+    fn push(
+        &self,
+        alloc: Global,
+        out: &mut String,
+        audited: &Audited<'_>,
+        _: &[u32],
+        story: &Story,
+    ) -> Result<(), AllocError> {
+        out.push_str(&picture_with(alloc, audited, story)?)
     }
 }

@@ -1,6 +1,5 @@
-//! Draws the audit of a committed query as an SVG: a lane for each item that it read, cut into the versions of the
-//! item; the updates above, with arrows for the order that every placement keeps; and the nearest placement as a line
-//! across the lanes.
+//! Draws the audit of a committed query as an SVG: what is drawn is chosen and found here, as a scene of plain data, which
+//! `esr_svg` draws.
 //!
 //! It is a subcommand, written by a proved crate, since a tool beside the program would have to run scripts itself: a
 //! bundle has no values. It draws lanes, and not the network with its cut and flow, which tells nothing to whoever does
@@ -9,21 +8,12 @@
 //! replay of the script.
 #![tactic(auto)]
 
-mod boxes;
 mod choice;
 mod costs;
 mod drawing;
-mod elements;
-mod frame;
-mod head;
-mod keys;
-mod lanes;
-mod markup;
 mod order;
 mod scene;
 mod sights;
-mod svg;
 mod values;
 
-pub use drawing::{Drawing, picture, picture_with};
-pub use markup::markup_or_nothing;
+pub use drawing::{Drawing, picture};

@@ -4,6 +4,7 @@
 
 use crate::choice::Choice;
 use esr_cert::Problem;
+use esr_svg::Arrow;
 use std::alloc::{AllocError, Global};
 
 /// Where each update is drawn, by its position: 0 where it is not.
@@ -61,13 +62,6 @@ fn ancestors(alloc: Global, problem: &Problem, slots: &Slots) -> Result<Vec<u64>
         }
     }
     Ok(above)
-}
-
-/// An arrow from one slot to another.
-#[derive(Clone, Copy)]
-pub struct Arrow {
-    pub from: u8,
-    pub to: u8,
 }
 
 /// What is above the updates of these slots, all together.

@@ -1,82 +1,23 @@
-//! What is drawn, as plain data.
+//! What is drawn of the audit of a query.
 //!
 //! Which lanes and updates are drawn depends on how much room there is, and how much they need on what they are. So a
 //! scene is made with as many updates as there may be, and where that is too wide once more with as many as fit.
 
-use crate::choice::{Choice, MOST_LANES, MOST_UPDATES, choose};
-use crate::frame::Frame;
-use crate::order::{Arrow, Slots, arrows};
-use crate::sights::{LaneReads, Strays, count_of, reads_of, seen_by_writer, strays_of};
+use crate::choice::{Choice, choose};
+use crate::order::{Slots, arrows};
+use crate::sights::{count_of, reads_of, seen_by_writer, strays_of};
 use crate::values::{Written, written_by};
 use esr_cert::Chain;
 use esr_items::{ItemId, Metric};
 use esr_report::name_of_transaction;
 use esr_story::{Audited, Story, sentences_of};
+use esr_svg::{
+    Arrow, Lane, MOST_LANES, MOST_UPDATES, Scene, Strays, Stretch, Update, fitting_updates,
+};
 use std::alloc::{AllocError, Global};
 
 /// How often a scene that is too wide is made with fewer updates.
 const MOST_TRIES: u32 = 6;
-
-/// A stretch of a lane, from a slot to the next stretch: one version of the item, or several where updates between
-/// are not drawn.
-#[derive(Clone, Copy)]
-pub struct Stretch {
-    pub from: u8,
-    /// The first version's value.
-    pub value: i64,
-    pub versions: usize,
-    /// How often the value was read, where it is one version.
-    pub reads: u64,
-    /// How often its versions were read.
-    pub seen: u64,
-}
-
-/// A lane: an item that was read.
-#[derive(Drop)]
-pub struct Lane<'a> {
-    pub name: &'a str,
-    /// How much a difference of the item counts.
-    pub weight: u64,
-    pub read: LaneReads,
-    /// What the reads are off from the version at the line.
-    pub off: u64,
-    pub stretches: Vec<Stretch>,
-    pub strays: Strays<'a>,
-}
-
-/// An update that is drawn.
-#[derive(Clone, Copy)]
-pub struct Update<'a> {
-    pub name: &'a str,
-    pub slot: u8,
-    /// How many lanes there are down to the last one that it wrote.
-    pub reach: u8,
-    /// Whether the query had to be behind it.
-    pub must: bool,
-}
-
-/// What is drawn of the audit of a query.
-#[derive(Drop)]
-pub struct Scene<'a> {
-    pub query: &'a str,
-    pub distance: u64,
-    pub import: u64,
-    /// What is said above the lanes.
-    pub sentences: Vec<String>,
-    pub updates: Vec<Update<'a>>,
-    pub arrows: Vec<Arrow>,
-    pub lanes: Vec<Lane<'a>>,
-    /// The slot of the line.
-    pub line: u8,
-    /// How many updates before the query's commit are not drawn, and how many items that it read.
-    pub other_updates: u64,
-    pub other_items: usize,
-    /// How many of those items are off, and by how much together.
-    pub others_off: usize,
-    pub others_sum: u64,
-    /// Whether items that are not drawn are why the line is where it is.
-    pub others_decide: bool,
-}
 
 /// How many lanes that are not drawn are off, and by how much together.
 fn others_off(choice: &Choice) -> (usize, u64) {
@@ -101,8 +42,10 @@ fn drawn_in_order(alloc: Global, choice: &Choice) -> Result<Vec<u32>, AllocError
 /// The values of the pieces of a lane.
 fn values_of(alloc: Global, stretches: &[Stretch]) -> Result<Vec<i64>, AllocError> {
     let mut values = Vec::new(alloc);
-    for stretch in stretches.iter().filter(|s| s.versions == 1) {
-        values.push(stretch.value)?;
+    for stretch in stretches {
+        if stretch.versions == 1 {
+            values.push(stretch.value)?;
+        }
     }
     Ok(values)
 }
@@ -266,8 +209,10 @@ impl<'a> SceneParts<'a> {
     /// The lanes that are drawn.
     fn lanes(&self, alloc: Global) -> Result<Vec<Lane<'a>>, AllocError> {
         let mut lanes = Vec::new(alloc);
-        for (lane, at) in self.choice.lanes.iter().enumerate() {
+        let mut lane = 0usize;
+        for at in &self.choice.lanes {
             self.push_lane(alloc, &mut lanes, lane, *at)?;
+            lane = lane.saturating_add(1);
         }
         Ok(lanes)
     }
@@ -364,7 +309,7 @@ pub fn scene_of<'a>(
     let mut most = MOST_UPDATES;
     let mut scene = scene_with(alloc, asked, story, most)?;
     for _ in 0..MOST_TRIES {
-        let fitting = Frame::of(&scene).fitting_updates();
+        let fitting = fitting_updates(&scene);
         if scene.updates.len() <= fitting {
             break;
         }

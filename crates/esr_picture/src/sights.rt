@@ -5,41 +5,25 @@
 use esr_items::ItemId;
 use esr_report::name_of_transaction;
 use esr_story::{Audited, End, Sight, Story};
+use esr_svg::{LaneReads, Stray, Strays};
 use std::alloc::{AllocError, Global};
 
-/// What was read of an item: the values without repetitions, and how many reads there were.
-#[derive(Drop)]
-pub struct LaneReads {
-    pub values: Vec<i64>,
-    pub count: u64,
-}
-
-/// A value that was read and did not stay.
-#[derive(Clone, Copy)]
-pub struct Stray<'a> {
-    pub value: i64,
-    pub writer: &'a str,
-    /// What became of it, in words that follow the writer's name.
-    pub fate: &'static str,
-    /// Whether a piece of the lane has that value, of another update.
-    pub has_piece: bool,
-}
-
-/// The strays of a lane: the first, of those without a piece if there is one, and how many more there are.
-#[derive(Clone, Copy)]
-pub struct Strays<'a> {
-    pub first: Option<Stray<'a>>,
-    pub more: usize,
+/// Adds a value that is not there yet.
+fn push_value(values: &mut Vec<i64>, value: i64) -> Result<(), AllocError> {
+    if !values.contains(&value) {
+        values.push(value)?;
+    }
+    Ok(())
 }
 
 /// What was read of an item.
 pub fn reads_of(alloc: Global, story: &Story, item: ItemId) -> Result<LaneReads, AllocError> {
     let mut values = Vec::new(alloc);
     let mut count = 0u64;
-    for sight in story.sights.iter().filter(|sight| sight.item == item) {
-        count = count.saturating_add(sight.count);
-        if !values.contains(&sight.value) {
-            values.push(sight.value)?;
+    for sight in &story.sights {
+        if sight.item == item {
+            count = count.saturating_add(sight.count);
+            push_value(&mut values, sight.value)?;
         }
     }
     Ok(LaneReads { values, count })
@@ -116,21 +100,6 @@ fn stray_of<'a>(
     })
 }
 
-impl<'a> Strays<'a> {
-    /// Adds one.
-    fn add(&mut self, stray: Stray<'a>) {
-        match self.first {
-            None => self.first = Some(stray),
-            Some(first) => {
-                self.more = self.more.saturating_add(1);
-                if first.has_piece && !stray.has_piece {
-                    self.first = Some(stray);
-                }
-            }
-        }
-    }
-}
-
 /// The strays of an item, whose lane has pieces of these values.
 pub fn strays_of<'a>(
     asked: &Audited<'a>,
@@ -142,8 +111,10 @@ pub fn strays_of<'a>(
         first: None,
         more: 0,
     };
-    for sight in story.sights.iter().filter(|sight| sight.item == item) {
-        if let Some(stray) = stray_of(asked, story, sight, pieces) {
+    for sight in &story.sights {
+        if sight.item == item
+            && let Some(stray) = stray_of(asked, story, sight, pieces)
+        {
             strays.add(stray);
         }
     }

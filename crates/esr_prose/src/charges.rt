@@ -1,12 +1,11 @@
 //! What a query was charged, in words: how much, in which line, and why; and the sums by item and by update.
 
-use crate::prose::{Block, MOST_POINTS};
+use crate::prose::{Block, MOST_POINTS, add_paragraph, add_point};
 use crate::tale::Tale;
 use esr_history::TxnId;
 use esr_items::ItemId;
-use esr_story::{
-    Cause, Charge, MOST_NAMES, Story, Sum, push_count, push_number, push_rest, push_value,
-};
+use esr_story::{Cause, Charge, MOST_NAMES, Story, Sum, push_rest};
+use esr_text::{first, push_count, push_number, push_value};
 use std::alloc::{AllocError, Global};
 
 /// The values before and behind an update's change.
@@ -52,43 +51,45 @@ fn push_later_lines(out: &mut String, count: u64) -> Result<(), AllocError> {
     push_count(out, later, " later one", " later ones")
 }
 
-/// A charge.
-fn charge_words(alloc: Global, tale: &Tale<'_>, charge: &Charge) -> Result<String, AllocError> {
-    let mut out = String::new(alloc);
-    push_number(&mut out, charge.amount)?;
-    out.push_str(" in ")?;
-    tale.push_line(&mut out, charge.place)?;
-    push_later_lines(&mut out, charge.count)?;
-    push_cause(&mut out, tale, charge)?;
-    let weight = tale.weight(charge.item);
-    if weight > 1 {
-        out.push_str("; a difference of ")?;
-        out.push_str(tale.item(charge.item))?;
-        out.push_str(" counts ")?;
-        push_number(&mut out, weight)?;
-        out.push_str(" times")?;
+/// How much a difference of an item counts, where that is not once.
+fn push_weight(out: &mut String, tale: &Tale<'_>, item: ItemId) -> Result<(), AllocError> {
+    let weight = tale.weight(item);
+    if weight < 2 {
+        return Ok(());
     }
-    Ok(out)
+    out.push_str("; a difference of ")?;
+    out.push_str(tale.item(item))?;
+    out.push_str(" counts ")?;
+    push_number(out, weight)?;
+    out.push_str(" times")
 }
 
-/// How much of what limit was charged, and by how many charges.
-fn intro(alloc: Global, tale: &Tale<'_>, has_charges: bool) -> Result<String, AllocError> {
+/// A charge.
+fn push_charge(out: &mut String, tale: &Tale<'_>, charge: &Charge) -> Result<(), AllocError> {
+    push_number(out, charge.amount)?;
+    out.push_str(" in ")?;
+    tale.push_line(out, charge.place)?;
+    push_later_lines(out, charge.count)?;
+    push_cause(out, tale, charge)?;
+    push_weight(out, tale, charge.item)
+}
+
+/// How much of what limit was charged, and whether the charges follow.
+fn push_intro(out: &mut String, tale: &Tale<'_>, has_charges: bool) -> Result<(), AllocError> {
     let import = tale.history.import(tale.query);
-    let limit = tale
-        .history
-        .facts(tale.query)
-        .map_or(0, |facts| facts.limit);
-    let mut out = String::new(alloc);
+    let limit = match tale.history.facts(tale.query) {
+        Some(facts) => facts.limit,
+        None => 0,
+    };
     out.push_str("It was charged ")?;
     if import == 0 {
         out.push_str("nothing")?;
     } else {
-        push_number(&mut out, import)?;
+        push_number(out, import)?;
     }
     out.push_str(" of its limit of ")?;
-    push_number(&mut out, limit)?;
-    out.push_str(if has_charges { ":" } else { "." })?;
-    Ok(out)
+    push_number(out, limit)?;
+    out.push_str(if has_charges { ":" } else { "." })
 }
 
 /// The charges that are not told one by one, and their sum.
@@ -106,16 +107,15 @@ fn push_more_charges(
     if more == 0 {
         return Ok(());
     }
-    let mut out = String::new(alloc);
-    push_number(&mut out, sum)?;
+    let out = add_point(alloc, blocks)?;
+    push_number(out, sum)?;
     out.push_str(" by ")?;
-    push_count(&mut out, more, " more charge", " more charges")?;
-    Block::push_point(blocks, out)
+    push_count(out, more, " more charge", " more charges")
 }
 
 /// A name with a sum, in a row of such.
-fn push_sum(out: &mut String, place: usize, name: &str, amount: u64) -> Result<(), AllocError> {
-    out.push_str(if place == 0 { " " } else { ", " })?;
+fn push_sum(out: &mut String, joint: &str, name: &str, amount: u64) -> Result<(), AllocError> {
+    out.push_str(joint)?;
     out.push_str(name)?;
     out.push(' ')?;
     push_number(out, amount)
@@ -123,29 +123,75 @@ fn push_sum(out: &mut String, place: usize, name: &str, amount: u64) -> Result<(
 
 /// Sums of items.
 fn push_item_sums(out: &mut String, tale: &Tale<'_>, sums: &[Sum]) -> Result<(), AllocError> {
-    for (place, sum) in sums.iter().take(MOST_NAMES).enumerate() {
-        push_sum(out, place, tale.item(ItemId(sum.number)), sum.amount)?;
+    let mut joint = " ";
+    for sum in first(sums, MOST_NAMES) {
+        push_sum(out, joint, tale.item(ItemId(sum.number)), sum.amount)?;
+        joint = ", ";
     }
     push_rest(out, sums.len())
 }
 
 /// Sums of updates.
 fn push_update_sums(out: &mut String, tale: &Tale<'_>, sums: &[Sum]) -> Result<(), AllocError> {
-    for (place, sum) in sums.iter().take(MOST_NAMES).enumerate() {
-        push_sum(out, place, tale.name(TxnId(sum.number)), sum.amount)?;
+    let mut joint = " ";
+    for sum in first(sums, MOST_NAMES) {
+        push_sum(out, joint, tale.name(TxnId(sum.number)), sum.amount)?;
+        joint = ", ";
     }
     push_rest(out, sums.len())
 }
 
+/// The sums by item.
+fn push_by_item(
+    alloc: Global,
+    out: &mut String,
+    tale: &Tale<'_>,
+    story: &Story,
+) -> Result<(), AllocError> {
+    let sums = story.sums_by_item(alloc)?;
+    push_item_sums(out, tale, &sums)
+}
+
+/// The sums by update.
+fn push_by_update(
+    alloc: Global,
+    out: &mut String,
+    tale: &Tale<'_>,
+    story: &Story,
+) -> Result<(), AllocError> {
+    let sums = story.sums_by_update(alloc)?;
+    push_update_sums(out, tale, &sums)
+}
+
 /// The sums by item and by update.
-fn sums_words(alloc: Global, tale: &Tale<'_>, story: &Story) -> Result<String, AllocError> {
-    let mut out = String::new(alloc);
+fn push_sums(
+    alloc: Global,
+    out: &mut String,
+    tale: &Tale<'_>,
+    story: &Story,
+) -> Result<(), AllocError> {
     out.push_str("By item:")?;
-    push_item_sums(&mut out, tale, &story.sums_by_item(alloc)?)?;
+    push_by_item(alloc, out, tale, story)?;
     out.push_str(". By update:")?;
-    push_update_sums(&mut out, tale, &story.sums_by_update(alloc)?)?;
-    out.push('.')?;
-    Ok(out)
+    push_by_update(alloc, out, tale, story)?;
+    out.push('.')
+}
+
+/// The charges one by one, and their sums.
+fn push_each(
+    alloc: Global,
+    blocks: &mut Vec<Block>,
+    tale: &Tale<'_>,
+    story: &Story,
+) -> Result<(), AllocError> {
+    for charge in first(&story.charges, MOST_POINTS) {
+        push_charge(add_point(alloc, blocks)?, tale, charge)?;
+    }
+    push_more_charges(alloc, blocks, story)?;
+    if story.charge_count < 2 {
+        return Ok(());
+    }
+    push_sums(alloc, add_paragraph(alloc, blocks)?, tale, story)
 }
 
 /// What the query was charged.
@@ -157,16 +203,10 @@ pub fn push_charges(
 ) -> Result<(), AllocError> {
     let agrees = story.charge_sum() == tale.history.import(tale.query);
     let has_charges = agrees && !story.charges.is_empty();
-    Block::push(blocks, intro(alloc, tale, has_charges)?)?;
-    if !has_charges {
-        return Ok(());
+    push_intro(add_paragraph(alloc, blocks)?, tale, has_charges)?;
+    if has_charges {
+        push_each(alloc, blocks, tale, story)
+    } else {
+        Ok(())
     }
-    for charge in story.charges.iter().take(MOST_POINTS) {
-        Block::push_point(blocks, charge_words(alloc, tale, charge)?)?;
-    }
-    push_more_charges(alloc, blocks, story)?;
-    if story.charge_count > 1 {
-        Block::push(blocks, sums_words(alloc, tale, story)?)?;
-    }
-    Ok(())
 }

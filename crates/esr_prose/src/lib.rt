@@ -8,10 +8,10 @@
 mod charges;
 mod nearest;
 mod paragraphs;
+mod passage;
 mod prose;
 mod reads;
 mod tale;
 
 pub use paragraphs::Prose;
-pub use prose::{Block, Kind, prose_of};
-pub use tale::Tale;
+pub use passage::Passage;

@@ -1,14 +1,15 @@
 //! The nearest moment of a committed query, in words: what each item that it read was there, and how far off the reads
 //! of it are.
 
-use crate::prose::{Block, MOST_POINTS, push_more};
+use crate::prose::{Block, MOST_POINTS, add_paragraph, add_point, push_more};
 use crate::reads::sum_of_reads;
 use crate::tale::Tale;
 use esr_audit::Finding;
 use esr_history::TxnId;
 use esr_items::ItemId;
 use esr_order::accesses_of;
-use esr_story::{Sight, Story, push_number, push_value};
+use esr_story::{Sight, Story};
+use esr_text::{first, push_number, push_value};
 use std::alloc::{AllocError, Global};
 
 /// An item that was read, as it was at the nearest moment.
@@ -51,11 +52,23 @@ fn values_behind(
 /// What the reads of an item are off from a value.
 fn off(story: &Story, tale: &Tale<'_>, item: ItemId, there: i64) -> u64 {
     let mut sum = 0u64;
-    for sight in story.sights.iter().filter(|sight| sight.item == item) {
-        let gap = there.abs_diff(sight.value).saturating_mul(sight.count);
-        sum = sum.saturating_add(gap);
+    for sight in &story.sights {
+        if sight.item == item {
+            let gap = there.abs_diff(sight.value).saturating_mul(sight.count);
+            sum = sum.saturating_add(gap);
+        }
     }
     sum.saturating_mul(tale.weight(item))
+}
+
+/// Whether an item is among these.
+fn is_there(items: &[There], item: ItemId) -> bool {
+    for there in items {
+        if there.item == item {
+            return true;
+        }
+    }
+    false
 }
 
 /// The items that were read, each once, in the order of their first reads.
@@ -67,7 +80,7 @@ fn items_read(
 ) -> Result<Vec<There>, AllocError> {
     let mut items: Vec<There> = Vec::new(alloc);
     for Sight { item, .. } in &story.sights {
-        if !items.iter().any(|there| there.item == *item) {
+        if !is_there(&items, *item) {
             let value = values.get(item.0 as usize).copied().unwrap_or(0);
             items.push(There {
                 item: *item,
@@ -80,24 +93,34 @@ fn items_read(
 }
 
 /// An item at the nearest moment.
-fn there_words(alloc: Global, tale: &Tale<'_>, there: There) -> Result<String, AllocError> {
-    let mut out = String::new(alloc);
+fn push_there(out: &mut String, tale: &Tale<'_>, there: There) -> Result<(), AllocError> {
     out.push_str(tale.item(there.item))?;
     out.push(' ')?;
-    push_value(&mut out, there.value)?;
+    push_value(out, there.value)?;
     if there.off == 0 {
-        out.push_str(", as read")?;
-        return Ok(out);
+        return out.push_str(", as read");
     }
     out.push_str(": what was read is off by ")?;
-    push_number(&mut out, there.off)?;
+    push_number(out, there.off)?;
     let weight = tale.weight(there.item);
-    if weight > 1 {
-        out.push_str(", as each difference counts ")?;
-        push_number(&mut out, weight)?;
-        out.push_str(" times")?;
+    if weight < 2 {
+        return Ok(());
     }
-    Ok(out)
+    out.push_str(", as each difference counts ")?;
+    push_number(out, weight)?;
+    out.push_str(" times")
+}
+
+/// The places of the items, those that are off most first.
+fn ranking(alloc: Global, items: &[There]) -> Result<Vec<(u64, usize)>, AllocError> {
+    let mut ranks = Vec::new(alloc);
+    let mut place = 0usize;
+    for there in items {
+        ranks.push((u64::MAX.saturating_sub(there.off), place))?;
+        place = place.saturating_add(1);
+    }
+    ranks.sort_unstable();
+    Ok(ranks)
 }
 
 /// The items, those that are off most first.
@@ -107,37 +130,50 @@ fn push_items(
     tale: &Tale<'_>,
     items: &[There],
 ) -> Result<(), AllocError> {
-    let mut ranks = Vec::new(alloc);
-    for (place, there) in items.iter().enumerate() {
-        ranks.push((u64::MAX.saturating_sub(there.off), place))?;
-    }
-    ranks.sort_unstable();
-    for (_, place) in ranks.iter().take(MOST_POINTS) {
+    let ranks = ranking(alloc, items)?;
+    for (_, place) in first(&ranks, MOST_POINTS) {
         if let Some(there) = items.get(*place) {
-            Block::push_point(blocks, there_words(alloc, tale, *there)?)?;
+            push_there(add_point(alloc, blocks)?, tale, *there)?;
         }
     }
     push_more(alloc, blocks, items.len(), "item", "items")
 }
 
 /// The sum of what was read beside that of the nearest moment.
-fn sums_words(alloc: Global, items: &[There], read: i64) -> Result<String, AllocError> {
+fn push_sums(out: &mut String, items: &[There], read: i64) -> Result<(), AllocError> {
     let mut sum = 0i64;
     for there in items {
         sum = sum.saturating_add(there.value);
     }
-    let mut out = String::new(alloc);
     out.push_str("Together they were ")?;
-    push_value(&mut out, sum)?;
+    push_value(out, sum)?;
     let gap = sum.abs_diff(read);
     if gap == 0 {
-        out.push_str(" there, which is what the report adds up to.")?;
-        return Ok(out);
+        return out.push_str(" there, which is what the report adds up to.");
     }
     out.push_str(" there: the sum of what was read is off by ")?;
-    push_number(&mut out, gap)?;
-    out.push('.')?;
-    Ok(out)
+    push_number(out, gap)?;
+    out.push('.')
+}
+
+/// What these items were at the nearest moment.
+fn push_all(
+    alloc: Global,
+    blocks: &mut Vec<Block>,
+    tale: &Tale<'_>,
+    story: &Story,
+    items: &[There],
+) -> Result<(), AllocError> {
+    add_paragraph(alloc, blocks)?.push_str(if items.len() == 1 {
+        "At the nearest moment the value was:"
+    } else {
+        "At the nearest moment the values were:"
+    })?;
+    push_items(alloc, blocks, tale, items)?;
+    match sum_of_reads(story, tale) {
+        Some(read) => push_sums(add_paragraph(alloc, blocks)?, items, read),
+        None => Ok(()),
+    }
 }
 
 /// What each item was at the nearest moment, where not all was as it was read.
@@ -153,16 +189,5 @@ pub fn push_nearest(
     }
     let values = values_behind(alloc, tale, &finding.before)?;
     let items = items_read(alloc, story, tale, &values)?;
-    let mut intro = String::new(alloc);
-    intro.push_str(if items.len() == 1 {
-        "At the nearest moment the value was:"
-    } else {
-        "At the nearest moment the values were:"
-    })?;
-    Block::push(blocks, intro)?;
-    push_items(alloc, blocks, tale, &items)?;
-    match sum_of_reads(story, tale) {
-        Some(read) => Block::push(blocks, sums_words(alloc, &items, read)?),
-        None => Ok(()),
-    }
+    push_all(alloc, blocks, tale, story, &items)
 }

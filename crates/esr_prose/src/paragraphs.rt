@@ -4,12 +4,30 @@ use crate::prose::{Block, Kind, prose_of};
 use crate::tale::Tale;
 use esr_audit::{AuditError, Finding, audit_query};
 use esr_history::TxnId;
-use esr_story::{story_of, wrap};
+use esr_story::story_of;
 use esr_telling::{Chronicle, Survey};
+use esr_text::wrap;
 use std::alloc::{AllocError, Global};
 
 /// A line has fewer letters than this.
 const WIDTH: usize = 80;
+
+/// Appends lines, with one text before the first and another before all others.
+fn push_lines(
+    out: &mut String,
+    lines: &[String],
+    first: &str,
+    others: &str,
+) -> Result<(), AllocError> {
+    let mut before = first;
+    for line in lines {
+        out.push_str(before)?;
+        out.push_str(line)?;
+        out.push('\n')?;
+        before = others;
+    }
+    Ok(())
+}
 
 /// Appends a block, with a blank line before it where it is a paragraph and not the first.
 fn push_block(alloc: Global, out: &mut String, block: &Block) -> Result<(), AllocError> {
@@ -27,12 +45,7 @@ fn push_block(alloc: Global, out: &mut String, block: &Block) -> Result<(), Allo
         WIDTH.saturating_sub(first.len()),
         &block.words,
     )?;
-    for (place, line) in lines.iter().enumerate() {
-        out.push_str(if place == 0 { first } else { others })?;
-        out.push_str(line)?;
-        out.push('\n')?;
-    }
-    Ok(())
+    push_lines(out, &lines, first, others)
 }
 
 /// The lines of some blocks.

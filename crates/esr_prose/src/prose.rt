@@ -1,11 +1,14 @@
 //! The prose about a query, as paragraphs and points, whatever they are written as.
+//!
+//! Words are written into a block that is already among the others, so nobody who writes them has a text to let go of.
 
 use crate::charges::push_charges;
 use crate::nearest::push_nearest;
 use crate::reads::push_reads;
 use crate::tale::{Ending, Tale};
 use esr_audit::Finding;
-use esr_story::{Audited, Story, nearest_moment, push_number, strict_sentence, verdict};
+use esr_story::{Audited, Story, push_nearest_moment, push_strict, push_verdict};
+use esr_text::push_number;
 use std::alloc::{AllocError, Global};
 
 /// So many points are listed at most, and then how many more there are.
@@ -26,24 +29,28 @@ pub struct Block {
     pub words: String,
 }
 
-impl Block {
-    /// Adds a paragraph.
-    pub fn push(blocks: &mut Vec<Block>, words: String) -> Result<(), AllocError> {
-        blocks.push(Block {
-            kind: Kind::Paragraph,
-            words,
-        })?;
-        Ok(())
+/// The words of one more block, which has none yet.
+fn add_block(
+    alloc: Global,
+    blocks: &mut Vec<Block>,
+    kind: Kind,
+) -> Result<&mut String, AllocError> {
+    let words = String::new(alloc);
+    blocks.push(Block { kind, words })?;
+    match blocks.last_mut() {
+        Some(block) => Ok(&mut block.words),
+        None => Err(AllocError),
     }
+}
 
-    /// Adds a point.
-    pub fn push_point(blocks: &mut Vec<Block>, words: String) -> Result<(), AllocError> {
-        blocks.push(Block {
-            kind: Kind::Point,
-            words,
-        })?;
-        Ok(())
-    }
+/// The words of one more paragraph.
+pub fn add_paragraph(alloc: Global, blocks: &mut Vec<Block>) -> Result<&mut String, AllocError> {
+    add_block(alloc, blocks, Kind::Paragraph)
+}
+
+/// The words of one more point.
+pub fn add_point(alloc: Global, blocks: &mut Vec<Block>) -> Result<&mut String, AllocError> {
+    add_block(alloc, blocks, Kind::Point)
 }
 
 /// How many more there are of some things than are listed.
@@ -58,39 +65,37 @@ pub fn push_more(
     if more == 0 {
         return Ok(());
     }
-    let mut out = String::new(alloc);
+    let out = add_point(alloc, blocks)?;
     out.push_str("and ")?;
-    push_number(&mut out, more as u64)?;
+    push_number(out, more as u64)?;
     out.push_str(" more ")?;
-    out.push_str(if more == 1 { one } else { many })?;
-    Block::push_point(blocks, out)
+    out.push_str(if more == 1 { one } else { many })
 }
 
 /// What can be said of a query that has not committed.
-fn unfinished_words(alloc: Global, tale: &Tale<'_>) -> Result<String, AllocError> {
-    let mut out = String::new(alloc);
-    let query = tale.name(tale.query);
-    match tale.ending(tale.query) {
-        Ending::Aborted => write!(
-            out,
-            "{query} aborted, so no moment is compared with it. This is what it had read and been charged until then."
-        )?,
-        _ => {
-            write!(
-                out,
-                "{query} has not committed, so no moment is compared with it yet. If it committed now, it would be off by at most the "
-            )?;
-            push_number(&mut out, tale.history.import(tale.query))?;
-            out.push_str(" that it has been charged.")?;
-        }
+fn push_unfinished(out: &mut String, tale: &Tale<'_>) -> Result<(), AllocError> {
+    out.push_str(tale.name(tale.query))?;
+    if tale.ending(tale.query) == Ending::Aborted {
+        return out.push_str(
+            " aborted, so no moment is compared with it. This is what it had read and been charged until then.",
+        );
     }
-    Ok(out)
+    out.push_str(
+        " has not committed, so no moment is compared with it yet. If it committed now, it would be off by at most the ",
+    )?;
+    push_number(out, tale.history.import(tale.query))?;
+    out.push_str(" that it has been charged.")
 }
 
 /// The moment to which the query belongs, or why there is none.
-fn answer(alloc: Global, tale: &Tale<'_>, story: &Story) -> Result<String, AllocError> {
+fn push_answer(
+    alloc: Global,
+    out: &mut String,
+    tale: &Tale<'_>,
+    story: &Story,
+) -> Result<(), AllocError> {
     let Some(finding) = tale.finding else {
-        return unfinished_words(alloc, tale);
+        return push_unfinished(out, tale);
     };
     let audited = Audited {
         items: tale.items,
@@ -98,72 +103,99 @@ fn answer(alloc: Global, tale: &Tale<'_>, story: &Story) -> Result<String, Alloc
         history: tale.history,
         finding,
     };
-    let mut out = verdict(alloc, &audited, story)?;
+    push_verdict(out, &audited, story)?;
     if finding.distance > 0 {
         out.push(' ')?;
-        out.push_str(&nearest_moment(alloc, &audited, story)?)?;
+        push_nearest_moment(out, &audited, story)?;
     }
-    if !finding.problem.must().is_empty() {
-        out.push(' ')?;
-        out.push_str(&strict_sentence(alloc, &audited)?)?;
+    if finding.problem.must().is_empty() {
+        return Ok(());
     }
-    Ok(out)
+    out.push(' ')?;
+    push_strict(alloc, out, &audited)
 }
 
-/// How the query began and ended.
-fn course(alloc: Global, tale: &Tale<'_>, story: &Story) -> Result<String, AllocError> {
-    let mut out = String::new(alloc);
+/// How the query began.
+fn push_begin(out: &mut String, tale: &Tale<'_>, story: &Story) -> Result<(), AllocError> {
     out.push_str(tale.name(tale.query))?;
     out.push_str(if story.is_strict {
         " is a strict query"
     } else {
         " is a query"
     })?;
-    if let Some(place) = story.begin {
-        out.push_str(" that began in ")?;
-        tale.push_line(&mut out, place)?;
+    match story.begin {
+        Some(place) => {
+            out.push_str(" that began in ")?;
+            tale.push_line(out, place)
+        }
+        None => Ok(()),
     }
+}
+
+/// How the query began and ended.
+fn push_course(out: &mut String, tale: &Tale<'_>, story: &Story) -> Result<(), AllocError> {
+    push_begin(out, tale, story)?;
     out.push_str(match tale.ending(tale.query) {
         Ending::Committed => " and committed in ",
         Ending::Aborted => " and aborted in ",
         Ending::Active => " and had not ended at the end of the script",
     })?;
     if let Some(place) = tale.end_place(tale.query) {
-        tale.push_line(&mut out, place)?;
+        tale.push_line(out, place)?;
     }
-    out.push('.')?;
-    Ok(out)
+    out.push('.')
 }
 
 /// What the charges and the distance have to do with one another.
-fn moral(alloc: Global, finding: &Finding) -> Result<String, AllocError> {
-    let mut out = String::new(alloc);
+fn push_moral(out: &mut String, finding: &Finding) -> Result<(), AllocError> {
     out.push_str("A charge is made before anybody knows how things end: of the ")?;
-    push_number(&mut out, finding.import)?;
+    push_number(out, finding.import)?;
     out.push_str(" that it was charged, ")?;
     if finding.distance == 0 {
-        out.push_str("nothing was needed in the end.")?;
-    } else if finding.distance == finding.import {
-        out.push_str("all was needed in the end.")?;
-    } else {
-        push_number(&mut out, finding.distance)?;
-        out.push_str(" was needed in the end.")?;
+        return out.push_str("nothing was needed in the end.");
     }
-    Ok(out)
+    if finding.distance == finding.import {
+        return out.push_str("all was needed in the end.");
+    }
+    push_number(out, finding.distance)?;
+    out.push_str(" was needed in the end.")
+}
+
+/// What only the audit of a query can tell.
+fn push_findings(
+    alloc: Global,
+    blocks: &mut Vec<Block>,
+    tale: &Tale<'_>,
+    story: &Story,
+    finding: &Finding,
+) -> Result<(), AllocError> {
+    push_nearest(alloc, blocks, tale, story, finding)?;
+    if finding.import == 0 {
+        return Ok(());
+    }
+    push_moral(add_paragraph(alloc, blocks)?, finding)
+}
+
+/// All blocks, one after another.
+fn push_prose(
+    alloc: Global,
+    blocks: &mut Vec<Block>,
+    tale: &Tale<'_>,
+    story: &Story,
+) -> Result<(), AllocError> {
+    push_answer(alloc, add_paragraph(alloc, blocks)?, tale, story)?;
+    push_course(add_paragraph(alloc, blocks)?, tale, story)?;
+    push_reads(alloc, blocks, tale, story)?;
+    push_charges(alloc, blocks, tale, story)?;
+    match tale.finding {
+        Some(finding) => push_findings(alloc, blocks, tale, story, finding),
+        None => Ok(()),
+    }
 }
 
 /// The prose about a query of which the history tells this.
 pub fn prose_of(alloc: Global, tale: &Tale<'_>, story: &Story) -> Result<Vec<Block>, AllocError> {
     let mut blocks = Vec::new(alloc);
-    Block::push(&mut blocks, answer(alloc, tale, story)?)?;
-    Block::push(&mut blocks, course(alloc, tale, story)?)?;
-    push_reads(alloc, &mut blocks, tale, story)?;
-    push_charges(alloc, &mut blocks, tale, story)?;
-    if let Some(finding) = tale.finding {
-        push_nearest(alloc, &mut blocks, tale, story, finding)?;
-        if finding.import > 0 {
-            Block::push(&mut blocks, moral(alloc, finding)?)?;
-        }
-    }
+    push_prose(alloc, &mut blocks, tale, story)?;
     Ok(blocks)
 }

@@ -1,9 +1,11 @@
 //! What a query read, in words: each value, in which line, and whose it was.
 
-use crate::prose::{Block, MOST_POINTS, push_more};
+use crate::prose::{Block, MOST_POINTS, add_paragraph, add_point, push_more};
 use crate::tale::{Ending, Tale};
 use esr_history::TxnId;
-use esr_story::{Sight, Story, push_count, push_number, push_value};
+use esr_items::ItemId;
+use esr_story::{Sight, Story};
+use esr_text::{first, push_count, push_number, push_value};
 use std::alloc::{AllocError, Global};
 
 /// The words for what became of an update whose value was read before it had ended.
@@ -44,28 +46,37 @@ fn push_source(out: &mut String, tale: &Tale<'_>, sight: &Sight) -> Result<(), A
 }
 
 /// A value that was read.
-fn sight_words(alloc: Global, tale: &Tale<'_>, sight: &Sight) -> Result<String, AllocError> {
-    let mut out = String::new(alloc);
+fn push_sight(out: &mut String, tale: &Tale<'_>, sight: &Sight) -> Result<(), AllocError> {
     out.push_str(tale.item(sight.item))?;
     out.push(' ')?;
-    push_value(&mut out, sight.value)?;
+    push_value(out, sight.value)?;
     if sight.count > 1 {
         out.push_str(", ")?;
-        push_number(&mut out, sight.count)?;
+        push_number(out, sight.count)?;
         out.push_str(" times, first in ")?;
     } else {
         out.push_str(", in ")?;
     }
-    tale.push_line(&mut out, sight.place)?;
-    push_source(&mut out, tale, sight)?;
-    Ok(out)
+    tale.push_line(out, sight.place)?;
+    push_source(out, tale, sight)
+}
+
+/// How many different values were read of an item.
+fn sights_of(story: &Story, item: ItemId) -> u64 {
+    let mut count = 0u64;
+    for sight in &story.sights {
+        if sight.item == item {
+            count = count.saturating_add(1);
+        }
+    }
+    count
 }
 
 /// The sum of what was read, where each of several items was read once, and all count alike.
 pub fn sum_of_reads(story: &Story, tale: &Tale<'_>) -> Option<i64> {
     let mut sum = 0i64;
     for sight in &story.sights {
-        let again = story.sights.iter().filter(|s| s.item == sight.item).count();
+        let again = sights_of(story, sight.item);
         if sight.count > 1 || again > 1 || tale.weight(sight.item) > 1 {
             return None;
         }
@@ -78,6 +89,27 @@ pub fn sum_of_reads(story: &Story, tale: &Tale<'_>) -> Option<i64> {
     }
 }
 
+/// That nothing was read, which the answer has told of a query that has committed.
+fn push_nothing(alloc: Global, blocks: &mut Vec<Block>, tale: &Tale<'_>) -> Result<(), AllocError> {
+    if tale.finding.is_some() {
+        return Ok(());
+    }
+    add_paragraph(alloc, blocks)?.push_str("It read nothing.")
+}
+
+/// How many values were read.
+fn push_intro(out: &mut String, count: usize) -> Result<(), AllocError> {
+    out.push_str("It read ")?;
+    push_count(out, count as u64, " value:", " values:")
+}
+
+/// What the reads add up to.
+fn push_sum(out: &mut String, sum: i64) -> Result<(), AllocError> {
+    out.push_str("Together they are ")?;
+    push_value(out, sum)?;
+    out.push('.')
+}
+
 /// What the query read.
 pub fn push_reads(
     alloc: Global,
@@ -86,27 +118,16 @@ pub fn push_reads(
     story: &Story,
 ) -> Result<(), AllocError> {
     let count = story.sights.len();
-    let mut intro = String::new(alloc);
-    if count == 0 && tale.finding.is_some() {
-        return Ok(());
-    }
     if count == 0 {
-        intro.push_str("It read nothing.")?;
-        return Block::push(blocks, intro);
+        return push_nothing(alloc, blocks, tale);
     }
-    intro.push_str("It read ")?;
-    push_count(&mut intro, count as u64, " value:", " values:")?;
-    Block::push(blocks, intro)?;
-    for sight in story.sights.iter().take(MOST_POINTS) {
-        Block::push_point(blocks, sight_words(alloc, tale, sight)?)?;
+    push_intro(add_paragraph(alloc, blocks)?, count)?;
+    for sight in first(&story.sights, MOST_POINTS) {
+        push_sight(add_point(alloc, blocks)?, tale, sight)?;
     }
     push_more(alloc, blocks, count, "value", "values")?;
-    if let Some(sum) = sum_of_reads(story, tale) {
-        let mut words = String::new(alloc);
-        words.push_str("Together they are ")?;
-        push_value(&mut words, sum)?;
-        words.push('.')?;
-        Block::push(blocks, words)?;
+    match sum_of_reads(story, tale) {
+        Some(sum) => push_sum(add_paragraph(alloc, blocks)?, sum),
+        None => Ok(()),
     }
-    Ok(())
 }

@@ -4,7 +4,7 @@ use esr_audit::Finding;
 use esr_history::{Event, History, TxnId};
 use esr_items::{ItemId, Metric, Weighted};
 use esr_report::{Names, name_of_transaction};
-use esr_story::push_number;
+use esr_text::push_number;
 use std::alloc::AllocError;
 
 /// A query that prose is about.

@@ -1,12 +1,12 @@
 //! What a picture says in words above its lanes, and prose too: whether what the query read was ever true at one moment, where the
 //! nearest is, what it was charged and by whom, and which updates it had to be behind.
 
-use crate::numbers::push_number;
 use crate::story::{Story, Sum};
 use crate::subject::Audited;
-use crate::text::{MOST_NAMES, push_names, push_rest, wrap};
+use crate::text::{MOST_NAMES, push_names, push_rest};
 use esr_history::TxnId;
 use esr_report::name_of_transaction;
+use esr_text::{first, push_number, wrap};
 use std::alloc::{AllocError, Global};
 
 /// So many letters are on a line of a picture at most.
@@ -36,85 +36,93 @@ fn has_to_be_behind(asked: &Audited<'_>) -> bool {
 }
 
 /// Whether what it read was ever true at one moment. That of a strict query may have been, before what it had to see.
-pub fn verdict(alloc: Global, asked: &Audited<'_>, story: &Story) -> Result<String, AllocError> {
+pub fn push_verdict(
+    out: &mut String,
+    asked: &Audited<'_>,
+    story: &Story,
+) -> Result<(), AllocError> {
     let query = name(asked, asked.finding.query);
-    let mut out = String::new(alloc);
     if story.sights.is_empty() {
-        out.push_str(query)?;
-        out.push_str(" read nothing.")?;
-        return Ok(out);
+        return write!(out, "{query} read nothing.");
     }
-    out.push_str("What ")?;
-    out.push_str(query)?;
+    write!(out, "What {query}")?;
     if asked.finding.distance > 0 {
-        out.push_str(if has_to_be_behind(asked) {
+        return out.push_str(if has_to_be_behind(asked) {
             " read was true at no moment that a strict report may have."
         } else {
             " read was never true at one moment."
-        })?;
-        return Ok(out);
+        });
     }
     out.push_str(" read was true at one moment, ")?;
-    push_moment(&mut out, asked, story)?;
-    out.push('.')?;
-    Ok(out)
+    push_moment(out, asked, story)?;
+    out.push('.')
 }
 
 /// The nearest moment, where none has all that was read.
-pub fn nearest_moment(
-    alloc: Global,
+pub fn push_nearest_moment(
+    out: &mut String,
     asked: &Audited<'_>,
     story: &Story,
-) -> Result<String, AllocError> {
-    let mut out = String::new(alloc);
+) -> Result<(), AllocError> {
     out.push_str(if has_to_be_behind(asked) {
         "The nearest of these, "
     } else {
         "The nearest moment, "
     })?;
-    push_moment(&mut out, asked, story)?;
+    push_moment(out, asked, story)?;
     out.push_str(", differs by ")?;
-    push_number(&mut out, asked.finding.distance)?;
-    out.push('.')?;
-    Ok(out)
+    push_number(out, asked.finding.distance)?;
+    out.push('.')
 }
 
 /// The updates that were charged most, with their amounts.
 fn push_charges(out: &mut String, asked: &Audited<'_>, charges: &[Sum]) -> Result<(), AllocError> {
-    for (place, charge) in charges.iter().take(MOST_NAMES).enumerate() {
-        out.push_str(if place == 0 { ": " } else { ", " })?;
+    let mut joint = ": ";
+    for charge in first(charges, MOST_NAMES) {
+        out.push_str(joint)?;
         out.push_str(name(asked, TxnId(charge.number)))?;
         out.push(' ')?;
         push_number(out, charge.amount)?;
+        joint = ", ";
     }
     push_rest(out, charges.len())
 }
 
-/// What the query was charged of its limit, and by whom. Nobody is named where the sums do not agree.
-fn charge_sentence(
+/// The updates that were charged, most first, where their sums are what the query imported.
+fn push_charged(
     alloc: Global,
+    out: &mut String,
     asked: &Audited<'_>,
     story: &Story,
-) -> Result<String, AllocError> {
-    let import = asked.finding.import;
-    let limit = asked
-        .history
-        .facts(asked.finding.query)
-        .map_or(0, |facts| facts.limit);
-    let mut out = String::new(alloc);
-    out.push_str("Charged ")?;
-    push_number(&mut out, import)?;
-    out.push_str(" of its limit of ")?;
-    push_number(&mut out, limit)?;
-    if story.charge_sum() == import {
-        push_charges(&mut out, asked, &story.sums_by_update(alloc)?)?;
+) -> Result<(), AllocError> {
+    if story.charge_sum() != asked.finding.import {
+        return Ok(());
     }
-    out.push('.')?;
-    Ok(out)
+    let charges = story.sums_by_update(alloc)?;
+    push_charges(out, asked, &charges)
+}
+
+/// What the query was charged of its limit, and by whom. Nobody is named where the sums do not agree.
+fn push_charge_sentence(
+    alloc: Global,
+    out: &mut String,
+    asked: &Audited<'_>,
+    story: &Story,
+) -> Result<(), AllocError> {
+    let limit = match asked.history.facts(asked.finding.query) {
+        Some(facts) => facts.limit,
+        None => 0,
+    };
+    out.push_str("Charged ")?;
+    push_number(out, asked.finding.import)?;
+    out.push_str(" of its limit of ")?;
+    push_number(out, limit)?;
+    push_charged(alloc, out, asked, story)?;
+    out.push('.')
 }
 
 /// The updates that a strict query had to be behind.
-pub fn strict_sentence(alloc: Global, asked: &Audited<'_>) -> Result<String, AllocError> {
+fn updates_seen(alloc: Global, asked: &Audited<'_>) -> Result<Vec<TxnId>, AllocError> {
     let problem = &asked.finding.problem;
     let mut seen = Vec::new(alloc);
     for position in problem.must() {
@@ -122,11 +130,78 @@ pub fn strict_sentence(alloc: Global, asked: &Audited<'_>) -> Result<String, All
             seen.push(*update)?;
         }
     }
-    let mut out = String::new(alloc);
+    Ok(seen)
+}
+
+/// The same in words, where there are any.
+pub fn push_strict(alloc: Global, out: &mut String, asked: &Audited<'_>) -> Result<(), AllocError> {
+    if !has_to_be_behind(asked) {
+        return Ok(());
+    }
+    let seen = updates_seen(alloc, asked)?;
+    push_behind(out, asked, &seen)
+}
+
+/// What a strict query had to be behind.
+fn push_behind(out: &mut String, asked: &Audited<'_>, seen: &[TxnId]) -> Result<(), AllocError> {
     out.push_str("It is strict, and had to be behind ")?;
-    push_names(&mut out, asked.transactions, &seen)?;
-    out.push_str(", which had committed when it began.")?;
-    Ok(out)
+    push_names(out, asked.transactions, seen)?;
+    out.push_str(", which had committed when it began.")
+}
+
+/// A sentence above the lanes.
+#[derive(Clone, Copy)]
+enum Sentence {
+    Verdict,
+    Nearest,
+    Charge,
+    Strict,
+}
+
+/// The sentences above the lanes, of those that there are.
+static SENTENCES: [Sentence; 4] = [
+    Sentence::Verdict,
+    Sentence::Nearest,
+    Sentence::Charge,
+    Sentence::Strict,
+];
+
+fn all_sentences() -> &'static [Sentence] {
+    &SENTENCES
+}
+
+/// A sentence, or nothing where it is not said.
+fn push_sentence(
+    alloc: Global,
+    out: &mut String,
+    sentence: Sentence,
+    asked: &Audited<'_>,
+    story: &Story,
+) -> Result<(), AllocError> {
+    match sentence {
+        Sentence::Verdict => push_verdict(out, asked, story),
+        Sentence::Nearest if asked.finding.distance == 0 => Ok(()),
+        Sentence::Nearest => push_nearest_moment(out, asked, story),
+        Sentence::Charge => push_charge_sentence(alloc, out, asked, story),
+        Sentence::Strict => push_strict(alloc, out, asked),
+    }
+}
+
+/// Adds the lines of a sentence, if it is said.
+fn push_lines(
+    alloc: Global,
+    lines: &mut Vec<String>,
+    sentence: Sentence,
+    asked: &Audited<'_>,
+    story: &Story,
+) -> Result<(), AllocError> {
+    let mut words = String::new(alloc);
+    push_sentence(alloc, &mut words, sentence, asked, story)?;
+    if words.is_empty() {
+        Ok(())
+    } else {
+        wrap(alloc, lines, LINE, &words)
+    }
 }
 
 /// The sentences above the lanes.
@@ -136,23 +211,8 @@ pub fn sentences_of(
     story: &Story,
 ) -> Result<Vec<String>, AllocError> {
     let mut lines = Vec::new(alloc);
-    wrap(alloc, &mut lines, LINE, &verdict(alloc, asked, story)?)?;
-    if asked.finding.distance > 0 {
-        wrap(
-            alloc,
-            &mut lines,
-            LINE,
-            &nearest_moment(alloc, asked, story)?,
-        )?;
-    }
-    wrap(
-        alloc,
-        &mut lines,
-        LINE,
-        &charge_sentence(alloc, asked, story)?,
-    )?;
-    if has_to_be_behind(asked) {
-        wrap(alloc, &mut lines, LINE, &strict_sentence(alloc, asked)?)?;
+    for sentence in all_sentences() {
+        push_lines(alloc, &mut lines, *sentence, asked, story)?;
     }
     Ok(lines)
 }

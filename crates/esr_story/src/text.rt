@@ -1,9 +1,9 @@
-//! What sentences share: names in a row, and lines of a width.
+//! What sentences share: names in a row.
 
-use crate::numbers::push_number;
 use esr_history::TxnId;
 use esr_report::{Names, name_of_transaction};
-use std::alloc::{AllocError, Global};
+use esr_text::{first, push_number};
+use std::alloc::AllocError;
 
 /// So many names are told at most, and then how many more there are.
 pub const MOST_NAMES: usize = 3;
@@ -36,33 +36,11 @@ pub fn push_names(
     transactions: &Names,
     updates: &[TxnId],
 ) -> Result<(), AllocError> {
-    for (place, update) in updates.iter().take(MOST_NAMES).enumerate() {
+    let mut place = 0usize;
+    for update in first(updates, MOST_NAMES) {
         out.push_str(joint(place, updates.len()))?;
         out.push_str(name_of_transaction(transactions, *update))?;
+        place = place.saturating_add(1);
     }
     push_rest(out, updates.len())
-}
-
-/// Adds a sentence, on as many lines as it needs: a line ends at a blank, and has fewer letters than `width`, unless one
-/// word has more.
-pub fn wrap(
-    alloc: Global,
-    lines: &mut Vec<String>,
-    width: usize,
-    sentence: &str,
-) -> Result<(), AllocError> {
-    let mut line = String::new(alloc);
-    for word in sentence.split(' ') {
-        let length = line.len().saturating_add(word.len());
-        if !line.is_empty() && length >= width {
-            lines.push(line)?;
-            line = String::new(alloc);
-        }
-        if !line.is_empty() {
-            line.push(' ')?;
-        }
-        line.push_str(word)?;
-    }
-    lines.push(line)?;
-    Ok(())
 }

@@ -30,6 +30,10 @@ const SCRIPT: &str = "item a 0\n\
 const BUNDLE: &str =
     r#"{"certificate":{"back_flow":[0],"chain_flow":[[0,0,1],[1,0]],"set":[0,1],"worth":1},"problem":{"before":[[0,1]],"chains":[{"costs":[0,10,1],"item":0,"writers":[0,1]},{"costs":[8,0],"item":1,"writers":[1]}],"updates":[2,3]}}"#;
 
+/// The same updates, of which one left another value: it is valid, and of another problem.
+const UNLIKE: &str =
+    r#"{"certificate":{"back_flow":[0],"chain_flow":[[0,0,1],[1,0]],"set":[0,1],"worth":1},"problem":{"before":[[0,1]],"chains":[{"costs":[0,9,1],"item":0,"writers":[0,1]},{"costs":[8,0],"item":1,"writers":[1]}],"updates":[2,3]}}"#;
+
 const CHANGED: &str =
     r#"{"certificate":{"back_flow":[0],"chain_flow":[[0,0,1],[1,0]],"set":[0,1],"worth":0},"problem":{"before":[[0,1]],"chains":[{"costs":[0,10,1],"item":0,"writers":[0,1]},{"costs":[8,0],"item":1,"writers":[1]}],"updates":[2,3]}}"#;
 
@@ -60,12 +64,13 @@ fn claims(rt: &impl Abort, alloc: Global, name: &str, bundle: &str, wanted: &str
     );
 }
 
-/// The same problem, another query's, a fault, and no bundle.
+/// The same problem, another query's, one of as many updates, a fault, and no bundle.
 #[test]
 fn a_bundle_is_of_one_query(rt: HostRuntime) {
     let alloc = rt.alloc();
     claims(&rt, alloc, "report", BUNDLE, "valid 1 of report\n");
     claims(&rt, alloc, "other", BUNDLE, "valid 1, not of other\n");
+    claims(&rt, alloc, "report", UNLIKE, "valid 1, not of report\n");
     claims(&rt, alloc, "report", CHANGED, "invalid 6\n");
     claims(&rt, alloc, "report", "{}", "bad 2\n");
 }

@@ -4,7 +4,8 @@ use crate::tests::pictures::BANK;
 use esr_history::Watched;
 use esr_lint::Unobserved;
 use esr_page::Page;
-use esr_prose::Prose;
+use esr_picture::Drawing;
+use esr_prose::{Passage, Prose};
 use esr_script::{RunFault, survey};
 use esr_telling::Survey;
 use std::alloc::Global;
@@ -130,6 +131,15 @@ fn what_is_no_query_is_not_told(rt: HostRuntime) {
     }
 }
 
+/// A page that tells of so many queries.
+fn page(worst: u64) -> Page<'static, Drawing, Passage> {
+    Page {
+        worst,
+        picture: &Drawing,
+        words: &Passage,
+    }
+}
+
 /// A page of any content would keep its contract.
 #[test]
 fn a_page_has_each_part(rt: HostRuntime) {
@@ -143,11 +153,11 @@ fn a_page_has_each_part(rt: HostRuntime) {
         "<li>savings 1,600, in line 9, as transfer had left it</li>",
         "<p class='order'>transfer</p>",
     ];
-    has(&rt, rt.alloc(), BANK, &Page { worst: 10 }, &texts);
+    has(&rt, rt.alloc(), BANK, &page(10), &texts);
     let texts = [
         "<td>aborted</td><td class='num'>-</td>",
         "<td>still active</td><td class='num'>-</td>",
         "<h2 id='all'>All queries</h2>",
     ];
-    has(&rt, rt.alloc(), DAY, &Page { worst: 0 }, &texts);
+    has(&rt, rt.alloc(), DAY, &page(0), &texts);
 }

@@ -1,8 +1,0 @@
--- Why `is_end` keeps its contract: the goals that are left to a proof of ours.
-use Rattle.std.proofs.Common.{sym, ◌∙◌}
-use Rattle.esr_picture.proofs.Building.{ending}
-use Rattle.esr_picture.proofs.markup.is_end.Goals as goal
-
-pub returns-then-is_empty : goal.returns-then-is_empty
-returns-then-is_empty c = λ t.
-    ending c.args.path.now c.args.text.now (sym c.is_empty.ensures ∙ c.if-is_empty.true) (c.is_plain.ensures t)

@@ -1,0 +1,190 @@
+//! The head of a picture: its size, its words for whoever cannot see it, and its colours. These are in a `<style>` with
+//! `prefers-color-scheme`, and the picture brings its own background, so that it can be read wherever it is put. What
+//! is green is also thick, and what is off has a circle and words, for those who do not see colours.
+
+use crate::elements::{open_text, push_text};
+use crate::frame::Frame;
+use crate::scene::{Lane, Scene, Update};
+use esr_text::{first, push_number, push_value};
+use std::alloc::AllocError;
+
+const STYLE: &str = "<style>\n\
+text{font:12px sans-serif;fill:#1f2328}\n\
+.m{font:13px Menlo,Consolas,'DejaVu Sans Mono',monospace}\n\
+.h{font:bold 15px Menlo,Consolas,'DejaVu Sans Mono',monospace}\n\
+.n{font-weight:bold}\n\
+.q{fill:#59636e}\n\
+.g{fill:#1a7f4b}\n\
+.r{fill:#c4302b}\n\
+.o{paint-order:stroke;stroke:#fff;stroke-width:5px}\n\
+.p{fill:#fff}\n\
+.b{fill:#cfe3f7;stroke:#35658f}\n\
+.a{fill:#eef0f2;stroke:#8a949e}\n\
+.w{fill:none;stroke:#57606a;stroke-width:1.5}\n\
+.k{fill:#57606a}\n\
+.d{stroke:#8a949e;stroke-dasharray:2 4}\n\
+.t{stroke:#57606a;stroke-width:2}\n\
+.v{stroke:#b4bcc4;stroke-width:4}\n\
+.s{stroke-dasharray:4 4}\n\
+.f{stroke:#2da565;stroke-width:6}\n\
+.u{stroke:#2da565;stroke-width:11}\n\
+.l{stroke:#1f2328;stroke-width:2}\n\
+.y{stroke-width:14}\n\
+.z{stroke-width:17}\n\
+.e{stroke-width:3}\n\
+.c{fill:#fff;stroke:#c4302b;stroke-width:2}\n\
+@media (prefers-color-scheme:dark){\n\
+text{fill:#e6edf3}.q{fill:#9aa4af}.g{fill:#4cc47c}.r{fill:#ff7b72}.o{stroke:#0d1117}.p{fill:#0d1117}\n\
+.b{fill:#1d3a57;stroke:#6ea8dc}.a{fill:#22272e;stroke:#68737f}.w{stroke:#9aa4af}.k{fill:#9aa4af}\n\
+.d{stroke:#57606a}.t{stroke:#9aa4af}.v{stroke:#56606b}.f{stroke:#2f9e5f}.u{stroke:#2f9e5f}.l{stroke:#e6edf3}\n\
+.c{fill:#0d1117;stroke:#ff7b72}}\n\
+</style>\n";
+
+/// The attributes of the element, with a blank before each.
+pub fn push_attributes(
+    out: &mut String,
+    scene: &Scene<'_>,
+    frame: &Frame,
+) -> Result<(), AllocError> {
+    let query = scene.query;
+    let width = frame.width(scene.line);
+    let height = frame.height();
+    write!(
+        out,
+        " xmlns='http://www.w3.org/2000/svg' viewBox='0 0 {width} {height}'"
+    )?;
+    write!(out, " width='{width}' height='{height}' role='img'")?;
+    write!(out, " aria-labelledby='{query}-title {query}-desc'")
+}
+
+/// The names of the updates before the line, for the description.
+fn push_earlier(out: &mut String, updates: &[Update<'_>], line: u8) -> Result<(), AllocError> {
+    for update in updates {
+        if update.slot < line {
+            let name = update.name;
+            write!(out, " {name},")?;
+        }
+    }
+    Ok(())
+}
+
+/// The names of the updates after the line.
+fn push_later(out: &mut String, updates: &[Update<'_>], line: u8) -> Result<(), AllocError> {
+    for update in updates {
+        if update.slot > line {
+            let name = update.name;
+            write!(out, ", {name}")?;
+        }
+    }
+    Ok(())
+}
+
+/// The order of the updates and the line, for the description.
+fn push_order(
+    out: &mut String,
+    query: &str,
+    updates: &[Update<'_>],
+    line: u8,
+) -> Result<(), AllocError> {
+    out.push_str(" In order:")?;
+    push_earlier(out, updates, line)?;
+    write!(out, " [{query}]")?;
+    push_later(out, updates, line)?;
+    out.push_str(".")
+}
+
+/// The first values that were read of an item, for the description.
+fn push_values(out: &mut String, values: &[i64]) -> Result<(), AllocError> {
+    for value in first(values, 2) {
+        out.push_str(" read ")?;
+        push_value(out, *value)?;
+        out.push(',')?;
+    }
+    Ok(())
+}
+
+/// What an item's reads are off, for the description.
+fn push_off(out: &mut String, off: u64) -> Result<(), AllocError> {
+    if off == 0 {
+        out.push_str(" as at its place.")
+    } else {
+        out.push_str(" off by ")?;
+        push_number(out, off)?;
+        out.push_str(" from its place.")
+    }
+}
+
+/// The lanes in words, for the description.
+fn push_lanes_words(out: &mut String, lanes: &[Lane<'_>]) -> Result<(), AllocError> {
+    for lane in lanes {
+        let name = lane.name;
+        write!(out, " {name}:")?;
+        push_values(out, &lane.read.values)?;
+        push_off(out, lane.off)?;
+    }
+    Ok(())
+}
+
+/// The title, and the start of the description.
+fn push_title(out: &mut String, query: &str, distance: u64, import: u64) -> Result<(), AllocError> {
+    write!(out, "<title id='{query}-title'>Audit of {query}</title>\n")?;
+    write!(out, "<desc id='{query}-desc'>Distance ")?;
+    push_number(out, distance)?;
+    out.push_str(", import ")?;
+    push_number(out, import)?;
+    out.push('.')
+}
+
+/// The title and the description.
+fn push_description(out: &mut String, scene: &Scene<'_>) -> Result<(), AllocError> {
+    push_title(out, scene.query, scene.distance, scene.import)?;
+    push_order(out, scene.query, &scene.updates, scene.line)?;
+    push_lanes_words(out, &scene.lanes)?;
+    out.push_str("</desc>\n")
+}
+
+/// The tip of the arrows.
+fn push_tip(out: &mut String, query: &str) -> Result<(), AllocError> {
+    write!(
+        out,
+        "<defs><marker id='{query}-tip' markerWidth='8' markerHeight='8' refX='6' refY='4' orient='auto'>"
+    )?;
+    out.push_str("<path class='k' d='M0 1L7 4L0 7'/></marker></defs>\n")
+}
+
+/// The title and the description, the style and the paper.
+pub fn push_head(out: &mut String, scene: &Scene<'_>, frame: &Frame) -> Result<(), AllocError> {
+    let width = frame.width(scene.line);
+    let height = frame.height();
+    out.push('\n')?;
+    push_description(out, scene)?;
+    out.push_str(STYLE)?;
+    push_tip(out, scene.query)?;
+    write!(
+        out,
+        "<rect class='p' width='{width}' height='{height}' rx='8'/>\n"
+    )
+}
+
+/// The sentences about what was found.
+fn push_sentences(out: &mut String, sentences: &[String]) -> Result<(), AllocError> {
+    let mut y = 50u32;
+    for sentence in first(sentences, 9) {
+        push_text(out, "q", 20, y, sentence)?;
+        out.push_str("\n")?;
+        y = y.saturating_add(20);
+    }
+    Ok(())
+}
+
+/// What was found, above all, and the sentences about it.
+pub fn push_heading(out: &mut String, scene: &Scene<'_>) -> Result<(), AllocError> {
+    open_text(out, "h", 20, 28)?;
+    out.push_str(scene.query)?;
+    out.push_str(": distance ")?;
+    push_number(out, scene.distance)?;
+    out.push_str(", import ")?;
+    push_number(out, scene.import)?;
+    out.push_str("</text>\n")?;
+    push_sentences(out, &scene.sentences)
+}

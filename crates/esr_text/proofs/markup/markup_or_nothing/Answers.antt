@@ -1,0 +1,7 @@
+-- Why `markup_or_nothing` keeps its contract: the goals that are left to a proof of ours.
+use Rattle.std.proofs.Common.{string_bytes}
+use Rattle.esr_text.proofs.Building.{nothing}
+use Rattle.esr_text.proofs.markup.markup_or_nothing.Goals as goal
+
+pub returns-else-branch : goal.returns-else-branch
+returns-else-branch c = nothing (string_bytes c.new.result) c.new.ensures.bytes

@@ -1,0 +1,3 @@
+-- What markup is: pictures and pages are.
+
+pub mod Markup

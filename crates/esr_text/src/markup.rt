@@ -1,0 +1,200 @@
+//! Whether a text is markup: each element that is opened is closed in its turn, and attributes are in quotes.
+//!
+//! What writes pictures and pages promises nothing of that. To prove it of each function that writes would state for
+//! each which elements are open before and behind it. So the whole text is read once more, tag by tag, before anything
+//! rests on it: a few functions, with a contract that says what is wanted. The names of the elements that are open are
+//! one text, each after a slash, so that what is open before and behind a tag is said by texts alone.
+
+ghost use Rattle.std.specs.Prelude.{◌≡◌, ◌<◌, ◌++◌, ◌∷◌, ℕ, List, IfOk, IfSome, length, string_bytes, true};
+ghost use Rattle.esr_text.specs.Markup.{Attributes, Closes, HasNo, IsMarkup, IsName, IsNameByte, IsPlain, Tag};
+
+use std::alloc::{AllocError, Global};
+
+/// Whether a byte may be in a name.
+fn is_name_byte(byte: u8) -> bool
+    ensures { result ≡ true → IsNameByte byte }
+{
+    matches!(byte, b'a'..=b'z' | b'A'..=b'Z' | b'0'..=b'9' | b'-')
+}
+
+/// Whether a text is a name.
+fn is_name(text: &str) -> bool
+    ensures { result ≡ true → IsName text.now }
+{
+    for byte in text.as_bytes() {
+        if !is_name_byte(*byte) {
+            return false;
+        }
+    }
+    !text.is_empty()
+}
+
+/// Whether no character of a text is that one, of ASCII.
+fn has_no(text: &str, mark: char) -> bool
+    requires { mark < 128 }
+    ensures { result ≡ true → HasNo mark text.now }
+{
+    !text.contains(mark)
+}
+
+/// Whether a text has nothing that would have to be escaped.
+fn is_plain(text: &str) -> bool
+    ensures { result ≡ true → IsPlain text.now }
+{
+    has_no(text, '<') && has_no(text, '&')
+}
+
+/// What is behind the first attribute of a text.
+fn behind_attribute(text: &str) -> Option<&str>
+    ensures shorter { IfSome result (λ behind. length behind.now < length text.now) }
+    ensures continues { IfSome result (λ behind. Attributes behind.now → Attributes text.now) }
+{
+    let attribute = text.strip_prefix(' ')?;
+    let (name, quoted) = attribute.split_once("='")?;
+    let (value, behind) = quoted.split_once('\'')?;
+    if is_name(name) && is_plain(value) {
+        Some(behind)
+    } else {
+        None
+    }
+}
+
+/// Whether a text is attributes.
+pub fn is_attributes(text: &str) -> bool
+    ensures { result ≡ true → Attributes text.now }
+{
+    let mut rest = text;
+    while !rest.is_empty() {
+        match behind_attribute(rest) {
+            Some(behind) => rest = behind,
+            None => return false,
+        }
+    }
+    true
+}
+
+/// The name of the element that a tag begins with, if attributes follow it.
+fn element_of(tag: &str) -> Option<&str>
+    ensures { IfSome result (λ name. (attributes : List ℕ) × (tag.now ≡ name.now ++ attributes) × IsName name.now × Attributes attributes) }
+{
+    let name = match tag.split_once(' ') {
+        Some((name, _)) => name,
+        None => tag,
+    };
+    let attributes = tag.strip_prefix(name)?;
+    if is_name(name) && is_attributes(attributes) {
+        Some(name)
+    } else {
+        None
+    }
+}
+
+/// The elements that are open around the innermost, if that has such a name.
+fn around<'a>(path: &'a str, name: &str) -> Option<&'a str>
+    ensures { IfSome result (λ outer. path.now ≡ outer.now ++ (47 ∷ name.now)) }
+{
+    path.strip_suffix(name)?.strip_suffix('/')
+}
+
+/// The elements that are open within one more.
+fn within(alloc: Global, path: &str, name: &str) -> Result<String, AllocError>
+    ensures { IfOk result (λ inner. string_bytes inner ≡ path.now ++ (47 ∷ name.now)) }
+{
+    let mut inner = String::from_str(alloc, path)?;
+    inner.push('/')?;
+    inner.push_str(name)?;
+    Ok(inner)
+}
+
+/// The elements that are open behind the tag that closes an element, if it is the innermost.
+fn behind_end(alloc: Global, path: &str, name: &str) -> Result<Option<String>, AllocError>
+    ensures { IfOk result (λ found. IfSome found (λ behind. Tag path.now (47 ∷ name.now) (string_bytes behind))) }
+{
+    match around(path, name) {
+        Some(outer) if is_name(name) => Ok(Some(String::from_str(alloc, outer)?)),
+        _ => Ok(None),
+    }
+}
+
+/// The elements that are open behind a tag that does not close an element that was open.
+fn behind_start(alloc: Global, path: &str, tag: &str) -> Result<Option<String>, AllocError>
+    ensures { IfOk result (λ found. IfSome found (λ behind. Tag path.now tag.now (string_bytes behind))) }
+{
+    if let Some(element) = tag.strip_suffix('/') {
+        return match element_of(element) {
+            Some(_) => Ok(Some(String::from_str(alloc, path)?)),
+            None => Ok(None),
+        };
+    }
+    match element_of(tag) {
+        Some(name) => Ok(Some(within(alloc, path, name)?)),
+        None => Ok(None),
+    }
+}
+
+/// The elements that are open behind a tag, if it may stand where these are open.
+fn open_behind(alloc: Global, path: &str, tag: &str) -> Result<Option<String>, AllocError>
+    ensures { IfOk result (λ found. IfSome found (λ behind. Tag path.now tag.now (string_bytes behind))) }
+{
+    match tag.strip_prefix('/') {
+        Some(name) => behind_end(alloc, path, name),
+        None => behind_start(alloc, path, tag),
+    }
+}
+
+/// What stands before the first tag of a text, in it, and behind it.
+fn parts(text: &str) -> Option<(&str, &str, &str)>
+    ensures plain { IfSome result (λ p. IsPlain p.0.now) }
+    ensures shorter { IfSome result (λ p. length p.2.now < length text.now) }
+    ensures whole { IfSome result (λ p. text.now ≡ p.0.now ++ (60 ∷ (p.1.now ++ (62 ∷ p.2.now)))) }
+{
+    let (plain, behind) = text.split_once('<')?;
+    let (tag, rest) = behind.split_once('>')?;
+    if is_plain(plain) {
+        Some((plain, tag, rest))
+    } else {
+        None
+    }
+}
+
+/// Whether a text behind which nothing more comes closes all elements that are open.
+fn is_end(path: &str, text: &str) -> bool
+    ensures { result ≡ true → Closes path.now text.now }
+{
+    path.is_empty() && is_plain(text)
+}
+
+/// Whether a text is markup.
+///
+/// # Errors
+///
+/// Where there is no memory.
+pub fn is_markup(alloc: Global, text: &str) -> Result<bool, AllocError>
+    ensures { IfOk result (λ is. is ≡ true → IsMarkup text.now) }
+{
+    let mut path = String::new(alloc);
+    let mut rest = text;
+    while let Some((_, tag, behind)) = parts(rest) {
+        match open_behind(alloc, path.as_str(), tag)? {
+            Some(open) => path = open,
+            None => return Ok(false),
+        }
+        rest = behind;
+    }
+    Ok(is_end(path.as_str(), rest))
+}
+
+/// A text, or nothing where it is not markup.
+///
+/// # Errors
+///
+/// Where there is no memory.
+pub fn markup_or_nothing(alloc: Global, text: String) -> Result<String, AllocError>
+    ensures { IfOk result (λ kept. IsMarkup (string_bytes kept)) }
+{
+    if is_markup(alloc, text.as_str())? {
+        Ok(text)
+    } else {
+        Ok(String::new(alloc))
+    }
+}

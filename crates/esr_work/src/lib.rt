@@ -1,0 +1,26 @@
+//! What the program does with a script or a bundle, apart from the words that ask for it: it reads, has the work done, and
+//! tells how that ended, with the status. What is done is a `Work`, a `Telling` or a `Survey`, so this crate knows none of
+//! the pictures, pages and sheets, and is proved beside them.
+#![tactic(auto)]
+
+mod fault;
+mod judgement;
+mod listing;
+mod meter;
+mod open;
+mod output;
+mod work;
+
+pub use fault::{DriveText, RunText, line_at_fault};
+pub use judgement::{Question, check};
+pub use listing::list_faults;
+pub use meter::is_shown;
+pub use open::open_file;
+use std::fmt::Display;
+pub use work::{Certifying, Running, TellingOf, Work, audit_script, survey_script, work_on};
+
+/// One line on standard error, and the status, which stays where standard error takes nothing.
+pub fn fail(rt: &impl Eprint, text: &impl Display, status: u8) -> u8 {
+    let _ = eprintln!(rt; "esr: {text}");
+    status
+}
