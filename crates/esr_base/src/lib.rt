@@ -9,7 +9,7 @@
 mod limits;
 mod no_memory;
 mod numbers;
-mod sending;
+mod output;
 mod watched;
 
 pub use limits::{
@@ -18,5 +18,5 @@ pub use limits::{
 };
 pub use no_memory::NoMemory;
 pub use numbers::{ItemId, TxnId};
-pub use sending::WriteFailed;
+pub use output::WriteFailed;
 pub use watched::Watched;

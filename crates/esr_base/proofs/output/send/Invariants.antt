@@ -2,7 +2,7 @@
 use Rattle.std.proofs.Common.{◌≡◌, length, ◌-◌, ◌≤◌, take}
 use Rattle.std.specs.Io.KnownBytes.{Appends}
 use Rattle.esr_base.specs.Watch.{inner, failed}
-use Rattle.esr_base.proofs.sending.send.Given as goal
+use Rattle.esr_base.proofs.output.send.Given as goal
 
 abbrev pub invariant-loop-sent : goal.invariant-loop-sent
 invariant-loop-sent g l = record {

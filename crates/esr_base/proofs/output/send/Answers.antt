@@ -3,7 +3,7 @@ use Rattle.std.proofs.Common.{◌≡◌, ℕ, List, ◌+◌, ◌-◌, ◌++◌, 
 use Rattle.std.proofs.Math.Seq.{take-add, take-length}
 use Rattle.std.proofs.KnownBytes.{Appends-trans}
 use Rattle.esr_base.specs.Watch.{BeginsWith}
-use Rattle.esr_base.proofs.sending.send.Goals as goal
+use Rattle.esr_base.proofs.output.send.Goals as goal
 
 pub loop-sent-preserved : goal.loop-sent-preserved
 loop-sent-preserved g c =
