@@ -1,15 +1,15 @@
 -- Each end of a run, with the output that is not yet sent.
-use Rattle.std.proofs.Common.{◌≡◌, ◌≢◌, ℕ, ◌<◌, ◌≤◌, List, [], ◌∷◌, ◌++◌, ◌⊎◌, Bool, true, false, length, take, refl, sym, ◌∙◌, ap, arith, Option, Some, None, Result, Ok, Err, OnOk, OnErr, IfErr, append_assoc, append-nil, ◌==◌, eq-eqb, IsErrOf, ◌||◌}
+use Rattle.std.proofs.Common.{◌≡◌, ◌≢◌, ℕ, ◌<◌, ◌≤◌, List, [], ◌∷◌, ◌++◌, ◌⊎◌, Bool, true, false, length, take, inl, inr, refl, sym, ◌∙◌, ap, subst, arith, Option, Some, None, Result, Ok, Err, OnOk, OnErr, IfErr, append_assoc, append-nil, ◌==◌, eq-eqb, IsErrOf, ◌||◌}
 use Rattle.std.specs.Io.KnownBytes.{IsAtEnd, Consumes, Keeps}
 use Rattle.esr_base.specs.Watch.{BeginsWith}
 use Rattle.esr_script.specs.declared.fault.RunFault.TheVariants as fault
 use Rattle.esr_line.specs.declared.next.Next.{Next}
 use Rattle.esr_line.specs.declared.next.Next.TheVariants as next
 use Rattle.esr_line.specs.declared.limits.TheConstants.{MAX_LINES, MAX_LINE_BYTES}
-use Rattle.esr_script.specs.Text.{ScriptState, answer, outcome, RunFault}
+use Rattle.esr_script.specs.Text.{ScriptState, Obeys, Leads, answer, outcome, RunFault}
 use Rattle.esr_script.specs.Run.{IsRunBy}
 use Rattle.esr_line.specs.Lines.{line_len, IsNext}
-use Rattle.esr_script.specs.Parts.{Standing, IsHeldRun, is_read_fault, is_write_fault}
+use Rattle.esr_script.specs.Parts.{Standing, IsAnswer, IsHeldRun, IsUnread, is_read_fault, is_write_fault}
 use Rattle.esr_line.proofs.Prefix.{line_len-le}
 use Rattle.esr_script.proofs.Steps.{advance, all_read, text_begins, at_memory, at_long, at_many, at_fault_line, at_last, at_fault_last, at_read}
 use Rattle.std.proofs.lemmas.Grind.{common_steps}
@@ -24,10 +24,45 @@ has_bytes next.More bytes h other = absurd (other refl)
 pub all_sent : {input : List ℕ} {left : Option (List ℕ)} {bytes : List ℕ} {n : ℕ} {s : ScriptState} (w : List ℕ) → Standing input left bytes n s w → Standing input left bytes n s (w ++ [])
 all_sent w here = rw append-nil here
 
--- where the output has grown
-pub all_grown : {input : List ℕ} {left : Option (List ℕ)} {bytes : List ℕ} {n : ℕ} {s : ScriptState} (sent out t grown : List ℕ) → grown ≡ out ++ t
-    → Standing input left bytes n s ((sent ++ out) ++ t) → Standing input left bytes n s (sent ++ grown)
-all_grown sent out t grown grew here = grind (arith, append_assoc sent out t)
+-- where the output has grown, and some of it is gone
+pub all_grown : {input : List ℕ} {left : Option (List ℕ)} {bytes : List ℕ} {n : ℕ} {s : ScriptState} (sent out t gone grown : List ℕ) → out ++ t ≡ gone ++ grown
+    → Standing input left bytes n s ((sent ++ out) ++ t) → Standing input left bytes n s ((sent ++ gone) ++ grown)
+all_grown sent out t gone grown grew here = rw (append_assoc sent out t ∙ ap (λ w. sent ++ w) grew ∙ sym (append_assoc sent gone grown)) at here
+
+-- where some of the output is gone
+pub some_gone : {input : List ℕ} {left : Option (List ℕ)} {bytes : List ℕ} {n : ℕ} {s : ScriptState} (sent out gone rest : List ℕ) → out ≡ gone ++ rest
+    → Standing input left bytes n s (sent ++ out) → Standing input left bytes n s ((sent ++ gone) ++ rest)
+some_gone sent out gone rest is here = rw (ap (λ w. sent ++ w) is ∙ sym (append_assoc sent gone rest)) at here
+
+-- ---- what counts as taken
+
+pub nothing_gone : (taken : Option (List ℕ)) → IsUnread taken []
+nothing_gone None = tt
+nothing_gone (Some x) = sym (append-nil x)
+
+any_gone : (taken : Option (List ℕ)) (gone : List ℕ) → taken ≡ None → IsUnread taken gone
+any_gone None gone none = tt
+any_gone (Some x) gone none = cc
+
+pub held_same : (taken : Option (List ℕ)) (input : List ℕ) (left : Option (List ℕ)) (out : List ℕ) (r : Result (Unit {0}) RunFault) (sent : List ℕ) → IsHeldRun input left out r sent
+    → (gone : List ℕ) × IsUnread taken gone × IsHeldRun input left out r (sent ++ gone)
+held_same taken input left out r sent held = ([], nothing_gone taken, subst (λ w. IsHeldRun input left out r w) (sym (append-nil sent)) held)
+
+-- a line that was answered in full
+pub answered_in_full : (taken : Option (List ℕ)) (due : Result (ScriptState × List ℕ) RunFault) (new : ScriptState) (out grown : List ℕ) (r : Result (Unit {0}) RunFault)
+    → Obeys due new out grown r → IsAnswer taken due new out grown r
+answered_in_full taken due new out grown (Ok done) h = record { ok = (h.ok.0, [], h.ok.1, sym h.ok.2, nothing_gone taken); err = tt; faults = tt }
+answered_in_full taken due new out grown (Err e) h = record { ok = tt; err = ([], sym h.err, nothing_gone taken); faults = h.faults }
+
+-- one of which all text is gone
+pub answered_unread : (taken : Option (List ℕ)) (due : Result (ScriptState × List ℕ) RunFault) (new : ScriptState) (out rest : List ℕ) (r : Result (Unit {0}) RunFault)
+    → taken ≡ None → Leads due new r → rest ≡ [] → IsAnswer taken due new out rest r
+answered_unread taken due new out rest (Ok done) none h empty = record {
+  ok = (h.ok.0, out ++ h.ok.0, h.ok.1, rw empty (sym (append-nil (out ++ h.ok.0))), any_gone taken (out ++ h.ok.0) none);
+  err = tt;
+  faults = tt;
+}
+answered_unread taken due new out rest (Err e) none h empty = record { ok = tt; err = (out, rw empty (sym (append-nil out)), any_gone taken out none); faults = h.faults }
 
 nothing_read : (before after : Option (List ℕ)) → Keeps before after → Consumes before after []
 nothing_read None after h = tt
@@ -73,23 +108,33 @@ module _ (input : List ℕ) (left : Option (List ℕ)) (bytes : List ℕ) (n : �
 
   -- at the end of the input
   module _ (end : IsAtEnd left) (plain : line_len bytes ≡ length bytes) (short : length bytes ≤ MAX_LINE_BYTES) where
-    held_line_last : 0 < length bytes → n ≢ MAX_LINES → (s' : ScriptState) (t grown : List ℕ) → answer s bytes ≡ Ok (s', t) → grown ≡ out ++ t → IsHeldRun input left grown (Ok tt) sent
-    held_line_last some few s' t grown is grew =
+    pub held_line_last : 0 < length bytes → n ≢ MAX_LINES → (s' : ScriptState) (t gone grown : List ℕ) → answer s bytes ≡ Ok (s', t) → out ++ t ≡ gone ++ grown
+        → IsHeldRun input left grown (Ok tt) (sent ++ gone)
+    held_line_last some few s' t gone grown is grew =
         let all = at_last input left bytes n s (sent ++ out) here end plain some short few s' t is in
-        let same : (sent ++ out) ++ t ≡ sent ++ grown = append_assoc sent out t ∙ ap (λ l. sent ++ l) (sym grew) in
+        let same : (sent ++ out) ++ t ≡ (sent ++ gone) ++ grown = append_assoc sent out t ∙ ap (λ l. sent ++ l) grew ∙ sym (append_assoc sent gone grown) in
         let finished = rw same at all in
-        (([], ap (λ o. o.text) finished ∙ sym (append-nil (sent ++ grown))), (all_read input left bytes n s (sent ++ out) here end, finished))
+        (([], ap (λ o. o.text) finished ∙ sym (append-nil ((sent ++ gone) ++ grown))), (all_read input left bytes n s (sent ++ out) here end, finished))
 
-    held_full_last : 0 < length bytes → n ≢ MAX_LINES → answer s bytes ≡ Err fault.HistoryFull → IsHeldRun input left out (Err fault.HistoryFull) sent
+    pub held_full_last : 0 < length bytes → n ≢ MAX_LINES → answer s bytes ≡ Err fault.HistoryFull → IsHeldRun input left out (Err fault.HistoryFull) sent
     held_full_last some few full = (text, at_fault_last input left bytes n s (sent ++ out) here end plain some short few fault.HistoryFull full)
 
-    -- the last line, by how it was answered
-    pub held_last : 0 < length bytes → n ≢ MAX_LINES → (r : Result (Unit {0}) RunFault) (s' : ScriptState) (grown : List ℕ)
-        → OnOk r ((t : List ℕ) × (answer s bytes ≡ Ok (s', t)) × (grown ≡ out ++ t)) → OnErr r (grown ≡ out)
-        → IfErr r (λ e. (e ≡ fault.NoMemory) ⊎ ((e ≡ fault.HistoryFull) × (answer s bytes ≡ Err fault.HistoryFull)))
-        → IsHeldRun input left grown r sent
-    held_last some few (Ok done) s' grown ok err faults = held_line_last some few s' ok.0 grown ok.1 ok.2
-    held_last some few (Err e) s' grown ok err faults = grind (arith, held_memory left, held_full_last)
+-- the last line, by how it was answered
+pub held_last : (taken : Option (List ℕ)) (input : List ℕ) (left : Option (List ℕ)) (bytes : List ℕ) (n : ℕ) (s : ScriptState) (sent out : List ℕ)
+    → Standing input left bytes n s (sent ++ out) → IsAtEnd left → line_len bytes ≡ length bytes → length bytes ≤ MAX_LINE_BYTES → 0 < length bytes → n ≢ MAX_LINES
+    → (r : Result (Unit {0}) RunFault) (s' : ScriptState) (grown : List ℕ) → IsAnswer taken (answer s bytes) s' out grown r
+    → (gone : List ℕ) × IsUnread taken gone × IsHeldRun input left grown r (sent ++ gone)
+held_last taken input left bytes n s sent out here end plain short some few (Ok done) s' grown a =
+    (a.ok.1, a.ok.4, held_line_last input left bytes n s sent out here end plain short some few s' a.ok.0 a.ok.1 grown a.ok.2 a.ok.3)
+held_last taken input left bytes n s sent out here end plain short some few (Err e) s' grown a =
+    let at = some_gone sent out a.err.0 grown a.err.1 here in (
+      a.err.0,
+      a.err.2,
+      elim a.faults [
+        | inl m ↦ rw m (held_memory input left bytes n s (sent ++ a.err.0) grown at left)
+        | inr h ↦ rw h.0 (held_full_last input left bytes n s (sent ++ a.err.0) grown at end plain short some few h.1)
+      ],
+    )
 
 -- a run that no write has ended
 pub held_kept : (input : List ℕ) (left : Option (List ℕ)) (out : List ℕ) (r : Result (Unit {0}) RunFault) (sent : List ℕ) → is_write_fault r ≡ false

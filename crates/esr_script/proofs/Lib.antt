@@ -2,6 +2,7 @@
 -- bodies of this crate use them.
 
 pub mod Steps
+mod Unread
 pub mod Held
 pub mod Replays
 pub mod Ends

@@ -16,7 +16,7 @@ use Rattle.esr_script.specs.Certify.{IsBundleLine}
 use Rattle.esr_script.specs.Ends.{EndsBy}
 use Rattle.esr_script.specs.Replays.{IsReplay, IsLineOf}
 use Rattle.esr_line.specs.Lines.{line_len, IsNext}
-use Rattle.esr_script.specs.Parts.{Standing}
+use Rattle.esr_script.specs.Parts.{Standing, IsAnswer}
 use Rattle.esr_script.proofs.Steps.{all_read, step_line, at_long, at_many, at_last, at_fault_line, at_fault_last, state_at_last}
 
 abbrev fault_of : Outcome → Option RunFault
@@ -38,11 +38,10 @@ module _ (input : List ℕ) (left : Option (List ℕ)) (bytes : List ℕ) (n : �
   replay_more k s' t few is ok = grind (arith, step_line)
 
   pub replay_ended : IsAtEnd left → line_len bytes ≡ length bytes → length bytes ≤ MAX_LINE_BYTES → 0 < length bytes → n ≢ MAX_LINES
-      → (r : Result (Unit {0}) RunFault) (s' : ScriptState) (out grown : List ℕ) → OnOk r ((t : List ℕ) × (answer s bytes ≡ Ok (s', t)) × (grown ≡ out ++ t))
-      → IfErr r (λ e. (e ≡ fault.NoMemory) ⊎ ((e ≡ fault.HistoryFull) × (answer s bytes ≡ Err fault.HistoryFull))) → IsReplay input left r s'
-  replay_ended end plain short some few (Ok done) s' out grown ok faults =
-      (all_read input left bytes n s w here end, ap fault_of (at_last input left bytes n s w here end plain some short few s' ok.0 ok.1), state_at_last input left bytes n s w here end plain some s' ok.0 ok.1)
-  replay_ended end plain short some few (Err e) s' out grown ok faults = elim faults [
+      → (taken : Option (List ℕ)) (r : Result (Unit {0}) RunFault) (s' : ScriptState) (out grown : List ℕ) → IsAnswer taken (answer s bytes) s' out grown r → IsReplay input left r s'
+  replay_ended end plain short some few taken (Ok done) s' out grown a =
+      (all_read input left bytes n s w here end, ap fault_of (at_last input left bytes n s w here end plain some short few s' a.ok.0 a.ok.2), state_at_last input left bytes n s w here end plain some s' a.ok.0 a.ok.2)
+  replay_ended end plain short some few taken (Err e) s' out grown a = elim a.faults [
     | inl m ↦ rw m tt
     | inr h ↦ rw h.0 (ap fault_of (at_fault_last input left bytes n s w here end plain some short few fault.HistoryFull h.1))
   ]

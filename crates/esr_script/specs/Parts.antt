@@ -1,5 +1,6 @@
 -- What the private parts of a run speak of.
-use Rattle.std.specs.Prelude.{◌≡◌, ℕ, List, ◌++◌, Bool, true, false, length, Option, Some, Result, Err}
+use Rattle.std.specs.Prelude.{◌≡◌, ℕ, List, ◌++◌, ◌⊎◌, Bool, true, false, length, Option, Some, Result, Ok, Err, OnOk, OnErr, IfErr}
+use Rattle.std.specs.Io.KnownBytes.{Appends}
 use Rattle.esr_base.specs.Watch.{BeginsWith}
 use Rattle.esr_script.specs.declared.fault.RunFault.TheVariants as fault
 use Rattle.esr_line.specs.Lines.{lines, whole_lines}
@@ -39,3 +40,16 @@ pub record Standing (input : List ℕ) (left : Option (List ℕ)) (bytes : List 
 abbrev pub IsHeldRun : List ℕ → Option (List ℕ) → List ℕ → Result (Unit {0}) RunFault → List ℕ → Type 0
 IsHeldRun input left out (Err fault.Write) sent = BeginsWith (outcome input).text sent
 IsHeldRun input left out r sent = BeginsWith (outcome input).text (sent ++ out) × IsRunBy input left r (sent ++ out)
+
+-- This much of an output counts as taken, though nothing took it: none of it, where it is known what was taken.
+abbrev pub IsUnread : Option (List ℕ) → List ℕ → Type 0
+IsUnread taken gone = Appends taken taken gone
+
+-- A line was to be answered so, and was: the state is that, and the text is behind the output, less what nobody reads.
+-- An error is out of memory, or the full history that was to come.
+pub record IsAnswer (taken : Option (List ℕ)) (due : Result (ScriptState × List ℕ) RunFault) (new : ScriptState)
+    (out_old out_new : List ℕ) (result : Result (Unit {0}) RunFault) : Type 0 where
+  pub ok : OnOk result ((text gone : List ℕ) × (due ≡ Ok (new, text)) × (out_old ++ text ≡ gone ++ out_new)
+      × IsUnread taken gone)
+  pub err : OnErr result ((gone : List ℕ) × (out_old ≡ gone ++ out_new) × IsUnread taken gone)
+  pub faults : IfErr result (λ e. (e ≡ fault.NoMemory) ⊎ ((e ≡ fault.HistoryFull) × (due ≡ Err fault.HistoryFull)))

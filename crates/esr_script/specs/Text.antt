@@ -132,6 +132,12 @@ pub record Obeys (due : Result (ScriptState × List ℕ) RunFault) (new : Script
   pub err : OnErr result (out_new ≡ out_old)
   pub faults : IfErr result (λ e. (e ≡ fault.NoMemory) ⊎ ((e ≡ fault.HistoryFull) × (due ≡ Err fault.HistoryFull)))
 
+-- the same where the text is nobody's
+pub record Leads (due : Result (ScriptState × List ℕ) RunFault) (new : ScriptState) (result : Result (Unit {0}) RunFault)
+    : Type 0 where
+  pub ok : OnOk result ((text : List ℕ) × (due ≡ Ok (new, text)))
+  pub faults : IfErr result (λ e. (e ≡ fault.NoMemory) ⊎ ((e ≡ fault.HistoryFull) × (due ≡ Err fault.HistoryFull)))
+
 -- the text of the answered lines, and the fault of the line that ends the run, if one does
 pub record Outcome : Type 0 where
   pub text : List ℕ

@@ -1,17 +1,19 @@
 //! Answers the lines in the bytes ahead, whether their text is to be written or dropped. A line is looked at where it
-//! lies in the input buffer; none is copied. Who looks on sees each with its answer, and changes nothing.
+//! lies in the input buffer; none is copied. Who looks on sees each with its answer, and changes nothing. Where nobody
+//! reads the text, it is dropped line by line, so what is not made of it does not show.
 
 ghost use Rattle.esr_line.specs.declared.limits.TheConstants.{MAX_LINES, MAX_LINE_BYTES};
-ghost use Rattle.std.specs.Prelude.{◌≡◌, ◌≢◌, ℕ, List, ◌+◌, ◌++◌, ◌≤◌, ◌⊎◌, Option, Err, OnOk, IfOk, IfErr, IsErrOf, false, length};
+ghost use Rattle.std.specs.Prelude.{◌≡◌, ◌≢◌, ℕ, List, ◌+◌, ◌++◌, ◌≤◌, ◌⊎◌, [], Option, Err, OnOk, IfOk, IfErr, IsErrOf, false, length};
 ghost use Rattle.std.specs.Io.KnownBytes.{IsAtEnd};
 ghost use Rattle.esr_script.specs.Replays.{IsReplay};
 ghost use Rattle.esr_line.specs.Lines.{line_len, IsNext};
-ghost use Rattle.esr_script.specs.Text.{Obeys, answer};
-ghost use Rattle.esr_script.specs.Parts.{Standing, IsHeldRun, is_read_fault, is_write_fault};
+ghost use Rattle.esr_script.specs.Text.{Obeys, Leads, answer};
+ghost use Rattle.esr_script.specs.Parts.{Standing, IsAnswer, IsHeldRun, IsUnread, is_read_fault, is_write_fault};
 
 use crate::fault::RunFault;
 use crate::input::Pending;
 use crate::script::Script;
+use crate::sink::Sink;
 use esr_line::{MAX_LINES, Next};
 use esr_lint::Observer;
 
@@ -34,7 +36,26 @@ fn next_length(next: Next, count: u64) -> Result<usize, RunFault>
 }
 
 /// Answers a line that has so many before it, and lets the observer see it with its answer.
-fn answer<O: Observer>(
+fn answer<S: Sink, O: Observer>(
+    line: &[u8],
+    count: u64,
+    script: &mut Script,
+    sink: &S,
+    out: &mut Vec<u8>,
+    observer: &mut O,
+) -> Result<(), RunFault>
+    requires { count ≤ MAX_LINES }
+    ensures { IsAnswer (S.contents sink.now) (answer script.old line.now) script.new out.old.items out.new.items result }
+{
+    if sink.is_read() {
+        answer_in_full(line, count, script, out, observer)
+    } else {
+        answer_unread(line, count, script, out, observer)
+    }
+}
+
+/// The same where the text is read.
+fn answer_in_full<O: Observer>(
     line: &[u8],
     count: u64,
     script: &mut Script,
@@ -52,12 +73,34 @@ fn answer<O: Observer>(
     Ok(())
 }
 
+/// The same where nobody reads it: only the observer sees what was made of the answer.
+fn answer_unread<O: Observer>(
+    line: &[u8],
+    count: u64,
+    script: &mut Script,
+    out: &mut Vec<u8>,
+    observer: &mut O,
+) -> Result<(), RunFault>
+    requires { count ≤ MAX_LINES }
+    ensures answered { Leads (answer script.old line.now) script.new result }
+    ensures out { out.new.items ≡ [] }
+{
+    out.clear();
+    let ended = script.answer_unread(line, out);
+    if ended.is_ok() {
+        observer.see_line(count + 1, line, out);
+    }
+    out.clear();
+    ended
+}
+
 /// Answers the next line, and goes on after its line feed.
-pub fn answer_next<O: Observer>(
+pub fn answer_next<S: Sink, O: Observer>(
     next: Next,
     pending: &mut Pending,
     count: u64,
     script: &mut Script,
+    sink: &S,
     out: &mut Vec<u8>,
     observer: &mut O,
 ) -> Result<(), RunFault>
@@ -65,12 +108,13 @@ pub fn answer_next<O: Observer>(
     requires there { next ≢ Next.More }
     requires count { count ≤ MAX_LINES }
     ensures few { OnOk result (count ≢ MAX_LINES) }
-    ensures text { OnOk result ((text : List ℕ) × (out.new.items ≡ out.old.items ++ text)
-        × ((input written : List ℕ) (left : Option (List ℕ)) → Standing input left pending.old count script.old written
+    ensures text { OnOk result ((text gone : List ℕ) × (out.old.items ++ text ≡ gone ++ out.new.items)
+        × IsUnread (S.contents sink.now) gone × ((input written : List ℕ) (left : Option (List ℕ)) → Standing input left pending.old count script.old written
         → Standing input left pending.new (count + 1) script.new (written ++ text))) }
     ensures held { IfErr result (λ e. (input sent : List ℕ) (left : Option (List ℕ))
         → Standing input left pending.old count script.old (sent ++ out.old.items)
-        → IsHeldRun input left out.new.items (Err e) sent) }
+        → (gone : List ℕ) × IsUnread (S.contents sink.now) gone × IsHeldRun input left out.new.items (Err e)
+        (sent ++ gone)) }
     ensures replay { IfErr result (λ e. (input written : List ℕ) (left : Option (List ℕ))
         → Standing input left pending.old count script.old written → IsReplay input left (Err e) script.new) }
     ensures read { is_read_fault result ≡ false }
@@ -80,7 +124,14 @@ pub fn answer_next<O: Observer>(
         Ok(length) => length,
         Err(fault) => return Err(fault),
     };
-    if let Err(fault) = answer(&pending.bytes()[..length], count, script, out, observer) {
+    if let Err(fault) = answer(
+        &pending.bytes()[..length],
+        count,
+        script,
+        sink,
+        out,
+        observer,
+    ) {
         return Err(fault);
     }
     pending.skip(length + 1);
@@ -88,10 +139,11 @@ pub fn answer_next<O: Observer>(
 }
 
 /// Answers the line that has no line feed, where there is one.
-pub fn answer_last<O: Observer>(
+pub fn answer_last<S: Sink, O: Observer>(
     pending: &Pending,
     count: u64,
     script: &mut Script,
+    sink: &S,
     out: &mut Vec<u8>,
     observer: &mut O,
 ) -> Result<(), RunFault>
@@ -99,7 +151,8 @@ pub fn answer_last<O: Observer>(
     requires count { count ≤ MAX_LINES }
     ensures held { (input sent : List ℕ) (left : Option (List ℕ))
         → Standing input left pending.now count script.old (sent ++ out.old.items)
-        → IsAtEnd left → line_len pending.now ≡ length pending.now → IsHeldRun input left out.new.items result sent }
+        → IsAtEnd left → line_len pending.now ≡ length pending.now → (gone : List ℕ)
+        × IsUnread (S.contents sink.now) gone × IsHeldRun input left out.new.items result (sent ++ gone) }
     ensures replay { (input written : List ℕ) (left : Option (List ℕ))
         → Standing input left pending.now count script.old written
         → IsAtEnd left → line_len pending.now ≡ length pending.now → IsReplay input left result script.new }
@@ -113,5 +166,5 @@ pub fn answer_last<O: Observer>(
     if count == MAX_LINES {
         return Err(RunFault::TooManyLines);
     }
-    answer(line, count, script, out, observer)
+    answer(line, count, script, sink, out, observer)
 }

@@ -54,11 +54,11 @@ pub fn answer_lines<R: Read, S: Sink, O: Observer>(
         if let Next::More = next {
             match read_on(reader, sink, pending, out) {
                 Err(fault) => return Err(fault),
-                Ok(0) => return answer_last(pending, count, script, out, observer),
+                Ok(0) => return answer_last(pending, count, script, sink, out, observer),
                 Ok(_) => continue 'lines,
             }
         }
-        if let Err(fault) = answer_next(next, pending, count, script, out, observer) {
+        if let Err(fault) = answer_next(next, pending, count, script, sink, out, observer) {
             return Err(fault);
         }
         if out.len() >= OUTPUT_FULL {

@@ -7,7 +7,7 @@ ghost use Rattle.esr_board.specs.declared.board.TheConstants.{MOST_SEATS};
 ghost use Rattle.std.specs.Prelude.{◌≡◌, ◌≢◌, ℕ, List, ◌+◌, ◌<◌, ◌≤◌, ◌⊎◌, [], ◌++◌, Ok, Err, None, OnErr, OnOk, IfOk, IfErr, IsErrOf, IsOk, true, false, ◌↔◌, length, pos};
 ghost use Rattle.esr_report.specs.Names.{position_of};
 ghost use Rattle.esr_report.specs.Subjects.{named_by};
-ghost use Rattle.esr_script.specs.Text.{Obeys, start, closed, transaction_called, item_called, item_error, with_item, begin, ask, obey, answer, ScriptState};
+ghost use Rattle.esr_script.specs.Text.{Obeys, Leads, start, closed, transaction_called, item_called, item_error, with_item, begin, ask, obey, answer, ScriptState};
 ghost use Rattle.esr_script.specs.Stages.{IsBegin, is_running, history_of};
 ghost use Rattle.esr_telling.specs.Ask.{IsAnswered, IsFoundOf, IsRecorded};
 ghost use Rattle.esr_script.specs.Audit.{audit_output};
@@ -24,7 +24,7 @@ use esr_board::Gate;
 use esr_history::{Event, Reply, TxnId};
 use esr_items::{ItemId, LARGEST_VALUE, LARGEST_WEIGHT, MOST_ITEMS};
 use esr_line::{Line, Parsed, parse_line};
-use esr_lint::{Observer, Standing};
+use esr_lint::{End, Observer, Standing};
 use esr_report::{
     LineError, Names, Subject, audit_line, error_line, item_line, reply_line, totals_line,
     weighted_item_line,
@@ -293,6 +293,25 @@ impl Script {
         ))
     }
 
+    /// Takes the line as answered, and says only where there is no such query: an audit changes nothing but that no more
+    /// items may be declared. What is said is promised by nothing.
+    fn pass_audit(&mut self, txn: &str, out: &mut Vec<u8>) -> Result<(), RunFault>
+        ensures ok { OnOk result (self.new ≡ closed self.old) }
+        ensures faults { IfErr result (λ e. e ≡ RunFault.NoMemory) }
+    {
+        let q = self.transaction(txn);
+        self.stage.close(self.alloc)?;
+        match self.stage.standing_of(q) {
+            Some(
+                Standing {
+                    is_query: true,
+                    end: End::Committed,
+                },
+            ) => Ok(()),
+            _ => line_or_fault(error_line(out, LineError::NotACommittedQuery)),
+        }
+    }
+
     /// Ends the run, and tells of the query of that name.
     pub fn tell_of<O: Observer>(mut self, name: &str, observer: &mut O) -> Result<Asked, RunFault>
         ensures answered { IfOk result (IsAnswered self name.now) }
@@ -425,6 +444,18 @@ impl Script {
             Line::Abort { txn } => self.abort(txn, out),
             Line::Audit { txn } => self.audit(txn, out),
             Line::Totals => self.totals(out),
+        }
+    }
+
+    /// Answers a line whose text nobody reads, so that no query is audited for it.
+    pub fn answer_unread(&mut self, line: &[u8], out: &mut Vec<u8>) -> Result<(), RunFault>
+        ensures { Leads (answer self.old line.now) self.new result }
+    {
+        match parse_line(line) {
+            Parsed::Skipped => Ok(()),
+            Parsed::NotACommand => line_or_fault(error_line(out, LineError::NotACommand)),
+            Parsed::Command(Line::Audit { txn }) => self.pass_audit(txn, out),
+            Parsed::Command(line) => self.obey(line, out),
         }
     }
 

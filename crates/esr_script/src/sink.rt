@@ -1,7 +1,8 @@
 //! Where the text of lines goes: to a writer, or nowhere.
 //!
 //! A run writes what a script answers; a replay needs only the state that the script leads to. Both go over the same
-//! lines, so there is one loop over them (`lines`), and what becomes of the text is its sink's.
+//! lines, so there is one loop over them (`lines`), and what becomes of the text is its sink's. Where nobody reads it, the
+//! text need not be made either: a replay audits no query for a line `audit` of the script.
 
 ghost use Rattle.std.specs.Prelude.{◌≡◌, ℕ, List, [], Bool, false, Option, None, OnOk, IfErr, ◌||◌};
 ghost use Rattle.std.specs.Io.KnownBytes.{Appends};
@@ -19,6 +20,10 @@ pub trait Sink {
 
     ghost has_failed: { Self → Bool };
 
+    /// Whether anybody reads what it takes.
+    fn is_read(&self) -> bool
+        ensures { result ≡ false → contents self.now ≡ None };
+
     /// Takes what the buffer holds, and empties the buffer.
     fn take(&mut self, text: &mut Vec<u8>) -> Result<(), RunFault>
         ensures ok { OnOk result ((text.new.items ≡ [])
@@ -33,6 +38,10 @@ impl<W: Write> Sink for Watched<W> {
 
     ghost has_failed = { failed };
 
+    fn is_read(&self) -> bool {
+        true
+    }
+
     fn take(&mut self, text: &mut Vec<u8>) -> Result<(), RunFault> {
         send_all(text, self)
     }
@@ -46,6 +55,10 @@ impl Sink for Dropped {
     ghost contents = { λ _. None };
 
     ghost has_failed = { λ _. false };
+
+    fn is_read(&self) -> bool {
+        false
+    }
 
     fn take(&mut self, text: &mut Vec<u8>) -> Result<(), RunFault> {
         text.clear();

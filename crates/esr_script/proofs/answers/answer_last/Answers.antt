@@ -1,16 +1,18 @@
 -- Why `answer_last` keeps its contract: the goals that are left to a proof of ours.
-use Rattle.esr_script.proofs.Held.{is_some, held_many, held_last}
+use Rattle.std.proofs.Common.{Err}
+use Rattle.esr_script.specs.declared.fault.RunFault.TheVariants.{TooManyLines}
+use Rattle.esr_script.proofs.Held.{is_some, held_many, held_last, held_same}
 use Rattle.esr_script.proofs.Replays.{replay_many, replay_ended}
 use Rattle.esr_script.proofs.answers.answer_last.Goals as goal
 
 pub returns-then-count-eq-MAX_LINES-clause-held : goal.returns-then-count-eq-MAX_LINES-clause-held
 returns-then-count-eq-MAX_LINES-clause-held g c input sent left here end plain =
-    held_many input left _ _ _ sent _ here c.if-count-eq-MAX_LINES.true (is_some _ _ _ c.is_empty.ensures c.if-is_empty.false c.bytes-line.ensures)
+    held_same _ input left c.args.out.now.items (Err TooManyLines) sent (held_many input left _ _ _ sent _ here c.if-count-eq-MAX_LINES.true (is_some _ _ _ c.is_empty.ensures c.if-is_empty.false c.bytes-line.ensures))
 
 pub returns-clause-held : goal.returns-clause-held
 returns-clause-held g c input sent left here end plain =
-    held_last input left _ _ _ sent _ here end plain c.requires.short (is_some _ _ _ c.is_empty.ensures c.if-is_empty.false c.bytes-line.ensures) c.if-count-eq-MAX_LINES.false
-    c.answer.result c.answer.new.script _ (rw c.bytes-line.ensures at c.answer.ensures.ok) c.answer.ensures.err (rw c.bytes-line.ensures at c.answer.ensures.faults)
+    held_last _ input left _ _ _ sent _ here end plain c.requires.short (is_some _ _ _ c.is_empty.ensures c.if-is_empty.false c.bytes-line.ensures) c.if-count-eq-MAX_LINES.false
+    c.answer.result c.answer.new.script _ (rw c.bytes-line.ensures at c.answer.ensures)
 
 pub returns-then-count-eq-MAX_LINES-clause-replay : goal.returns-then-count-eq-MAX_LINES-clause-replay
 returns-then-count-eq-MAX_LINES-clause-replay g c input written left here end plain =
@@ -19,4 +21,4 @@ returns-then-count-eq-MAX_LINES-clause-replay g c input written left here end pl
 pub returns-clause-replay : goal.returns-clause-replay
 returns-clause-replay g c input written left here end plain =
     replay_ended input left _ _ _ written here end plain c.requires.short (is_some _ _ _ c.is_empty.ensures c.if-is_empty.false c.bytes-line.ensures) c.if-count-eq-MAX_LINES.false
-    c.answer.result c.answer.new.script c.args.out.now.items c.answer.new.out.items (rw c.bytes-line.ensures at c.answer.ensures.ok) (rw c.bytes-line.ensures at c.answer.ensures.faults)
+    _ c.answer.result c.answer.new.script c.args.out.now.items c.answer.new.out.items (rw c.bytes-line.ensures at c.answer.ensures)

@@ -1,14 +1,14 @@
 -- Why `answer_next` keeps its contract: the goals that are left to a proof of ours.
-use Rattle.std.proofs.Common.{Err, inl, inr, refl, ap}
-use Rattle.esr_script.proofs.Held.{has_bytes, held_memory, held_long, held_many, held_full}
+use Rattle.std.proofs.Common.{Err, inl, inr, refl, ap, ◌++◌}
+use Rattle.esr_script.proofs.Held.{has_bytes, held_memory, held_long, held_many, held_full, held_same, some_gone}
 use Rattle.esr_script.proofs.Replays.{replay_many, replay_long, replay_full, replay_more}
 use Rattle.esr_script.proofs.answers.answer_next.Goals as goal
 
 pub returns-in-Err-clause-held : goal.returns-in-Err-clause-held
-returns-in-Err-clause-held g c input sent left here = elim c.in-Err.ensures.faults [
+returns-in-Err-clause-held g c input sent left here = held_same _ input left c.args.out.now.items (Err c.in-Err.fault) sent (elim c.in-Err.ensures.faults [
   | inl e ↦ rw e (held_many input left _ _ _ sent _ here (c.in-Err.ensures.many (ap (λ f. Err f) e)) (has_bytes _ _ c.requires.next c.requires.there))
   | inr e ↦ let is = c.in-Err.ensures.long (ap (λ f. Err f) e) in rw e (held_long input left _ _ _ sent _ here is.1 (rw is.0 at c.requires.next))
-]
+])
 
 pub returns-in-Err-clause-replay : goal.returns-in-Err-clause-replay
 returns-in-Err-clause-replay g c input written left here = elim c.in-Err.ensures.faults [
@@ -25,10 +25,15 @@ returns-in-Err-answer g c =
     record {
       few = tt;
       text = tt;
-      held = λ input sent left here. elim faults [
-        | inl e ↦ rw (e, kept) (held_memory input left _ _ _ sent _ here left)
-        | inr e ↦ rw (e.0, kept) (held_full input left _ _ _ sent _ here c.in-Ok.length few found e.1)
-      ];
+      held = λ input sent left here.
+          let at = some_gone sent _ kept.0 _ kept.1 here in (
+            kept.0,
+            kept.2,
+            elim faults [
+              | inl e ↦ rw e (held_memory input left _ _ _ (sent ++ kept.0) _ at left)
+              | inr e ↦ rw e.0 (held_full input left _ _ _ (sent ++ kept.0) _ at c.in-Ok.length few found e.1)
+            ],
+          );
       replay = λ input written left here. elim faults [
         | inl e ↦ rw e tt
         | inr e ↦ rw e.0 (replay_full input left _ _ _ written here c.in-Ok.length few found e.1)
@@ -42,7 +47,9 @@ returns-clause-text g c =
     let found = rw c.in-Ok.ensures.ok.0 at c.requires.next in
     let answered = rw c.bytes.ensures at c.in_default.ensures.ok in (
       answered.0,
-      answered.2,
+      answered.1,
+      answered.3,
+      answered.4,
       λ input written left here.
-          rw (← c.skip.ensures) at (replay_more input left _ _ _ written here c.in-Ok.length _ answered.0 c.in-Ok.ensures.ok.1 found answered.1),
+          rw (← c.skip.ensures) at (replay_more input left _ _ _ written here c.in-Ok.length _ answered.0 c.in-Ok.ensures.ok.1 found answered.2),
     )

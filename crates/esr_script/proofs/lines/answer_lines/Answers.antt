@@ -38,10 +38,11 @@ returns-in-Ok-eq0-clause-text g c input known =
     let sent = c.in-Ok-eq0.ensures.sent refl in
     let here = all_sent _ (advance input _ _ _ _ _ _ _ came.0 inv.2 came.2 came.3) in
     let same : c.read_on.new.pending ≡ c.lines.pending = same_bytes _ _ came.0 _ came.1 c.in-Ok-eq0.field-0-test came.2 in
-    let plain : line_len c.read_on.new.pending ≡ length c.read_on.new.pending = rw same more.0 in (
-      inv.0 ++ c.lines.out.items,
-      Appends-trans _ _ _ _ _ inv.1 sent.1,
-      c.answer_last.ensures.held input (inv.0 ++ c.lines.out.items) _ (rw sent.0 here) (came.4 c.in-Ok-eq0.field-0-test) plain,
+    let plain : line_len c.read_on.new.pending ≡ length c.read_on.new.pending = rw same more.0 in
+    let held = c.answer_last.ensures.held input (inv.0 ++ c.lines.out.items) _ (rw sent.0 here) (came.4 c.in-Ok-eq0.field-0-test) plain in (
+      (inv.0 ++ c.lines.out.items) ++ held.0,
+      Appends-trans _ _ _ _ _ (Appends-trans _ _ _ _ _ inv.1 sent.1) held.1,
+      held.2,
     )
 
 pub returns-in-Err-clause-replay : goal.returns-in-Err-clause-replay
@@ -79,7 +80,8 @@ returns-in-Err-answer_next g c =
     record {
       text = λ input known.
           let inv = c.lines.invariant.text input known in
-          (inv.0, inv.1, c.in-Err-answer_next.ensures.held input inv.0 _ inv.2);
+          let held = c.in-Err-answer_next.ensures.held input inv.0 _ inv.2 in
+          (inv.0 ++ held.0, Appends-trans _ _ _ _ _ inv.1 held.1, held.2);
       replay = λ kept input known.
           let inv = c.lines.invariant.text input known in
           c.in-Err-answer_next.ensures.replay input _ _ inv.2;
@@ -94,10 +96,11 @@ returns-in-Err-take g c =
       text = λ input known.
           let inv = c.lines.invariant.text input known in
           let answered = c.in_default-answer_next.ensures.text in
-          let after = all_grown inv.0 _ answered.0 _ answered.1 (answered.2 input _ _ inv.2) in
+          let after = all_grown inv.0 _ answered.0 answered.1 _ answered.2 (answered.4 input _ _ inv.2) in
+          let front = inv.0 ++ answered.1 in
           let failed = c.in-Err-take.ensures.err in
           let part = failed.1 in
-          (inv.0 ++ part.0, Appends-trans _ _ _ _ _ inv.1 part.2, rw failed.0 (held_write input _ _ _ _ inv.0 _ after part.0 part.1 (g.R.Read.remaining (inner c.lines.reader)) c.take.new.text.items));
+          (front ++ part.0, Appends-trans _ _ _ _ _ (Appends-trans _ _ _ _ _ inv.1 answered.3) part.2, rw failed.0 (held_write input _ _ _ _ front _ after part.0 part.1 (g.R.Read.remaining (inner c.lines.reader)) c.take.new.text.items));
       replay = λ kept input known.
           let is = c.in-Err-take.ensures.err.0 in
           let lost = rw is at kept in
@@ -119,11 +122,13 @@ lines-preserved g c =
       text = λ input known.
           let inv = c.lines.invariant.text input known in
           let answered = c.in_default-answer_next.ensures.text in
-          let after = all_grown inv.0 _ answered.0 _ answered.1 (answered.2 input _ _ inv.2) in
+          let after = all_grown inv.0 _ answered.0 answered.1 _ answered.2 (answered.4 input _ _ inv.2) in
+          let front = inv.0 ++ answered.1 in
+          let taken = Appends-trans _ _ _ _ _ inv.1 answered.3 in
           elim c.if-len-ge-OUTPUT_FULL.branch [
             | then-len-ge-OUTPUT_FULL+in_default-take w ↦
                 let sent = w.in_default-take.ensures.ok in
-                rw (w.sink-is, w.out-is) (inv.0 ++ c.answer_next.new.out.items, Appends-trans _ _ _ _ _ inv.1 sent.1, rw sent.0 (all_sent _ after))
-            | else-len-ge-OUTPUT_FULL w ↦ rw (w.sink-is, w.out-is) (inv.0, inv.1, after)
+                rw (w.sink-is, w.out-is) (front ++ c.answer_next.new.out.items, Appends-trans _ _ _ _ _ taken sent.1, rw sent.0 (all_sent _ after))
+            | else-len-ge-OUTPUT_FULL w ↦ rw (w.sink-is, w.out-is) (front, taken, after)
           ];
     }
