@@ -11,6 +11,7 @@ use Rattle.esr_history.specs.declared.event.Reply.{Reply}
 use Rattle.esr_history.specs.declared.event.Reply.TheVariants.{Begun, Value, Wrote, Committed, Aborted, Refused}
 use Rattle.esr_history.specs.declared.event.Refusal.{Refusal}
 use Rattle.esr_history.specs.declared.event.Refusal.TheVariants.{BlockedByLock, BlockedByImport, BlockedByExport}
+use Rattle.esr_history.specs.Events.{is_query_kind}
 use Rattle.esr_history.specs.Legal.{along}
 use Rattle.esr_history.specs.Machine.{Schedule, IsLegal, extended, reply_to}
 use Rattle.esr_history.specs.Queries.{ImportBoundsDistance}
@@ -22,8 +23,6 @@ use Rattle.esr_engine.specs.Accounts.{account_of}
 use Rattle.esr_engine.specs.ForUpdate.{after_for_update, no_pair, reply_for_update, IsPartlyDone}
 use Rattle.esr_engine.specs.Room.{is_full}
 use Rattle.esr_engine.specs.declared.account.Account.{Account}
-use Rattle.esr_engine.specs.declared.account.Kind.{Kind}
-use Rattle.esr_engine.specs.declared.account.Kind.TheVariants.{Update, Query}
 use Rattle.esr_engine.specs.declared.account.Standing.{Standing}
 use Rattle.esr_engine.specs.declared.account.Standing.TheVariants as standing
 use Rattle.esr_cert.specs.Certificate.{Certificate}
@@ -176,10 +175,6 @@ abbrev pub standing_number : Standing → ℕ
 standing_number standing.Active = 0
 standing_number standing.Committed = 4
 standing_number standing.Aborted = 5
-
-abbrev pub is_query_kind : Kind → Bool
-is_query_kind Query = true
-is_query_kind Update = false
 
 abbrev pub account_fields : Account → EsrAccount
 account_fields a = record { query = is_query_kind a.kind; standing = standing_number a.standing; limit = a.limit; charged = a.charged }

@@ -38,11 +38,6 @@ drop_map_more f xs i x h e =
     let l : i < length (map f xs) = rw length-map h in
     drop_more (map f xs) i (f x) l ∙ ap (λ y. y ∷ drop (i + 1) (map f xs)) (get_or-map f xs i x (f x) h ∙ ap f (sym e))
 
-pub get_or-le-greatest : (cs : List ℕ) (j : ℕ) → slice_index cs j ≤ greatest cs
-get_or-le-greatest [] j = omega arith
-get_or-le-greatest (c ∷ cs) zero = omega arith
-get_or-le-greatest (c ∷ cs) (suc j) = omega (arith, get_or-le-greatest cs j)
-
 -- a loop that tests each element of a mapped list
 pub list_all_map_yes : {X Y : Type 0} (p : Y → Bool) (f : X → Y) (xs : List X) (i : ℕ) (x : X) → i < length xs → x ≡ get_or xs i x → p (f x) ≡ true → list_all p (drop i (map f xs)) ≡ list_all p (drop (i + 1) (map f xs))
 list_all_map_yes p f xs i x h e t = ap (list_all p) (drop_map_more f xs i x h e) ∙ ap (λ b. b && list_all p (drop (i + 1) (map f xs))) t

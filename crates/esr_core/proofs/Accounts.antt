@@ -4,8 +4,9 @@ use Rattle.std.specs.List.{range_with_len}
 use Rattle.std.proofs.lemmas.Option.{slice_get_past}
 use Rattle.std.proofs.lemmas.List.FromFn.{map-range_with_len_more}
 use Rattle.esr_core.specs.Words.{Event}
-use Rattle.esr_history.specs.Events.{Beginning, beginning_of, beginnings, beginning, numbers, limit_of, is_begun, is_query, is_update}
+use Rattle.esr_history.specs.Events.{Beginning, kind_of, is_query_kind, beginning_of, beginnings, beginning, numbers, limit_of, is_begun, is_query, is_update}
 use Rattle.esr_history.specs.Machine.{Charge, due, charges, import_in, export_in}
+use Rattle.esr_history.proofs.KindLaws.{query_kind}
 use Rattle.esr_history.proofs.Charges.{import-push, export-push}
 use Rattle.esr_history.proofs.Lawful.{begun_number}
 use Rattle.esr_history.proofs.Ranges.{map_same, find_in_range, none_in_range, placed_end}
@@ -20,7 +21,7 @@ use Rattle.esr_core.proofs.Rows.{begun_at}
 use Rattle.std.proofs.lemmas.Grind.{common_steps}
 
 abbrev entry : ℕ → Bool → ℕ → ℕ → ℕ → Account
-entry t query limit i x = record { number = record { 0 = t }; query = query; limit = limit; amount = if query then i else x }
+entry t query limit i x = record { number = record { 0 = t }; kind = kind_of query; limit = limit; amount = if query then i else x }
 
 entry_same : (t : ℕ) (p q : Bool) (l m i j x y : ℕ) → p ≡ q → l ≡ m → i ≡ j → x ≡ y → entry t p l i x ≡ entry t q m j y
 entry_same t p q l m i j x y a b c e = grind (arith, common_steps)
@@ -33,10 +34,10 @@ module _ (d : ℕ → ℤ → ℤ → ℕ) (opening : List ℤ) (events : List E
       find_in_range number (account_after d opening events) (λ u. refl) t 1 (length (beginnings events)) n.0 n.1
 
   pub open_query_is : (t : ℕ) → is_query events t ≡ true → is_open_query (books_of d opening events) t ≡ true
-  open_query_is t is = ap (λ (o : Option Account). unwrap_or (option_map (λ (a : Account). a.query) o) false) (account_begun t (query_begun events t is)) ∙ is
+  open_query_is t is = ap (λ (o : Option Account). unwrap_or (option_map (λ (a : Account). is_query_kind a.kind) o) false) (account_begun t (query_begun events t is)) ∙ (query_kind (is_query events t) ∙ is)
 
   pub open_update_is : (t : ℕ) → is_update events t ≡ true → is_open_update (books_of d opening events) t ≡ true
-  open_update_is t is = ap (λ (o : Option Account). unwrap_or (option_map (λ (a : Account). not a.query) o) false) (account_begun t (update_begun events t is)) ∙ ap not (update_or_query events t is)
+  open_update_is t is = ap (λ (o : Option Account). unwrap_or (option_map (λ (a : Account). not (is_query_kind a.kind)) o) false) (account_begun t (update_begun events t is)) ∙ ap not (query_kind (is_query events t) ∙ update_or_query events t is)
 
   pub limit_is : (t : ℕ) → is_begun events t ≡ true → limit_at (books_of d opening events) t ≡ limit_of events t
   limit_is t is = ap (λ (o : Option Account). unwrap_or (option_map (λ (a : Account). a.limit) o) 0) (account_begun t is)
@@ -65,11 +66,11 @@ module _ (d : ℕ → ℤ → ℤ → ℕ) (opening : List ℤ) (events : List E
           (sym (export-push d opening events e t ∙ (ap (λ (cs : List Charge). export_in (charges d opening events) t + export_in cs t) nothing ∙ add-zero (export_in (charges d opening events) t))))
 
   -- a begin opens the next account
-  pub books-begin : (e : Event) (b : Beginning) → IsBegin e b → due d opening events e ≡ [] → with_account (books_of d opening events) (new_account b.query (record { 0 = suc (length (beginnings events)) }) b.limit) ≡ books_of d opening (events ++ e ∷ [])
+  pub books-begin : (e : Event) (b : Beginning) → IsBegin e b → due d opening events e ≡ [] → with_account (books_of d opening events) (new_account (kind_of b.query) (record { 0 = suc (length (beginnings events)) }) b.limit) ≡ books_of d opening (events ++ e ∷ [])
   books-begin e b is nothing =
       let n = length (beginnings events) in
-      placed_end number (account_after d opening events) (λ u. refl) (new_account b.query (record { 0 = suc n }) b.limit) (λ a. a) 1 n (omega arith)
-      ∙ (ap (λ (as' : List Account). as' ++ new_account b.query (record { 0 = suc n }) b.limit ∷ []) (map_same (account_after d opening events) (account_after d opening (events ++ e ∷ [])) 1 n same)
+      placed_end number (account_after d opening events) (λ u. refl) (new_account (kind_of b.query) (record { 0 = suc n }) b.limit) (λ a. a) 1 n (omega arith)
+      ∙ (ap (λ (as' : List Account). as' ++ new_account (kind_of b.query) (record { 0 = suc n }) b.limit ∷ []) (map_same (account_after d opening events) (account_after d opening (events ++ e ∷ [])) 1 n same)
       ∙ (ap (λ (a : Account). map (account_after d opening (events ++ e ∷ [])) (numbers events) ++ a ∷ []) new
       ∙ (sym (map-range_with_len_more (account_after d opening (events ++ e ∷ [])) 1 n (suc n) (omega arith))
       ∙ ap (λ m. map (account_after d opening (events ++ e ∷ [])) (range_with_len 1 m)) (sym (ap length (beginnings-begin events e b is) ∙ length-append (beginnings events) (b ∷ []))))))
@@ -87,7 +88,7 @@ module _ (d : ℕ → ℤ → ℤ → ℕ) (opening : List ℤ) (events : List E
           entry_same (suc k) (is_query events (suc k)) (is_query (events ++ e ∷ []) (suc k)) (limit_of events (suc k)) (limit_of (events ++ e ∷ []) (suc k)) (import_in (charges d opening events) (suc k)) (import_in (charges d opening (events ++ e ∷ [])) (suc k)) (export_in (charges d opening events) (suc k)) (export_in (charges d opening (events ++ e ∷ [])) (suc k))
           (ap (λ (o : Option Beginning). unwrap_or (option_map (λ (c : Beginning). c.query) o) false) (sym stays)) (ap (λ (o : Option Beginning). unwrap_or (option_map (λ (c : Beginning). c.limit) o) 0) (sym stays)) (imports (suc k)) (exports (suc k))
 
-      new : new_account b.query (record { 0 = suc (length (beginnings events)) }) b.limit ≡ account_after d opening (events ++ e ∷ []) (suc (length (beginnings events)))
+      new : new_account (kind_of b.query) (record { 0 = suc (length (beginnings events)) }) b.limit ≡ account_after d opening (events ++ e ∷ []) (suc (length (beginnings events)))
       new =
           let n = suc (length (beginnings events)) in
           let there : beginning (events ++ e ∷ []) n ≡ Some b = beginning-new events e b is in
@@ -100,6 +101,6 @@ module _ (d : ℕ → ℤ → ℤ → ℕ) (opening : List ℤ) (events : List E
           (sym (no_import events (charges d opening events) (charges_kinds d opening events) n no_query) ∙ imports n)
           (sym (no_export events (charges d opening events) (charges_kinds d opening events) n no_update) ∙ exports n)
         where
-          zero_amount : (q : Bool) → new_account q (record { 0 = suc (length (beginnings events)) }) b.limit ≡ entry (suc (length (beginnings events))) q b.limit 0 0
+          zero_amount : (q : Bool) → new_account (kind_of q) (record { 0 = suc (length (beginnings events)) }) b.limit ≡ entry (suc (length (beginnings events))) q b.limit 0 0
           zero_amount true = refl
           zero_amount false = refl

@@ -6,7 +6,7 @@ use Rattle.std.proofs.lemmas.Option.{same_Some}
 use Rattle.std.proofs.lemmas.List.Sums.{sum_by-cons}
 use Rattle.std.proofs.lemmas.List.Elements.{All-from_recursion}
 use Rattle.esr_core.specs.Words.{ItemId, TxnId, Event, Write, Refusal, BlockedByImport, BlockedByExport}
-use Rattle.esr_history.specs.Events.{beginning_of, beginnings, numbers, limit_of, is_begun, is_query, is_update, holds_read, reads_of, current_value}
+use Rattle.esr_history.specs.Events.{kind_of, beginning_of, beginnings, numbers, limit_of, is_begun, is_query, is_update, holds_read, reads_of, current_value}
 use Rattle.esr_history.specs.Machine.{Distance, Schedule, Charge, done, due, charges, charges_in, charge_of_write, import_in, export_in, total, import_full, export_full, first_reason}
 use Rattle.esr_history.specs.ItemLocks.{query_reads}
 use Rattle.esr_history.specs.Ascending.{IsAscendingBy}
@@ -109,11 +109,11 @@ module _ (d : ℕ → ℤ → ℤ → ℕ) (opening : List ℤ) (events : List E
       exports t = export-push d opening events e t ∙ (ap (λ (gs : List Charge). export_in (charges d opening events) t + export_in gs t) owed ∙ ap (λ n. export_in (charges d opening events) t + n) (export_by u.0 t cs))
 
       kept : (t : ℕ) (q : Bool) (i x : ℕ) → is_query events t ≡ q → (if q then import_in (charges d opening (events ++ e ∷ [])) t else export_in (charges d opening (events ++ e ∷ [])) t) ≡ (if q then i else x)
-          → ◌≡◌ {A = Account} (record { number = record { 0 = t }; query = q; limit = limit_of events t; amount = if q then i else x }) (account_after d opening (events ++ e ∷ []) t)
+          → ◌≡◌ {A = Account} (record { number = record { 0 = t }; kind = kind_of q; limit = limit_of events t; amount = if q then i else x }) (account_after d opening (events ++ e ∷ []) t)
       kept t q i x is amounts = grind (arith, query-kept events e none t, limit-kept events e none t)
 
       at : (t : ℕ) (q : Bool) → is_query events t ≡ q → is_begun events t ≡ true
-          → (if t == u.0 then more (total_of cs) (more (import_in (charges_by u.0 cs) t) (record { number = record { 0 = t }; query = q; limit = limit_of events t; amount = if q then import_in (charges d opening events) t else export_in (charges d opening events) t })) else more (import_in (charges_by u.0 cs) t) (record { number = record { 0 = t }; query = q; limit = limit_of events t; amount = if q then import_in (charges d opening events) t else export_in (charges d opening events) t })) ≡ account_after d opening (events ++ e ∷ []) t
+          → (if t == u.0 then more (total_of cs) (more (import_in (charges_by u.0 cs) t) (record { number = record { 0 = t }; kind = kind_of q; limit = limit_of events t; amount = if q then import_in (charges d opening events) t else export_in (charges d opening events) t })) else more (import_in (charges_by u.0 cs) t) (record { number = record { 0 = t }; kind = kind_of q; limit = limit_of events t; amount = if q then import_in (charges d opening events) t else export_in (charges d opening events) t })) ≡ account_after d opening (events ++ e ∷ []) t
       at t true is begun =
           let other : t ≡ u.0 → ⊥ = λ (g : t ≡ u.0). false≢true (sym (query_not_update events t is) ∙ (ap (is_update events) g ∙ update)) in
           rw (ne_eqb t u.0 other) (kept t true (import_in (charges d opening events) t + import_in (charges_by u.0 cs) t) 0 is (imports t))

@@ -6,9 +6,10 @@ use Rattle.std.proofs.lemmas.Option.{same_Some}
 use Rattle.std.proofs.lemmas.List.Elements.{All-from_recursion}
 use Rattle.esr_items.specs.Values.{versions_at}
 use Rattle.esr_core.specs.Words.{Versions, ItemId, TxnId, Event, Read, Refusal, TooManyReads, QueryMayNotWrite}
-use Rattle.esr_history.specs.Events.{numbers, is_query, is_update, holds_write, all_reads_of}
+use Rattle.esr_history.specs.Events.{is_query_kind, numbers, is_query, is_update, holds_write, all_reads_of}
 use Rattle.esr_history.specs.Machine.{Distance, Schedule, Charge, done, due_in, writer, charge_of_read, first_reason, not_begun, ended, no_item, many_reads, query_writes, out_of_range, read_blocked, write_blocked, blocked_by, import_full, export_full, refusal, when, other_writer, other_holder}
 use Rattle.esr_history.specs.ItemLocks.{ItemLocks, item_locks}
+use Rattle.esr_history.proofs.KindLaws.{query_kind}
 use Rattle.esr_history.proofs.Lists.{find_some}
 use Rattle.esr_ledgers.specs.declared.account.Account.{Account}
 use Rattle.esr_ledgers.specs.Books.{quote_of, AreCharges, is_open_query}
@@ -49,8 +50,8 @@ module _ (d : Distance) (h : Schedule) (items : List Versions) (table : List Tra
         let number : t ≡ suc (t - 1) = omega arith in
         row_is (done h) table tie.rows (t - 1) r (omega arith) (at (t - 1) (omega arith)) ∙ ap (transaction_after (done h)) (sym number)
 
-    pub row_query : r.query ≡ is_query (done h) t
-    row_query = ap (λ (q : Transaction). q.query) row_known
+    pub row_query : is_query_kind r.kind ≡ is_query (done h) t
+    row_query = ap (λ (q : Transaction). is_query_kind q.kind) row_known ∙ query_kind (is_query (done h) t)
 
     pub row_reads : is_query (done h) t ≡ true → r.reads ≡ all_reads_of (done h) t
     row_reads query = ap (λ (q : Transaction). q.reads) row_known ∙ ap (λ (b : Bool). if b then all_reads_of (done h) t else 0) query

@@ -7,7 +7,7 @@ use Rattle.std.proofs.lemmas.List.FromFn.{length-map-range_with_len, get_or-map-
 use Rattle.std.proofs.lemmas.List.Sums.{sum_by_push}
 use Rattle.std.proofs.lemmas.List.{length_push}
 use Rattle.esr_core.specs.Words.{Event, Read, AlreadyEnded, NoSuchTransaction}
-use Rattle.esr_history.specs.Events.{Beginning, beginning_of, beginnings, numbers, commits, aborts, reads_any, is_active, is_begun, is_query, all_reads_of}
+use Rattle.esr_history.specs.Events.{Beginning, kind_of, beginning_of, beginnings, numbers, commits, aborts, reads_any, is_active, is_begun, is_query, all_reads_of}
 use Rattle.esr_history.specs.Machine.{Schedule, done, when, first_reason, not_begun, ended}
 use Rattle.esr_history.specs.Orderly.{IsOrderly, names}
 use Rattle.esr_history.proofs.Lists.{any_push_no}
@@ -49,7 +49,7 @@ module _ (h : Schedule) (table : List Transaction) (is : table ≡ transactions_
   no_row_reason k l = rw (slice_get_past (beginnings (done h)) k (rw (← rows_len (done h) table is) l)) refl
 
 abbrev row : Bool → Bool → ℕ → Transaction
-row q a n = record { query = q; active = a; reads = if q then n else 0 }
+row q a n = record { kind = kind_of q; active = a; reads = if q then n else 0 }
 
 row_same : (p q a b : Bool) (m n : ℕ) → p ≡ q → a ≡ b → m ≡ n → row p a m ≡ row q b n
 row_same p q a b m n e f g = ap (λ (x : Bool). row x a m) e ∙ (ap (λ (x : Bool). row q x m) f ∙ ap (λ (x : ℕ). row q b x) g)
@@ -60,10 +60,10 @@ reads_any_name t _ is = absurd (false≢true is)
 
 -- the table after a begin
 pub rows-begin : (done : List Event) → IsOrderly done → (e : Event) (b : Beginning) → IsBegin e b → (table : List Transaction) → table ≡ transactions_after done
-    → table ++ record { query = b.query; active = true; reads = 0 } ∷ [] ≡ transactions_after (done ++ e ∷ [])
+    → table ++ record { kind = kind_of b.query; active = true; reads = 0 } ∷ [] ≡ transactions_after (done ++ e ∷ [])
 rows-begin done o e b is table was =
-    ap (λ (rs : List Transaction). rs ++ record { query = b.query; active = true; reads = 0 } ∷ []) was
-    ∙ (ap (λ (rs : List Transaction). rs ++ record { query = b.query; active = true; reads = 0 } ∷ []) (map_same (transaction_after done) (transaction_after (done ++ e ∷ [])) 1 (length (beginnings done)) same)
+    ap (λ (rs : List Transaction). rs ++ record { kind = kind_of b.query; active = true; reads = 0 } ∷ []) was
+    ∙ (ap (λ (rs : List Transaction). rs ++ record { kind = kind_of b.query; active = true; reads = 0 } ∷ []) (map_same (transaction_after done) (transaction_after (done ++ e ∷ [])) 1 (length (beginnings done)) same)
     ∙ (ap (λ (r : Transaction). map (transaction_after (done ++ e ∷ [])) (numbers done) ++ r ∷ []) new
     ∙ (sym (map-range_with_len_more (transaction_after (done ++ e ∷ [])) 1 (length (beginnings done)) (suc (length (beginnings done))) (omega arith))
     ∙ ap (λ n. map (transaction_after (done ++ e ∷ [])) (range_with_len 1 n)) (sym (longer)))))
@@ -80,7 +80,7 @@ rows-begin done o e b is table was =
         let begun : is_begun done (suc k) ≡ true = begun_at done k (omega arith) in
         rw (active-same done e (suc k) is.commits_none is.aborts_none begun, no_more (suc k), beginning-begin done e (suc k) begun) refl
 
-    new : record { query = b.query; active = true; reads = 0 } ≡ transaction_after (done ++ e ∷ []) (suc (length (beginnings done)))
+    new : record { kind = kind_of b.query; active = true; reads = 0 } ≡ transaction_after (done ++ e ∷ []) (suc (length (beginnings done)))
     new =
         grind (arith, no_more, count_none, not_named, reads_any_name, beginning-new done e b is, any_push_no, commits_name, names_aborter, row_same)
 

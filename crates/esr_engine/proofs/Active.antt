@@ -14,7 +14,7 @@ use Rattle.esr_history.specs.declared.event.Event.{Event}
 use Rattle.esr_history.specs.declared.event.Reply.{Reply}
 use Rattle.esr_history.specs.declared.event.Event.TheVariants.{BeginUpdate, BeginQuery, Read, Write, Commit, Abort}
 use Rattle.esr_history.specs.declared.event.Reply.TheVariants.{Begun, Wrote, Committed, Aborted, Refused}
-use Rattle.esr_history.specs.Events.{Beginning, beginning_of, beginnings, numbers, commits, aborts, reads_any, is_active, is_begun, is_refusal}
+use Rattle.esr_history.specs.Events.{Beginning, kind_of, beginning_of, beginnings, numbers, commits, aborts, reads_any, is_active, is_begun, is_refusal}
 use Rattle.esr_history.specs.Machine.{Distance, Schedule, done, extended, reply_to, refusal, acceptance, first_reason, not_begun, ended, when}
 use Rattle.esr_history.specs.Orderly.{IsOrderly}
 use Rattle.esr_history.proofs.Allowed.{none_applies, end_allowed}
@@ -40,7 +40,7 @@ rows_count events = rows_in events (numbers events)
 -- a begin is one more
 count-begin : (events : List Event) → IsOrderly events → (e : Event) (b : Beginning) → IsBegin e b → active_count (events ++ e ∷ []) ≡ active_count events + 1
 count-begin events o e b is =
-    let row : Transaction = record { query = b.query; active = true; reads = 0 } in
+    let row : Transaction = record { kind = kind_of b.query; active = true; reads = 0 } in
     sym (rows_count (events ++ e ∷ []))
     ∙ (ap (count_by (λ (r : Transaction). r.active)) (sym (rows-begin events o e b is (transactions_after events) refl))
     ∙ (sum_by_push (λ (r : Transaction). cond r.active 1 0) (transactions_after events) row

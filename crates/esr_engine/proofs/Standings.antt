@@ -2,13 +2,13 @@
 use Rattle.std.proofs.Common.{◌≡◌, ℕ, true, false, not, ◌&&◌, refl, sym, ◌∙◌, ap, Option, None, Some, is_some, if◌then◌else◌, option_map}
 use Rattle.esr_history.specs.declared.back_links.Facts.{Facts}
 use Rattle.esr_history.specs.BackLinks.{accepted_end, last_place, facts_by, facts_of}
-use Rattle.esr_history.specs.Events.{Beginning, beginning, is_active, is_begun, is_committed}
+use Rattle.esr_history.specs.Events.{Beginning, kind_of, beginning, is_active, is_begun, is_committed}
 use Rattle.esr_history.specs.Machine.{Distance, Schedule, IsLegal, done}
 use Rattle.esr_order.specs.Scans.{is_commit_at}
 use Rattle.esr_order.proofs.Commits.{commit_at_end, facts_none}
 use Rattle.esr_engine.specs.declared.account.Standing.{Standing}
 use Rattle.esr_engine.specs.declared.account.Standing.TheVariants.{Active, Committed, Aborted}
-use Rattle.esr_engine.specs.Accounts.{standing_of, charged_to, kind_of, account_from, account_of}
+use Rattle.esr_engine.specs.Accounts.{standing_of, charged_to, account_from, account_of}
 use Rattle.esr_engine.specs.Standings.{standing_at}
 use Rattle.esr_engine.proofs.Ends.{active_is}
 

@@ -1,11 +1,9 @@
 -- What a history says of one transaction.
 use Rattle.std.specs.Prelude.{ℕ, Bool, true, false, List, Option, option_map, if◌then◌else◌}
 use Rattle.esr_history.specs.declared.event.Event.{Event}
-use Rattle.esr_history.specs.Events.{Beginning, beginning, is_active, is_committed}
+use Rattle.esr_history.specs.Events.{Beginning, kind_of, beginning, is_active, is_committed}
 use Rattle.esr_history.specs.Machine.{Distance, Schedule, done, charges_in, import_in, export_in}
 use Rattle.esr_engine.specs.declared.account.Account.{Account}
-use Rattle.esr_engine.specs.declared.account.Kind.{Kind}
-use Rattle.esr_engine.specs.declared.account.Kind.TheVariants.{Update, Query}
 use Rattle.esr_engine.specs.declared.account.Standing.{Standing}
 use Rattle.esr_engine.specs.declared.account.Standing.TheVariants.{Active, Committed, Aborted}
 
@@ -17,10 +15,6 @@ standing_of events t = if is_active events t then Active else (if is_committed e
 abbrev pub charged_to : Distance → Schedule → Bool → ℕ → ℕ
 charged_to d h true t = import_in (charges_in d h) t
 charged_to d h false t = export_in (charges_in d h) t
-
-abbrev pub kind_of : Bool → Kind
-kind_of true = Query
-kind_of false = Update
 
 -- the account of a transaction that began so
 abbrev pub account_from : Distance → Schedule → ℕ → Beginning → Account

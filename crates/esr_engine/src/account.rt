@@ -2,18 +2,13 @@
 
 ghost use Rattle.std.specs.Prelude.{◌≡◌, is_some};
 ghost use Rattle.esr_items.specs.Weights.{weighted};
-ghost use Rattle.esr_engine.specs.Accounts.{account_of, charged_to, kind_of};
+ghost use Rattle.esr_history.specs.Events.{kind_of};
+ghost use Rattle.esr_engine.specs.Accounts.{account_of, charged_to};
 ghost use Rattle.esr_engine.specs.Standings.{standing_at};
 ghost use Rattle.esr_order.specs.Scans.{commit_in};
 
 use crate::engine::Engine;
-use esr_history::{Entry, Event, Log, TxnId};
-
-#[derive(Clone, Copy, PartialEq, Eq, Debug)]
-pub enum Kind {
-    Update,
-    Query,
-}
+use esr_history::{Entry, Event, Kind, Log, TxnId};
 
 /// Whether a transaction is active, and else how it ended.
 #[derive(Clone, Copy, PartialEq, Eq, Debug)]

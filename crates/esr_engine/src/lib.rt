@@ -17,6 +17,7 @@ mod for_update;
 mod opening;
 mod renewals;
 
-pub use account::{Account, Kind, Standing};
+pub use account::{Account, Standing};
 pub use engine::{Counts, Engine, Unanswered};
+pub use esr_history::Kind;
 pub use opening::OpenError;

@@ -9,7 +9,7 @@ use Rattle.esr_cert.specs.declared.rows.Span.{Span}
 use Rattle.esr_cert.specs.Flow.{within, amount_at}
 use Rattle.esr_cert.specs.Steps.{arc_of, start, step_at, same_step, has_step, HasSteps}
 use Rattle.esr_flow.specs.Residual.{residual_capacity, left_of}
-use Rattle.esr_flow.specs.Graph.{arcs_of, net_of, IsGraph, adjacency_entry, entry_at, AreEntries, IsEntry, Lists, Graph}
+use Rattle.esr_flow.specs.Graph.{arcs_of, net_of, adjacency_entry, entry_at, AreEntries, IsEntry, Lists, Graph}
 use Rattle.esr_cert.specs.Rows.{span_at, row_in}
 use Rattle.esr_flow.proofs.WalkLaws.{start_in}
 
@@ -92,19 +92,19 @@ map_same : {S E : Type 0} (f h : S → E) → ((s : S) → f s ≡ h s) → (ste
 map_same f h e [] = refl
 map_same f h e (s ∷ steps) = ap (λ x. x ∷ map f steps) (e s) ∙ ap (λ xs. h s ∷ xs) (map_same f h e steps)
 
-module _ (g : Graph) (ok : IsGraph g) where
+module _ (g : Graph) where
   -- the row of the node where a step starts has it
   pub in_row : (s : ResidualArc) → arc_of s < length (arcs_of g) → Contains (row_in g.rows.now.steps.items (span_at g.rows.now.spans.items (start (arcs_of g) s))) s
   in_row s l =
       contains_from (row_in g.rows.now.steps.items (span_at g.rows.now.spans.items (start (arcs_of g) s))) s
-      ((ok.lists (start (arcs_of g) s) (start_in (net_of g) ok.is_network s l)).all s l refl)
+      ((g.kept.lists (start (arcs_of g) s) (start_in (net_of g) g.kept.is_network s l)).all s l refl)
 
   row_lists : (flow : List ℕ) (entries : List AdjacencyEntry) → AreEntries g flow entries → (v : ℕ) → v < g.nodes → Lists (arcs_of g) flow v (row_in g.rows.now.steps.items (span_at g.rows.now.spans.items v)) (row_in entries (span_at g.rows.now.spans.items v))
   row_lists flow entries are v l =
       let span : Span = span_at g.rows.now.spans.items v in
       let same : row_in entries span ≡ map (adjacency_entry (arcs_of g) flow) (row_in g.rows.now.steps.items span) =
       ap (λ es. row_in es span) are ∙ ap (take (span.end - span.begin)) (drop-map (adjacency_entry (arcs_of g) flow) span.begin g.rows.now.steps.items) ∙ take-map (adjacency_entry (arcs_of g) flow) (span.end - span.begin) (drop span.begin g.rows.now.steps.items) in
-      subst (Lists (arcs_of g) flow v (row_in g.rows.now.steps.items span)) (sym same) (lists_from (arcs_of g) flow v (row_in g.rows.now.steps.items span) (ok.lists v l))
+      subst (Lists (arcs_of g) flow v (row_in g.rows.now.steps.items span)) (sym same) (lists_from (arcs_of g) flow v (row_in g.rows.now.steps.items span) (g.kept.lists v l))
 
   -- the steps and the entries of a node as they were read
   pub lists_read : (flow : List ℕ) (entries : List AdjacencyEntry) → AreEntries g flow entries → (v : ℕ) → v < g.nodes → (steps : List ResidualArc) (row : List AdjacencyEntry) → steps ≡ row_in g.rows.now.steps.items (span_at g.rows.now.spans.items v) → row ≡ row_in entries (span_at g.rows.now.spans.items v) → Lists (arcs_of g) flow v steps row
@@ -115,8 +115,8 @@ module _ (g : Graph) (ok : IsGraph g) where
   -- a step that lies at no place of an arc's two steps is of another arc
   other_arc : (i k p q : ℕ) → k < length g.rows.now.steps.items → p < length g.rows.now.steps.items → q < length g.rows.now.steps.items → step_at g.rows.now.steps.items p ≡ Forward i → step_at g.rows.now.steps.items q ≡ Backward i → k ≢ p → k ≢ q
       → (t : ResidualArc) → step_at g.rows.now.steps.items k ≡ t → arc_of t ≢ i
-  other_arc i k p q l lp lq at_p at_q np nq (Forward j) is e = np (ok.steps.once k p l lp (is ∙ ap (λ n. Forward n) e ∙ sym at_p))
-  other_arc i k p q l lp lq at_p at_q np nq (Backward j) is e = nq (ok.steps.once k q l lq (is ∙ ap (λ n. Backward n) e ∙ sym at_q))
+  other_arc i k p q l lp lq at_p at_q np nq (Forward j) is e = np (g.kept.steps.once k p l lp (is ∙ ap (λ n. Forward n) e ∙ sym at_p))
+  other_arc i k p q l lp lq at_p at_q np nq (Backward j) is e = nq (g.kept.steps.once k q l lq (is ∙ ap (λ n. Backward n) e ∙ sym at_q))
 
   pub renewed : (flow : List ℕ) (entries : List AdjacencyEntry) (i x p q : ℕ) (a b : AdjacencyEntry) → AreEntries g flow entries
       → p < length g.rows.now.steps.items → step_at g.rows.now.steps.items p ≡ Forward i → q < length g.rows.now.steps.items → step_at g.rows.now.steps.items q ≡ Backward i

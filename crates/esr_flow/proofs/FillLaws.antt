@@ -13,7 +13,7 @@ use Rattle.esr_cert.proofs.StepsLaws.{steps_parts, room_for, first_all, first_ne
 use Rattle.esr_cert.proofs.RowsLaws.{row_length, at_row, Counted, counted_more}
 use Rattle.esr_flow.specs.ShortEntry.{AdjacencyEntry}
 use Rattle.esr_flow.specs.Residual.{left_of}
-use Rattle.esr_flow.specs.Graph.{arcs_of, IsGraph, adjacency_entry, entry_at, AreEntries, Graph}
+use Rattle.esr_flow.specs.Graph.{arcs_of, adjacency_entry, entry_at, AreEntries, Graph}
 use Rattle.esr_flow.proofs.EntriesLaws.{along_is, against_is}
 
 -- the first steps are those before an arc, its two, and later ones
@@ -36,7 +36,7 @@ pub record ArePut (g : Graph) (flow : List ℕ) (done : List ResidualArc) (count
   pub put : (k : ℕ) → k < length g.rows.now.steps.items → Contains done (step_at g.rows.now.steps.items k)
       → entry_at entries k ≡ adjacency_entry (arcs_of g) flow (step_at g.rows.now.steps.items k)
 
-module _ (g : Graph) (ok : IsGraph g) where
+module _ (g : Graph) where
   abbrev steps : List ResidualArc
   steps = g.rows.now.steps.items
 
@@ -60,15 +60,15 @@ module _ (g : Graph) (ok : IsGraph g) where
           arith,
           room_for (arcs_of g) v done rest s starts,
           ap (λ list. length (steps_from (arcs_of g) v list)) all,
-          ap (λ (list : List ResidualArc). length list) (ok.row v known),
-          row_length steps (span_at g.rows.now.spans.items v) (ok.inside v known),
+          ap (λ (list : List ResidualArc). length list) (g.kept.row v known),
+          row_length steps (span_at g.rows.now.spans.items v) (g.kept.inside v known),
         )
 
     pub lies_within : begin v + place < length steps
-    lies_within = omega (arith, early, ok.inside v known)
+    lies_within = omega (arith, early, g.kept.inside v known)
 
     pub lies : step_at steps (begin v + place) ≡ s
-    lies = sym (at_row steps (span_at g.rows.now.spans.items v) place (Forward 0) early) ∙ ap (λ list. step_at list place) (ok.row v known) ∙ here
+    lies = sym (at_row steps (span_at g.rows.now.spans.items v) place (Forward 0) early) ∙ ap (λ list. step_at list place) (g.kept.row v known) ∙ here
 
     module _ (flow counts : List ℕ) (entries : List AdjacencyEntry) (are : ArePut g flow done counts entries) where
       abbrev at : ℕ
@@ -81,7 +81,7 @@ module _ (g : Graph) (ok : IsGraph g) where
       put_within = omega (arith, at_is, lies_within, are.long)
 
       pub put_few : get_or counts v 0 < 4294967296
-      put_few = omega (arith, are.counted.each v known, lies_within, ok.steps.count, ok.steps.few)
+      put_few = omega (arith, are.counted.each v known, lies_within, g.kept.steps.count, g.kept.steps.few)
 
       step_there : step_at steps at ≡ s
       step_there = ap (step_at steps) at_is ∙ lies
@@ -96,7 +96,7 @@ module _ (g : Graph) (ok : IsGraph g) where
               ∙ ap (adjacency_entry (arcs_of g) flow) (sym step_there ∙ ap (step_at steps) (sym e))
           | inr ne ↦
               get_or-set_other entries at k a (entry_at [] 0) ne
-              ∙ are.put k l (⊎_elim (λ old. old) (λ same. absurd (ne (ok.steps.once k at l (omega (arith, put_within, are.long)) (sym same ∙ sym step_there)))) (Contains-push_cases done s (step_at steps k) c))
+              ∙ are.put k l (⊎_elim (λ old. old) (λ same. absurd (ne (g.kept.steps.once k at l (omega (arith, put_within, are.long)) (sym same ∙ sym step_there)))) (Contains-push_cases done s (step_at steps k) c))
         ];
       }
 
@@ -104,7 +104,7 @@ module _ (g : Graph) (ok : IsGraph g) where
   all_put flow counts entries are =
       ext_get_or (entry_at [] 0) entries (map (adjacency_entry (arcs_of g) flow) steps) (are.long ∙ sym (length-map steps (adjacency_entry (arcs_of g) flow))) (λ k l.
       let inside : k < length steps = omega (arith, are.long) in
-      are.put k inside (first_all (length (arcs_of g)) (step_at steps k) (ok.steps.in_arcs k inside))
+      are.put k inside (first_all (length (arcs_of g)) (step_at steps k) (g.kept.steps.in_arcs k inside))
       ∙ sym (get_or-map (adjacency_entry (arcs_of g) flow) steps k (Forward 0) (entry_at [] 0) inside))
 
   -- the two steps of an arc
@@ -113,10 +113,10 @@ module _ (g : Graph) (ok : IsGraph g) where
     split = first_split i (length (arcs_of g)) l
 
     known_from : arc.from < g.nodes
-    known_from = rw is ((ok.is_network.ends i l).0)
+    known_from = rw is ((g.kept.is_network.ends i l).0)
 
     known_to : arc.to < g.nodes
-    known_to = rw is ((ok.is_network.ends i l).1)
+    known_to = rw is ((g.kept.is_network.ends i l).1)
 
     starts_along : start (arcs_of g) (Forward i) ≡ arc.from
     starts_along = ap (λ a. a.from) (sym is)

@@ -66,10 +66,6 @@ module _ (p : Problem) (sound : is_sound p ≡ true) where
     count_same : length p.chains ≡ length chains
     count_same = omega (arith, ap length are, length-map chains chain_of)
 
-    -- where all chains end
-    pub begin_last : (begin : ℕ) → begin ≡ get_or starts (length chains) 0 → begin ≡ first_back p
-    begin_last begin at = at ∙ ap (λ n. get_or starts n 0) (sym count_same)
-
     module _ (k begin : ℕ) (chain : code.Chain) (inside : k < length chains) (is : chain ≡ get_or chains k chain) (at : begin ≡ get_or starts k 0) where
       within_all : k < length p.chains
       within_all = omega (arith, count_same, inside)

@@ -1,34 +1,20 @@
 -- How marks of what the source reaches begin, go on and end.
-use Rattle.std.proofs.Common.{◌≡◌, ℕ, ◌<◌, Bool, true, false, List, [], ◌∷◌, ◌++◌, length, set, replicate, refl, sym, ap, ◌∙◌, subst, inl, inr, arith, true≢false, length-set, get_or-set_other, get_or-set_same, Some}
+use Rattle.std.proofs.Common.{◌≡◌, ℕ, ◌<◌, Bool, true, false, List, [], ◌∷◌, ◌++◌, length, set, refl, sym, ap, ◌∙◌, subst, inl, inr, arith, length-set, get_or-set_other, get_or-set_same, Some}
 use Rattle.std.proofs.lemmas.Bool.{cases_eq}
-use Rattle.std.proofs.lemmas.List.{length-replicate}
 use Rattle.esr_cert.specs.Network.{Network, IsNetwork, arc_at}
 use Rattle.esr_cert.specs.Flow.{within, amount_at}
 use Rattle.esr_cert.specs.Steps.{arc_of, start}
 use Rattle.esr_flow.specs.Words.{Arc, ResidualArc, Forward, Backward}
 use Rattle.esr_flow.specs.Residual.{finish, left_of, IsResidual, IsPath}
-use Rattle.esr_flow.specs.Augmentation.{IsReach}
 use Rattle.esr_flow.specs.Search.{is_marked}
-use Rattle.esr_flow.specs.Reached.{AreReached, IsKeptOver, IsKept}
+use Rattle.esr_flow.specs.Reached.{AreReached, IsKeptOver}
 use Rattle.esr_flow.proofs.SearchLaws.{path_append}
-use Rattle.esr_flow.proofs.PathLaws.{none_marked}
 
 finish_in : (net : Network) → IsNetwork net → (s : ResidualArc) → arc_of s < length net.arcs → finish net.arcs s < net.nodes
 finish_in net ok (Forward i) k = (ok.ends i k).1
 finish_in net ok (Backward i) k = (ok.ends i k).0
 
 module _ (net : Network) (ok : IsNetwork net) (flow : List ℕ) where
-  -- the source alone
-  pub reached_first : (marks : List Bool) → marks ≡ set (replicate net.nodes false) net.source true → AreReached net flow marks
-  reached_first marks is = subst (AreReached net flow) (sym is) (record {
-    count = length-set (replicate net.nodes false) net.source true ∙ length-replicate net.nodes false;
-    source = get_or-set_same (replicate net.nodes false) net.source true false (omega (arith, ok.source_is_node, length-replicate net.nodes false));
-    reached = λ v m. elim (cases_eq v net.source) [
-      | inl e ↦ ([], sym e)
-      | inr ne ↦ absurd (true≢false (sym m ∙ get_or-set_other (replicate net.nodes false) net.source v true false ne ∙ none_marked net.nodes v))
-    ];
-  })
-
   -- and a node to which a residual step leads from a marked one
   pub reached_more : (marks : List Bool) (s : ResidualArc) → AreReached net flow marks → IsResidual net.arcs flow s → is_marked marks (start net.arcs s) ≡ true → AreReached net flow (set marks (finish net.arcs s) true)
   reached_more marks s h res from = record {
@@ -53,14 +39,6 @@ module _ (net : Network) (ok : IsNetwork net) (flow : List ℕ) where
         | inr ne ↦ get_or-set_other marks next v true false ne ∙ t
       ]
 
-  -- where nothing more can be marked, what is marked is what the source reaches
-  pub reached_all : (marks : List Bool) → AreReached net flow marks → IsKept net.arcs flow marks → IsReach net flow (is_marked marks)
-  reached_all marks h kept = record {
-    source = h.source;
-    kept = λ s res m. kept (arc_of s) res.0 s refl res m;
-    reached = h.reached;
-  }
-
 module _ (arcs : List Arc) (flow : List ℕ) (marks : List Bool) (i : ℕ) where
   -- both steps over an arc, each for itself
   kept_over : (is_marked marks (arc_at arcs i).from ≡ true → within 1 (left_of (arc_at arcs i).capacity (amount_at flow i)) ≡ true → is_marked marks (arc_at arcs i).to ≡ true)
@@ -71,11 +49,3 @@ module _ (arcs : List Arc) (flow : List ℕ) (marks : List Bool) (i : ℕ) where
   -- both ends are marked, or none is
   pub kept_equal : is_marked marks (arc_at arcs i).from ≡ is_marked marks (arc_at arcs i).to → IsKeptOver arcs flow marks i
   kept_equal same = kept_over (λ m r. sym same ∙ m) (λ m r. same ∙ m)
-
-  -- the first end alone is marked, and the arc is full
-  pub kept_full : is_marked marks (arc_at arcs i).from ≡ true → within 1 (left_of (arc_at arcs i).capacity (amount_at flow i)) ≡ false → IsKeptOver arcs flow marks i
-  kept_full from full = kept_over (λ m r. absurd (true≢false (sym r ∙ full))) (λ m r. from)
-
-  -- the second end alone is marked, and the arc carries nothing
-  pub kept_idle : is_marked marks (arc_at arcs i).from ≡ false → amount_at flow i ≡ 0 → IsKeptOver arcs flow marks i
-  kept_idle from none = kept_over (λ m r. absurd (true≢false (sym m ∙ from))) (λ m r. absurd (true≢false (sym r ∙ ap (λ n. within 1 (Some n)) none)))

@@ -1,37 +1,20 @@
 -- A network with the steps that start at each node, which lie together, and entries of the steps that tell which of
 -- them have residual capacity.
-use Rattle.std.specs.Prelude.{◌≡◌, ℕ, ◌<◌, ◌≤◌, false, List, length, get_or, map, Contains, ◌^◌}
-use Rattle.std.specs.List.Sorted.{IsNonDecreasingBy}
+use Rattle.std.specs.Prelude.{◌≡◌, ℕ, ◌<◌, false, List, length, get_or, map, Contains}
 use Rattle.esr_flow.specs.Words.{Arc, ResidualArc}
-use Rattle.esr_cert.specs.Network.{Network, IsNetwork, network}
+use Rattle.esr_cert.specs.Network.{Network, network}
 use Rattle.esr_flow.specs.ShortEntry.{AdjacencyEntry}
 pub use Rattle.esr_flow.specs.declared.graph.Graph.{Graph}
 use Rattle.esr_cert.specs.Flow.{within}
-use Rattle.esr_cert.specs.Steps.{arc_of, order_of, start, opposite, step_at, HasSteps}
-use Rattle.esr_cert.specs.Rows.{span_at, row_in, row_of, AreSteps}
+use Rattle.esr_cert.specs.Steps.{arc_of, start, opposite, step_at}
+use Rattle.esr_flow.specs.Laid.{net_with}
 use Rattle.esr_flow.specs.Residual.{finish, residual_capacity}
 
 abbrev pub arcs_of : Graph → List Arc
 arcs_of g = (network g.problem.now).arcs
 
 abbrev pub net_of : Graph → Network
-net_of g = record { nodes = g.nodes; arcs = arcs_of g; source = g.source; sink = g.sink }
-
-pub record IsGraph (g : Graph) : Type 0 where
-  pub is_network : IsNetwork (net_of g)
-  pub count : length g.rows.now.spans.items ≡ g.nodes
-  pub ordered : (v : ℕ) → v < g.nodes
-      → (span_at g.rows.now.spans.items v).begin ≤ (span_at g.rows.now.spans.items v).end
-  pub inside : (v : ℕ) → v < g.nodes → (span_at g.rows.now.spans.items v).end ≤ length g.rows.now.steps.items
-  pub row : (v : ℕ) → v < g.nodes
-      → row_in g.rows.now.steps.items (span_at g.rows.now.spans.items v) ≡ row_of (arcs_of g) v
-  pub lists : (v : ℕ) → v < g.nodes
-      → HasSteps (arcs_of g) v (row_in g.rows.now.steps.items (span_at g.rows.now.spans.items v))
-  pub ascend : (v : ℕ) → v < g.nodes
-      → IsNonDecreasingBy order_of (row_in g.rows.now.steps.items (span_at g.rows.now.spans.items v))
-  pub steps : AreSteps (arcs_of g) g.rows.now.steps.items
-  pub sink_is_node : g.sink < g.nodes
-  pub few : g.nodes < 2 ^ 30
+net_of g = net_with g.problem.now g.nodes g.source g.sink
 
 -- the entry of a step: where it leads, and whether the step and its opposite have residual capacity
 abbrev pub adjacency_entry : List Arc → List ℕ → ResidualArc → AdjacencyEntry

@@ -4,6 +4,7 @@
 pub mod Words
 pub mod Residual
 pub mod Augmentation
+pub mod Laid
 pub mod Graph
 pub mod ShortEntry
 pub mod Search

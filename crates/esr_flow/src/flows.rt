@@ -6,7 +6,7 @@
 ghost use Rattle.std.specs.Prelude.{◌≡◌, ◌≢◌, ℕ, ◌+◌, ◌<◌, ◌≤◌, true, length, get_or, set, IfOk, IfSome};
 ghost use Rattle.esr_cert.specs.Network.{arc_at};
 ghost use Rattle.esr_cert.specs.Flow.{within, amount_at, inflow, outflow, IsFlow, worth};
-ghost use Rattle.esr_flow.specs.Graph.{arcs_of, net_of, IsGraph};
+ghost use Rattle.esr_flow.specs.Graph.{arcs_of, net_of};
 
 use crate::graph::Graph;
 use esr_cert::Arc;
@@ -53,7 +53,6 @@ fn add_on(arc: Arc, amount: u64, into: &mut [u64], from: &mut [u64]) -> bool
 /// Sums what comes to each node and what leaves it, and answers the greatest amount, if each is within the capacity of
 /// its arc and all sums fit.
 fn sum_up(graph: &Graph, flow: &[u64], into: &mut [u64], from: &mut [u64]) -> Option<u64>
-    requires graph { IsGraph graph.now }
     requires flow { length flow.now ≡ length (arcs_of graph.now) }
     requires into { length into.old ≡ graph.now.nodes }
     requires from { length from.old ≡ graph.now.nodes }
@@ -98,7 +97,6 @@ fn are_equal(graph: &Graph, into: &[u64], from: &[u64]) -> bool
 
 /// The worth of amounts, if they are a flow none of whose amounts is above it.
 pub fn worth_if_flow(alloc: Global, graph: &Graph, flow: &[u64]) -> Result<Option<u64>, AllocError>
-    requires graph { IsGraph graph.now }
     requires flow { length flow.now ≡ length (arcs_of graph.now) }
     ensures flow { IfOk result (λ r. IfSome r (λ value. IsFlow (net_of graph.now) flow.now)) }
     ensures worth { IfOk result (λ r. IfSome r (λ value. value ≡ worth (net_of graph.now) flow.now)) }

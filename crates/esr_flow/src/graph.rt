@@ -4,13 +4,13 @@
 //! The amounts themselves are in a list by arcs, of which the laws speak, and which is written only in augmentations.
 //! Where one changes which of an arc's two steps have residual capacity, the entries of both are written anew; they lie
 //! where the steps do, in rows that ascend by arcs, so a binary search finds them.
-ghost use Rattle.std.specs.Prelude.{◌≡◌, ◌+◌, ◌<◌, length, get_or, set, IfOk, Some};
+ghost use Rattle.std.specs.Prelude.{◌≡◌, ◌+◌, ◌<◌, length, get_or, set, Some};
 ghost use Rattle.esr_cert.specs.Flow.{within};
 ghost use Rattle.esr_cert.specs.Network.{network};
 ghost use Rattle.esr_flow.specs.Residual.{left_of, residual_capacity, finish};
-ghost use Rattle.esr_cert.specs.Steps.{arc_of, step_at};
-ghost use Rattle.esr_cert.specs.Rows.{span_at, row_in};
-ghost use Rattle.esr_flow.specs.Graph.{IsGraph, AreEntries, arcs_of};
+ghost use Rattle.esr_cert.specs.Steps.{arc_of};
+ghost use Rattle.esr_cert.specs.Rows.{span_at};
+ghost use Rattle.esr_flow.specs.Laid.{IsGraphOf};
 
 use crate::entry::{AdjacencyEntry, ShortEntry};
 use esr_cert::{Arc, Problem, ResidualArc, Rows, ShortArc};
@@ -24,12 +24,17 @@ pub struct Graph<'a> {
     pub nodes: usize,
     pub source: usize,
     pub sink: usize,
+    ghost kept: { IsGraphOf problem.now rows.now nodes source sink },
 }
 
 impl<'a> Graph<'a> {
+    ghost use Rattle.std.specs.Prelude.{◌≡◌, ◌<◌, length, set, IfOk};
+    ghost use Rattle.esr_cert.specs.Steps.{arc_of, step_at};
+    ghost use Rattle.esr_cert.specs.Rows.{span_at, row_in};
+    ghost use Rattle.esr_flow.specs.Graph.{AreEntries, arcs_of};
+
     /// The steps that start at a node.
     pub fn steps_at(&self, v: usize) -> &[ShortArc]
-        requires graph { IsGraph self.now }
         requires node { v < self.now.nodes }
         ensures { result.now ≡ row_in self.now.rows.now.steps.items (span_at self.now.rows.now.spans.items v) }
     {
@@ -38,7 +43,6 @@ impl<'a> Graph<'a> {
 
     /// The entries of a node.
     pub fn row<'b>(&self, entries: &'b [ShortEntry], v: usize) -> &'b [ShortEntry]
-        requires graph { IsGraph self.now }
         requires entries { length entries.now ≡ length self.now.rows.now.steps.items }
         requires node { v < self.now.nodes }
         ensures { result.now ≡ row_in entries.now (span_at self.now.rows.now.spans.items v) }
@@ -49,7 +53,6 @@ impl<'a> Graph<'a> {
     /// The entries of all steps, with the residual capacities of a flow. They are put into their rows arc by arc, as
     /// the steps were, since the arcs of a chain lie together.
     pub fn entries(&self, alloc: Global, flow: &[u64]) -> Result<Vec<ShortEntry>, AllocError>
-        requires graph { IsGraph self.now }
         requires flow { length flow.now ≡ length (arcs_of self.now) }
         ensures { IfOk result (λ entries. AreEntries self.now flow.now entries.items) }
     {
@@ -71,7 +74,6 @@ impl<'a> Graph<'a> {
 
     /// Where the entry of a step lies.
     fn place_of(&self, step: ResidualArc) -> usize
-        requires graph { IsGraph self.now }
         requires arc { arc_of step < length (arcs_of self.now) }
         ensures inside { result < length self.now.rows.now.steps.items }
         ensures place { step_at self.now.rows.now.steps.items result ≡ step }
@@ -82,7 +84,6 @@ impl<'a> Graph<'a> {
 
     /// Sets the amount on an arc, and the entries of its two steps where another of them has residual capacity then.
     pub fn set_amount(&self, flow: &mut [u64], entries: &mut [ShortEntry], arc: u32, amount: u64)
-        requires graph { IsGraph self.now }
         requires arc { arc < length (arcs_of self.now) }
         requires flow { length flow.old ≡ length (arcs_of self.now) }
         requires entries { AreEntries self.now flow.old entries.old }

@@ -11,7 +11,7 @@ ghost use Rattle.esr_cert.specs.Steps.{arc_of};
 ghost use Rattle.esr_flow.specs.Residual.{smaller, bottleneck, shift, raise};
 ghost use Rattle.esr_cert.specs.Flow.{amount_at, IsFlow, worth};
 ghost use Rattle.esr_flow.specs.Augmentation.{IsReach, Augments, Takes, TakesFrom};
-ghost use Rattle.esr_flow.specs.Graph.{arcs_of, net_of, IsGraph, AreEntries};
+ghost use Rattle.esr_flow.specs.Graph.{arcs_of, net_of, AreEntries};
 ghost use Rattle.esr_flow.specs.Search.{IsShortestPath, Guides, IsGuided, ReachesNoSink, is_marked};
 ghost use Rattle.esr_flow.specs.Maximum.{InArcs, HasLimit, IsStart};
 
@@ -70,7 +70,6 @@ fn raise_along(
     amount: u64,
     path: &[ResidualArc],
 )
-    requires graph { IsGraph graph.now }
     requires in_arcs { InArcs (arcs_of graph.now) path.now }
     requires flow { length flow.old ≡ length (arcs_of graph.now) }
     requires entries { AreEntries graph.now flow.old entries.old }
@@ -86,7 +85,6 @@ fn raise_along(
 
 /// One augmentation, along a path that a search found, by the amount that it returns.
 fn augment(graph: &Graph, flow: &mut [u64], entries: &mut [ShortEntry], path: &[ResidualArc]) -> u64
-    requires graph { IsGraph graph.now }
     requires flow { IsFlow (net_of graph.now) flow.old }
     requires entries { AreEntries graph.now flow.old entries.old }
     requires amounts { (i : ℕ) → amount_at flow.old i ≤ MAX_COST }
@@ -125,7 +123,6 @@ fn run_phase(
     entries: &mut [ShortEntry],
     before: FlowSoFar,
 ) -> Result<FlowSoFar, AllocError>
-    requires graph { IsGraph graph.now }
     requires small { (f : List ℕ) → IsFlow (net_of graph.now) f → worth (net_of graph.now) f ≤ MAX_COST }
     requires limited { HasLimit (net_of graph.now) }
     requires entries { AreEntries graph.now flow.old entries.old }
@@ -170,7 +167,6 @@ fn run_phases(
     entries: &mut [ShortEntry],
     value: u64,
 ) -> Result<(FlowSoFar, Vec<bool>), AllocError>
-    requires graph { IsGraph graph.now }
     requires small { (f : List ℕ) → IsFlow (net_of graph.now) f → worth (net_of graph.now) f ≤ MAX_COST }
     requires limited { HasLimit (net_of graph.now) }
     requires start { IsStart (net_of graph.now) flow.old }
@@ -213,7 +209,6 @@ fn maximum_from(
     mut flow: Vec<u64>,
     value: u64,
 ) -> Result<MaximumFlow, AllocError>
-    requires graph { IsGraph graph.now }
     requires small { (f : List ℕ) → IsFlow (net_of graph.now) f → worth (net_of graph.now) f ≤ MAX_COST }
     requires limited { HasLimit (net_of graph.now) }
     requires start { IsStart (net_of graph.now) flow.items }
@@ -240,7 +235,6 @@ fn maximum_from(
 
 /// Augments the flow of zeros along shortest paths until there is none.
 pub fn find_maximum(alloc: Global, graph: &Graph) -> Result<MaximumFlow, AllocError>
-    requires graph { IsGraph graph.now }
     requires small { (f : List ℕ) → IsFlow (net_of graph.now) f → worth (net_of graph.now) f ≤ MAX_COST }
     requires limited { HasLimit (net_of graph.now) }
     ensures takes { IfOk result (λ m. Takes (net_of graph.now) m.augmentations m.flow.items) }
@@ -273,7 +267,6 @@ pub enum DraftOutcome {
 /// A maximum flow, and what became of the draft that it began with: a draft that is a maximum flow is taken, another
 /// flow is raised by augmentations, and else the search begins from the flow of zeros.
 pub fn find_swiftly(alloc: Global, graph: &Graph) -> Result<(MaximumFlow, DraftOutcome), AllocError>
-    requires graph { IsGraph graph.now }
     requires small { (f : List ℕ) → IsFlow (net_of graph.now) f → worth (net_of graph.now) f ≤ MAX_COST }
     requires limited { HasLimit (net_of graph.now) }
     ensures flow { IfOk result (λ m. IsFlow (net_of graph.now) m.0.flow.items) }

@@ -2,7 +2,7 @@
 ghost use Rattle.std.specs.Prelude.{◌≡◌, ◌<◌, true, IfOk};
 ghost use Rattle.esr_cert.specs.Problem.{is_sound};
 ghost use Rattle.esr_cert.specs.Network as networks;
-ghost use Rattle.esr_flow.specs.Graph.{net_of, IsGraph};
+ghost use Rattle.esr_flow.specs.Graph.{net_of};
 
 use crate::graph::Graph;
 use esr_base::NoMemory;
@@ -11,8 +11,7 @@ use std::alloc::Global;
 
 /// The graph of a problem's network.
 fn graph_of<'a>(problem: &'a Problem) -> Graph<'a>
-    ensures graph { IsGraph result }
-    ensures network { net_of result ≡ networks.network problem.now }
+    ensures { net_of result ≡ networks.network problem.now }
 {
     let source = problem.updates().len();
     Graph {
@@ -32,7 +31,6 @@ pub struct Network<'a> {
     pub problem: &'a Problem,
     pub(crate) graph: Graph<'a>,
     ghost sound: { is_sound problem.now ≡ true },
-    ghost kept: { IsGraph graph },
     ghost same: { net_of graph ≡ networks.network problem.now },
 }
 

@@ -8,7 +8,7 @@ ghost use Rattle.std.specs.Prelude.{◌≡◌, ◌<◌, ◌≤◌, true, length,
 ghost use Rattle.esr_cert.specs.Flow.{within};
 ghost use Rattle.esr_flow.specs.Residual.{residual_capacity};
 ghost use Rattle.esr_cert.specs.Steps.{opposite, step_at};
-ghost use Rattle.esr_flow.specs.Graph.{arcs_of, net_of, IsGraph, AreEntries, Lists, entry_at};
+ghost use Rattle.esr_flow.specs.Graph.{arcs_of, net_of, AreEntries, Lists, entry_at};
 ghost use Rattle.esr_flow.specs.Search.{Guides, IsGuided, label_at};
 ghost use Rattle.esr_flow.specs.Maximum.{InArcs};
 
@@ -28,7 +28,6 @@ fn next_back(
     row: &[ShortEntry],
     from: usize,
 ) -> usize
-    requires graph { IsGraph graph.now }
     requires node { at < graph.now.nodes }
     requires row { Lists (arcs_of graph.now) flow.now at _steps.now row.now }
     requires flow { length flow.now ≡ length (arcs_of graph.now) }
@@ -61,7 +60,6 @@ pub fn next_path(
     labels: &[u32],
     next: &mut [usize],
 ) -> Result<Option<Vec<ResidualArc>>, AllocError>
-    requires graph { IsGraph graph.now }
     requires flow { length flow.now ≡ length (arcs_of graph.now) }
     requires entries { AreEntries graph.now flow.now entries.now }
     requires guides { Guides (net_of graph.now) flow.now labels.now }
@@ -92,7 +90,6 @@ pub fn next_path(
 
 /// Puts the pointers back by one at the nodes of a path, whose steps may have residual capacity left.
 pub fn put_back(graph: &Graph, next: &mut [usize], path: &[ResidualArc])
-    requires graph { IsGraph graph.now }
     requires path { InArcs (arcs_of graph.now) path.now }
     requires next { length next.old ≡ graph.now.nodes }
     ensures { length next.new ≡ length next.old }

@@ -13,7 +13,7 @@
 //! the arcs before the first update that is not marked. Where these have marked what there is, one pass over all arcs
 //! tells; before, each pass was one over all, and they took a fifth of an audit's instructions.
 ghost use Rattle.std.specs.Prelude.{◌≡◌, ℕ, ◌+◌, ◌-◌, ◌<◌, ◌≤◌, true, false, length, get_or, IfOk, IfSome};
-ghost use Rattle.esr_flow.specs.Graph.{arcs_of, net_of, IsGraph};
+ghost use Rattle.esr_flow.specs.Graph.{arcs_of, net_of};
 ghost use Rattle.esr_flow.specs.Reached.{AreReached, IsKeptOver, IsKept, HasLinks, first_back};
 ghost use Rattle.esr_flow.specs.Search.{ReachesNoSink, is_marked};
 
@@ -27,7 +27,6 @@ const MOST_PASSES: usize = 100;
 /// Marks the end of an arc to which a residual step leads from its other end, where that is marked. Whether it marked
 /// anything.
 fn spread(graph: &Graph, flow: &[u64], marks: &mut [bool], i: usize) -> bool
-    requires graph { IsGraph graph.now }
     requires flow { length flow.now ≡ length (arcs_of graph.now) }
     requires arc { i < length (arcs_of graph.now) }
     requires reached { AreReached (net_of graph.now) flow.now marks.old }
@@ -101,7 +100,6 @@ fn first_unmarked(marks: &[bool]) -> u32 {
 
 /// Marks the end of an arc, if there is one with that number, as `spread` does.
 fn spread_if(graph: &Graph, flow: &[u64], marks: &mut [bool], i: usize) -> bool
-    requires graph { IsGraph graph.now }
     requires flow { length flow.now ≡ length (arcs_of graph.now) }
     requires reached { AreReached (net_of graph.now) flow.now marks.old }
     ensures { AreReached (net_of graph.now) flow.now marks.new }
@@ -118,7 +116,6 @@ fn skim_chain(
     begin: usize,
     low: u32,
 ) -> bool
-    requires graph { IsGraph graph.now }
     requires flow { length flow.now ≡ length (arcs_of graph.now) }
     requires reached { AreReached (net_of graph.now) flow.now marks.old }
     ensures { AreReached (net_of graph.now) flow.now marks.new }
@@ -137,7 +134,6 @@ fn skim_chain(
 
 /// Skims the arcs of all chains, from the first to the last. Whether it marked anything.
 fn skim_chains(graph: &Graph, flow: &[u64], marks: &mut [bool], low: u32) -> bool
-    requires graph { IsGraph graph.now }
     requires flow { length flow.now ≡ length (arcs_of graph.now) }
     requires reached { AreReached (net_of graph.now) flow.now marks.old }
     ensures { AreReached (net_of graph.now) flow.now marks.new }
@@ -156,7 +152,6 @@ fn skim_chains(graph: &Graph, flow: &[u64], marks: &mut [bool], low: u32) -> boo
 /// Skims the arcs of pairs, back from the last to those whose earlier update comes before a node. The first of all of
 /// them has a number. Whether it marked anything.
 fn skim_pairs(graph: &Graph, flow: &[u64], marks: &mut [bool], first: usize, low: u32) -> bool
-    requires graph { IsGraph graph.now }
     requires flow { length flow.now ≡ length (arcs_of graph.now) }
     requires reached { AreReached (net_of graph.now) flow.now marks.old }
     ensures { AreReached (net_of graph.now) flow.now marks.new }
@@ -177,7 +172,6 @@ fn skim_pairs(graph: &Graph, flow: &[u64], marks: &mut [bool], first: usize, low
 /// Marks what must be held, and skims arcs until that marks nothing more. The arcs of pairs begin at a number. That all is
 /// marked then is not said.
 fn skim(graph: &Graph, flow: &[u64], marks: &mut [bool], first: usize)
-    requires graph { IsGraph graph.now }
     requires flow { length flow.now ≡ length (arcs_of graph.now) }
     requires reached { AreReached (net_of graph.now) flow.now marks.old }
     ensures { AreReached (net_of graph.now) flow.now marks.new }
@@ -196,7 +190,6 @@ fn skim(graph: &Graph, flow: &[u64], marks: &mut [bool], first: usize)
 
 /// One pass over the arcs of a chain, which begin at a number, from the first to the last. Whether it marked anything.
 fn pass_chain(graph: &Graph, flow: &[u64], marks: &mut [bool], chain: &Chain, begin: usize) -> bool
-    requires graph { IsGraph graph.now }
     requires flow { length flow.now ≡ length (arcs_of graph.now) }
     requires chain { HasLinks (arcs_of graph.now) chain.now begin }
     requires reached { AreReached (net_of graph.now) flow.now marks.old }
@@ -216,7 +209,6 @@ fn pass_chain(graph: &Graph, flow: &[u64], marks: &mut [bool], chain: &Chain, be
 
 /// One pass over the arcs of all chains, from the first to the last. Whether it marked anything.
 fn pass_chains(graph: &Graph, flow: &[u64], marks: &mut [bool]) -> bool
-    requires graph { IsGraph graph.now }
     requires flow { length flow.now ≡ length (arcs_of graph.now) }
     requires reached { AreReached (net_of graph.now) flow.now marks.old }
     ensures reached { AreReached (net_of graph.now) flow.now marks.new }
@@ -237,7 +229,6 @@ fn pass_chains(graph: &Graph, flow: &[u64], marks: &mut [bool]) -> bool
 
 /// One pass over the arcs from that of the first pair on, from the last to the first. Whether it marked anything.
 fn pass_back(graph: &Graph, flow: &[u64], marks: &mut [bool], first: usize) -> bool
-    requires graph { IsGraph graph.now }
     requires flow { length flow.now ≡ length (arcs_of graph.now) }
     requires first { first ≡ first_back graph.now.problem.now }
     requires reached { AreReached (net_of graph.now) flow.now marks.old }
@@ -266,7 +257,6 @@ fn first_back_of(graph: &Graph, count: usize) -> usize
 
 /// Marks all that is reached from what is marked, if the passes suffice. Whether they did.
 fn pass_often(graph: &Graph, flow: &[u64], marks: &mut [bool]) -> bool
-    requires graph { IsGraph graph.now }
     requires flow { length flow.now ≡ length (arcs_of graph.now) }
     requires reached { AreReached (net_of graph.now) flow.now marks.old }
     ensures reached { AreReached (net_of graph.now) flow.now marks.new }
@@ -285,7 +275,6 @@ fn pass_often(graph: &Graph, flow: &[u64], marks: &mut [bool]) -> bool
 
 /// Marks of what the source reaches, where that is not the sink and so many passes suffice.
 pub fn reach(alloc: Global, graph: &Graph, flow: &[u64]) -> Result<Option<Vec<bool>>, AllocError>
-    requires graph { IsGraph graph.now }
     requires flow { length flow.now ≡ length (arcs_of graph.now) }
     ensures { IfOk result (λ r. IfSome r (λ marks. ReachesNoSink (net_of graph.now) flow.now marks.items)) }
 {

@@ -3,7 +3,7 @@
 //! smallest least set.
 ghost use Rattle.std.specs.Prelude.{◌≡◌, ℕ, List, ◌-◌, ◌<◌, ◌≤◌, false, length, IfOk};
 ghost use Rattle.esr_cert.specs.Network.{Network};
-ghost use Rattle.esr_flow.specs.Graph.{arcs_of, net_of, IsGraph, AreEntries, Lists};
+ghost use Rattle.esr_flow.specs.Graph.{arcs_of, net_of, AreEntries, Lists};
 ghost use Rattle.esr_flow.specs.Search.{Searched, visit_at, is_marked, ComeFromEarlier, IsShortestPath, AfterScan, AfterSearch, FoundSink, IsFound, Guides, label_at};
 
 use crate::entry::ShortEntry;
@@ -30,7 +30,6 @@ fn scan(
     marks: &mut Vec<bool>,
     head: usize,
 ) -> Result<bool, AllocError>
-    requires graph { IsGraph graph.now }
     requires row { Lists (arcs_of graph.now) _flow.now (visit_at visits.old.items head).node steps.now row.now }
     requires head { head < length visits.old.items }
     requires searched { Searched (net_of graph.now) _flow.now visits.old.items marks.old.items head }
@@ -119,7 +118,6 @@ fn visit_nodes(
     visits: &mut Vec<Visit>,
     marks: &mut Vec<bool>,
 ) -> Result<bool, AllocError>
-    requires graph { IsGraph graph.now }
     requires entries { AreEntries graph.now flow.now entries.now }
     requires begun { Searched (net_of graph.now) flow.now visits.old.items marks.old.items 0 }
     requires sink { is_marked marks.old.items graph.now.sink ≡ false }
@@ -146,7 +144,6 @@ pub fn search(
     flow: &[u64],
     entries: &[ShortEntry],
 ) -> Result<Found, AllocError>
-    requires graph { IsGraph graph.now }
     requires entries { AreEntries graph.now flow.now entries.now }
     ensures { IfOk result (λ found. IsFound (net_of graph.now) flow.now found) }
 {

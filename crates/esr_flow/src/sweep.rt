@@ -11,7 +11,7 @@
 //! augmentations.
 ghost use Rattle.std.specs.Prelude.{◌≡◌, ◌<◌, length, IfOk};
 ghost use Rattle.esr_cert.specs.Network.{network};
-ghost use Rattle.esr_flow.specs.Graph.{arcs_of, IsGraph};
+ghost use Rattle.esr_flow.specs.Graph.{arcs_of};
 
 use crate::graph::Graph;
 use esr_cert::{Arc, Chain, ResidualArc, ShortArc};
@@ -69,13 +69,10 @@ fn room_on(capacity: Option<u64>, amount: u64) -> u64 {
 struct Field<'a> {
     graph: &'a Graph<'a>,
     limits: Vec<u64>,
-    ghost is_graph: { IsGraph graph.now },
 }
 
 impl<'a> Field<'a> {
-    fn of(alloc: Global, graph: &'a Graph<'a>) -> Result<Field<'a>, AllocError>
-        requires { IsGraph graph.now }
-    {
+    fn of(alloc: Global, graph: &'a Graph<'a>) -> Result<Field<'a>, AllocError> {
         let chains = graph.problem.chains();
         let mut count = 0usize;
         for chain in chains {
@@ -735,7 +732,6 @@ fn fill_middle(field: &Field, flow: &mut [u64], middle: u32)
 
 /// Amounts for the arcs of a graph that mostly are a maximum flow.
 pub fn draft<'a>(alloc: Global, graph: &'a Graph<'a>) -> Result<Vec<u64>, AllocError>
-    requires graph { IsGraph graph.now }
     ensures { IfOk result (λ flow. length flow.items ≡ length (arcs_of graph.now)) }
 {
     let mut flow = vec![in alloc; 0u64; graph.rows.steps.len() / 2]?;

@@ -8,9 +8,10 @@ use Rattle.std.proofs.lemmas.List.Elements.{filter-append, filter_map-append}
 use Rattle.std.proofs.lemmas.Option.{slice_get_past}
 use Rattle.esr_history.specs.declared.back_links.Begin.{Begin}
 use Rattle.esr_history.specs.declared.back_links.BackLinks.{BackLinks}
-use Rattle.esr_history.specs.Events.{Beginning, is_refusal, accepted, beginnings, beginning_of, Event, BeginUpdate, BeginQuery, Read, Write, Commit, Abort, Reply, Entry}
+use Rattle.esr_history.specs.Events.{Beginning, is_query_kind, is_refusal, accepted, beginnings, beginning_of, Event, BeginUpdate, BeginQuery, Read, Write, Commit, Abort, Reply, Entry}
 use Rattle.esr_history.specs.BackLinks.{item_of, txn_of, ender, item_in, txn_in, accepted_item, accepted_txn, accepted_end, facts_by, facts_of, is_key, places_from, last_place, last_of_key, earlier, earlier_at, coded, decoded, key_at, links_by, lasts_by, begin_of, begun_count, AreLinks, IsFit, with_key, txns_after, ends_after, begins_after, IsNumbered, Facts}
 use Rattle.esr_history.proofs.Charges.{range-push}
+use Rattle.esr_history.proofs.KindLaws.{query_kind}
 use Rattle.esr_history.proofs.Membership.{get_seam}
 use Rattle.esr_history.proofs.Lists.{last_or_push, slice_get_push}
 
@@ -229,13 +230,15 @@ module _ (n : ℕ) (es : List Entry) (l : BackLinks) (are : AreLinks n es l) (fi
   }
 
 -- what is known of a transaction that has begun
-found : (bs : List Beginning) (k : ℕ) (b : Begin) (end : Option ℕ) → k < length bs → b ≡ get_or (map begin_of bs) k b → Some (record { query = b.query; limit = b.limit; end = end }) ≡ facts_by (slice_get bs k) end
+found : (bs : List Beginning) (k : ℕ) (b : Begin) (end : Option ℕ) → k < length bs → b ≡ get_or (map begin_of bs) k b → Some (record { query = is_query_kind b.kind; limit = b.limit; end = end }) ≡ facts_by (slice_get bs k) end
 found [] k b end l is = absurd (omega arith)
-found (c ∷ bs) zero b end l is = ap (λ (b : Begin). let f : Facts = record { query = b.query; limit = b.limit; end = end } in Some f) is
+found (c ∷ bs) zero b end l is =
+    ap (λ (b : Begin). let f : Facts = record { query = is_query_kind b.kind; limit = b.limit; end = end } in Some f) is
+    ∙ ap (λ (q : Bool). let f : Facts = record { query = q; limit = c.limit; end = end } in Some f) (query_kind c.query)
 found (c ∷ bs) (suc k) b end l is = found bs k b end (omega arith) is
 
 pub facts_are : (es : List Entry) (t : ℕ) (begins : List Begin) (b : Begin) (end : Option ℕ) → begins ≡ map begin_of (beginnings (accepted es)) → (t ≡ 0 → ⊥) → t - 1 < length begins → b ≡ get_or begins (t - 1) b → end ≡ last_place accepted_end t es
-    → Some (record { query = b.query; limit = b.limit; end = end }) ≡ facts_of es t
+    → Some (record { query = is_query_kind b.kind; limit = b.limit; end = end }) ≡ facts_of es t
 facts_are es zero begins b end are some l is at = absurd (some refl)
 facts_are es (suc k) begins b end are some l is at =
     let e : suc k - 1 ≡ k = omega arith in

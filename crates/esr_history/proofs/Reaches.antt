@@ -7,7 +7,7 @@ use Rattle.std.proofs.lemmas.Bool.{cases_Bool, true≢false, cases_eq, eq-eqb, n
 use Rattle.std.proofs.lemmas.List.Elements.{filter_map-append, filter-append}
 use Rattle.std.proofs.lemmas.List.Sums.{sum_by-cons}
 use Rattle.esr_items.specs.Values.{value_at}
-use Rattle.esr_history.specs.Events.{Beginning, is_refusal, beginning, beginning_of, beginnings, numbers, is_query, is_update, is_active, holds_read, holds_write, reads, reads_of, committed_value, current_value, ItemId, TxnId, Event, Read, Write, Commit, Abort, Reply, Value, Wrote, Committed, Aborted, Refused, Refusal, BlockedByLock, Entry}
+use Rattle.esr_history.specs.Events.{Beginning, is_refusal, beginning, beginning_of, beginnings, numbers, is_query, is_update, is_active, holds_read, holds_write, reads, reads_of, committed_value, current_value, ItemId, TxnId, Event, Read, Write, Commit, Abort, Reply, Value, Wrote, Committed, Aborted, Refused, Refusal, BlockedByLock}
 use Rattle.esr_history.specs.Machine.{Distance, Schedule, Charge, done, extended, distance_in, charges, charges_in, due_in, charge_of_read, charge_of_write, import_in, writer, other_writer, other_holder, blocked_by, reply_to, reasons, refusal, acceptance, answered, IsLegal}
 use Rattle.esr_history.specs.Legal.{legal_induction}
 use Rattle.esr_history.specs.Operations.{Operation, operation_by, operations, committer, commit_order}
@@ -29,9 +29,6 @@ imports d h = import_in (charges_in d h)
 
 abbrev pub IsReached : Distance → Schedule → Type 0
 IsReached d h = Reached (setting d h) (trace h) (imports d h)
-
-abbrev entry : Event → Reply → Entry
-entry e r = record { event = e; reply = r }
 
 -- operations after one more entry
 pub operations-refused : (h : Schedule) (e : Event) (why : Refusal) → operations (extended h e (Refused why)) ≡ operations h

@@ -1,10 +1,10 @@
 -- The places of earlier entries of a log, as a scan of it gives them.
-use Rattle.std.specs.Prelude.{◌≡◌, ℕ, zero, suc, ◌+◌, ◌^◌, ◌<◌, ◌≤◌, Bool, true, false, ◌==◌, List, [], ◌∷◌, ◌++◌, Option, None, Some, map, take, slice_get, slice_index_or, slice_set, length, ⊤, vec_capacity, if◌then◌else◌, option_map}
+use Rattle.std.specs.Prelude.{◌≡◌, ℕ, zero, suc, ◌+◌, ◌^◌, ◌<◌, ◌≤◌, Bool, false, ◌==◌, List, [], ◌∷◌, ◌++◌, Option, None, Some, map, take, slice_get, slice_index_or, slice_set, length, ⊤, vec_capacity, if◌then◌else◌, option_map}
 use Rattle.std.specs.List.{last_or, range_with_len}
 pub use Rattle.esr_history.specs.declared.back_links.Facts.{Facts}
 use Rattle.esr_history.specs.declared.back_links.Begin.{Begin}
 use Rattle.esr_history.specs.declared.back_links.BackLinks.{BackLinks}
-use Rattle.esr_history.specs.Events.{Beginning, is_refusal, accepted, beginnings, beginning, Event, BeginUpdate, BeginQuery, Read, Write, Commit, Abort, Reply, Begun, Entry}
+use Rattle.esr_history.specs.Events.{Beginning, Update, Query, kind_of, is_refusal, accepted, beginnings, beginning, Event, BeginUpdate, BeginQuery, Read, Write, Commit, Abort, Reply, Begun, Entry}
 
 -- the item that an event is on
 abbrev pub item_of : Event → Option ℕ
@@ -102,7 +102,7 @@ abbrev pub lasts_by : (Entry → Option ℕ) → List Entry → ℕ → List ℕ
 lasts_by key es n = map (λ k. coded (last_place key k es)) (range_with_len 0 n)
 
 abbrev pub begin_of : Beginning → Begin
-begin_of b = record { query = b.query; limit = b.limit }
+begin_of b = record { kind = kind_of b.query; limit = b.limit }
 
 -- how many transactions have begun
 abbrev pub begun_count : List Entry → ℕ
@@ -159,8 +159,8 @@ ends_after table (Abort t) code = slice_set table t.0 code
 ends_after table _ code = table
 
 abbrev pub begins_after : List Begin → Event → List Begin
-begins_after table (BeginUpdate limit) = table ++ record { query = false; limit = limit } ∷ []
-begins_after table (BeginQuery limit strict) = table ++ record { query = true; limit = limit } ∷ []
+begins_after table (BeginUpdate limit) = table ++ record { kind = Update; limit = limit } ∷ []
+begins_after table (BeginQuery limit strict) = table ++ record { kind = Query; limit = limit } ∷ []
 begins_after table _ = table
 
 -- an accepted begin has the next number

@@ -11,7 +11,7 @@ ghost use Rattle.std.specs.Prelude.{◌≡◌, ◌+◌, ◌^◌, ◌<◌, ◌≤
 ghost use Rattle.esr_history.specs.declared.event.Entry.{Entry};
 ghost use Rattle.esr_history.specs.BackLinks.{with_key, txns_after, ends_after, begins_after, IsNumbered, item_of, begun_by, txn_of, key_at, decoded, AreLinks, IsFit, HasRoom, HasRoomToBegin, begun_count, last_place, earlier, facts_of, accepted_item, accepted_txn, item_in, txn_in};
 
-use crate::event::{Entry, Event, Reply};
+use crate::event::{Entry, Event, Kind, Reply};
 use std::alloc::{AllocError, Global};
 
 /// What is known of a transaction: how it began, and the place of its accepted commit or abort.
@@ -24,7 +24,7 @@ pub struct Facts {
 
 #[derive(Clone, Copy)]
 struct Begin {
-    query: bool,
+    kind: Kind,
     limit: u64,
 }
 
@@ -206,20 +206,20 @@ impl BackLinks {
 
     /// Notes an accepted begin.
     #[inline(always)]
-    fn add_begin(&mut self, query: bool, limit: u64, code: u32)
+    fn add_begin(&mut self, kind: Kind, limit: u64, code: u32)
         requires { HasRoomToBegin 1 self.old }
         ensures on_item { self.new.on_item ≡ self.old.on_item }
         ensures of_txn { self.new.of_txn ≡ self.old.of_txn }
         ensures items { self.new.items ≡ self.old.items }
         ensures txns { self.new.txns.items ≡ self.old.txns.items ++ code ∷ [] }
         ensures ends { self.new.ends.items ≡ self.old.ends.items ++ 0 ∷ [] }
-        ensures begins { self.new.begins.items ≡ self.old.begins.items ++ (record { query = query; limit = limit })
+        ensures begins { self.new.begins.items ≡ self.old.begins.items ++ (record { kind = kind; limit = limit })
             ∷ [] }
         ensures room { (k : ℕ) → HasRoomToBegin (k + 1) self.old → HasRoomToBegin k self.new }
     {
         self.txns.push_reserved(code);
         self.ends.push_reserved(0);
-        self.begins.push_reserved(Begin { query, limit });
+        self.begins.push_reserved(Begin { kind, limit });
     }
 
     /// Notes an accepted event, whose place has the code, and gives the codes of the places that it links to: one look-up
@@ -239,8 +239,8 @@ impl BackLinks {
     {
         let begun = at_key(&self.txns, begun_by(reply));
         match event {
-            Event::BeginUpdate { limit } => self.add_begin(false, limit, code),
-            Event::BeginQuery { limit, strict: _ } => self.add_begin(true, limit, code),
+            Event::BeginUpdate { limit } => self.add_begin(Kind::Update, limit, code),
+            Event::BeginQuery { limit, strict: _ } => self.add_begin(Kind::Query, limit, code),
             Event::Read { txn, item }
             | Event::Write {
                 txn,
@@ -352,7 +352,7 @@ impl BackLinks {
         match self.begins.get(t as usize - 1) {
             None => None,
             Some(begin) => Some(Facts {
-                query: begin.query,
+                query: begin.kind.is_query(),
                 limit: begin.limit,
                 end: place(at_key(&self.ends, Some(t))),
             }),

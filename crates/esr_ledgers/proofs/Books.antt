@@ -7,6 +7,7 @@ use Rattle.std.proofs.lemmas.List.Elements.{All-from_recursion, recursion_from_A
 use Rattle.esr_base.specs.declared.numbers.TxnId.{TxnId}
 use Rattle.esr_history.specs.Ascending.{IsAscendingBy, IsPlaceOf}
 use Rattle.esr_history.proofs.Ascending.{place_tail, placed_ascends, all_placed}
+use Rattle.esr_history.specs.Events.{is_query_kind}
 use Rattle.esr_ledgers.specs.Books.{number, account_of, is_open, is_open_query, is_open_update, limit_at, account_amount, total_of, would_pass, raised, charged_to_queries, charged, imports, exports, IsWithinLimit, AreBooks, AreCharges, with_account, quoted, quote_of, Account, Fits}
 use Rattle.esr_history.proofs.Lists.{find_none_all}
 
@@ -14,10 +15,10 @@ abbrev more : ℕ → Account → Account
 more n a = record a { amount = a.amount + n }
 
 abbrev import_of : Account → ℕ
-import_of a = if a.query then a.amount else 0
+import_of a = if is_query_kind a.kind then a.amount else 0
 
 abbrev export_of : Account → ℕ
-export_of a = if a.query then 0 else a.amount
+export_of a = if is_query_kind a.kind then 0 else a.amount
 
 -- an account that was opened as a query or as an update was opened
 open_where : (p : Account → Bool) (t : ℕ) (xs : List Account) → unwrap_or (option_map p (account_of xs t)) false ≡ true → is_open xs t ≡ true
@@ -29,10 +30,10 @@ open_where p t (x ∷ xs) is =
     ]
 
 pub query_open : (t : ℕ) (xs : List Account) → is_open_query xs t ≡ true → is_open xs t ≡ true
-query_open = open_where (λ a. a.query)
+query_open = open_where (λ a. is_query_kind a.kind)
 
 pub update_open : (t : ℕ) (xs : List Account) → is_open_update xs t ≡ true → is_open xs t ≡ true
-update_open = open_where (λ a. not a.query)
+update_open = open_where (λ a. not (is_query_kind a.kind))
 
 module _ (t n : ℕ) where
   raised_above : (xs : List Account) → AllByRecursion (λ y. t < number y) xs → raised t n xs ≡ xs
@@ -99,7 +100,7 @@ module _ (t n : ℕ) where
   imports_raised_query (x ∷ xs) asc is =
       elim (cases_eq (number x) t) [
         | inl e ↦
-            let q : x.query ≡ true = rw (eq-eqb (number x) t e) at is in
+            let q : is_query_kind x.kind ≡ true = rw (eq-eqb (number x) t e) at is in
             let one : import_of (more n x) ≡ import_of x + n = rw q refl in
             let none : export_of (more n x) ≡ export_of x = rw q refl in
             rw (eq-eqb (number x) t e, later x xs e asc.0)
@@ -115,7 +116,7 @@ module _ (t n : ℕ) where
   exports_raised_update (x ∷ xs) asc is =
       elim (cases_eq (number x) t) [
         | inl e ↦
-            let q : x.query ≡ false = not-true x.query (rw (eq-eqb (number x) t e) at is) in
+            let q : is_query_kind x.kind ≡ false = not-true (is_query_kind x.kind) (rw (eq-eqb (number x) t e) at is) in
             let none : import_of (more n x) ≡ import_of x = rw q refl in
             let one : export_of (more n x) ≡ export_of x + n = rw q refl in
             rw (eq-eqb (number x) t e, later x xs e asc.0)
@@ -161,7 +162,7 @@ pub record AreImports (xs : List Account) (cs : List (TxnId × ℕ)) : Type 0 wh
 imports_tail : (xs : List Account) (c : TxnId × ℕ) (cs : List (TxnId × ℕ)) → AreImports xs (c ∷ cs) → AreImports (raised c.0.0 c.1 xs) cs
 imports_tail xs c cs are = record {
   ascending = are.ascending.1;
-  queries = carry (λ a. unwrap_or (option_map (λ b. b.query) a) false ≡ true) cs are.ascending.0 are.queries.1;
+  queries = carry (λ a. unwrap_or (option_map (λ b. is_query_kind b.kind) a) false ≡ true) cs are.ascending.0 are.queries.1;
   fit = fits cs are.ascending.0 are.fit.1;
 }
   where
@@ -197,7 +198,7 @@ not_charged xs u [] is all = tt
 not_charged xs u (c ∷ cs) is all =
     ((λ (e : u ≡ c.0.0). both (account_of xs c.0.0) (subst (λ k. is_open_update xs k ≡ true) e is) all.0), not_charged xs u cs is all.1)
   where
-    both : (a : Option Account) → unwrap_or (option_map (λ b. not b.query) a) false ≡ true → unwrap_or (option_map (λ b. b.query) a) false ≡ true → ⊥
+    both : (a : Option Account) → unwrap_or (option_map (λ b. not (is_query_kind b.kind)) a) false ≡ true → unwrap_or (option_map (λ b. is_query_kind b.kind) a) false ≡ true → ⊥
     both None is_u is_q = false≢true is_q
     both (Some a) is_u is_q = false≢true (ap not (sym is_q) ∙ is_u)
 
@@ -211,7 +212,7 @@ AreBooks-charged xs total u cs books update queries asc none room =
     let asc_then = imported_ascends cs xs books.ascending in
     let sums = imports_imported cs xs are books.ascending in
     let same : account_of (charged_to_queries xs cs) u.0 ≡ account_of xs u.0 = account_imported_other u.0 cs xs (not_charged xs u.0 cs update queries) in
-    let is_u : is_open_update (charged_to_queries xs cs) u.0 ≡ true = ap (λ (a : Option Account). unwrap_or (option_map (λ (b : Account). not b.query) a) false) same ∙ update in
+    let is_u : is_open_update (charged_to_queries xs cs) u.0 ≡ true = ap (λ (a : Option Account). unwrap_or (option_map (λ (b : Account). not (is_query_kind b.kind)) a) false) same ∙ update in
     let fits : account_amount (charged_to_queries xs cs) u.0 + total_of cs ≤ limit_at (charged_to_queries xs cs) u.0 =
     subst (λ (a : Option Account). unwrap_or (option_map (λ (e : Account). e.amount) a) 0 + total_of cs ≤ unwrap_or (option_map (λ (e : Account). e.limit) a) 0) (sym same) (ltb-false (limit_at xs u.0) (account_amount xs u.0 + total_of cs) room) in
     let last = exports_raised_update u.0 (total_of cs) (charged_to_queries xs cs) asc_then is_u in
@@ -267,7 +268,7 @@ module _ (xs : List Account) (total : ℕ) (books : AreBooks xs total) (u : TxnI
     export_fits_then = subst (λ (a : Option Account). unwrap_or (option_map (λ (e : Account). e.amount) a) 0 + total_of cs < 2 ^ 64) (sym account_stays) export_fits
 
     pub still_open : is_open (charged_to_queries xs cs) u.0 ≡ true
-    still_open = update_open u.0 (charged_to_queries xs cs) (ap (λ (a : Option Account). unwrap_or (option_map (λ (b : Account). not b.query) a) false) account_stays ∙ are.update)
+    still_open = update_open u.0 (charged_to_queries xs cs) (ap (λ (a : Option Account). unwrap_or (option_map (λ (b : Account). not (is_query_kind b.kind)) a) false) account_stays ∙ are.update)
 
     pub books_then : AreBooks (charged xs u cs) (total + total_of cs)
     books_then = AreBooks-charged xs total u cs books are.update (recursion_from_All (λ (c : TxnId × ℕ). is_open_query xs c.0.0 ≡ true) cs are.queries) are.ascending parts.0 parts.1
@@ -279,7 +280,7 @@ total_bounded xs total books =
     subst (λ n. n ≤ length xs * 2 ^ 64) books.import_sum (sum_by-le import_of (2 ^ 64) xs each)
   where
     small : (a : Account) → IsWithinLimit a → import_of a ≤ 2 ^ 64
-    small a w = at a.query
+    small a w = at (is_query_kind a.kind)
       where
         at : (b : Bool) → (if b then a.amount else 0) ≤ 2 ^ 64
         at true = omega (arith, w.0, w.1)
@@ -295,14 +296,14 @@ AreBooks-with_account xs total a books zero_is small i is = record {
 }
   where
     refl_import : import_of a ≡ 0
-    refl_import = at a.query
+    refl_import = at (is_query_kind a.kind)
       where
         at : (b : Bool) → (if b then a.amount else 0) ≡ 0
         at true = zero_is
         at false = refl
 
     refl_export : export_of a ≡ 0
-    refl_export = at a.query
+    refl_export = at (is_query_kind a.kind)
       where
         at : (b : Bool) → (if b then 0 else a.amount) ≡ 0
         at true = refl

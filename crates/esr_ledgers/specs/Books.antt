@@ -3,6 +3,8 @@ use Rattle.std.specs.Prelude.{◌≡◌, ℕ, ◌+◌, ◌<◌, ◌≤◌, ◌^�
 use Rattle.std.specs.List.{list_any, AllByRecursion}
 use Rattle.esr_base.specs.declared.numbers.TxnId.{TxnId}
 use Rattle.esr_history.specs.Ascending.{IsAscendingBy, placed}
+use Rattle.esr_history.specs.declared.event.Kind.{Kind}
+use Rattle.esr_history.specs.Events.{is_query_kind}
 pub use Rattle.esr_ledgers.specs.declared.account.Account.{Account}
 use Rattle.esr_ledgers.specs.declared.ledgers.Quote.{Quote}
 pub use Rattle.esr_ledgers.specs.declared.ledgers.Quote.TheVariants.{Fits, Import, Export}
@@ -18,10 +20,10 @@ abbrev pub is_open : List Account → ℕ → Bool
 is_open accounts t = list_any (λ a. number a == t) accounts
 
 abbrev pub is_open_query : List Account → ℕ → Bool
-is_open_query accounts t = unwrap_or (option_map (λ a. a.query) (account_of accounts t)) false
+is_open_query accounts t = unwrap_or (option_map (λ a. is_query_kind a.kind) (account_of accounts t)) false
 
 abbrev pub is_open_update : List Account → ℕ → Bool
-is_open_update accounts t = unwrap_or (option_map (λ a. not a.query) (account_of accounts t)) false
+is_open_update accounts t = unwrap_or (option_map (λ a. not (is_query_kind a.kind)) (account_of accounts t)) false
 
 abbrev pub limit_at : List Account → ℕ → ℕ
 limit_at accounts t = unwrap_or (option_map (λ a. a.limit) (account_of accounts t)) 0
@@ -30,8 +32,8 @@ abbrev pub account_amount : List Account → ℕ → ℕ
 account_amount accounts t = unwrap_or (option_map (λ a. a.amount) (account_of accounts t)) 0
 
 -- the accounts with a new one, in the order of their numbers
-abbrev pub new_account : Bool → TxnId → ℕ → Account
-new_account query t limit = record { number = t; query = query; limit = limit; amount = 0 }
+abbrev pub new_account : Kind → TxnId → ℕ → Account
+new_account kind t limit = record { number = t; kind = kind; limit = limit; amount = 0 }
 
 abbrev pub with_account : List Account → Account → List Account
 with_account accounts a = placed number (number a) a (λ b. b) accounts
@@ -76,10 +78,10 @@ pub record AreCharges (accounts : List Account) (u : TxnId) (charges : List (Txn
 
 -- what all queries have imported, and all updates exported
 abbrev pub imports : List Account → ℕ
-imports accounts = sum_by (λ a. if a.query then a.amount else 0) accounts
+imports accounts = sum_by (λ a. if is_query_kind a.kind then a.amount else 0) accounts
 
 abbrev pub exports : List Account → ℕ
-exports accounts = sum_by (λ a. if a.query then 0 else a.amount) accounts
+exports accounts = sum_by (λ a. if is_query_kind a.kind then 0 else a.amount) accounts
 
 abbrev pub IsWithinLimit : Account → Type 0
 IsWithinLimit a = (a.amount ≤ a.limit) × (a.limit < 2 ^ 64)

@@ -2,5 +2,5 @@
 use Rattle.std.proofs.Common.{rules}
 use Rattle.esr_core.proofs.state.settle.Goals as goal
 
-pub returns-else-keep : goal.returns-else-keep
-returns-else-keep c = search rules
+pub returns-in-Abort : goal.returns-in-Abort
+returns-in-Abort c = search rules

@@ -13,7 +13,7 @@ loop-i-preserved c =
     let is : c.arc-arc.result ≡ arc_at arcs i = c.arc-arc.ensures in
     let added : c.add_on.result ≡ true = search rules in
     let in_arcs : i < length arcs = omega (arith, c.loop-i-test.true, c.requires.flow) in
-    let ends = c.requires.graph.is_network.ends i in_arcs in
+    let ends = c.args.graph.now.kept.is_network.ends i in_arcs in
     let capacity : within (get_or flow i 0) (arc_at arcs i).capacity ≡ true = ap (λ (a : Arc). within (get_or flow i 0) a.capacity) (sym is) ∙ c.add_on.ensures.within added in
     let to : c.add_on.new.into ≡ set c.loop-i.into (arc_at arcs i).to (get_or c.loop-i.into (arc_at arcs i).to 0 + amount_at flow i) =
     subst (λ (a : Arc). c.add_on.new.into ≡ set c.loop-i.into a.to (get_or c.loop-i.into a.to 0 + amount_at flow i)) is (c.add_on.ensures.into added) in

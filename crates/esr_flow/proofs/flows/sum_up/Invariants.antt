@@ -1,5 +1,5 @@
 -- What holds at each turn of the loop in `sum_up`.
-use Rattle.std.proofs.Common.{◌≡◌, ℕ, ◌<◌, ◌≤◌, true, eqb, get_or, take, length}
+use Rattle.std.proofs.Common.{◌≡◌, ℕ, ◌<◌, ◌≤◌, true, eqb, get_or, take}
 use Rattle.esr_cert.specs.Network.{arc_at}
 use Rattle.esr_cert.specs.Flow.{within, carried}
 use Rattle.esr_flow.specs.Graph.{arcs_of}

@@ -20,12 +20,12 @@ raise_along-requires-clause-in_arcs c =
 pub raise_along-requires-clause-fits : goal.raise_along-requires-clause-fits
 raise_along-requires-clause-fits c =
     let least : bottleneck (arcs_of c.args.graph.now) c.args.flow.now c.args.path.now ≡ Some c.in-Some.amount = cc (c.in-Some.is, c.bottleneck_of.ensures) in
-    raise_fits (net_of c.args.graph.now) c.requires.graph.is_network c.args.flow.now c.args.path.now c.in-Some.amount c.requires.flow c.requires.amounts c.requires.small c.requires.path least
+    raise_fits (net_of c.args.graph.now) c.args.graph.now.kept.is_network c.args.flow.now c.args.path.now c.in-Some.amount c.requires.flow c.requires.amounts c.requires.small c.requires.path least
 
 pub returns-clause-worth : goal.returns-clause-worth
 returns-clause-worth c =
     let net : Network = net_of c.args.graph.now in
     let least : bottleneck (arcs_of c.args.graph.now) c.args.flow.now c.args.path.now ≡ Some c.in-Some.amount = cc (c.in-Some.is, c.bottleneck_of.ensures) in
     let a : Augments net c.args.flow.now (raise c.args.flow.now c.in-Some.amount c.args.path.now) = augments net c.args.flow.now c.args.path.now c.in-Some.amount c.requires.path least in
-    let after : After net c.args.flow.now (raise c.args.flow.now c.in-Some.amount c.args.path.now) c.in-Some.amount = augmented net c.requires.graph.is_network c.args.flow.now (raise c.args.flow.now c.in-Some.amount c.args.path.now) c.requires.flow a in
+    let after : After net c.args.flow.now (raise c.args.flow.now c.in-Some.amount c.args.path.now) c.in-Some.amount = augmented net c.args.graph.now.kept.is_network c.args.flow.now (raise c.args.flow.now c.in-Some.amount c.args.path.now) c.requires.flow a in
     ap (worth net) c.raise_along.ensures.flow ∙ after.raised

@@ -30,9 +30,9 @@ returns-clause-takes c = takes_zeros (net_of c.args.graph.now) c.in_ok-maximum.m
 
 pub returns-clause-few : goal.returns-clause-few
 returns-clause-few c =
-    few_augmentations (net_of c.args.graph.now) c.requires.graph.is_network (replicate (length (arcs_of c.args.graph.now)) 0) (zero_start (net_of c.args.graph.now)).is_flow.same_length c.in_ok-maximum.maximum.augmentations c.in_ok-maximum.maximum.flow.items (from_zeros c)
+    few_augmentations (net_of c.args.graph.now) c.args.graph.now.kept.is_network (replicate (length (arcs_of c.args.graph.now)) 0) (zero_start (net_of c.args.graph.now)).is_flow.same_length c.in_ok-maximum.maximum.augmentations c.in_ok-maximum.maximum.flow.items (from_zeros c)
 
 pub returns-clause-worth : goal.returns-clause-worth
 returns-clause-worth c =
-    let t : Taken (net_of c.args.graph.now) (replicate (length (arcs_of c.args.graph.now)) 0) c.in_ok-maximum.maximum.augmentations c.in_ok-maximum.maximum.flow.items = taken (net_of c.args.graph.now) c.requires.graph.is_network (replicate (length (arcs_of c.args.graph.now)) 0) (zero_start (net_of c.args.graph.now)) c.in_ok-maximum.maximum.augmentations c.in_ok-maximum.maximum.flow.items (from_zeros c) in
+    let t : Taken (net_of c.args.graph.now) (replicate (length (arcs_of c.args.graph.now)) 0) c.in_ok-maximum.maximum.augmentations c.in_ok-maximum.maximum.flow.items = taken (net_of c.args.graph.now) c.args.graph.now.kept.is_network (replicate (length (arcs_of c.args.graph.now)) 0) (zero_start (net_of c.args.graph.now)) c.in_ok-maximum.maximum.augmentations c.in_ok-maximum.maximum.flow.items (from_zeros c) in
     omega (arith, t.count_small)

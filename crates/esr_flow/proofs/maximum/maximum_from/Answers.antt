@@ -20,7 +20,7 @@ known : (c : goal.After-drop-entries-2) → Taken (net_of c.args.graph.now) c.ar
 known c =
     let same : c.deref_mut.result.now ≡ c.args.flow.items = c.deref_mut.ensures.value in
     subst (λ first. Taken (net_of c.args.graph.now) first c.in_ok-taken.taken.augmentations c.run_phases.new.flow) same
-    (taken (net_of c.args.graph.now) c.requires.graph.is_network c.deref_mut.result.now (subst (IsStart (net_of c.args.graph.now)) (sym same) c.requires.start) c.in_ok-taken.taken.augmentations c.run_phases.new.flow c.in_ok-taken.ensures.takes)
+    (taken (net_of c.args.graph.now) c.args.graph.now.kept.is_network c.deref_mut.result.now (subst (IsStart (net_of c.args.graph.now)) (sym same) c.requires.start) c.in_ok-taken.taken.augmentations c.run_phases.new.flow c.in_ok-taken.ensures.takes)
 
 pub returns-clause-flow : goal.returns-clause-flow
 returns-clause-flow c = subst (IsFlow (net_of c.args.graph.now)) (sym (kept c)) (known c).is_flow

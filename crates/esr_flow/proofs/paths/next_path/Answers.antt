@@ -15,21 +15,21 @@ use Rattle.esr_flow.proofs.WalkLaws.{Walk, walk_push, walk_pop, walk_end, popped
 use Rattle.esr_flow.proofs.paths.next_path.Goals as goal
 
 pub offset_bounds-labels-graph : goal.offset_bounds-labels-graph
-offset_bounds-labels-graph c = omega (arith, c.requires.graph.is_network.source_is_node, c.requires.guides.count, c.requires.graph.few)
+offset_bounds-labels-graph c = omega (arith, c.args.graph.now.kept.is_network.source_is_node, c.requires.guides.count, c.args.graph.now.kept.few)
 
 pub bounds-labels-graph : goal.bounds-labels-graph
-bounds-labels-graph c = omega (arith, c.requires.graph.is_network.source_is_node, c.requires.guides.count)
+bounds-labels-graph c = omega (arith, c.args.graph.now.kept.is_network.source_is_node, c.requires.guides.count)
 
 pub next_back-i-requires-clause-row : goal.next_back-i-requires-clause-row
 next_back-i-requires-clause-row c =
-    lists_read c.args.graph.now c.requires.graph c.args.flow.now c.args.entries.now c.requires.entries c.loop-at.at c.loop-at.invariant.0.node c.steps_at-steps.result.now c.row-row.result.now c.steps_at-steps.ensures c.row-row.ensures
+    lists_read c.args.graph.now c.args.flow.now c.args.entries.now c.requires.entries c.loop-at.at c.loop-at.invariant.0.node c.steps_at-steps.result.now c.row-row.result.now c.steps_at-steps.ensures c.row-row.ensures
 
 pub loop-at-smaller-then-i-row : goal.loop-at-smaller-then-i-row
 loop-at-smaller-then-i-row c =
     let span = span_at c.args.graph.now.rows.now.spans.items c.loop-at.at in
     let long : length c.row-row.result.now ≤ span.end - span.begin = omega (arith, ap length c.row-row.ensures, length-take (span.end - span.begin) (drop span.begin c.args.entries.now)) in
     let less : suc (untried c.args.graph.now.rows.now.spans.items (set c.loop-at.next c.loop-at.at (c.next_back-i.result + 1))) ≤ untried c.args.graph.now.rows.now.spans.items c.loop-at.next =
-    untried_less c.args.graph.now.rows.now.spans.items c.loop-at.next c.loop-at.at c.next_back-i.result (omega (arith, c.requires.graph.count, c.loop-at.invariant.0.node)) (omega (arith, c.loop-at.invariant.1, c.loop-at.invariant.0.node)) c.next_back-i.ensures.later (omega (arith, long, c.if-i-row.true)) in
+    untried_less c.args.graph.now.rows.now.spans.items c.loop-at.next c.loop-at.at c.next_back-i.result (omega (arith, c.args.graph.now.kept.count, c.loop-at.invariant.0.node)) (omega (arith, c.loop-at.invariant.1, c.loop-at.invariant.0.node)) c.next_back-i.ensures.later (omega (arith, long, c.if-i-row.true)) in
     omega (arith, less, length_push c.loop-at.path.items c.opposite.result, ap length c.in_ok-push.ensures.items)
 
 pub loop-at-preserved-then-i-row : goal.loop-at-preserved-then-i-row
@@ -42,7 +42,7 @@ loop-at-preserved-then-i-row c =
     let read : c.entry-at.result ≡ e = c.entry-at.ensures ∙ get_or_read c.row-row.result.now c.next_back-i.result c.index-row-i.result c.if-i-row.true c.index-row-i.is (record { to = 0; ahead = false; back = false }) in
     let t : ResidualArc = step_at c.steps_at-steps.result.now c.next_back-i.result in
     let s : ResidualArc = opposite t in
-    let row : Lists arcs flow c.loop-at.at c.steps_at-steps.result.now c.row-row.result.now = lists_read c.args.graph.now c.requires.graph c.args.flow.now c.args.entries.now c.requires.entries c.loop-at.at c.loop-at.invariant.0.node c.steps_at-steps.result.now c.row-row.result.now c.steps_at-steps.ensures c.row-row.ensures in
+    let row : Lists arcs flow c.loop-at.at c.steps_at-steps.result.now c.row-row.result.now = lists_read c.args.graph.now c.args.flow.now c.args.entries.now c.requires.entries c.loop-at.at c.loop-at.invariant.0.node c.steps_at-steps.result.now c.row-row.result.now c.steps_at-steps.ensures c.row-row.ensures in
     let at : IsEntry arcs flow c.loop-at.at t e = row.entries c.next_back-i.result c.if-i-row.true in
     let in_arcs : arc_of s < length arcs = omega (arith, at.in_arcs, opposite_arc t) in
     let has_room : within 1 (residual_capacity arcs flow s) ≡ true = c.next_back-i.ensures.residual c.if-i-row.true in
@@ -52,14 +52,14 @@ loop-at-preserved-then-i-row c =
     let pushed : c.push.new.self.items ≡ c.loop-at.path.items ++ s ∷ [] = c.in_ok-push.ensures.items ∙ ap (λ t. c.loop-at.path.items ++ t ∷ []) c.opposite.ensures ∙ ap (λ t. c.loop-at.path.items ++ opposite t ∷ []) (c.step.ensures ∙ get_or_read c.steps_at-steps.result.now c.next_back-i.result c.index-steps-i.result (omega (arith, row.count, c.if-i-row.true)) c.index-steps-i.is (Forward 0)) in (
       subst (Walk net flow labels c.push.new.self.items) (begins ∙ ap (λ (x : AdjacencyEntry). x.to) (sym read))
           (subst (λ p. Walk net flow labels p (start arcs s)) (sym pushed)
-          (walk_push net c.requires.graph.is_network flow labels c.loop-at.path.items c.loop-at.at s c.loop-at.invariant.0 ends (in_arcs, has_room) down)),
+          (walk_push net c.args.graph.now.kept.is_network flow labels c.loop-at.path.items c.loop-at.at s c.loop-at.invariant.0 ends (in_arcs, has_room) down)),
       length-set c.loop-at.next c.loop-at.at (c.next_back-i.result + 1) ∙ c.loop-at.invariant.1,
     )
 
 pub finish_of-at-requires : goal.finish_of-at-requires
 finish_of-at-requires c =
     let w : Walk (net_of c.args.graph.now) c.args.flow.now c.args.labels.now (c.pop.new.self.items ++ c.in-Some.step ∷ []) c.loop-at.at = subst (λ p. Walk (net_of c.args.graph.now) c.args.flow.now c.args.labels.now p c.loop-at.at) c.in-Some.ensures.items c.loop-at.invariant.0 in
-    popped_in (net_of c.args.graph.now) c.requires.graph.is_network c.args.flow.now c.args.labels.now c.pop.new.self.items c.loop-at.at c.in-Some.step w
+    popped_in (net_of c.args.graph.now) c.args.graph.now.kept.is_network c.args.flow.now c.args.labels.now c.pop.new.self.items c.loop-at.at c.in-Some.step w
 
 pub loop-at-smaller : goal.loop-at-smaller
 loop-at-smaller c =
@@ -72,11 +72,11 @@ loop-at-preserved c =
     let w : Walk (net_of c.args.graph.now) c.args.flow.now c.args.labels.now (c.pop.new.self.items ++ c.in-Some.step ∷ []) c.loop-at.at = subst (λ p. Walk (net_of c.args.graph.now) c.args.flow.now c.args.labels.now p c.loop-at.at) c.in-Some.ensures.items c.loop-at.invariant.0 in
     let finish_is : c.finish_of-at.result ≡ finish (arcs_of c.args.graph.now) c.in-Some.step = c.finish_of-at.ensures in (
       subst (λ n. Walk (net_of c.args.graph.now) c.args.flow.now c.args.labels.now c.pop.new.self.items n) (sym finish_is)
-          (walk_pop (net_of c.args.graph.now) c.requires.graph.is_network c.args.flow.now c.args.labels.now c.pop.new.self.items c.loop-at.at c.in-Some.step c.requires.guides w),
+          (walk_pop (net_of c.args.graph.now) c.args.graph.now.kept.is_network c.args.flow.now c.args.labels.now c.pop.new.self.items c.loop-at.at c.in-Some.step c.requires.guides w),
       length-set c.loop-at.next c.loop-at.at c.next_back-i.result ∙ c.loop-at.invariant.1,
     )
 
 pub returns : goal.returns
 returns c =
     subst (IsGuided (net_of c.args.graph.now) c.args.flow.now c.args.labels.now) (sym c.reverse.ensures.items)
-    (walk_end (net_of c.args.graph.now) c.requires.graph.is_network c.args.flow.now c.args.labels.now c.loop-at.path.items c.loop-at.at c.requires.guides c.loop-at-test.false c.loop-at.invariant.0)
+    (walk_end (net_of c.args.graph.now) c.args.graph.now.kept.is_network c.args.flow.now c.args.labels.now c.loop-at.path.items c.loop-at.at c.requires.guides c.loop-at-test.false c.loop-at.invariant.0)

@@ -17,11 +17,11 @@ returns-then-ahead-clause-reached c =
     let is_open : within 1 (left_of (arc_at (arcs_of c.args.graph.now) i).capacity (amount_at flow i)) ≡ true =
     ap (λ (a : Arc). within 1 (left_of a.capacity (amount_at flow i))) (sym is) ∙ (sym c.have_capacity-ahead.ensures.ahead ∙ c.if-ahead.true) in
     let from : is_marked marks (arc_at (arcs_of c.args.graph.now) i).from ≡ true = ap (λ (a : Arc). is_marked marks a.from) (sym is) ∙ c.if-marks-from-2.true in
-    subst (λ (a : Arc). AreReached net flow (set marks a.to true)) (sym is) (reached_more net c.requires.graph.is_network flow marks (Forward i) c.requires.reached (c.requires.arc, is_open) from)
+    subst (λ (a : Arc). AreReached net flow (set marks a.to true)) (sym is) (reached_more net c.args.graph.now.kept.is_network flow marks (Forward i) c.requires.reached (c.requires.arc, is_open) from)
 
 pub returns-then-back-clause-reached : goal.returns-then-back-clause-reached
 returns-then-back-clause-reached c =
     let net = net_of c.args.graph.now in let flow = c.args.flow.now in let marks = c.args.marks.now in let i = c.args.i in
     let is : c.arc-arc.result ≡ arc_at (arcs_of c.args.graph.now) i = c.arc-arc.ensures in
     let to : is_marked marks (arc_at (arcs_of c.args.graph.now) i).to ≡ true = ap (λ (a : Arc). is_marked marks a.to) (sym is) ∙ c.if-marks-to.true in
-    subst (λ (a : Arc). AreReached net flow (set marks a.from true)) (sym is) (reached_more net c.requires.graph.is_network flow marks (Backward i) c.requires.reached (c.requires.arc, sym c.have_capacity-ahead.ensures.back ∙ c.if-back.true) to)
+    subst (λ (a : Arc). AreReached net flow (set marks a.from true)) (sym is) (reached_more net c.args.graph.now.kept.is_network flow marks (Backward i) c.requires.reached (c.requires.arc, sym c.have_capacity-ahead.ensures.back ∙ c.if-back.true) to)

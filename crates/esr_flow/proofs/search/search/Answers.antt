@@ -14,9 +14,9 @@ visit_nodes-requires-clause-begun c =
     let visits : c.push.new.self.items ≡ first ∷ [] = c.in_ok-push.ensures.items ∙ ap (λ vs. vs ++ first ∷ []) c.in_ok-visits.ensures.items in
     subst (λ vs. Searched net c.args.flow.now vs (set c.in_ok-marks.marks.items c.args.graph.now.source true) 0) (sym visits)
     (subst (λ ms. Searched net c.args.flow.now (first ∷ []) (set ms c.args.graph.now.source true) 0) (sym marks)
-    (begin net c.args.flow.now c.requires.graph.is_network))
+    (begin net c.args.flow.now c.args.graph.now.kept.is_network))
 
 pub visit_nodes-requires-clause-sink : goal.visit_nodes-requires-clause-sink
 visit_nodes-requires-clause-sink c =
     let marks : c.in_ok-marks.marks.items ≡ replicate c.args.graph.now.nodes false = c.in_ok-marks.ensures.items_if_clones_equal (λ y e. e) in
-    ap (λ ms. is_marked (set ms c.args.graph.now.source true) c.args.graph.now.sink) marks ∙ sink_unmarked (net_of c.args.graph.now) c.requires.graph.is_network
+    ap (λ ms. is_marked (set ms c.args.graph.now.source true) c.args.graph.now.sink) marks ∙ sink_unmarked (net_of c.args.graph.now) c.args.graph.now.kept.is_network

@@ -21,7 +21,7 @@ scan-requires-clause-row c =
     ap (λ x. x.node) (c.index.ensures ∙ get_or_default c.loop-head.visits.items c.loop-head.head c.index.result.now (record { node = 0; level = 0; step = Forward 0; parent = 0 }) (omega arith)) in
     let steps : c.steps_at-steps.result.now ≡ row_in g.rows.now.steps.items (span_at g.rows.now.spans.items v) = c.steps_at-steps.ensures ∙ ap (λ n. row_in g.rows.now.steps.items (span_at g.rows.now.spans.items n)) first in
     let row : c.row-row.result.now ≡ row_in c.args.entries.now (span_at g.rows.now.spans.items v) = c.row-row.ensures ∙ ap (λ n. row_in c.args.entries.now (span_at g.rows.now.spans.items n)) first in
-    lists_read g c.requires.graph c.args.flow.now c.args.entries.now c.requires.entries v (h.nodes c.loop-head.head (omega arith)) c.steps_at-steps.result.now c.row-row.result.now steps row
+    lists_read g c.args.flow.now c.args.entries.now c.requires.entries v (h.nodes c.loop-head.head (omega arith)) c.steps_at-steps.result.now c.row-row.result.now steps row
 
 pub loop-head-preserved : goal.loop-head-preserved
 loop-head-preserved c =

@@ -1,8 +1,9 @@
 -- Why `find_account` keeps its contract: the goals that are left to a proof of ours.
 use Rattle.std.proofs.Common.{false}
 use Rattle.esr_history.proofs.Ascending.{found_at}
-use Rattle.esr_ledgers.specs.Books.{number}
+use Rattle.esr_history.specs.Events.{kind_of}
+use Rattle.esr_ledgers.specs.Books.{number, new_account}
 use Rattle.esr_ledgers.proofs.account.find_account.Goals as goal
 
 pub returns : goal.returns
-returns c = found_at number c.args.t.0 c.index_of.result c.args.accounts.now (record { number = record { 0 = 0 }; query = false; limit = 0; amount = 0 }) c.requires.ascending c.index_of.ensures
+returns c = found_at number c.args.t.0 c.index_of.result c.args.accounts.now (new_account (kind_of false) (record { 0 = 0 }) 0) c.requires.ascending c.index_of.ensures

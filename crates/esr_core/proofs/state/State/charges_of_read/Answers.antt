@@ -10,11 +10,11 @@ use Rattle.esr_core.proofs.Dues.{read_imports, update_imports}
 use Rattle.esr_core.proofs.Reasons.{row_query}
 use Rattle.esr_core.proofs.state.State.charges_of_read.Goals as goal
 
-pub returns-then-transaction : goal.returns-then-transaction
-returns-then-transaction g c = λ h same tie q.
+pub returns-then-is_query : goal.returns-then-is_query
+returns-then-is_query g c = λ h same tie q.
     let d = g.M.Metric.distance_by in
     let s = c.args.self.now in
-    let query : is_query (done h) c.args.t.0 ≡ true = sym (row_query d h s.items s.transactions.items s.locks.locks s.ledgers tie c.args.t.0 c.transaction.result c.requires.known c.transaction.ensures) ∙ c.if-transaction.true in
+    let query : is_query (done h) c.args.t.0 ≡ true = sym (row_query d h s.items s.transactions.items s.locks.locks s.ledgers tie c.args.t.0 c.transaction.result c.requires.known c.transaction.ensures) ∙ (sym c.is_query.ensures ∙ c.if-is_query.true) in
     let is : c.charges_of_query.new.charges.items ≡ charges_for c.args.t (read_charge (d h.weights c.args.x.0) (versions_at s.items c.args.x.0) (locks_at s.locks.locks c.args.x.0).writer) = rw same c.in_ok-charges_of_query.ensures in
     ap (λ cs. imported cs q) is ∙ read_imports d h s.items s.transactions.items s.locks.locks s.ledgers tie c.args.t c.args.x query c.requires.item q
 
@@ -22,5 +22,5 @@ pub returns : goal.returns
 returns g c = λ h same tie q.
     let d = g.M.Metric.distance_by in
     let s = c.args.self.now in
-    let update : is_query (done h) c.args.t.0 ≡ false = sym (row_query d h s.items s.transactions.items s.locks.locks s.ledgers tie c.args.t.0 c.transaction.result c.requires.known c.transaction.ensures) ∙ c.if-transaction.false in
+    let update : is_query (done h) c.args.t.0 ≡ false = sym (row_query d h s.items s.transactions.items s.locks.locks s.ledgers tie c.args.t.0 c.transaction.result c.requires.known c.transaction.ensures) ∙ (sym c.is_query.ensures ∙ c.if-is_query.false) in
     ap (λ cs. imported cs q) c.clear.ensures.items ∙ update_imports d h s.items s.transactions.items s.locks.locks s.ledgers tie c.args.t c.args.x update q

@@ -6,7 +6,7 @@ use Rattle.esr_history.specs.Machine.{Distance, Schedule, done, refusal, first_r
 use Rattle.esr_history.proofs.Allowed.{none_applies, end_allowed}
 use Rattle.esr_history.proofs.Lawful.{not_ended, follows}
 use Rattle.esr_core.specs.declared.state.State.{State}
-use Rattle.esr_core.specs.States.{IsStateOf, end_event}
+use Rattle.esr_core.specs.States.{IsStateOf, end_event, keeps}
 use Rattle.esr_core.proofs.Answered.{accepted_state}
 use Rattle.esr_core.proofs.Ties.{by, tied-end}
 use Rattle.esr_core.proofs.state.State.end.Goals as goal
@@ -16,21 +16,21 @@ abbrev state : After-end_row → State
 state c = record { items = c.settle_all.new.items; transactions = c.end_row.new.rows; locks = c.release.new.self; ledgers = c.args.self.now.ledgers }
 
 -- the reply that an end is owed
-answered : (c : After-end_row) (d : Distance) (h : Schedule) (r : Reply) → r ≡ acceptance h (end_event c.args.commits c.args.t) → IsStateOf d h c.args.self.now
-    → (r ≡ reply_to d h (end_event c.args.commits c.args.t)) × IsStateOf d (extended h (end_event c.args.commits c.args.t) r) (state c)
+answered : (c : After-end_row) (d : Distance) (h : Schedule) (r : Reply) → r ≡ acceptance h (end_event (keeps c.args.end) c.args.t) → IsStateOf d h c.args.self.now
+    → (r ≡ reply_to d h (end_event (keeps c.args.end) c.args.t)) × IsStateOf d (extended h (end_event (keeps c.args.end) c.args.t) r) (state c)
 answered c d h r is tie =
     let s = c.args.self.now in
-    let e = end_event c.args.commits c.args.t in
+    let e = end_event (keeps c.args.end) c.args.t in
     let known : (0 < c.args.t.0) × (c.args.t.0 ≤ length s.transactions.items) = c.in_default.ensures.ready in
     let none : first_reason (not_begun h c.args.t.0 ∷ ended h c.args.t.0 ∷ []) ≡ None = sym (c.in_default.ensures.tied d h tie) in
-    let free : refusal d h e ≡ None = by (λ e. refusal d h e ≡ None) c.args.commits c.args.t none none in
+    let free : refusal d h e ≡ None = by (λ e. refusal d h e ≡ None) (keeps c.args.end) c.args.t none none in
     let act : is_active (done h) c.args.t.0 ≡ true = not_ended h c.args.t.0 (end_allowed h c.args.t (none_applies (not_begun h c.args.t.0 ∷ ended h c.args.t.0 ∷ []) none)).active in
     let row = c.end_row.ensures (c.args.t.0 - 1) (omega arith) in
-    let kept = tied-end (d h.weights) h.opening (done h) s.items s.transactions.items s.locks.locks s.ledgers tie c.args.commits c.args.t (c.args.t.0 - 1) row.0 c.settle_all.new.items act (follows d h tie.orderly e free) (omega arith) (omega arith) row.1 c.settle_all.ensures.len c.settle_all.ensures.current c.settle_all.ensures.committed in
+    let kept = tied-end (d h.weights) h.opening (done h) s.items s.transactions.items s.locks.locks s.ledgers tie (keeps c.args.end) c.args.t (c.args.t.0 - 1) row.0 c.settle_all.new.items act (follows d h tie.orderly e free) (omega arith) (omega arith) row.1 c.settle_all.ensures.len c.settle_all.ensures.current c.settle_all.ensures.committed in
     accepted_state d h e r (state c) free is (rw (row.2, c.release.ensures) kept)
 
-pub returns-then-commits : goal.returns-then-commits
-returns-then-commits c = λ d weights h same tie. answered (goal.at.returns-then-commits c).After-end_row d h Committed (rw c.if-commits.true refl) tie
+pub returns-in-Commit : goal.returns-in-Commit
+returns-in-Commit c = λ d weights h same tie. answered (goal.at.returns-in-Commit c).After-end_row d h Committed (rw c.in-Commit.is refl) tie
 
-pub returns-else-commits : goal.returns-else-commits
-returns-else-commits c = λ d weights h same tie. answered (goal.at.returns-else-commits c).After-end_row d h Aborted (rw c.if-commits.false refl) tie
+pub returns-in-Abort : goal.returns-in-Abort
+returns-in-Abort c = λ d weights h same tie. answered (goal.at.returns-in-Abort c).After-end_row d h Aborted (rw c.in-Abort.is refl) tie

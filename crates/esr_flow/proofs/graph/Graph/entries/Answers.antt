@@ -9,31 +9,31 @@ pub of-none-requires : goal.of-none-requires
 of-none-requires c = omega arith
 
 pub overflow_cast-i : goal.overflow_cast-i
-overflow_cast-i c = omega (arith, c.loop-i-test.true, c.requires.flow, c.requires.graph.steps.few)
+overflow_cast-i c = omega (arith, c.loop-i-test.true, c.requires.flow, c.args.self.now.kept.steps.few)
 
 pub put_next-requires-clause-few : goal.put_next-requires-clause-few
 put_next-requires-clause-few c =
-    along_few c.args.self.now c.requires.graph c.args.flow.now c.loop-i.counts.items c.loop-i.entries.items c.loop-i.i (omega (arith, c.loop-i-test.true, c.requires.flow)) c.loop-i.invariant c.arc-arc.result c.arc-arc.ensures (get_or c.args.flow.now c.loop-i.i 0) refl
+    along_few c.args.self.now c.args.flow.now c.loop-i.counts.items c.loop-i.entries.items c.loop-i.i (omega (arith, c.loop-i-test.true, c.requires.flow)) c.loop-i.invariant c.arc-arc.result c.arc-arc.ensures (get_or c.args.flow.now c.loop-i.i 0) refl
 
 pub put_next-requires-clause-place : goal.put_next-requires-clause-place
 put_next-requires-clause-place c =
-    along_within c.args.self.now c.requires.graph c.args.flow.now c.loop-i.counts.items c.loop-i.entries.items c.loop-i.i (omega (arith, c.loop-i-test.true, c.requires.flow)) c.loop-i.invariant c.arc-arc.result c.arc-arc.ensures (get_or c.args.flow.now c.loop-i.i 0) refl
+    along_within c.args.self.now c.args.flow.now c.loop-i.counts.items c.loop-i.entries.items c.loop-i.i (omega (arith, c.loop-i-test.true, c.requires.flow)) c.loop-i.invariant c.arc-arc.result c.arc-arc.ensures (get_or c.args.flow.now c.loop-i.i 0) refl
 
 pub put_next-requires-in-loop-i-clause-few : goal.put_next-requires-in-loop-i-clause-few
 put_next-requires-in-loop-i-clause-few c =
-    against_few c.args.self.now c.requires.graph c.args.flow.now c.loop-i.counts.items c.loop-i.entries.items c.loop-i.i (omega (arith, c.loop-i-test.true, c.requires.flow)) c.loop-i.invariant c.arc-arc.result c.arc-arc.ensures (get_or c.args.flow.now c.loop-i.i 0) refl c.put_next.new.counts.items c.put_next.new.entries.items c.entries_of-along.result.0 c.entries_of-along.ensures.along c.put_next.ensures.counts c.put_next.ensures.entries
+    against_few c.args.self.now c.args.flow.now c.loop-i.counts.items c.loop-i.entries.items c.loop-i.i (omega (arith, c.loop-i-test.true, c.requires.flow)) c.loop-i.invariant c.arc-arc.result c.arc-arc.ensures (get_or c.args.flow.now c.loop-i.i 0) refl c.put_next.new.counts.items c.put_next.new.entries.items c.entries_of-along.result.0 c.entries_of-along.ensures.along c.put_next.ensures.counts c.put_next.ensures.entries
 
 pub put_next-requires-in-loop-i-clause-place : goal.put_next-requires-in-loop-i-clause-place
 put_next-requires-in-loop-i-clause-place c =
-    against_within c.args.self.now c.requires.graph c.args.flow.now c.loop-i.counts.items c.loop-i.entries.items c.loop-i.i (omega (arith, c.loop-i-test.true, c.requires.flow)) c.loop-i.invariant c.arc-arc.result c.arc-arc.ensures (get_or c.args.flow.now c.loop-i.i 0) refl c.put_next.new.counts.items c.put_next.new.entries.items c.entries_of-along.result.0 c.entries_of-along.ensures.along c.put_next.ensures.counts c.put_next.ensures.entries
+    against_within c.args.self.now c.args.flow.now c.loop-i.counts.items c.loop-i.entries.items c.loop-i.i (omega (arith, c.loop-i-test.true, c.requires.flow)) c.loop-i.invariant c.arc-arc.result c.arc-arc.ensures (get_or c.args.flow.now c.loop-i.i 0) refl c.put_next.new.counts.items c.put_next.new.entries.items c.entries_of-along.result.0 c.entries_of-along.ensures.along c.put_next.ensures.counts c.put_next.ensures.entries
 
 pub loop-i-preserved : goal.loop-i-preserved
 loop-i-preserved c =
-    put_both c.args.self.now c.requires.graph c.args.flow.now c.loop-i.counts.items c.loop-i.entries.items c.loop-i.i (omega (arith, c.loop-i-test.true, c.requires.flow)) c.loop-i.invariant c.arc-arc.result c.arc-arc.ensures (get_or c.args.flow.now c.loop-i.i 0) refl c.put_next.new.counts.items c.put_next.new.entries.items c.entries_of-along.result.0 c.entries_of-along.ensures.along c.put_next.ensures.counts c.put_next.ensures.entries
+    put_both c.args.self.now c.args.flow.now c.loop-i.counts.items c.loop-i.entries.items c.loop-i.i (omega (arith, c.loop-i-test.true, c.requires.flow)) c.loop-i.invariant c.arc-arc.result c.arc-arc.ensures (get_or c.args.flow.now c.loop-i.i 0) refl c.put_next.new.counts.items c.put_next.new.entries.items c.entries_of-along.result.0 c.entries_of-along.ensures.along c.put_next.ensures.counts c.put_next.ensures.entries
     c.put_next-in-loop-i.new.counts.items c.put_next-in-loop-i.new.entries.items c.entries_of-along.result.1 c.entries_of-along.ensures.against c.put_next-in-loop-i.ensures.counts c.put_next-in-loop-i.ensures.entries
 
 pub returns : goal.returns
 returns c =
     let all : c.loop-i.i ≡ length (arcs_of c.args.self.now) = omega (arith, c.loop-i-test.false, c.requires.flow) in
-    all_put c.args.self.now c.requires.graph c.args.flow.now c.loop-i.counts.items c.loop-i.entries.items
+    all_put c.args.self.now c.args.flow.now c.loop-i.counts.items c.loop-i.entries.items
     (subst (λ n. ArePut c.args.self.now c.args.flow.now (first_steps n) c.loop-i.counts.items c.loop-i.entries.items) all c.loop-i.invariant)

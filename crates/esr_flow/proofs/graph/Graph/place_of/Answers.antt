@@ -12,4 +12,4 @@ pub place_of-requires-clause-starts : goal.place_of-requires-clause-starts
 place_of-requires-clause-starts c =
     let node : c.finish_of-node.result ≡ start (arcs_of c.args.self.now) c.args.step =
     c.finish_of-node.ensures ∙ ap (finish (arcs_of c.args.self.now)) c.opposite.ensures ∙ opposite_finish (arcs_of c.args.self.now) c.args.step in
-    subst (λ v. Contains (row_in c.args.self.now.rows.now.steps.items (span_at c.args.self.now.rows.now.spans.items v)) c.args.step) (sym node) (in_row c.args.self.now c.requires.graph c.args.step c.requires.arc)
+    subst (λ v. Contains (row_in c.args.self.now.rows.now.steps.items (span_at c.args.self.now.rows.now.spans.items v)) c.args.step) (sym node) (in_row c.args.self.now c.args.step c.requires.arc)

@@ -1,0 +1,11 @@
+-- The kind of a transaction, and whether it is a query, tell each other.
+use Rattle.std.proofs.Common.{◌≡◌, Bool, true, false, refl}
+use Rattle.esr_history.specs.Events.{Kind, Update, Query, kind_of, is_query_kind}
+
+pub query_kind : (query : Bool) → is_query_kind (kind_of query) ≡ query
+query_kind true = refl
+query_kind false = refl
+
+pub kind_again : (k : Kind) → kind_of (is_query_kind k) ≡ k
+kind_again Query = refl
+kind_again Update = refl
