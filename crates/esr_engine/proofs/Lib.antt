@@ -3,6 +3,7 @@
 
 pub mod Active
 pub mod Ends
+pub mod Stepped
 pub mod Standings
 pub mod Locking
 pub mod Renewal

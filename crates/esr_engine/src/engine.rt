@@ -8,6 +8,7 @@
 ghost use Rattle.std.specs.Prelude.{◌≡◌, ◌+◌, ◌<◌, ◌≤◌, ◌↔◌, true, length, All, IfOk, OnErr, IsErrOf};
 ghost use Rattle.esr_base.specs.declared.limits.TheConstants.{MOST_ENTRIES, MOST_ITEMS, MOST_TRANSACTIONS};
 ghost use Rattle.esr_items.specs.Weights.{IsWeight, weighted};
+ghost use Rattle.esr_history.specs.declared.event.Event.TheVariants.{Read, Write};
 ghost use Rattle.esr_history.specs.Events.{is_active};
 ghost use Rattle.esr_history.specs.Machine.{IsLegal, Schedule, done, extended, reply_to};
 ghost use Rattle.esr_history.specs.Queries.{ImportBoundsDistance};
@@ -18,7 +19,7 @@ ghost use Rattle.esr_engine.specs.Room.{active_after, active_count, taken, begun
 
 use esr_core::{Machine, StepError, Totals};
 use esr_history::{Event, History, MOST_ENTRIES, MOST_TRANSACTIONS, Reply, TxnId};
-use esr_items::Weighted;
+use esr_items::{ItemId, Weighted};
 use esr_order::Index;
 use std::marker::Model;
 use thiserror::Error;
@@ -132,6 +133,59 @@ impl Engine {
         }
         let _legal = self.machine.log(); // brings the invariant into the proof
         match self.machine.step(event) {
+            Ok(reply) => {
+                self.active = active_after(self.active, reply);
+                Ok(reply)
+            }
+            Err(_) => Err(Unanswered::NoMemory),
+        }
+    }
+
+    /// Answers a read as `step` does, in a call of its own that is compiled into its callers down to the log.
+    ///
+    /// # Errors
+    /// Those of `step`.
+    #[inline(always)]
+    pub fn read(&mut self, t: TxnId, x: ItemId) -> Result<Reply, Unanswered>
+        ensures reply { IfOk result (λ reply. reply ≡ reply_to weighted self.old (Read t x)) }
+        ensures added { IfOk result (λ reply. self.new ≡ extended self.old (Read t x) reply) }
+        ensures full { IsErrOf result Unanswered.Full ↔ (is_full self.old (Read t x) ≡ true) }
+        ensures err { OnErr result (self.new ≡ self.old) }
+    {
+        if self.is_full(Event::Read { txn: t, item: x }) {
+            return Err(Unanswered::Full);
+        }
+        let _legal = self.machine.log(); // brings the invariant into the proof
+        match self.machine.read(t, x) {
+            Ok(reply) => {
+                self.active = active_after(self.active, reply);
+                Ok(reply)
+            }
+            Err(_) => Err(Unanswered::NoMemory),
+        }
+    }
+
+    /// Answers a write as `step` does, likewise.
+    ///
+    /// # Errors
+    /// Those of `step`.
+    #[inline(always)]
+    pub fn write(&mut self, t: TxnId, x: ItemId, v: i64) -> Result<Reply, Unanswered>
+        ensures reply { IfOk result (λ reply. reply ≡ reply_to weighted self.old (Write t x v)) }
+        ensures added { IfOk result (λ reply. self.new ≡ extended self.old (Write t x v) reply) }
+        ensures full { IsErrOf result Unanswered.Full ↔ (is_full self.old (Write t x v) ≡ true) }
+        ensures err { OnErr result (self.new ≡ self.old) }
+    {
+        let event = Event::Write {
+            txn: t,
+            item: x,
+            value: v,
+        };
+        if self.is_full(event) {
+            return Err(Unanswered::Full);
+        }
+        let _legal = self.machine.log(); // brings the invariant into the proof
+        match self.machine.write(t, x, v) {
             Ok(reply) => {
                 self.active = active_after(self.active, reply);
                 Ok(reply)
