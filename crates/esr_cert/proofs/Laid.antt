@@ -6,15 +6,9 @@ use Rattle.std.proofs.lemmas.List.{get_or_default}
 use Rattle.esr_cert.specs.declared.rows.TheConstants.{MOST_ARCS}
 use Rattle.esr_cert.specs.Network.{arc_at, HaveEnds, Arc}
 use Rattle.esr_cert.specs.Steps.{arc_of, order_of, start, step_at, AreOnce, ResidualArc, Forward, Backward}
-use Rattle.esr_cert.specs.Rows.{span_at, row_in, first_steps, steps_from, row_of, AreDegrees, AreRows, AreSteps, lengthen, Span}
+use Rattle.esr_cert.specs.Rows.{span_at, row_in, first_steps, steps_from, row_of, AreRows, AreSteps, Filled, Laid, lengthen, Span}
 use Rattle.esr_cert.proofs.StepsLaws.{first_next, has_steps}
-use Rattle.esr_cert.proofs.RowsLaws.{row_length, at_row, Filled, filled_more, place_within, room_along, room_against, filled_all, step_with}
-
--- the rows after the first i arcs
-pub record Laid (arcs : List Arc) (nodes i : ℕ) (spans : List Span) (steps : List ResidualArc) : Type 0 where
-  pub degrees : List ℕ
-  pub are : AreDegrees arcs nodes degrees
-  pub filled : Filled arcs degrees (first_steps i) spans steps
+use Rattle.esr_cert.proofs.RowsLaws.{row_length, at_row, filled_more, place_within, room_along, room_against, filled_all, step_with}
 
 pub laid_long : {arcs : List Arc} {nodes i : ℕ} {spans : List Span} {steps : List ResidualArc} → Laid arcs nodes i spans steps → length steps ≡ 2 * length arcs
 laid_long h = h.filled.total ∙ h.are.both

@@ -15,6 +15,7 @@ pub mod StepsLaws
 pub mod RowsLaws
 pub mod Laid
 pub mod ArcsLaws
+pub mod LinksLaws
 mod StartsLaws
 pub mod Balance
 mod Within

@@ -1,12 +1,13 @@
 -- Rows that lie one after another, as they are counted and filled.
-use Rattle.std.proofs.Common.{◌≡◌, ◌≢◌, ℕ, suc, ◌+◌, ◌-◌, ◌<◌, ◌≤◌, List, [], ◌∷◌, ◌++◌, length, get_or, set, take, drop, sum, sym, ap, ◌∙◌, subst, inl, inr, arith, length-drop, length-take, length-set, get_or-set_same, get_or-set_other}
+use Rattle.std.proofs.Common.{◌≡◌, ◌≢◌, ℕ, suc, ◌+◌, ◌-◌, ◌*◌, ◌<◌, ◌≤◌, List, [], ◌∷◌, ◌++◌, length, get_or, set, take, drop, replicate, sum, sym, ap, ◌∙◌, subst, inl, inr, arith, length-drop, length-take, length-set, get_or-set_same, get_or-set_other}
 use Rattle.std.proofs.lemmas.Bool.{cases_eq, cases_lt}
-use Rattle.std.proofs.lemmas.List.{get_or-take, get_or-drop, take-take, ext_get_or, length_push, get_or_read}
+use Rattle.std.proofs.lemmas.List.Folds.{sum_by-replicate}
+use Rattle.std.proofs.lemmas.List.{length-replicate, get_or-replicate, get_or-take, get_or-drop, take-take, ext_get_or, length_push, get_or_read}
 use Rattle.std.proofs.lemmas.List.Sums.{sum_by_more, sum_by-take-le, sum_by-cons, sum_by_more_le, sum_by-set, get_or-le-sum_by}
-use Rattle.esr_cert.specs.Network.{Arc}
+use Rattle.esr_cert.specs.Network.{arc_at, HaveEnds, Arc}
 use Rattle.esr_cert.specs.Steps.{start, step_at, ResidualArc, Forward, Backward}
-use Rattle.esr_cert.specs.Rows.{row_in, span_at, first_steps, steps_from, row_of, AreDegrees, AreRows, longer, Span}
-use Rattle.esr_cert.proofs.StepsLaws.{steps_here, steps_other, room_for, first_within, first_more, first_count, last_or_not, not_last, at_last}
+use Rattle.esr_cert.specs.Rows.{row_in, span_at, first_steps, steps_from, row_of, AreDegrees, AreRows, Counted, Filled, longer, Span}
+use Rattle.esr_cert.proofs.StepsLaws.{steps_here, steps_other, room_for, first_within, first_more, first_next, first_count, last_or_not, not_last, at_last}
 
 pub row_length : {X : Type 0} (list : List X) (span : Span) → span.end ≤ length list → length (row_in list span) ≡ span.end - span.begin
 row_length list span l =
@@ -15,12 +16,6 @@ row_length list span l =
 pub at_row : {X : Type 0} (list : List X) (span : Span) (k : ℕ) (d : X) → k < span.end - span.begin → get_or (row_in list span) k d ≡ get_or list (span.begin + k) d
 at_row list span k d l =
     get_or-take (span.end - span.begin) (drop span.begin list) k d l ∙ get_or-drop span.begin list k d
-
--- how many of some steps start at each node
-pub record Counted (arcs : List Arc) (nodes : ℕ) (done : List ResidualArc) (counts : List ℕ) : Type 0 where
-  pub count : length counts ≡ nodes
-  pub each : (v : ℕ) → v < nodes → get_or counts v 0 ≡ length (steps_from arcs v done)
-  pub both : sum counts ≡ length done
 
 pub counted_at : {arcs : List Arc} {nodes : ℕ} {done : List ResidualArc} {counts : List ℕ} {u x : ℕ} → u < nodes → x ≡ get_or counts u x → Counted arcs nodes done counts → x ≤ length done
 counted_at {arcs} {nodes} {done} {counts} {u} {x} l read h = omega (arith, get_or-le-sum_by (λ n. n) counts u x (omega (arith, h.count)), h.both)
@@ -37,6 +32,31 @@ counted_more {arcs} {nodes} {done} {counts} s {u} {x} e l read h = record {
   where
     here : get_or (set counts u (x + 1)) u 0 ≡ length (steps_from arcs u (done ++ s ∷ []))
     here = omega (arith, get_or-set_same counts u (x + 1) 0 (omega (arith, h.count)), get_or_read counts u x (omega (arith, h.count)) read 0, h.each u l, ap length (steps_here arcs u done s e), length_push (steps_from arcs u done) s)
+
+pub counted_none : {arcs : List Arc} {nodes : ℕ} (counts : List ℕ) → counts ≡ replicate nodes 0 → Counted arcs nodes [] counts
+counted_none {arcs} {nodes} counts is = record {
+  count = ap length is ∙ length-replicate nodes 0;
+  each = λ v l. ap (λ list. get_or list v 0) is ∙ get_or-replicate nodes v 0 0 l;
+  both = ap sum is ∙ omega (arith, sum_by-replicate (λ n. n) nodes 0);
+}
+
+-- the steps of an arc with these ends
+module _ {arcs : List Arc} {nodes : ℕ} (i : ℕ) {counts : List ℕ} {u x : ℕ} (ends : HaveEnds arcs nodes) (l : i < length arcs) (from : u ≡ (arc_at arcs i).from) (read : x ≡ get_or counts u x) (h : Counted arcs nodes (first_steps i) counts) where
+  pub along_small : x ≤ 2 * i
+  along_small = omega (arith, first_count i, counted_at {u = u} (omega (arith, (ends i l).0, from)) read h)
+
+  counted_along : Counted arcs nodes (first_steps i ++ Forward i ∷ []) (set counts u (x + 1))
+  counted_along = counted_more (Forward i) (sym from) (omega (arith, (ends i l).0, from)) read h
+
+  module _ {w y : ℕ} (to : w ≡ (arc_at arcs i).to) (again : y ≡ get_or (set counts u (x + 1)) w y) where
+    pub against_small : y ≤ 2 * i + 1
+    against_small = omega (arith, first_count i, length_push (first_steps i) (Forward i), counted_at {u = w} (omega (arith, (ends i l).1, to)) again counted_along)
+
+    pub counted_arc : (k : ℕ) → k ≡ i + 1 → Counted arcs nodes (first_steps k) (set (set counts u (x + 1)) w (y + 1))
+    counted_arc k next =
+        subst (λ n. Counted arcs nodes (first_steps n) (set (set counts u (x + 1)) w (y + 1))) (sym next)
+        (subst (λ done. Counted arcs nodes done (set (set counts u (x + 1)) w (y + 1))) (first_next i)
+        (counted_more (Backward i) (sym to) (omega (arith, (ends i l).1, to)) again counted_along))
 
 pub counted_all : {arcs : List Arc} {nodes : ℕ} (i : ℕ) {counts : List ℕ} → i ≡ length arcs → Counted arcs nodes (first_steps i) counts → AreDegrees arcs nodes counts
 counted_all {arcs} {nodes} i {counts} e h =
@@ -63,15 +83,6 @@ row_with (n ∷ lengths) k l =
           let more : sum (n ∷ take found.0 lengths) ≡ n + sum (take found.0 lengths) = sum_by-cons (λ x. x) n (take found.0 lengths) in
           (suc found.0, omega (arith, found.1), omega (arith, more, found.2), omega (arith, more, found.3))
     ]
-
--- some steps lie in their rows, which have room for these lengths
-pub record Filled (arcs : List Arc) (lengths : List ℕ) (done : List ResidualArc) (spans : List Span) (steps : List ResidualArc) : Type 0 where
-  pub count : length spans ≡ length lengths
-  pub total : length steps ≡ sum lengths
-  pub begin : (v : ℕ) → v < length lengths → (span_at spans v).begin ≡ sum (take v lengths)
-  pub end : (v : ℕ) → v < length lengths → (span_at spans v).end ≡ sum (take v lengths) + length (steps_from arcs v done)
-  pub fits : (v : ℕ) → v < length lengths → length (steps_from arcs v done) ≤ get_or lengths v 0
-  pub step : (v k : ℕ) → v < length lengths → k < length (steps_from arcs v done) → step_at steps (sum (take v lengths) + k) ≡ step_at (steps_from arcs v done) k
 
 module _ (arcs : List Arc) (lengths : List ℕ) (done : List ResidualArc) (spans : List Span) (steps : List ResidualArc) (s : ResidualArc) (u : ℕ) (e : start arcs s ≡ u) (l : u < length lengths) (room : length (steps_from arcs u done) < get_or lengths u 0) (h : Filled arcs lengths done spans steps) where
   pub place_within : (span_at spans u).end < length steps

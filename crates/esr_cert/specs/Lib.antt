@@ -1,5 +1,5 @@
 -- Problems, networks, flows and cuts in the textbook's words, and what a certificate has to be. `Views`, `Drafts`,
--- `Rows` and `Starts` say what contracts see of the lists that hold them.
+-- `Rows`, `Starts` and `Links` say what contracts see of the lists that hold them.
 
 pub mod Problem
 pub mod Network
@@ -12,6 +12,7 @@ pub mod Steps
 pub mod Short
 pub mod Rows
 pub mod Starts
+pub mod Links
 pub mod Balance
 pub mod Faults
 pub mod Parts

@@ -64,3 +64,27 @@ longer span = record { begin = span.begin; end = span.end + 1 }
 -- the spans where the row of a node has one more
 abbrev pub lengthen : List Span → ℕ → List Span
 lengthen spans v = set spans v (longer (span_at spans v))
+
+-- how many of some steps start at each of so many nodes
+pub record Counted (arcs : List Arc) (nodes : ℕ) (done : List ResidualArc) (counts : List ℕ) : Type 0 where
+  pub count : length counts ≡ nodes
+  pub each : (v : ℕ) → v < nodes → get_or counts v 0 ≡ length (steps_from arcs v done)
+  pub both : sum counts ≡ length done
+
+-- some steps lie in their rows, which have room for these lengths
+pub record Filled (arcs : List Arc) (lengths : List ℕ) (done : List ResidualArc) (spans : List Span)
+    (steps : List ResidualArc) : Type 0 where
+  pub count : length spans ≡ length lengths
+  pub total : length steps ≡ sum lengths
+  pub begin : (v : ℕ) → v < length lengths → (span_at spans v).begin ≡ sum (take v lengths)
+  pub end : (v : ℕ) → v < length lengths
+      → (span_at spans v).end ≡ sum (take v lengths) + length (steps_from arcs v done)
+  pub fits : (v : ℕ) → v < length lengths → length (steps_from arcs v done) ≤ get_or lengths v 0
+  pub step : (v k : ℕ) → v < length lengths → k < length (steps_from arcs v done)
+      → step_at steps (sum (take v lengths) + k) ≡ step_at (steps_from arcs v done) k
+
+-- the rows after the first i arcs
+pub record Laid (arcs : List Arc) (nodes i : ℕ) (spans : List Span) (steps : List ResidualArc) : Type 0 where
+  pub degrees : List ℕ
+  pub are : AreDegrees arcs nodes degrees
+  pub filled : Filled arcs degrees (first_steps i) spans steps

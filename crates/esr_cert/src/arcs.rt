@@ -3,13 +3,14 @@
 //!
 //! Where the arcs of each chain begin is a list; the chain of an arc is kept in two bytes an arc, since the solver asks
 //! often: with a binary search there too a solve took 1.4 to 1.7 times as long.
-ghost use Rattle.std.specs.Prelude.{◌≡◌, ◌+◌, ◌^◌, ◌<◌, ◌≤◌, length, map, sum_by, List, true};
+ghost use Rattle.std.specs.Prelude.{◌≡◌, ◌+◌, ◌^◌, ◌<◌, ◌≤◌, [], ◌∷◌, ◌++◌, length, get_or, map, sum_by, List, true};
 ghost use Rattle.esr_base.specs.declared.limits.TheConstants.{MOST_ITEMS, MOST_TRANSACTIONS};
 ghost use Rattle.esr_cert.specs.Views.{chain_of, problem_of};
 ghost use Rattle.esr_cert.specs.Network.{arc_at, chain_links, network};
 ghost use Rattle.esr_cert.specs.declared.network.Arc.{Arc};
 ghost use Rattle.esr_cert.specs.Problem.{is_sound};
 ghost use Rattle.esr_cert.specs.Starts.{starts_from, owners_from};
+ghost use Rattle.esr_cert.specs.Links.{HaveLinks};
 
 use crate::network::Arc;
 use crate::problem::Chain;
@@ -17,22 +18,39 @@ use crate::starts::owner_at;
 use esr_base::TxnId;
 use std::marker::Model;
 
-/// An arc of a chain, by its place there: from the source or a writer to the next writer, or to the sink.
+/// Where an arc of a chain leaves, by its place there: the source or a writer.
+pub fn leaves_at(chain: &Chain, source: u32, j: usize) -> u32
+    requires count { length chain.now.costs.items ≡ length chain.now.writers.items + 1 }
+    requires place { j < length chain.now.costs.items }
+    ensures { result ≡ get_or (source ∷ chain.now.writers.items) j 0 }
+{
+    if j == 0 { source } else { chain.writers[j - 1] }
+}
+
+/// Where it comes to: the next writer, or the sink.
+pub fn comes_to(chain: &Chain, source: u32, j: usize) -> u32
+    requires count { length chain.now.costs.items ≡ length chain.now.writers.items + 1 }
+    requires place { j < length chain.now.costs.items }
+    requires source { source ≤ MOST_TRANSACTIONS }
+    ensures { result ≡ get_or (chain.now.writers.items ++ (source + 1) ∷ []) j 0 }
+{
+    if j < chain.writers.len() {
+        chain.writers[j]
+    } else {
+        source + 1
+    }
+}
+
+/// An arc of a chain, by its place there.
 fn link_at(chain: &Chain, source: u32, j: usize) -> Arc
     requires count { length chain.now.costs.items ≡ length chain.now.writers.items + 1 }
     requires place { j < length chain.now.costs.items }
     requires source { source ≤ MOST_TRANSACTIONS }
     ensures { result ≡ arc_at (chain_links source (chain_of chain.now)) j }
 {
-    let from = if j == 0 { source } else { chain.writers[j - 1] };
-    let to = if j < chain.writers.len() {
-        chain.writers[j]
-    } else {
-        source + 1
-    };
     Arc {
-        from,
-        to,
+        from: leaves_at(chain, source, j),
+        to: comes_to(chain, source, j),
         capacity: Some(chain.costs[j]),
     }
 }
@@ -65,6 +83,15 @@ impl<'a> Arcs<'a> {
         ensures { result ≡ length self.now }
     {
         self.starts[self.chains.len()] as usize + self.before.len() + self.must.len()
+    }
+
+    /// The chains, whose arcs come first, and the source.
+    pub fn chains(&self) -> (&'a [Chain], u32)
+        ensures links { HaveLinks self.now result.1 result.0.now }
+        ensures few { result.1 ≤ MOST_TRANSACTIONS }
+    {
+        let source = self.updates.len() as u32;
+        (self.chains, source)
     }
 
     /// The arc with a number.

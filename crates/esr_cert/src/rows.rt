@@ -3,14 +3,17 @@
 //! A first pass counts the steps of each node, and a second one puts each into its row, so nothing is sorted, and a row
 //! ascends by the numbers of its arcs. Before there was one set of rows the check had an index of its own and the
 //! solver laid out the steps: the same thing twice, and 17 MB beside 19 in the largest audits.
-ghost use Rattle.std.specs.Prelude.{◌≡◌, ◌<◌, ◌≤◌, length, set, sum, Contains, IfOk};
+ghost use Rattle.std.specs.Prelude.{◌≡◌, ◌+◌, ◌<◌, ◌≤◌, length, set, sum, Contains, IfOk};
 ghost use Rattle.std.specs.List.Sorted.{IsNonDecreasingBy};
 ghost use Rattle.esr_cert.specs.Steps.{arc_of, order_of, step_at};
-ghost use Rattle.esr_cert.specs.Rows.{row_in, span_at, lengthen, AreDegrees, AreBegun, AreRows, AreSteps};
+ghost use Rattle.esr_cert.specs.Rows.{row_in, span_at, lengthen, first_steps, AreDegrees, AreBegun, AreRows, AreSteps, Counted, Laid};
 ghost use Rattle.esr_cert.specs.Network.{HaveEnds};
+ghost use Rattle.esr_cert.specs.Links.{HasLinks};
+ghost use Rattle.esr_base.specs.declared.limits.TheConstants.{MOST_TRANSACTIONS};
 ghost use Rattle.esr_cert.specs.declared.rows.TheConstants.{MOST_ARCS};
 
-use crate::arcs::Arcs;
+use crate::arcs::{Arcs, comes_to, leaves_at};
+use crate::problem::Chain;
 use crate::residual::{ResidualArc, ShortArc};
 use std::alloc::{AllocError, Global};
 
@@ -24,20 +27,62 @@ pub struct Span {
 /// The most arcs whose steps numbers of 32 bits count.
 pub const MOST_ARCS: usize = 2_147_483_647;
 
-/// How many steps start at each node: the arcs that leave it, and those that come to it.
-fn degrees_of(alloc: Global, nodes: usize, arcs: &Arcs) -> Result<Vec<u32>, AllocError>
-    requires few { length arcs.now ≤ MOST_ARCS }
-    requires ends { HaveEnds arcs.now nodes }
-    ensures { IfOk result (λ degrees. AreDegrees arcs.now nodes degrees.items) }
+/// Counts the steps of the arcs of a chain, which begin at a number.
+fn count_links(
+    _arcs: &Arcs,
+    _nodes: usize,
+    source: u32,
+    chain: &Chain,
+    _begin: usize,
+    degrees: &mut Vec<u32>,
+)
+    requires few { length _arcs.now ≤ MOST_ARCS }
+    requires ends { HaveEnds _arcs.now _nodes }
+    requires source { source ≤ MOST_TRANSACTIONS }
+    requires links { HasLinks _arcs.now source chain.now _begin }
+    requires counted { Counted _arcs.now _nodes (first_steps _begin) degrees.old.items }
+    ensures { Counted _arcs.now _nodes (first_steps (_begin + length chain.now.costs.items)) degrees.new.items }
 {
-    let mut degrees = vec![in alloc; 0u32; nodes]?;
-    for i in 0..arcs.len() {
+    for j in 0..chain.costs.len() {
+        let from = leaves_at(chain, source, j);
+        degrees[from as usize] += 1;
+        let to = comes_to(chain, source, j);
+        degrees[to as usize] += 1;
+    }
+}
+
+/// Counts the steps of the arcs from a number on.
+fn count_others(arcs: &Arcs, _nodes: usize, first: usize, degrees: &mut Vec<u32>)
+    requires few { length arcs.now ≤ MOST_ARCS }
+    requires ends { HaveEnds arcs.now _nodes }
+    requires first { first ≤ length arcs.now }
+    requires counted { Counted arcs.now _nodes (first_steps first) degrees.old.items }
+    ensures { Counted arcs.now _nodes (first_steps (length arcs.now)) degrees.new.items }
+{
+    for i in first..arcs.len() {
         let arc = arcs.at(i as u32);
         let from = arc.from as usize;
         degrees[from] += 1;
         let to = arc.to as usize;
         degrees[to] += 1;
     }
+}
+
+/// How many steps start at each node: the arcs that leave it, and those that come to it. The ends of a chain's arcs are
+/// read off the chain: to ask for each arc by its number took a tenth of an audit.
+fn degrees_of(alloc: Global, nodes: usize, arcs: &Arcs) -> Result<Vec<u32>, AllocError>
+    requires few { length arcs.now ≤ MOST_ARCS }
+    requires ends { HaveEnds arcs.now nodes }
+    ensures { IfOk result (λ degrees. AreDegrees arcs.now nodes degrees.items) }
+{
+    let mut degrees = vec![in alloc; 0u32; nodes]?;
+    let (chains, source) = arcs.chains();
+    let mut begin = 0;
+    for chain in chains {
+        count_links(arcs, nodes, source, chain, begin, &mut degrees);
+        begin += chain.costs.len();
+    }
+    count_others(arcs, nodes, begin, &mut degrees);
     Ok(degrees)
 }
 
@@ -104,7 +149,42 @@ impl Rows {
     }
 }
 
+/// Puts the steps of the arcs of a chain, which begin at a number, into their rows.
+fn lay_links(_arcs: &Arcs, _nodes: usize, source: u32, chain: &Chain, begin: usize, rows: &mut Rows)
+    requires few { length _arcs.now ≤ MOST_ARCS }
+    requires ends { HaveEnds _arcs.now _nodes }
+    requires source { source ≤ MOST_TRANSACTIONS }
+    requires links { HasLinks _arcs.now source chain.now begin }
+    requires laid { Laid _arcs.now _nodes begin rows.old.spans.items rows.old.steps.items }
+    ensures { Laid _arcs.now _nodes (begin + length chain.now.costs.items) rows.new.spans.items rows.new.steps.items }
+{
+    for j in 0..chain.costs.len() {
+        let number = (begin + j) as u32;
+        let from = leaves_at(chain, source, j);
+        rows.add_step(from as usize, ResidualArc::Forward(number));
+        let to = comes_to(chain, source, j);
+        rows.add_step(to as usize, ResidualArc::Backward(number));
+    }
+}
+
+/// Puts the steps of the arcs from a number on into their rows.
+fn lay_others(arcs: &Arcs, _nodes: usize, first: usize, rows: &mut Rows)
+    requires few { length arcs.now ≤ MOST_ARCS }
+    requires ends { HaveEnds arcs.now _nodes }
+    requires first { first ≤ length arcs.now }
+    requires laid { Laid arcs.now _nodes first rows.old.spans.items rows.old.steps.items }
+    ensures { Laid arcs.now _nodes (length arcs.now) rows.new.spans.items rows.new.steps.items }
+{
+    for i in first..arcs.len() {
+        let number = i as u32;
+        let arc = arcs.at(number);
+        rows.add_step(arc.from as usize, ResidualArc::Forward(number));
+        rows.add_step(arc.to as usize, ResidualArc::Backward(number));
+    }
+}
+
 /// For each node the steps that start at it: first they are counted, then each is put into its row.
+#[tactic(auto, using(crate::proofs::LinksLaws::starts_first))]
 pub fn rows_of(alloc: Global, nodes: usize, arcs: &Arcs) -> Result<Rows, AllocError>
     requires few { length arcs.now ≤ MOST_ARCS }
     requires ends { HaveEnds arcs.now nodes }
@@ -114,12 +194,13 @@ pub fn rows_of(alloc: Global, nodes: usize, arcs: &Arcs) -> Result<Rows, AllocEr
     let spans = begin_rows(alloc, &degrees_of(alloc, nodes, arcs)?)?;
     let steps = vec![in alloc; ShortArc::of(ResidualArc::Forward(0)); 2 * arcs.len()]?;
     let mut rows = Rows { spans, steps };
+    let (chains, source) = arcs.chains();
+    let mut begin = 0;
     // arcs come in ascending order, so each row has its steps in order, and `place_of` may halve it
-    for i in 0..arcs.len() {
-        let number = i as u32;
-        let arc = arcs.at(number);
-        rows.add_step(arc.from as usize, ResidualArc::Forward(number));
-        rows.add_step(arc.to as usize, ResidualArc::Backward(number));
+    for chain in chains {
+        lay_links(arcs, nodes, source, chain, begin, &mut rows);
+        begin += chain.costs.len();
     }
+    lay_others(arcs, nodes, begin, &mut rows);
     Ok(rows)
 }

@@ -8,9 +8,9 @@ use Rattle.esr_flow.specs.Words.{Arc, ResidualArc, Forward, Backward}
 use Rattle.esr_cert.specs.Network.{arc_at}
 use Rattle.esr_cert.specs.Flow.{within, amount_at}
 use Rattle.esr_cert.specs.Steps.{start, step_at}
-use Rattle.esr_cert.specs.Rows.{span_at, first_steps, steps_from, row_of}
+use Rattle.esr_cert.specs.Rows.{span_at, first_steps, steps_from, row_of, Counted}
 use Rattle.esr_cert.proofs.StepsLaws.{steps_parts, room_for, first_all, first_next}
-use Rattle.esr_cert.proofs.RowsLaws.{row_length, at_row, Counted, counted_more}
+use Rattle.esr_cert.proofs.RowsLaws.{row_length, at_row, counted_more}
 use Rattle.esr_flow.specs.ShortEntry.{AdjacencyEntry}
 use Rattle.esr_flow.specs.Residual.{left_of}
 use Rattle.esr_flow.specs.Graph.{arcs_of, adjacency_entry, entry_at, AreEntries, Graph}

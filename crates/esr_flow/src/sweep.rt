@@ -64,11 +64,20 @@ fn room_on(capacity: Option<u64>, amount: u64) -> u64 {
     }
 }
 
-/// A graph, and the capacities of the arcs of chains, by number: these are numbered first, and looked at most.
+/// A graph, and the capacities of the arcs of chains, by number: these are numbered first, and looked at most. In four
+/// bytes each: one that does not fit stands as the largest number, and the arc is asked.
 #[derive(Drop)]
 struct Field<'a> {
     graph: &'a Graph<'a>,
-    limits: Vec<u64>,
+    limits: Vec<u32>,
+}
+
+/// Adds the capacities of the arcs of a chain.
+fn push_limits(limits: &mut Vec<u32>, costs: &[u64]) -> Result<(), AllocError> {
+    for cost in costs {
+        limits.push(u32::try_from(*cost).unwrap_or(u32::MAX))?;
+    }
+    Ok(())
 }
 
 impl<'a> Field<'a> {
@@ -80,14 +89,18 @@ impl<'a> Field<'a> {
         }
         let mut limits = Vec::with_capacity(alloc, count)?;
         for chain in chains {
-            limits.extend_from_slice(&chain.costs)?;
+            push_limits(&mut limits, &chain.costs)?;
         }
         Ok(Field { graph, limits })
     }
 
     /// The capacity of an arc; none where that is not one of a chain.
     fn limit(&self, number: u32) -> Option<u64> {
-        self.limits.get(number as usize).copied()
+        let short = self.limits.get(number as usize).copied()?;
+        if short == u32::MAX {
+            return arc_at(self, number).capacity;
+        }
+        Some(u64::from(short))
     }
 
     /// Whether an arc is one of a chain.

@@ -9,11 +9,11 @@ use esr_items::{ItemId, Metric};
 use std::alloc::{AllocError, Global};
 
 /// An accepted read or write of an item. The value is the one that was read, or the one that was
-/// written.
+/// written. It stands first: fields lie in their order, and so the three take 16 bytes and not 24.
 #[derive(Clone, Copy)]
 pub struct Access {
-    pub item: ItemId,
     pub value: i64,
+    pub item: ItemId,
     pub writes: bool,
 }
 

@@ -148,12 +148,12 @@ fn gather_into<M: Metric>(
         (range_with_len 0 (length history.now.schedule.opening))) }
 {
     let _legal = history.log(); // brings the invariant into the proof
-    let mut accesses = Vec::new(alloc);
+    let mut list = Vec::new(alloc);
     let mut ties = Vec::new(alloc);
     for i in (0..updates.len()).rev() {
-        rows.list(history, updates[i], &mut accesses)?;
+        let accesses = rows.accesses_of(history, updates[i], &mut list)?;
         ties.clear();
-        put_turn(chains, readers, &accesses, i as u32, &mut ties)?;
+        put_turn(chains, readers, accesses, i as u32, &mut ties)?;
         put_in_order(&mut ties);
         tie_back(pairs, i as u32, &ties)?;
     }

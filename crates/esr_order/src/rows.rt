@@ -133,22 +133,22 @@ impl AccessRows {
         Ok(())
     }
 
-    /// Lists what a transaction read and wrote, in order, in place of what the list had: its row, or what is found along
-    /// the links of the transaction.
-    pub fn list<M: Metric>(
-        &self,
+    /// What a transaction read and wrote, in order: its row, or what is found along the links of the transaction, for which
+    /// there is a list.
+    pub fn accesses_of<'a, M: Metric>(
+        &'a self,
         history: &History<M>,
         t: TxnId,
-        accesses: &mut Vec<Access>,
-    ) -> Result<(), AllocError>
+        list: &'a mut Vec<Access>,
+    ) -> Result<&'a [Access], AllocError>
         requires { AreRowsOf history.now.schedule.entries self.now }
-        ensures { OnOk result (accesses.new.items ≡ accesses_in history.now.schedule.entries t.0) }
+        ensures { IfOk result (λ accesses. accesses.now ≡ accesses_in history.now.schedule.entries t.0) }
     {
         let row = self.row(t);
-        if row.is_empty() {
-            return list_accesses(history, t, accesses);
+        if !row.is_empty() {
+            return Ok(row);
         }
-        accesses.clear();
-        accesses.extend_from_slice(row)
+        list_accesses(history, t, list)?;
+        Ok(list)
     }
 }

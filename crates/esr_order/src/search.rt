@@ -136,12 +136,12 @@ pub fn near_of<M: Metric>(
     let mut items = Items::of_query(alloc, history, q)?;
     let mut writes = vec![in alloc; 0u32; history.items() as usize]?;
     let mut near = Vec::new(alloc);
-    let mut accesses = Vec::new(alloc);
+    let mut list = Vec::new(alloc);
     for i in (0..updates.len()).rev() {
-        rows.list(history, updates[i], &mut accesses)?;
-        if i < first || items.conflict(&accesses) {
-            items.add(&accesses);
-            count_writes(&mut writes, &accesses);
+        let accesses = rows.accesses_of(history, updates[i], &mut list)?;
+        if i < first || items.conflict(accesses) {
+            items.add(accesses);
+            count_writes(&mut writes, accesses);
             near.push(updates[i])?;
         }
     }

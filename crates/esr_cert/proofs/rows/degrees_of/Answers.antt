@@ -1,43 +1,44 @@
 -- Why `degrees_of` keeps its contract: the goals that are left to a proof of ours.
-use Rattle.std.proofs.Common.{arith, ◌≡◌, refl, ℕ, ◌+◌, ◌<◌, ◌++◌, [], ◌∷◌, List, length, get_or, set, subst}
-use Rattle.std.proofs.lemmas.List.{length_push}
-use Rattle.esr_cert.specs.Steps.{Forward, Backward}
-use Rattle.esr_cert.specs.Network.{arc_at, HaveEnds, Arc}
-use Rattle.esr_cert.specs.Rows.{first_steps}
-use Rattle.esr_cert.proofs.StepsLaws.{first_next, first_count}
-use Rattle.esr_cert.proofs.RowsLaws.{Counted, counted_at, counted_more, counted_all}
+use Rattle.std.proofs.Common.{arith, ◌≡◌, ◌+◌, ◌∙◌, ap, length, get_or, map, refl, sym, subst}
+use Rattle.esr_cert.specs.Links.{HasLinks}
+use Rattle.esr_cert.specs.Rows.{first_steps, Counted}
+use Rattle.esr_cert.specs.Starts.{starts_from}
+use Rattle.esr_cert.specs.Views.{chain_of}
+use Rattle.esr_cert.proofs.LinksLaws.{begin_next, starts_first}
+use Rattle.esr_cert.proofs.RowsLaws.{counted_none, counted_all}
 use Rattle.esr_cert.proofs.rows.degrees_of.Goals as goal
 
-module _ {arcs : List Arc} {nodes : ℕ} (i : ℕ) {counts : List ℕ} {x : ℕ} (ends : HaveEnds arcs nodes) (l : i < length arcs) (q : x ≡ get_or counts (arc_at arcs i).from x) (h : Counted arcs nodes (first_steps i) counts) where
-  counted_along : Counted arcs nodes (first_steps i ++ Forward i ∷ []) (set counts (arc_at arcs i).from (x + 1))
-  counted_along = counted_more (Forward i) refl (ends i l).0 q h
+pub loop-chain-init : goal.loop-chain-init
+loop-chain-init c = record {
+  place = sym (starts_first 0 (map chain_of c.chains-source.result.0.now));
+  inside = omega arith;
+  counted = counted_none c.in_ok-degrees.degrees.items (c.in_ok-degrees.ensures.items_if_clones_equal (λ y e. e));
+}
 
-  counted_arc : {y : ℕ} → y ≡ get_or (set counts (arc_at arcs i).from (x + 1)) (arc_at arcs i).to y → Counted arcs nodes (first_steps (i + 1)) (set (set counts (arc_at arcs i).from (x + 1)) (arc_at arcs i).to (y + 1))
-  counted_arc {y} r =
-      subst (λ done. Counted arcs nodes done (set (set counts (arc_at arcs i).from (x + 1)) (arc_at arcs i).to (y + 1))) (first_next i)
-      (counted_more (Backward i) refl (ends i l).1 r counted_along)
+pub count_links-requires-clause-links : goal.count_links-requires-clause-links
+count_links-requires-clause-links c =
+    subst (HasLinks c.args.arcs.now c.chains-source.result.1 c.chain-item.result) (sym c.loop-chain.invariant.place)
+    (c.chains-source.ensures.links c.loop-chain.chain-index c.chain-item.result c.loop-chain-test.true c.chain-item.is)
 
-pub overflow_add-index_mut : goal.overflow_add-index_mut
-overflow_add-index_mut c =
-    let (from, to) = c.requires.ends c.loop-i.i (omega (arith, c.loop-i-test.true, c.len-i-end.ensures)) in
-    omega (arith, first_count c.loop-i.i, counted_at from (rw c.at-arc.ensures at c.index_mut.ensures.value) c.loop-i.invariant)
+pub overflow_add-begin : goal.overflow_add-begin
+overflow_add-begin c =
+    let here : HasLinks c.args.arcs.now c.chains-source.result.1 c.chain-item.result c.loop-chain.begin =
+    subst (HasLinks c.args.arcs.now c.chains-source.result.1 c.chain-item.result) (sym c.loop-chain.invariant.place)
+    (c.chains-source.ensures.links c.loop-chain.chain-index c.chain-item.result c.loop-chain-test.true c.chain-item.is) in
+    omega (arith, here.inside, c.requires.few, c.len-begin.ensures, c.chain-item.result.costs.ok.0)
 
-pub overflow_add-index_mut-in-loop-i : goal.overflow_add-index_mut-in-loop-i
-overflow_add-index_mut-in-loop-i c =
-    let (from, to) = c.requires.ends c.loop-i.i (omega (arith, c.loop-i-test.true, c.len-i-end.ensures)) in
-    omega (
-      arith,
-      first_count c.loop-i.i,
-      length_push (first_steps c.loop-i.i) (Forward c.loop-i.i),
-      counted_at to (rw c.at-arc.ensures at c.index_mut-in-loop-i.ensures.value)
-          (counted_along c.loop-i.i c.requires.ends (omega (arith, c.loop-i-test.true, c.len-i-end.ensures)) (rw c.at-arc.ensures at c.index_mut.ensures.value) c.loop-i.invariant),
-    )
-
-pub loop-i-preserved : goal.loop-i-preserved
-loop-i-preserved c =
-    rw c.at-arc.ensures (
-    counted_arc c.loop-i.i c.requires.ends (omega (arith, c.loop-i-test.true, c.len-i-end.ensures)) (rw c.at-arc.ensures at c.index_mut.ensures.value) c.loop-i.invariant
-    (rw c.at-arc.ensures at c.index_mut-in-loop-i.ensures.value))
+pub loop-chain-preserved : goal.loop-chain-preserved
+loop-chain-preserved c =
+    let here : HasLinks c.args.arcs.now c.chains-source.result.1 c.chain-item.result c.loop-chain.begin =
+    subst (HasLinks c.args.arcs.now c.chains-source.result.1 c.chain-item.result) (sym c.loop-chain.invariant.place)
+    (c.chains-source.ensures.links c.loop-chain.chain-index c.chain-item.result c.loop-chain-test.true c.chain-item.is) in
+    let size : c.len-begin.result ≡ length c.chain-item.result.costs.items = omega (arith, c.len-begin.ensures, c.chain-item.result.costs.ok.0) in
+    record {
+      place = ap (λ n. n + c.len-begin.result) c.loop-chain.invariant.place ∙ ap (λ n. get_or (starts_from 0 (map chain_of c.chains-source.result.0.now)) c.loop-chain.chain-index 0 + n) size
+          ∙ begin_next c.chains-source.result.0.now c.loop-chain.chain-index c.chain-item.result c.loop-chain-test.true c.chain-item.is;
+      inside = omega (arith, here.inside, size);
+      counted = subst (λ n. Counted c.args.arcs.now c.args.nodes (first_steps (c.loop-chain.begin + n)) c.count_links.new.degrees.items) (sym size) c.count_links.ensures;
+    }
 
 pub returns : goal.returns
-returns c = counted_all c.loop-i.i (omega arith) c.loop-i.invariant
+returns c = counted_all (length c.args.arcs.now) refl c.count_others.ensures

@@ -1,7 +1,13 @@
 -- What holds at each turn of the loop in `degrees_of`.
-use Rattle.esr_cert.specs.Rows.{first_steps}
-use Rattle.esr_cert.proofs.RowsLaws.{Counted}
+use Rattle.std.proofs.Common.{◌≡◌, ◌≤◌, length, get_or, map}
+use Rattle.esr_cert.specs.Rows.{first_steps, Counted}
+use Rattle.esr_cert.specs.Starts.{starts_from}
+use Rattle.esr_cert.specs.Views.{chain_of}
 use Rattle.esr_cert.proofs.rows.degrees_of.Given as goal
 
-abbrev pub invariant-loop-i : goal.invariant-loop-i
-invariant-loop-i l = Counted l.arcs l.nodes (first_steps l.i) l.degrees.items
+abbrev pub invariant-loop-chain : goal.invariant-loop-chain
+invariant-loop-chain l = record {
+  place : l.begin ≡ get_or (starts_from 0 (map chain_of l.chains)) l.chain-index 0;
+  inside : l.begin ≤ length l.arcs;
+  counted : Counted l.arcs l.nodes (first_steps l.begin) l.degrees.items;
+}

@@ -1,6 +1,13 @@
 -- What holds at each turn of the loop in `rows_of`.
-use Rattle.esr_cert.proofs.Laid.{Laid}
+use Rattle.std.proofs.Common.{◌≡◌, ◌≤◌, length, get_or, map}
+use Rattle.esr_cert.specs.Rows.{Laid}
+use Rattle.esr_cert.specs.Starts.{starts_from}
+use Rattle.esr_cert.specs.Views.{chain_of}
 use Rattle.esr_cert.proofs.rows.rows_of.Given as goal
 
-abbrev pub invariant-loop-i : goal.invariant-loop-i
-invariant-loop-i l = Laid l.arcs l.nodes l.i l.rows.spans.items l.rows.steps.items
+abbrev pub invariant-loop-chain : goal.invariant-loop-chain
+invariant-loop-chain l = record {
+  place : l.begin ≡ get_or (starts_from 0 (map chain_of l.chains)) l.chain-index 0;
+  inside : l.begin ≤ length l.arcs;
+  laid : Laid l.arcs l.nodes l.begin l.rows.spans.items l.rows.steps.items;
+}

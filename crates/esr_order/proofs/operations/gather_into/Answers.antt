@@ -15,12 +15,12 @@ use Rattle.esr_order.proofs.operations.gather_into.Goals as goal
 
 pub put_turn-requires-clause-linked : goal.put_turn-requires-clause-linked
 put_turn-requires-clause-linked g c =
-    subst (λ l. All (λ (a : Access). a.item.0 < length c.loop-i.chains) l) (sym (c.deref.ensures.value ∙ c.in_ok-list.ensures))
+    subst (λ l. All (λ (a : Access). a.item.0 < length c.loop-i.chains) l) (sym c.in_ok-accesses.ensures)
     (accesses_inside g.M.Metric.distance_by c.args.history.now.schedule c.log-legal.ensures.legal _ (length c.loop-i.chains) c.loop-i.invariant.0)
 
 pub put_turn-requires-clause-read : goal.put_turn-requires-clause-read
 put_turn-requires-clause-read g c =
-    subst (λ l. All (λ (a : Access). a.item.0 < length c.loop-i.readers) l) (sym (c.deref.ensures.value ∙ c.in_ok-list.ensures))
+    subst (λ l. All (λ (a : Access). a.item.0 < length c.loop-i.readers) l) (sym c.in_ok-accesses.ensures)
     (accesses_inside g.M.Metric.distance_by c.args.history.now.schedule c.log-legal.ensures.legal _ (length c.loop-i.readers) c.loop-i.invariant.1)
 
 pub loop-i-preserved : goal.loop-i-preserved
@@ -32,14 +32,14 @@ loop-i-preserved g c =
     let inside : i < length updates = omega (arith, c.loop-i-test.true, c.loop-i.auto.i) in
     let steps = rest h updates c.loop-i.i in
     let before = c.loop-i.invariant.2.later in
-    let made = c.deref.ensures.value ∙ c.in_ok-list.ensures in (
+    let made = c.in_ok-accesses.ensures in (
       c.in_ok-put_turn.ensures.chains_len ∙ c.loop-i.invariant.0,
       c.in_ok-put_turn.ensures.readers_len ∙ c.loop-i.invariant.1,
-      gathered_more h updates i c.loop-i.i next inside no_txn (map seen_links c.loop-i.chains) (map (λ r. r.items) c.loop-i.readers) c.loop-i.pairs.items c.loop-i.invariant.2 c.deref.result.now made
+      gathered_more h updates i c.loop-i.i next inside no_txn (map seen_links c.loop-i.chains) (map (λ r. r.items) c.loop-i.readers) c.loop-i.pairs.items c.loop-i.invariant.2 c.in_ok-accesses.accesses.now made
           (map seen_links c.put_turn.new.chains) (map (λ r. r.items) c.put_turn.new.readers) (c.in_ok-put_turn.ensures.later steps before)
-          c.put_turn.new.ties.items c.put_in_order.new.positions.items (c.in_ok-put_turn.ensures.ties steps before ∙ ap (λ l. l ++ turn_ties (map (operation_at i) c.deref.result.now) steps) c.clear.ensures.items)
+          c.put_turn.new.ties.items c.put_in_order.new.positions.items (c.in_ok-put_turn.ensures.ties steps before ∙ ap (λ l. l ++ turn_ties (map (operation_at i) c.in_ok-accesses.accesses.now) steps) c.clear.ensures.items)
           c.put_in_order.ensures.ascending c.put_in_order.ensures.keeps c.put_in_order.ensures.adds_none c.put_in_order.ensures.few
-          c.tie_back.new.pairs.items (c.in_ok-tie_back.ensures ∙ ap (λ l. c.loop-i.pairs.items ++ reverse (pairs_from i l)) c.deref-in-loop-i.ensures.value),
+          c.tie_back.new.pairs.items (c.in_ok-tie_back.ensures ∙ ap (λ l. c.loop-i.pairs.items ++ reverse (pairs_from i l)) c.deref.ensures.value),
     )
 
 pub returns-clause-ascending : goal.returns-clause-ascending

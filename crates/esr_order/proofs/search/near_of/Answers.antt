@@ -13,12 +13,12 @@ use Rattle.esr_order.proofs.search.near_of.Goals.{then-i-first-via-then-i-first,
 
 pub add-requires-clause-read : goal.add-requires-clause-read
 add-requires-clause-read g c =
-    subst (λ l. All (λ (a : Access). a.item.0 < length c.loop-i.items.read.items) l) (sym (c.deref-then-i-first.ensures.value ∙ c.in_ok-list.ensures))
+    subst (λ l. All (λ (a : Access). a.item.0 < length c.loop-i.items.read.items) l) (sym c.in_ok-accesses.ensures)
     (accesses_inside g.M.Metric.distance_by c.args.history.now.schedule c.log-legal.ensures.legal _ (length c.loop-i.items.read.items) c.loop-i.invariant.read_len)
 
 pub add-requires-clause-written : goal.add-requires-clause-written
 add-requires-clause-written g c =
-    subst (λ l. All (λ (a : Access). a.item.0 < length c.loop-i.items.written.items) l) (sym (c.deref-then-i-first.ensures.value ∙ c.in_ok-list.ensures))
+    subst (λ l. All (λ (a : Access). a.item.0 < length c.loop-i.items.written.items) l) (sym c.in_ok-accesses.ensures)
     (accesses_inside g.M.Metric.distance_by c.args.history.now.schedule c.log-legal.ensures.legal _ (length c.loop-i.items.written.items) c.loop-i.invariant.written_len)
 
 pub loop-i-preserved-in-loop-i : goal.loop-i-preserved-in-loop-i
@@ -28,7 +28,7 @@ loop-i-preserved-in-loop-i g c =
     let q = c.args.q.0 in
     let updates = c.args.updates.now in
     let legal = c.log-legal.ensures.legal in
-    let list = c.list.new.accesses.items in
+    let list = c.in_ok-accesses.accesses.now in
     let i = c.loop-i.i - 1 in
     let next : c.loop-i.i ≡ suc i = omega (arith, c.loop-i-test.true) in
     let here : i < length updates = omega (arith, c.loop-i-test.true, c.loop-i.auto.i) in
@@ -36,14 +36,12 @@ loop-i-preserved-in-loop-i g c =
     let why : (i < c.args.first) ⊎ (list_any (conflicts_with (seen_items c.loop-i.items)) list ≡ true) =
     elim c.then-i-first.branch [
       | then-i-first-via-then-i-first w ↦ inl w.if-i-first.true
-      | then-i-first-via-else-i-first+then-conflict w ↦ inr (sym (w.conflict.ensures ∙ ap (list_any (conflicts_with (seen_items c.loop-i.items))) w.deref.ensures.value) ∙ w.if-conflict.true)
+      | then-i-first-via-else-i-first+then-conflict w ↦ inr (sym w.conflict.ensures ∙ w.if-conflict.true)
     ] in
-    let same = c.deref-then-i-first.ensures.value in
-    sought_add d h q legal updates c.requires.updates c.loop-i.i i next inside here c.loop-i.items c.loop-i.near.items c.loop-i.invariant list c.in_ok-list.ensures
-    (sought_near d h q legal updates c.requires.updates c.loop-i.i i next inside here c.loop-i.items c.loop-i.near.items c.loop-i.invariant list c.in_ok-list.ensures c.args.first c.requires.first why)
+    sought_add d h q legal updates c.requires.updates c.loop-i.i i next inside here c.loop-i.items c.loop-i.near.items c.loop-i.invariant list c.in_ok-accesses.ensures
+    (sought_near d h q legal updates c.requires.updates c.loop-i.i i next inside here c.loop-i.items c.loop-i.near.items c.loop-i.invariant list c.in_ok-accesses.ensures c.args.first c.requires.first why)
     c.add.new.self c.push.new.self.items c.in_ok-push.ensures.items c.add.ensures.read_len c.add.ensures.written_len
-    (λ x. c.add.ensures.read x ∙ ap (λ l. marked c.loop-i.items.read.items x || list_any (is_access false x) l) same)
-    (λ x. c.add.ensures.written x ∙ ap (λ l. marked c.loop-i.items.written.items x || list_any (is_access true x) l) same)
+    c.add.ensures.read c.add.ensures.written
 
 pub loop-i-preserved : goal.loop-i-preserved
 loop-i-preserved g c =
@@ -55,8 +53,8 @@ loop-i-preserved g c =
     let i = c.loop-i.i - 1 in
     let here : i < length updates = omega (arith, c.loop-i-test.true, c.loop-i.auto.i) in
     let inside : i < length (updates_of h q) = omega (arith, here, commits_length d h q legal updates c.requires.updates) in
-    sought_keep d h q legal updates c.requires.updates c.loop-i.i i (omega (arith, c.loop-i-test.true)) inside here c.loop-i.items c.loop-i.near.items c.loop-i.invariant c.list.new.accesses.items c.in_ok-list.ensures
-    c.args.first c.requires.first c.if-i-first.false (sym (c.conflict.ensures ∙ ap (list_any (conflicts_with (seen_items c.loop-i.items))) c.deref.ensures.value) ∙ c.if-conflict.false)
+    sought_keep d h q legal updates c.requires.updates c.loop-i.i i (omega (arith, c.loop-i-test.true)) inside here c.loop-i.items c.loop-i.near.items c.loop-i.invariant c.in_ok-accesses.accesses.now c.in_ok-accesses.ensures
+    c.args.first c.requires.first c.if-i-first.false (sym c.conflict.ensures ∙ c.if-conflict.false)
 
 pub returns : goal.returns
 returns g c = record {

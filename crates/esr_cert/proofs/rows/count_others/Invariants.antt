@@ -1,0 +1,6 @@
+-- What holds at each turn of the loop in `count_others`.
+use Rattle.esr_cert.specs.Rows.{first_steps, Counted}
+use Rattle.esr_cert.proofs.rows.count_others.Given as goal
+
+abbrev pub invariant-loop-i : goal.invariant-loop-i
+invariant-loop-i l = Counted l.arcs l.fn._nodes (first_steps l.i) l.degrees.items

@@ -1,0 +1,21 @@
+-- Why `lay_others` keeps its contract: the goals that are left to a proof of ours.
+use Rattle.std.proofs.Common.{arith, subst}
+use Rattle.esr_cert.specs.Rows.{Laid}
+use Rattle.esr_cert.proofs.Laid.{within_along, within_against, laid_more}
+use Rattle.esr_cert.proofs.rows.lay_others.Goals as goal
+
+pub add_step-requires-clause-room : goal.add_step-requires-clause-room
+add_step-requires-clause-room c =
+    rw c.at-arc.ensures (within_along (omega (arith, c.loop-i-test.true, c.len-i-end.ensures)) c.requires.ends c.loop-i.invariant)
+
+pub add_step-requires-in-loop-i-clause-room : goal.add_step-requires-in-loop-i-clause-room
+add_step-requires-in-loop-i-clause-room c =
+    rw c.at-arc.ensures (within_against (omega (arith, c.loop-i-test.true, c.len-i-end.ensures)) c.requires.ends c.loop-i.invariant _ _ (rw c.at-arc.ensures at c.add_step.ensures.spans) (rw c.at-arc.ensures at c.add_step.ensures.steps))
+
+pub loop-i-preserved : goal.loop-i-preserved
+loop-i-preserved c =
+    laid_more (omega (arith, c.loop-i-test.true, c.len-i-end.ensures)) c.requires.ends c.loop-i.invariant _ _ (rw c.at-arc.ensures at c.add_step.ensures.spans) (rw c.at-arc.ensures at c.add_step.ensures.steps)
+    _ _ (rw c.at-arc.ensures at c.add_step-in-loop-i.ensures.spans) (rw c.at-arc.ensures at c.add_step-in-loop-i.ensures.steps)
+
+pub returns : goal.returns
+returns c = subst (λ n. Laid c.args.arcs.now c.args._nodes n c.loop-i.rows.spans.items c.loop-i.rows.steps.items) (omega (arith, c.loop-i-test.false, c.loop-i.auto.i-end, c.requires.first, c.len-i-end.ensures)) c.loop-i.invariant

@@ -1,0 +1,6 @@
+-- What holds at each turn of the loop in `lay_others`.
+use Rattle.esr_cert.specs.Rows.{Laid}
+use Rattle.esr_cert.proofs.rows.lay_others.Given as goal
+
+abbrev pub invariant-loop-i : goal.invariant-loop-i
+invariant-loop-i l = Laid l.arcs l.fn._nodes l.i l.rows.spans.items l.rows.steps.items

@@ -1,0 +1,20 @@
+-- The arcs of chains among those of a network: they come first, those of each chain one after another.
+use Rattle.std.specs.Prelude.{◌≡◌, ℕ, ◌+◌, ◌<◌, ◌≤◌, List, [], ◌∷◌, ◌++◌, length, get_or, map}
+use Rattle.esr_cert.specs.declared.problem.Chain.{Chain}
+use Rattle.esr_cert.specs.Network.{arc_at, Arc}
+use Rattle.esr_cert.specs.Starts.{starts_from}
+use Rattle.esr_cert.specs.Views.{chain_of}
+
+-- the arcs of a chain begin at a number, and lead from the source through its writers to the sink
+pub record HasLinks (arcs : List Arc) (source : ℕ) (chain : Chain) (begin : ℕ) : Type 0 where
+  pub whole : length chain.costs.items ≡ length chain.writers.items + 1
+  pub inside : begin + length chain.costs.items ≤ length arcs
+  pub from : (j : ℕ) → j < length chain.costs.items
+      → (arc_at arcs (begin + j)).from ≡ get_or (source ∷ chain.writers.items) j 0
+  pub to : (j : ℕ) → j < length chain.costs.items
+      → (arc_at arcs (begin + j)).to ≡ get_or (chain.writers.items ++ (source + 1) ∷ []) j 0
+
+-- so do those of each of some chains
+abbrev pub HaveLinks : List Arc → ℕ → List Chain → Type 0
+HaveLinks arcs source chains = (k : ℕ) (chain : Chain) → k < length chains → chain ≡ get_or chains k chain
+    → HasLinks arcs source chain (get_or (starts_from 0 (map chain_of chains)) k 0)
