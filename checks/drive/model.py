@@ -2,7 +2,7 @@
 
 import itertools
 
-TOP = 10**15  # the largest value of an item
+TOP = 10**12  # the largest value of an item
 LARGEST_LIMIT = 10**18
 TURNS = 100
 

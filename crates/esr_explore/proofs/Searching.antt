@@ -1,15 +1,16 @@
 -- The tale of one more order, and that each order has one.
-use Rattle.std.proofs.Common.{◌≡◌, ℕ, ℤ, zero, suc, ◌+◌, ◌<◌, List, [], ◌∷◌, ◌++◌, Option, Some, IfSome, ap, arith, get_or, length, refl, subst, sum, sym, take, Vec, map}
+use Rattle.std.proofs.Common.{◌≡◌, ℕ, ℤ, zero, suc, ◌+◌, ◌<◌, List, [], ◌∷◌, ◌++◌, Option, Some, IfSome, ap, arith, get_or, length, length-append, refl, subst, sum, sym, take, Vec, map}
 use Rattle.std.specs.List.{Contains}
 use Rattle.std.specs.declared.alloc.Global.{Global}
 use Rattle.std.proofs.lemmas.List.{take_more}
+use Rattle.std.proofs.lemmas.List.Elements.{All-push}
 use Rattle.esr_plan.specs.declared.call.Call.{Call}
 use Rattle.esr_explore.specs.declared.query.Query.{Query}
 use Rattle.esr_explore.specs.declared.tale.Tale.{Tale}
 use Rattle.esr_explore.specs.Tales.{IsTale}
 use Rattle.esr_turns.specs.Orders.{IsOrder, first_turns}
 use Rattle.esr_turns.proofs.Every.{every}
-use Rattle.esr_explore.specs.Searches.{AreTales, all_orders, line_counts}
+use Rattle.esr_explore.specs.Searches.{AreDrawn, AreTales, all_orders, line_counts}
 
 one_more : (opening : List ℤ) (weights : List ℕ) (blocks : List (List Call)) (queries : List Query) (orders : List (List ℕ)) (tales : List Tale) (o : List ℕ) (t : Tale)
     → AreTales opening weights blocks queries orders tales → IsTale opening weights blocks queries o t
@@ -62,3 +63,19 @@ each_told opening weights blocks queries counts tales counted told order is =
 pub held_counts : (blocks : List (Vec Call Global)) → map (λ b. length b.items) blocks ≡ line_counts (map (λ b. b.items) blocks)
 held_counts [] = refl
 held_counts (b ∷ blocks) = ap (λ (l : List ℕ). length b.items ∷ l) (held_counts blocks)
+
+-- no order drawn yet
+pub drawn_none : (opening : List ℤ) (weights : List ℕ) (blocks : List (List Call)) (queries : List Query) (counts : List ℕ)
+    → AreDrawn opening weights blocks queries counts 0 []
+drawn_none opening weights blocks queries counts = record { orders = []; number = refl; drawn = λ k d lt. absurd (omega (arith, lt)); told = tt }
+
+-- one more order, and its tale
+pub drawn_more : (opening : List ℤ) (weights : List ℕ) (blocks : List (List Call)) (queries : List Query) (counts : List ℕ) (many : ℕ) (tales new : List Tale) (o : List ℕ) (t : Tale)
+    → AreDrawn opening weights blocks queries counts many tales → IsOrder counts (sum counts) o → IsTale opening weights blocks queries o t
+    → new ≡ tales ++ t ∷ [] → AreDrawn opening weights blocks queries counts (many + 1) new
+drawn_more opening weights blocks queries counts many tales new o t are order is new_is = record {
+  orders = are.orders ++ o ∷ [];
+  number = omega (arith, are.number, length-append are.orders (o ∷ []));
+  drawn = All-push (IsOrder counts (sum counts)) are.orders o are.drawn order;
+  told = subst (AreTales opening weights blocks queries (are.orders ++ o ∷ [])) (sym new_is) (one_more opening weights blocks queries are.orders tales o t are.told is);
+}

@@ -1,11 +1,11 @@
 -- What is told of a search through many orders: of each the tale of its run.
-use Rattle.std.specs.Prelude.{ℕ, ℤ, List, [], ◌∷◌, Option, Some, None, length, map, sum}
+use Rattle.std.specs.Prelude.{◌≡◌, ℕ, ℤ, List, [], ◌∷◌, Option, Some, None, All, length, map, sum}
 use Rattle.esr_plan.specs.declared.call.Call.{Call}
-use Rattle.esr_turns.specs.Orders.{first_turns}
+use Rattle.esr_turns.specs.Orders.{IsOrder, first_turns}
 use Rattle.esr_explore.specs.declared.query.Query.{Query}
 use Rattle.esr_explore.specs.declared.tale.Tale.{Tale}
 use Rattle.esr_explore.specs.declared.ways.Ways.{Ways}
-use Rattle.esr_explore.specs.declared.ways.Ways.TheVariants.{All, Drawn}
+use Rattle.esr_explore.specs.declared.ways.Ways.TheVariants as ways
 use Rattle.esr_explore.specs.Tales.{IsTale}
 
 -- how many lines each block has
@@ -18,8 +18,13 @@ all_orders blocks = first_turns (line_counts blocks) (sum (line_counts blocks))
 
 -- the orders of a search that goes through a list of them
 abbrev pub orders_of : Ways → Option (List (List ℕ))
-orders_of (All orders) = Some (map (λ o. o.items) orders.items)
-orders_of (Drawn seeds) = None
+orders_of (ways.All orders) = Some (map (λ o. o.items) orders.items)
+orders_of (ways.Drawn seeds) = None
+
+-- how many orders a search draws
+abbrev pub drawn_of : Ways → Option ℕ
+drawn_of (ways.All orders) = None
+drawn_of (ways.Drawn seeds) = Some seeds
 
 -- a tale for each order, of a run with it: none is skipped, and none told twice
 abbrev pub AreTales : List ℤ → List ℕ → List (List Call) → List Query → List (List ℕ) → List Tale → Type 0
@@ -27,3 +32,11 @@ AreTales opening weights blocks queries [] [] = Unit {0}
 AreTales opening weights blocks queries (order ∷ orders) (tale ∷ tales) =
     IsTale opening weights blocks queries order tale × AreTales opening weights blocks queries orders tales
 AreTales opening weights blocks queries _ _ = ⊥
+
+-- so many tales, each of a run with an order in which each block stands as often as it has lines
+pub record AreDrawn (opening : List ℤ) (weights : List ℕ) (blocks : List (List Call)) (queries : List Query) (counts : List ℕ)
+    (many : ℕ) (tales : List Tale) : Type 0 where
+  pub orders : List (List ℕ)
+  pub number : length orders ≡ many
+  pub drawn : All (IsOrder counts (sum counts)) orders
+  pub told : AreTales opening weights blocks queries orders tales

@@ -8,7 +8,7 @@ ghost use Rattle.esr_plan.specs.declared.draft.TheConstants.{MAX_BLOCKS};
 ghost use Rattle.esr_plan.specs.Plan.{weights_of};
 ghost use Rattle.esr_turns.specs.Orders.{IsOrder, first_turns};
 ghost use Rattle.esr_explore.specs.declared.tale.Tale.{Tale};
-ghost use Rattle.esr_explore.specs.Searches.{AreTales, all_orders, line_counts, orders_of};
+ghost use Rattle.esr_explore.specs.Searches.{AreDrawn, AreTales, all_orders, drawn_of, line_counts, orders_of};
 ghost use Rattle.esr_explore.specs.Tales.{IsTale};
 ghost use Rattle.esr_explore.specs.Turns.{AreDone};
 ghost use Rattle.esr_base.specs.Watch.{failed};
@@ -66,7 +66,8 @@ pub fn explore<I: Read, O: Write>(
 /// The orders that are gone through.
 fn ways_of(alloc: Global, counts: &[u32], seeds: Option<u64>) -> Result<Ways, ExploreFault>
     requires { length counts.now ≤ MAX_BLOCKS }
-    ensures { seeds ≡ None → IfOk result (λ ways. orders_of ways ≡ Some (first_turns counts.now (sum counts.now))) }
+    ensures all { seeds ≡ None → IfOk result (λ ways. orders_of ways ≡ Some (first_turns counts.now (sum counts.now))) }
+    ensures drawn { IfSome seeds (λ n. IfOk result (λ ways. drawn_of ways ≡ Some n)) }
 {
     match seeds {
         Some(seeds) => Ok(Ways::Drawn { seeds }),
@@ -129,6 +130,8 @@ fn drawn_tales(
 ) -> Result<Vec<Tale>, ExploreFault>
     requires sound { IsSound sheet.now }
     requires few { length counts.now ≤ MAX_BLOCKS }
+    ensures { IfOk result (λ tales. AreDrawn sheet.now.values.items (weights_of sheet.now.weights.items)
+        (map (λ b. b.items) sheet.now.blocks.items) queries.now counts.now seeds tales.items) }
 {
     let mut tales = Vec::new(alloc);
     for seed in 0..seeds {
@@ -149,8 +152,11 @@ fn all_tales(
 ) -> Result<Vec<Tale>, ExploreFault>
     requires sound { IsSound sheet.now }
     requires few { length counts.now ≤ MAX_BLOCKS }
-    ensures { IfOk result (λ tales. IfSome (orders_of ways.now) (λ orders. AreTales sheet.now.values.items
+    ensures all { IfOk result (λ tales. IfSome (orders_of ways.now) (λ orders. AreTales sheet.now.values.items
         (weights_of sheet.now.weights.items) (map (λ b. b.items) sheet.now.blocks.items) queries.now orders tales.items)) }
+    ensures drawn { IfOk result (λ tales. IfSome (drawn_of ways.now) (λ n. AreDrawn sheet.now.values.items
+        (weights_of sheet.now.weights.items) (map (λ b. b.items) sheet.now.blocks.items) queries.now counts.now n
+        tales.items)) }
 {
     match ways {
         Ways::All(orders) => tales_of(alloc, sheet, queries, orders.as_slice()),
@@ -165,7 +171,8 @@ struct Found {
     tales: Vec<Tale>,
 }
 
-/// Goes through all orders of the blocks, or through so many drawn ones. Where all are gone through, none is left out.
+/// Goes through all orders of the blocks, or through so many drawn ones. Where all are gone through, none is left out;
+/// what is drawn are orders of just the blocks' lines.
 fn search_orders(
     alloc: Global,
     sheet: &Sheet<'_>,
@@ -181,6 +188,9 @@ fn search_orders(
     ensures every { seeds ≡ None → IfOk result (λ found. (order : List ℕ) → IsOrder counts.now (sum counts.now) order
         → (tale : Tale) × (Contains found.tales.items tale × IsTale sheet.now.values.items
         (weights_of sheet.now.weights.items) (map (λ b. b.items) sheet.now.blocks.items) queries.now order tale)) }
+    ensures drawn { IfSome seeds (λ n. IfOk result (λ found. AreDrawn sheet.now.values.items
+        (weights_of sheet.now.weights.items) (map (λ b. b.items) sheet.now.blocks.items) queries.now counts.now n
+        found.tales.items)) }
 {
     let ways = ways_of(alloc, counts, seeds)?;
     let tales = all_tales(alloc, sheet, queries, &ways, counts)?;

@@ -24,8 +24,6 @@ pub enum ExploreFault {
     TooManyOrders(Option<u64>),
     /// There are more lines in blocks than where all orders are gone through.
     TooManyLinesInBlocks,
-    /// No run has what the worst one is looked for by: no query committed.
-    NoQuery,
 }
 
 impl From<DriveFault> for ExploreFault {
@@ -58,7 +56,6 @@ impl fmt::Display for ExploreFault {
             ExploreFault::TooManyLinesInBlocks => f.write_str(
                 "more than 1,000 lines in blocks: too many for --all; --seeds draws some",
             ),
-            ExploreFault::NoQuery => f.write_str("no query committed in any interleaving"),
         }
     }
 }
@@ -122,14 +119,6 @@ pub fn all_ways(alloc: Global, counts: &[u32]) -> Result<Ways, ExploreFault>
 }
 
 impl Ways {
-    /// How many orders are gone through.
-    pub fn count(&self) -> u64 {
-        match self {
-            Ways::All(orders) => orders.len() as u64,
-            Ways::Drawn { seeds } => *seeds,
-        }
-    }
-
     /// The order with a number.
     pub fn order(&self, alloc: Global, counts: &[u32], number: u64) -> Result<Vec<u8>, AllocError>
         requires { length counts.now ≤ MAX_BLOCKS }

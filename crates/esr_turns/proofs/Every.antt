@@ -1,11 +1,11 @@
 -- No order is left out: what an order begins with is among the first turns.
-use Rattle.std.proofs.Common.{◌≡◌, ℕ, zero, suc, ◌+◌, ◌<◌, ◌≤◌, ◌==◌, List, [], ◌∷◌, ◌++◌, Bool, true, false, cond, refl, ◌∙◌, ap, sym, subst, arith, length, flat_map, nat_lt, take, drop, get_or, take_all, take-append-drop, drop-cons, lt-ltb, add-one, zero-add, append_assoc, append-nil}
+use Rattle.std.proofs.Common.{◌≡◌, ℕ, zero, suc, ◌+◌, ◌<◌, ◌≤◌, ◌==◌, List, [], ◌∷◌, ◌++◌, true, cond, refl, ◌∙◌, ap, sym, subst, arith, length, flat_map, nat_lt, take, drop, get_or, take_all, take-append-drop, drop-cons, lt-ltb, add-one, zero-add, append_assoc, append-nil}
 use Rattle.std.specs.List.{range_with_len, Contains}
 use Rattle.std.proofs.lemmas.Bool.Decides.{nat_tests}
 use Rattle.std.proofs.lemmas.List.{take_more}
 use Rattle.std.proofs.lemmas.List.Sums.{sum_by-append, sum_by-cons}
 use Rattle.std.proofs.lemmas.List.FromFn.{length-range_with_len, get_or-range_with_len}
-use Rattle.std.proofs.lemmas.List.Elements.{Contains-append_left, Contains-append_right, Contains-get_or}
+use Rattle.std.proofs.lemmas.List.Elements.{Contains-append_left, Contains-append_right}
 use Rattle.std.proofs.lemmas.Grind.{flat_map-append}
 use Rattle.esr_turns.specs.Orders.{IsOrder, first_turns, lines_of, longer, longer_by, turns_of}
 

@@ -9,7 +9,7 @@ pub returns-clause-all : goal.returns-clause-all
 returns-clause-all c = λ all.
     let sheet = c.args.sheet.now in
     all_told sheet.values.items (weights_of sheet.weights.items) (map (λ b. b.items) sheet.blocks.items) c.args.queries.now c.args.counts.now
-    (orders_of c.in_ok-ways.ways) c.in_ok-tales.tales.items c.requires.counts (c.in_ok-ways.ensures all) c.in_ok-tales.ensures
+    (orders_of c.in_ok-ways.ways) c.in_ok-tales.tales.items c.requires.counts (c.in_ok-ways.ensures.all all) c.in_ok-tales.ensures.all
 
 pub returns-clause-every : goal.returns-clause-every
 returns-clause-every c = λ all.
@@ -17,4 +17,4 @@ returns-clause-every c = λ all.
     each_told sheet.values.items (weights_of sheet.weights.items) (map (λ b. b.items) sheet.blocks.items) c.args.queries.now c.args.counts.now
     c.in_ok-tales.tales.items c.requires.counts
     (all_told sheet.values.items (weights_of sheet.weights.items) (map (λ b. b.items) sheet.blocks.items) c.args.queries.now c.args.counts.now
-    (orders_of c.in_ok-ways.ways) c.in_ok-tales.tales.items c.requires.counts (c.in_ok-ways.ensures all) c.in_ok-tales.ensures)
+    (orders_of c.in_ok-ways.ways) c.in_ok-tales.tales.items c.requires.counts (c.in_ok-ways.ensures.all all) c.in_ok-tales.ensures.all)
