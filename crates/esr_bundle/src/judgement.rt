@@ -14,7 +14,7 @@ use std::io::{Read, Write};
 use thiserror::Error;
 
 /// What is judged of a bundle.
-#[derive(Clone, Copy, Debug, PartialEq, Eq)]
+#[derive(Clone, Copy, PartialEq, Eq)]
 pub enum Verdict {
     /// The certificate shows that this is the least cost.
     Valid(u64),

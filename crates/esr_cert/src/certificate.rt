@@ -10,7 +10,7 @@ ghost use Rattle.esr_cert.specs.Faults.{fault_number};
 use thiserror::Error;
 
 /// A set of updates and a flow that show the least cost of a problem.
-#[derive(Debug, Drop)]
+#[derive(Drop)]
 pub struct Certificate {
     /// The positions of the set's updates, ascending.
     pub set: Vec<u32>,

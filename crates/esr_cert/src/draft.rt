@@ -3,7 +3,7 @@
 //! bundles and for parts.
 
 /// The numbers of a chain.
-#[derive(Debug, Drop)]
+#[derive(Drop)]
 pub struct ChainDraft {
     pub item: u64,
     pub writers: Vec<u64>,
@@ -11,7 +11,7 @@ pub struct ChainDraft {
 }
 
 /// The numbers of a problem.
-#[derive(Debug, Drop)]
+#[derive(Drop)]
 pub struct ProblemDraft {
     pub updates: Vec<u64>,
     pub before: Vec<(u64, u64)>,

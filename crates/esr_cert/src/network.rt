@@ -2,7 +2,7 @@
 //! the problem's lists when its number is asked for (`arcs`).
 
 /// An arc of a network: its ends, and the most that it may carry, None where that is unlimited.
-#[derive(Clone, Copy, Debug, PartialEq, Eq)]
+#[derive(Clone, Copy)]
 pub struct Arc {
     pub from: u32,
     pub to: u32,

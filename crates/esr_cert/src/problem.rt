@@ -28,7 +28,7 @@ use std::marker::Model;
 use thiserror::Error;
 
 /// An item that the query read.
-#[derive(Debug, Drop)]
+#[derive(Drop)]
 pub struct Chain {
     pub item: ItemId,
     /// The positions of the updates that wrote the item, ascending.
@@ -74,7 +74,7 @@ impl From<AllocError> for BundleFault {
 }
 
 /// Updates, the order that a closed set keeps among them, and the items whose versions a closed set decides.
-#[derive(Debug, Drop)]
+#[derive(Drop)]
 pub struct ProblemParts {
     pub updates: Vec<TxnId>,
     pub before: Vec<(u32, u32)>,
@@ -90,7 +90,7 @@ pub struct ProblemParts {
 /// writers; `must` ascends. Range: an update's number is 1 to 65,535; an item's number is at most 4,095; the positions
 /// in `before`, `must` and the writers are below the count of updates; and the greatest costs of the chains sum to at
 /// most 2,000,000,000,000,000,000.
-#[derive(Debug, Drop)]
+#[derive(Drop)]
 pub struct Problem {
     parts: ProblemParts,
     starts: Vec<u32>,

@@ -9,7 +9,7 @@ ghost use Rattle.esr_cert.specs.Short.{step_of, packed_arc, packed_arc-step_of};
 use std::marker::Model;
 
 /// A residual arc, one step of a path: forward over the arc with a number, or backward over it.
-#[derive(Clone, Copy, Debug)]
+#[derive(Clone, Copy)]
 pub enum ResidualArc {
     Forward(u32),
     Backward(u32),

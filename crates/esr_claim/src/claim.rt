@@ -14,7 +14,7 @@ use esr_telling::Asked;
 use std::alloc::{AllocError, Global};
 
 /// What a bundle shows of a query that a script was asked for.
-#[derive(Clone, Copy, PartialEq, Eq, Debug)]
+#[derive(Clone, Copy)]
 pub enum Claim {
     /// The certificate shows that this is the query's distance.
     Of(u64),

@@ -131,7 +131,7 @@ fn push_excess(
 }
 
 /// What flows into an update, and out of it.
-#[derive(Clone, Copy, PartialEq, Eq)]
+#[derive(Clone, Copy)]
 struct Balance {
     into: u128,
     from: u128,

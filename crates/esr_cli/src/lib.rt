@@ -22,7 +22,7 @@ use clap::{ArgMatches, Error};
 use std::alloc::Global;
 
 /// What is done with the input.
-#[derive(Clone, Copy, Debug, PartialEq, Eq)]
+#[derive(Clone, Copy, PartialEq, Eq)]
 pub enum Task<'a> {
     /// Runs a script.
     Run,
@@ -86,7 +86,7 @@ pub enum Task<'a> {
 }
 
 /// How a table is written.
-#[derive(Clone, Copy, Debug, PartialEq, Eq)]
+#[derive(Clone, Copy, PartialEq, Eq)]
 pub enum Format {
     /// For people.
     Text,
@@ -97,7 +97,7 @@ pub enum Format {
 }
 
 /// When progress is shown on standard error.
-#[derive(Clone, Copy, Debug, PartialEq, Eq)]
+#[derive(Clone, Copy, PartialEq, Eq)]
 pub enum Progress {
     /// Where standard error is a terminal.
     AtATerminal,
@@ -106,7 +106,7 @@ pub enum Progress {
 }
 
 /// What the words of a command line ask for.
-#[derive(Clone, Copy, Debug, PartialEq, Eq)]
+#[derive(Clone, Copy, PartialEq, Eq)]
 pub struct Job<'a> {
     pub task: Task<'a>,
     /// The file that is read: standard input where none is named, and where `-` is.

@@ -1,7 +1,7 @@
 //! What a drive writes.
 
 /// What a drive writes of what came of its blocks.
-#[derive(Clone, Copy, Debug, PartialEq, Eq)]
+#[derive(Clone, Copy)]
 pub enum Form {
     /// The items, the answers of each block, what so many workers find of each query, and the totals.
     Text { workers: u64 },

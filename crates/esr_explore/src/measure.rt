@@ -1,7 +1,7 @@
 //! What a run is measured by.
 
 /// What the worst run is the worst by.
-#[derive(Clone, Copy, Debug, PartialEq, Eq)]
+#[derive(Clone, Copy)]
 pub enum Measure {
     Import,
     Distance,

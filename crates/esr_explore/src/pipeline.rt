@@ -30,7 +30,7 @@ use std::alloc::{AllocError, Global};
 use std::io::{Read, Write};
 
 /// What is looked for: in which orders, and which run is written.
-#[derive(Clone, Copy, Debug, PartialEq, Eq)]
+#[derive(Clone, Copy)]
 pub struct Search {
     /// How many orders are drawn, or none where all are gone through.
     pub seeds: Option<u64>,

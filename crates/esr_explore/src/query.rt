@@ -4,7 +4,7 @@ use esr_plan::{Call, Kind};
 use std::alloc::{AllocError, Global};
 
 /// A query of a plan: its name, its block, and the place of its begin there.
-#[derive(Clone, Copy, Debug)]
+#[derive(Clone, Copy)]
 pub struct Query<'a> {
     pub name: &'a str,
     pub block: usize,

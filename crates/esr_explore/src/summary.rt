@@ -5,7 +5,7 @@ use crate::tale::{Tale, Told};
 use std::alloc::{AllocError, Global};
 
 /// The greatest of some numbers, and the one in the middle of them in ascending order.
-#[derive(Clone, Copy, Debug, PartialEq, Eq)]
+#[derive(Clone, Copy)]
 pub struct Spread {
     pub worst: u64,
     pub middle: u64,

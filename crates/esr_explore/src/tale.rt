@@ -15,7 +15,7 @@ use esr_items::Weighted;
 use std::alloc::{AllocError, Global};
 
 /// What a committed query was charged, and how far it was from a serial order.
-#[derive(Clone, Copy, Debug, PartialEq, Eq)]
+#[derive(Clone, Copy)]
 pub struct Told {
     pub import: u64,
     pub distance: u64,

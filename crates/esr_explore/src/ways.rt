@@ -16,7 +16,7 @@ use std::fmt;
 pub const MOST_LINES: usize = 1_000;
 
 /// Why nothing was told.
-#[derive(Clone, Copy, Debug, PartialEq, Eq)]
+#[derive(Clone, Copy)]
 pub enum ExploreFault {
     /// The file is at fault, or the engine, a device or memory, as for a drive.
     Drive(DriveFault),

@@ -34,7 +34,7 @@ pub enum ItemsError {
 
 /// The two values of an item: the one that committed transactions left, and the one that the
 /// latest write gave.
-#[derive(Clone, Copy, PartialEq, Eq, Debug)]
+#[derive(Clone, Copy)]
 pub struct Versions {
     pub committed: i64,
     pub current: i64,

@@ -1,7 +1,7 @@
 //! Who looks on while the lines of a script are answered.
 
 /// How a transaction ended, or that it has not.
-#[derive(Clone, Copy, PartialEq, Eq)]
+#[derive(Clone, Copy)]
 pub enum End {
     Active,
     Committed,

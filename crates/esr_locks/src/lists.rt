@@ -24,7 +24,7 @@ pub struct Reader {
 }
 
 /// How often a query has read an item.
-#[derive(Clone, Copy, PartialEq, Eq, Debug)]
+#[derive(Clone, Copy, PartialEq, Eq)]
 pub struct QueryReads {
     pub query: TxnId,
     pub count: u32,

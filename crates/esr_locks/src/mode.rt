@@ -13,7 +13,7 @@ ghost use Rattle.std.specs.Prelude.{◌≡◌};
 ghost use Rattle.esr_locks.specs.Modes.{conflicts};
 
 /// How a transaction locks an item: an update by reading and by writing, a query by reading.
-#[derive(Clone, Copy, PartialEq, Eq, Debug)]
+#[derive(Clone, Copy)]
 pub enum Mode {
     Read,
     Write,

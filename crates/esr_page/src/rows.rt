@@ -9,7 +9,7 @@ use esr_telling::Chronicle;
 use std::alloc::{AllocError, Global};
 
 /// How a query ended.
-#[derive(Clone, Copy, PartialEq, Eq)]
+#[derive(Clone, Copy)]
 pub enum End {
     /// It committed, and this far its audit finds it from a serial placement.
     Committed { distance: u64 },

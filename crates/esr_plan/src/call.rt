@@ -17,7 +17,7 @@ use esr_items::ItemId;
 use esr_report::Subject;
 
 /// A transaction that a line names.
-#[derive(Clone, Copy, Debug)]
+#[derive(Clone, Copy)]
 pub struct Caller<'a> {
     pub name: &'a str,
     /// The place in the block of the line that begins it, where an earlier line does.
@@ -25,14 +25,14 @@ pub struct Caller<'a> {
 }
 
 /// An item that a line names. The number of one that is not declared is no item's.
-#[derive(Clone, Copy, Debug)]
+#[derive(Clone, Copy)]
 pub struct Operand<'a> {
     pub name: &'a str,
     pub item: ItemId,
 }
 
 /// What a transaction begins as.
-#[derive(Clone, Copy, Debug)]
+#[derive(Clone, Copy)]
 pub enum Kind {
     Update,
     Query,
@@ -40,7 +40,7 @@ pub enum Kind {
 }
 
 /// A command of a block, with its names as text of the file.
-#[derive(Clone, Copy, Debug)]
+#[derive(Clone, Copy)]
 pub enum Call<'a> {
     Begin {
         name: &'a str,

@@ -42,7 +42,7 @@ pub struct Draft<'a> {
 }
 
 /// Why a line does not go into the plan.
-#[derive(Clone, Copy, Debug)]
+#[derive(Clone, Copy)]
 pub enum Wrong {
     /// What is wrong with the line.
     Line(u32),

@@ -39,7 +39,7 @@ pub fn first_line(bytes: &[u8]) -> Option<(&[u8], &[u8])>
 
 /// How far the lines of a file were looked at: where the first line begins that is not whole yet, and how many
 /// lines are before it.
-#[derive(Clone, Copy, Debug)]
+#[derive(Clone, Copy)]
 pub struct Mark {
     pub start: usize,
     pub lines: u64,

@@ -15,7 +15,7 @@ use std::alloc::{AllocError, Global};
 pub const MOST_POINTS: usize = 12;
 
 /// What a block of prose is.
-#[derive(Clone, Copy, PartialEq, Eq)]
+#[derive(Clone, Copy)]
 pub enum Kind {
     Paragraph,
     /// A point of a list below a paragraph.

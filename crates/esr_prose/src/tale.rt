@@ -23,7 +23,7 @@ pub struct Tale<'a> {
 }
 
 /// How a transaction ended in the whole script.
-#[derive(Clone, Copy, PartialEq, Eq)]
+#[derive(Clone, Copy)]
 pub enum Ending {
     Committed,
     Aborted,

@@ -12,7 +12,7 @@ use esr_history::{Refusal, Reply, TxnId};
 use std::alloc::AllocError;
 
 /// What is wrong with a line that makes no event.
-#[derive(Clone, Copy, PartialEq, Eq, Debug)]
+#[derive(Clone, Copy)]
 pub enum LineError {
     NotACommand,
     ItemsAreClosed,
@@ -25,7 +25,7 @@ pub enum LineError {
 
 /// What an event names, for the line that answers it: a transaction, an item and
 /// a value to write, as far as it has them.
-#[derive(Clone, Copy, Debug)]
+#[derive(Clone, Copy)]
 pub struct Subject<'a> {
     pub txn: &'a str,
     pub item: &'a str,

@@ -9,7 +9,7 @@ use esr_telling::{Chronicle, Survey};
 use std::alloc::{AllocError, Global};
 
 /// The audits of a script.
-#[derive(Clone, Copy, Debug)]
+#[derive(Clone, Copy)]
 pub struct AuditSheet {
     pub data: Data,
 }

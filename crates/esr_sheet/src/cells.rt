@@ -5,7 +5,7 @@ use crate::rows::Row;
 use crate::spans::Span;
 
 /// What a row has of a transaction, in the order of its fields.
-#[derive(Clone, Copy, PartialEq, Eq, Debug)]
+#[derive(Clone, Copy)]
 pub enum Cell {
     Number,
     Name,
@@ -44,7 +44,7 @@ pub const CELLS: [(Cell, &str); 15] = [
 ];
 
 /// What is in a cell.
-#[derive(Clone, Copy, Debug)]
+#[derive(Clone, Copy)]
 pub enum Content<'a> {
     Number(u64),
     Word(&'a str),

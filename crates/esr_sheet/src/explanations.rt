@@ -10,7 +10,7 @@ use std::alloc::{AllocError, Global};
 use std::str::from_utf8;
 
 /// The explanation of a query.
-#[derive(Clone, Copy, Debug)]
+#[derive(Clone, Copy)]
 pub struct ExplanationSheet {
     pub data: Data,
 }

@@ -1,7 +1,7 @@
 //! The forms of a sheet.
 
 /// How a ledger is written.
-#[derive(Clone, Copy, PartialEq, Eq, Debug)]
+#[derive(Clone, Copy, PartialEq, Eq)]
 pub enum Format {
     /// Aligned columns, for people.
     Text,
@@ -12,7 +12,7 @@ pub enum Format {
 }
 
 /// How audits and explanations are written for programs; for people they have texts of their own.
-#[derive(Clone, Copy, PartialEq, Eq, Debug)]
+#[derive(Clone, Copy)]
 pub enum Data {
     /// Rows of fields separated by commas, below a row of their names.
     Csv,

@@ -13,7 +13,7 @@ use esr_items::Weighted;
 use std::alloc::{AllocError, Global};
 
 /// What kind of transaction there is.
-#[derive(Clone, Copy, PartialEq, Eq, Debug)]
+#[derive(Clone, Copy)]
 pub enum Kind {
     Update,
     Query,

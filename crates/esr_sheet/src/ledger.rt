@@ -23,7 +23,7 @@ use std::alloc::{AllocError, Global};
 
 /// What each transaction of a script did: its kind and limit, what it was charged, how its lines were answered, how it
 /// ended and, of a committed query, how far it was from the nearest serial placement.
-#[derive(Clone, Copy, Debug)]
+#[derive(Clone, Copy)]
 pub struct Ledger {
     pub format: Format,
 }

@@ -21,7 +21,7 @@ use esr_items::Weighted;
 use std::alloc::Global;
 
 /// How a transaction ended.
-#[derive(Clone, Copy, PartialEq, Eq, Debug)]
+#[derive(Clone, Copy)]
 pub enum End {
     Committed,
     Aborted,

@@ -11,7 +11,7 @@ use esr_telling::Chronicle;
 use std::alloc::{AllocError, Global};
 
 /// The numbers of two lines of a script, from 1; 0 where there is none.
-#[derive(Clone, Copy, PartialEq, Eq, Debug)]
+#[derive(Clone, Copy)]
 pub struct Span {
     /// The line that begins the transaction.
     pub first: u32,

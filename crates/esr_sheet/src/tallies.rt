@@ -12,7 +12,7 @@ use esr_items::Weighted;
 use std::alloc::{AllocError, Global};
 
 /// How often lines of a transaction were answered, and how.
-#[derive(Clone, Copy, PartialEq, Eq, Debug)]
+#[derive(Clone, Copy)]
 pub struct Tally {
     /// Accepted reads.
     pub reads: u64,

@@ -16,7 +16,7 @@ const MOST_NUMBERS: usize = MOST_TRANSACTIONS + 1;
 const MOST_CHARGES: usize = 12;
 
 /// How a transaction ended, as the query could know it at its end.
-#[derive(Clone, Copy, PartialEq, Eq)]
+#[derive(Clone, Copy)]
 pub enum End {
     /// It committed before the query did.
     Committed,

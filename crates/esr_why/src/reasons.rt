@@ -25,7 +25,7 @@ pub struct Why<'a> {
 }
 
 /// Which transactions are told of.
-#[derive(Clone, Copy, PartialEq, Eq)]
+#[derive(Clone, Copy)]
 enum Sought {
     All,
     One(TxnId),

@@ -21,14 +21,14 @@ use esr_locks::QueryReads;
 use std::alloc::{AllocError, Global};
 
 /// Whose limit it is: a query's, of what it imports, or an update's, of what it exports.
-#[derive(Clone, Copy, PartialEq, Eq, Debug)]
+#[derive(Clone, Copy)]
 pub enum Side {
     Import,
     Export,
 }
 
 /// What an event would have added to a limit that it would have passed.
-#[derive(Clone, Copy, PartialEq, Eq, Debug)]
+#[derive(Clone, Copy)]
 pub struct Shortfall {
     pub side: Side,
     pub txn: TxnId,

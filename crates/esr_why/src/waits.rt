@@ -13,7 +13,7 @@ use esr_history::{Entry, Event, Log, Refusal, Reply, TxnId};
 use std::alloc::{AllocError, Global};
 
 /// A transaction whose last event was blocked by a lock of another.
-#[derive(Clone, Copy, PartialEq, Eq, Debug)]
+#[derive(Clone, Copy)]
 pub struct Wait {
     pub txn: TxnId,
     /// Who holds the lock.

@@ -187,7 +187,7 @@ fn task_of(alloc: Global, words: Words) -> Option<Task<'static>> {
 fn words_ask_for_their_work(rt: HostRuntime) {
     for (words, wanted) in tasks() {
         let task = task_of(rt.alloc(), words);
-        assert!(rt; task == Some(*wanted), "{:?} is asked for", wanted);
+        assert!(rt; task == Some(*wanted), "{:?} ask for something else", words);
     }
 }
 
