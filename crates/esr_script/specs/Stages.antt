@@ -13,7 +13,7 @@ is_running (stage.Running machine) = true
 -- the history that the values open, or the machine's
 abbrev pub history_of : Stage → Schedule
 history_of (stage.Open values weights) = record { opening = values.items; weights = weights.items; entries = [] }
-history_of (stage.Running machine) = machine
+history_of (stage.Running machine) = machine.value
 
 -- whether an event begins a transaction
 abbrev pub IsBegin : Event → Type 0

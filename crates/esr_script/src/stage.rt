@@ -25,11 +25,12 @@ use std::alloc::Global;
 use std::mem;
 use std::thread::Threads;
 
-/// The opening values and the weights of the items, while more may be declared, and then the machine.
+/// The opening values and the weights of the items, while more may be declared, and then the machine. It has a place of
+/// its own: what owns a script is then small, for a proof too, which takes a value apart wherever it is let go.
 #[derive(Drop)]
 pub enum Stage {
     Open { values: Vec<i64>, weights: Vec<u32> },
-    Running(Engine),
+    Running(Box<Engine>),
 }
 
 impl Stage {
@@ -70,7 +71,9 @@ impl Stage {
         let Ok(machine) = Machine::new(alloc, store, metric) else {
             return Err(RunFault::NoMemory);
         };
-        let engine = Engine::new(alloc, machine);
+        let Ok(engine) = Box::new(alloc, Engine::new(alloc, machine)) else {
+            return Err(RunFault::NoMemory);
+        };
         *self = Stage::Running(engine);
         Ok(())
     }
@@ -141,7 +144,7 @@ impl Stage {
         ensures { result.schedule ≡ history_of self }
     {
         match self {
-            Stage::Running(engine) => engine.into_history(),
+            Stage::Running(engine) => Box::into_inner(engine).into_history(),
             Stage::Open { .. } => unreachable!(),
         }
     }

@@ -9,9 +9,9 @@ use Rattle.esr_script.proofs.stage.Stage.audit.Goals as goal
 pub returns-clause-distance : goal.returns-clause-distance
 returns-clause-distance c =
     subst (λ h. IfOk c.audit.result (λ f. f.distance ≡ least_cost weighted h c.args.q.0)) (sym (ap history_of c.in-Running.is))
-    (distance_is weighted c.in-Running.engine c.args.q.0 c.audit.result c.audit.ensures.finding)
+    (distance_is weighted c.in-Running.engine.value c.args.q.0 c.audit.result (rw c.deref_mut.ensures.value at c.audit.ensures.finding))
 
 pub returns-clause-before : goal.returns-clause-before
 returns-clause-before c =
     subst (λ h. IfOk c.audit.result (λ f. map (λ t. t.0) f.before.items ≡ least_set weighted h c.args.q.0)) (sym (ap history_of c.in-Running.is))
-    (before_is weighted c.in-Running.engine c.args.q.0 c.audit.result c.audit.ensures.finding)
+    (before_is weighted c.in-Running.engine.value c.args.q.0 c.audit.result (rw c.deref_mut.ensures.value at c.audit.ensures.finding))
