@@ -1,8 +1,8 @@
 -- Stretches of consecutive numbers, one after another.
-use Rattle.std.proofs.Common.{◌≡◌, ℕ, zero, suc, ◌+◌, ◌-◌, ◌<◌, ◌≤◌, List, [], ◌∷◌, ◌++◌, length, take, map, get_or, sym, ap, ◌∙◌, append_assoc, append-nil, arith, flat_map}
+use Rattle.std.proofs.Common.{◌≡◌, ℕ, zero, suc, ◌+◌, ◌-◌, ◌≤◌, List, [], ◌∷◌, ◌++◌, map, sym, ap, ◌∙◌, append_assoc, append-nil, arith, flat_map}
 use Rattle.std.specs.List.{range_with_len}
 use Rattle.std.proofs.lemmas.Grind.{flat_map-append}
-use Rattle.std.proofs.lemmas.List.{map-append, take_more}
+use Rattle.std.proofs.lemmas.List.{map-append}
 use Rattle.esr_base.specs.declared.numbers.TxnId.{TxnId}
 use Rattle.esr_audit.specs.declared.stretches.Stretch.{Stretch}
 use Rattle.esr_audit.specs.Stretches.{numbers_in}
@@ -40,21 +40,6 @@ begins ss all s n end is next =
     ap (λ l. flat_map numbers_in l ++ range_with_len n (end - n)) is
     ∙ ap (λ l. l ++ range_with_len n (end - n)) (one_more ss s)
     ∙ ap (λ k. flat_map numbers_in ss ++ numbers_in s ++ range_with_len n k) one
-
--- the numbers of one transaction more
-pub txns_more : (ts : List TxnId) (i : ℕ) (t : TxnId) (done all : List ℕ) → done ≡ map (λ (t : TxnId). t.0) (take i ts) → i < length ts → t ≡ get_or ts i t
-    → all ≡ done ++ t.0 ∷ [] → all ≡ map (λ (t : TxnId). t.0) (take (i + 1) ts)
-txns_more ts i t done all so_far lt is more =
-    more ∙ ap (λ l. l ++ t.0 ∷ []) so_far
-    ∙ sym (map-append (λ (t : TxnId). t.0) (take i ts) (t ∷ []))
-    ∙ ap (map (λ (t : TxnId). t.0)) (ap (λ (x : TxnId). take i ts ++ x ∷ []) is ∙ sym (take_more ts i t lt))
-
--- the numbers of one stretch more, from a list
-pub stretches_more : (ss : List Stretch) (i : ℕ) (s : Stretch) (done all : List ℕ) → done ≡ flat_map numbers_in (take i ss) → i < length ss → s ≡ get_or ss i s
-    → all ≡ done ++ numbers_in s → all ≡ flat_map numbers_in (take (i + 1) ss)
-stretches_more ss i s done all so_far lt is more =
-    more ∙ ap (λ l. l ++ numbers_in s) so_far ∙ sym (one_more (take i ss) s)
-    ∙ ap (flat_map numbers_in) (ap (λ (x : Stretch). take i ss ++ x ∷ []) is ∙ sym (take_more ss i s lt))
 
 -- one number of a stretch more
 pub number_more : (ts all : List TxnId) (old : List ℕ) (first n m : ℕ) → map (λ (t : TxnId). t.0) ts ≡ old ++ range_with_len first (n - first) → all ≡ ts ++ record { 0 = n } ∷ [] → first ≤ n → m ≡ n + 1

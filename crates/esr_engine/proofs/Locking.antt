@@ -1,5 +1,5 @@
 -- What a read for update reads is the current value, and its reader holds the write lock.
-use Rattle.std.proofs.Common.{◌≡◌, ℕ, ℤ, pos, ◌+◌, List, [], ◌∷◌, ◌++◌, length, Bool, true, false, not, ◌&&◌, ◌==◌, refl, sym, ◌∙◌, ap, subst, arith, inl, inr, Option, None, Some, if◌then◌else◌, option_map, unwrap_or, nat_lt, nat_le}
+use Rattle.std.proofs.Common.{◌≡◌, ℕ, ℤ, pos, List, [], ◌∷◌, ◌++◌, length, Bool, true, false, not, ◌&&◌, ◌==◌, refl, sym, ◌∙◌, ap, subst, arith, inl, inr, Option, None, Some, if◌then◌else◌, option_map, unwrap_or, nat_lt, nat_le}
 use Rattle.std.specs.Prelude.{Result, Ok, Err, IfOk, OnOk}
 use Rattle.std.specs.List.{list_any}
 use Rattle.std.proofs.lemmas.Bool.{cases_eq, false≢true, false_from_ne_true, and_parts, and_from, or_right, eq-eqb}
@@ -12,9 +12,9 @@ use Rattle.esr_history.specs.declared.event.Event.{Event}
 use Rattle.esr_history.specs.declared.event.Reply.{Reply}
 use Rattle.esr_history.specs.declared.event.Refusal.{Refusal}
 use Rattle.esr_history.specs.declared.event.Event.TheVariants.{Read, Write}
-use Rattle.esr_history.specs.declared.event.Reply.TheVariants.{Value, Wrote, Refused}
+use Rattle.esr_history.specs.declared.event.Reply.TheVariants.{Value, Wrote}
 use Rattle.esr_history.specs.declared.event.Refusal.TheVariants.{NoSuchItem}
-use Rattle.esr_history.specs.Events.{reads, writes, is_active, is_begun, is_committed, is_aborted, is_update, is_refusal, holds_write, committed_value, current_value}
+use Rattle.esr_history.specs.Events.{writes, is_active, is_begun, is_committed, is_aborted, is_update, is_refusal, holds_write, committed_value, current_value}
 use Rattle.esr_history.specs.Machine.{Schedule, done, extended, reply_to, refusal, reasons, writer}
 use Rattle.esr_history.specs.Orderly.{IsOrderly}
 use Rattle.esr_history.proofs.Allowed.{none_applies, write_allowed, read_allowed}
@@ -88,9 +88,6 @@ module _ (h : Schedule) (o : IsOrderly (done h)) (x : ItemId) where
             rw has (held_read h (current_value h.opening (done h) x.0) refl refl refl (λ act. (and_parts (is_active (done h) t.0) (list_any (writes t.0 x.0) (done h)) (lock_held has).1).1))
         at false has = rw has (after_write (refusal weighted h (lock_event h t x)) refl)
           where
-            w : Event
-            w = lock_event h t x
-
             after_write : (why : Option Refusal) → refusal weighted h (lock_event h t x) ≡ why
                 → IsHeldValue h (if is_refusal (reply_to weighted h (lock_event h t x)) then after h (lock_event h t x) else after (after h (lock_event h t x)) (Read t x)) t x
                 (if is_refusal (reply_to weighted h (lock_event h t x)) then reply_to weighted h (lock_event h t x) else reply_to weighted (after h (lock_event h t x)) (Read t x))
@@ -123,15 +120,6 @@ module _ (h : Schedule) (t : TxnId) (x : ItemId) where
   pub taken_steps : has_lock h t.0 x.0 ≡ false → reply_to weighted h (lock_event h t x) ≡ Wrote
       → (locked h t x ≡ extended h (lock_event h t x) Wrote) × (reply_for_update h t x ≡ reply_to weighted (extended h (lock_event h t x) Wrote) (Read t x)) × (after_for_update h t x ≡ after (extended h (lock_event h t x) Wrote) (Read t x))
   taken_steps has wrote = (rw (has, wrote) refl, rw (has, wrote) refl, rw (has, wrote) refl)
-
-  -- the write is refused
-  pub refused_steps : has_lock h t.0 x.0 ≡ false → (reply_to weighted h (lock_event h t x) ≡ Wrote → ⊥)
-      → (reply_for_update h t x ≡ reply_to weighted h (lock_event h t x)) × (after_for_update h t x ≡ after h (lock_event h t x))
-  refused_steps has isnt = at (refusal weighted h (lock_event h t x)) refl
-    where
-      at : (why : Option Refusal) → refusal weighted h (lock_event h t x) ≡ why → (reply_for_update h t x ≡ reply_to weighted h (lock_event h t x)) × (after_for_update h t x ≡ after h (lock_event h t x))
-      at None none = absurd (isnt (rw none refl))
-      at (Some why) some = let r : reply_to weighted h (lock_event h t x) ≡ Refused why = rw some refl in (rw (has, r) refl, rw (has, r) refl)
 
 -- the ok answers of two facts
 pub record Finished (h : Schedule) (t : TxnId) (x : ItemId) (r : Result Reply Unanswered) (new : Schedule) : Type 0 where

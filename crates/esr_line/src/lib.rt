@@ -14,3 +14,4 @@ mod words;
 pub use limits::{INPUT_ROOM, MAX_LINE_BYTES, MAX_LINES};
 pub use next::{Next, next_line};
 pub use parse::{Line, Parsed, parse_line};
+pub use words::name;

@@ -123,10 +123,6 @@ near_all h q us n = record {
   );
 }
 
-drop_all : (xs : List ℕ) → drop (length xs) xs ≡ []
-drop_all [] = refl
-drop_all (x ∷ xs) = drop_all xs
-
 module _ (d : Distance) (h : Schedule) (q : ℕ) (legal : IsLegal d h) where
   once : AllPairs (λ u v. u ≢ v) (updates_of h q)
   once = All-from_pairs (λ u v. u ≢ v) (updates_of h q) (in_order d h q legal).once

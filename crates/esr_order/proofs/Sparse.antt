@@ -71,11 +71,3 @@ in_places key k n (f ∷ es) (suc i) e is has =
     at : (b : Bool) → In (n + suc i) (places_from key k (n + 1) es) → In (n + suc i) (if b then n ∷ places_from key k (n + 1) es else places_from key k (n + 1) es)
     at true j = inr j
     at false j = j
-
-pub places_inside : (key : Entry → Option ℕ) (k n : ℕ) (es : List Entry) (i : ℕ) → In i (places_from key k n es) → i < n + length es
-places_inside key k n [] i j = absurd j
-places_inside key k n (f ∷ es) i j = at (is_key (key f) k) j (places_inside key k (n + 1) es i)
-  where
-    at : (b : Bool) → In i (if b then n ∷ places_from key k (n + 1) es else places_from key k (n + 1) es) → (In i (places_from key k (n + 1) es) → i < n + 1 + length es) → i < n + suc (length es)
-    at true j rest = ⊎_elim (λ e. omega (arith, e)) (λ k. let l : i < n + 1 + length es = rest k in omega arith) j
-    at false j rest = let l : i < n + 1 + length es = rest j in omega arith

@@ -1,5 +1,5 @@
 -- Steps of updates, one update after another, say what the operations of the history say.
-use Rattle.std.proofs.Common.{◌≡◌, ◌≢◌, ℕ, zero, suc, ◌+◌, ◌<◌, ◌≤◌, ℤ, Bool, true, false, not, ◌&&◌, ◌||◌, List, [], ◌∷◌, ◌++◌, length, map, filter, refl, sym, ◌∙◌, ap, subst, arith, ⊎_elim, All, AllPairs, eqb, cond, append-nil, length-append}
+use Rattle.std.proofs.Common.{◌≡◌, ◌≢◌, ℕ, zero, suc, ◌+◌, ◌<◌, ◌≤◌, Bool, true, false, not, ◌&&◌, ◌||◌, List, [], ◌∷◌, ◌++◌, length, map, filter, refl, sym, ◌∙◌, ap, subst, arith, ⊎_elim, All, AllPairs, eqb, cond, append-nil, length-append}
 use Rattle.std.specs.Prelude.{⊤}
 use Rattle.std.proofs.lemmas.Bool.{true≢false, cases_order, and_parts, and_from, eqb-true, eq-eqb, ne_eqb, eqb-false, not-true}
 use Rattle.std.proofs.lemmas.List.Elements.{All-contains, All-from_recursion, filter-append}
@@ -114,12 +114,6 @@ module _ (os : List Operation) where
   turn_writes i u x [] = refl
   turn_writes i u x (o ∷ ps) = at (by u o) (o.writes && eqb o.item x) (turn_writes i u x ps)
     where
-      W : List UpdateOperation → List ℤ
-      W ss = map (λ (s : UpdateOperation). s.value) (filter (λ (s : UpdateOperation). s.writes && eqb s.item x) ss)
-
-      V : List ℤ
-      V = map (λ (o : Operation). o.value) (filter (wrote_by x u) ps)
-
       at : (b w : Bool) → map (λ (s : UpdateOperation). s.value) (filter (λ (s : UpdateOperation). s.writes && eqb s.item x) (map (placed_operation i) (filter (by u) ps))) ≡ map (λ (o : Operation). o.value) (filter (wrote_by x u) ps)
           → map (λ (s : UpdateOperation). s.value) (filter (λ (s : UpdateOperation). s.writes && eqb s.item x) (map (placed_operation i) (cond b (o ∷ filter (by u) ps) (filter (by u) ps))))
           ≡ map (λ (o : Operation). o.value) (cond ((o.writes && eqb o.item x) && b) (o ∷ filter (wrote_by x u) ps) (filter (wrote_by x u) ps))

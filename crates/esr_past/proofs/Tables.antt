@@ -1,5 +1,5 @@
 -- What keeps words from being a table of names.
-use Rattle.std.proofs.Common.{◌≡◌, ℕ, zero, suc, ◌+◌, ◌<◌, List, [], ◌∷◌, ◌++◌, Bool, true, false, not, ◌&&◌, cond, nat_eq, bytes_eq, Option, Some, None, is_some, inl, inr, refl, ◌∙◌, ap, sym, arith, length, get_or, take, map}
+use Rattle.std.proofs.Common.{◌≡◌, ℕ, zero, suc, ◌+◌, ◌<◌, List, [], ◌∷◌, ◌++◌, Bool, true, false, not, ◌&&◌, cond, bytes_eq, Option, Some, None, is_some, inl, inr, refl, ◌∙◌, ap, sym, arith, length, get_or, take, map}
 use Rattle.std.specs.Borrow.{Bor}
 use Rattle.std.specs.List.{list_all}
 use Rattle.std.proofs.lemmas.Bool.{and_parts, cases_Bool}
@@ -9,7 +9,7 @@ use Rattle.std.proofs.lemmas.List.Quantifiers.{position-Some}
 use Rattle.std.proofs.lemmas.Slice.Eq.{bytes_eq-Decides}
 use Rattle.esr_line.specs.Command.{is_name, name_of}
 use Rattle.esr_report.specs.Names.{position_of, all_distinct}
-use Rattle.esr_past.specs.Naming.{item_names, named, names_in}
+use Rattle.esr_past.specs.Naming.{named}
 
 or_none : (b c : Bool) → c ≡ false → (b && c) ≡ false
 or_none true c is = is
@@ -43,15 +43,6 @@ comes_twice words i k d within is =
     let same = ap (bytes_eq (get_or words i d)) (sym (get_or-take i words k d before)) ∙ at.1 in
     none_named words (list_all is_name words) (all_distinct words)
     (or_none (list_all is_name words) (all_distinct words) (twice words k i d before within same))
-
--- words that are names, none of which comes twice
-pub all_named : (words : List (List ℕ)) → list_all is_name words ≡ true → all_distinct words ≡ true → named words ≡ Some words
-all_named words good apart = rw (good, apart) refl
-
--- the names of a text that is not empty
-pub some_text : (count : ℕ) (text : List ℕ) → 0 < length text → item_names count text ≡ cond (nat_eq (length (names_in text)) count) (named (names_in text)) None
-some_text count [] some = absurd (omega arith)
-some_text count (b ∷ bs) some = refl
 
 -- a name that was found is the word
 found_name : (text name : List ℕ) → Some name ≡ name_of text → (name ≡ text) × (is_name text ≡ true)

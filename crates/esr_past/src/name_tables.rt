@@ -1,14 +1,12 @@
 //! The names of items and transactions: numbers with a letter, or those of a text that has one on each line.
 
 ghost use Rattle.std.specs.Prelude.{◌≡◌, ◌++◌, ◌+◌, ◌<◌, ◌≤◌, ◌^◌, [], IfOk, OnOk, Option, option_map, length, map, decimal, slice_index_or, string_bytes, codes};
-ghost use Rattle.std.specs.List.{list_all};
 ghost use Rattle.esr_base.specs.declared.limits.TheConstants.{MOST_ITEMS};
-ghost use Rattle.esr_line.specs.Command.{is_letter, is_name_byte, is_name, name_of};
 ghost use Rattle.esr_past.specs.Naming.{numbered, all_numbered, first_names, item_names, named, names_in, spelled, transaction_names};
 
+use esr_line::name;
 use esr_report::{Names, TransactionNames};
 use std::alloc::{AllocError, Global};
-use std::str::from_utf8;
 
 /// A word with a number behind it.
 fn name_of_number(alloc: Global, word: &str, number: u32) -> Result<String, AllocError>
@@ -48,47 +46,6 @@ fn names_in(alloc: Global, text: &[u8]) -> Result<Vec<&[u8]>, AllocError>
     ensures { IfOk result (λ lines. map (λ line. line.now) lines.items ≡ names_in text.now) }
 {
     text.split(|byte| *byte == b'\n').collect(alloc)
-}
-
-fn is_letter(byte: u8) -> bool
-    ensures { result ≡ is_letter byte }
-{
-    matches!(byte, b'a'..=b'z' | b'A'..=b'Z')
-}
-
-fn is_name_byte(byte: u8) -> bool
-    ensures { result ≡ is_name_byte byte }
-{
-    is_letter(byte) || matches!(byte, b'0'..=b'9' | b'_')
-}
-
-fn all_name_bytes(text: &[u8]) -> bool
-    ensures { result ≡ list_all is_name_byte text.now }
-{
-    text.iter().all(|byte| is_name_byte(*byte))
-}
-
-/// Whether a line of a script may have the word as a name.
-fn is_name(word: &[u8]) -> bool
-    ensures { result ≡ is_name word.now }
-{
-    match word.split_first() {
-        None => false,
-        Some((first, rest)) => is_letter(*first) && rest.len() <= 15 && all_name_bytes(rest),
-    }
-}
-
-/// The name that a word is, if it may be one.
-fn name(word: &[u8]) -> Option<&str>
-    ensures { option_map (λ name. name.now) result ≡ name_of word.now }
-{
-    if !is_name(word) {
-        return None;
-    }
-    match from_utf8(word) {
-        Ok(name) => Some(name),
-        Err(_) => None,
-    }
 }
 
 /// A table of these names, or none where one is no name or comes twice.
