@@ -48,6 +48,32 @@ static int aborted_day(void) {
     return values[0] != 400 || values[1] != 1500 || reply.txn != 1;
 }
 
+/* Events in one call: where memory is refused amid them, those before have been answered, and the rest is given again. */
+static int listed_day(void) {
+    static const esr_event events[5] = {
+        {ESR_BEGIN_UPDATE, 0, 0, 200, 0},
+        {ESR_READ, 1, 0, 0, 0},
+        {ESR_WRITE, 1, 0, 0, 400},
+        {ESR_BEGIN_STRICT_QUERY, 0, 0, 200, 0},
+        {ESR_READ, 2, 0, 0, 0},
+    };
+    static const int64_t opening[1] = {500};
+    esr_engine engine = ESR_CLOSED;
+    esr_reply replies[5];
+    esr_totals totals;
+    size_t at = 0, count;
+    WANT(esr_open(&engine, opening, 1), ESR_DONE);
+    while (at < 5) {
+        esr_status status = esr_do(&engine, events + at, 5 - at, replies + at, 5 - at, true, &count);
+        if (status != ESR_DONE && status != ESR_NO_MEMORY) return 1;
+        if (status == ESR_NO_MEMORY) calls++;
+        at += count;
+    }
+    WANT(esr_totals_of(&engine, &totals), ESR_DONE);
+    esr_close(&engine);
+    return replies[1].value != 500 || replies[4].value != 400 || totals.entries != 5 || totals.low != 100;
+}
+
 /* The bank of the README, with its audit, its bundle and a renewal. */
 static int day(void) {
     esr_engine engine = ESR_CLOSED;
@@ -100,4 +126,6 @@ static int each(const char *name, int (*program)(void)) {
     return calls == 0;
 }
 
-int main(void) { return each("a day", day) || each("a day that is aborted", aborted_day); }
+int main(void) {
+    return each("a day", day) || each("a day that is aborted", aborted_day) || each("a day in one call", listed_day);
+}

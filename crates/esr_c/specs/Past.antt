@@ -12,6 +12,10 @@ use Rattle.esr_sheet.specs.Written as sheet
 abbrev pub names_of : Schedule → List ℕ → Option (List (List ℕ))
 names_of h names = item_names (length h.opening) names
 
+-- a text has a name for each item of a history
+abbrev pub AreNamed : Schedule → List ℕ → Type 0
+AreNamed h names = (items : List (List ℕ)) × (names_of h names ≡ Some items)
+
 -- such a text is at the head of a room, or has so many bytes
 abbrev pub IsTextIn : (List ℕ → Type 0) → ℕ → List ℕ → Type 0
 IsTextIn P count room = P (take count room) × (count ≡ length (take count room))

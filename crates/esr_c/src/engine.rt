@@ -7,6 +7,7 @@ ghost use Rattle.std.specs.Prelude.{◌⊎◌, ◌<◌, ◌≤◌, All, Any, tru
 ghost use Rattle.esr_base.specs.declared.limits.TheConstants.{MOST_ITEMS};
 ghost use Rattle.esr_items.specs.Values.{IsValue};
 ghost use Rattle.esr_items.specs.Weights.{IsWeight};
+ghost use Rattle.esr_history.specs.declared.event.Event.TheVariants.{Read, Write};
 ghost use Rattle.esr_core.specs.Renewed.{has_active, renewed};
 ghost use Rattle.esr_engine.specs.ForUpdate.{after_for_update, no_pair, reply_for_update, IsPartlyDone};
 ghost use Rattle.esr_c.specs.Answers.{opened, reply_fields, status_number, IsEventCall, IsForUpdateCall, IsWeightedOpenStatus, IsRenewStatus, IsSound, GoesOn};
@@ -177,6 +178,49 @@ pub(crate) fn step(
     }
     let mut engine = take(alloc, mem::replace(&mut variable.held, nothing()));
     let status = answer(engine.step(event), reply);
+    variable.held = give(engine);
+    status
+}
+
+/// Answers a read as `step` does.
+#[inline(always)]
+pub(crate) fn read(
+    alloc: Global,
+    variable: &mut EsrEngine,
+    txn: TxnId,
+    item: ItemId,
+    reply: &mut EsrReply,
+) -> Status
+    ensures { IsEventCall (Read txn item) variable.old.held.history variable.new.held.history reply.old reply.new
+        (status_number result) }
+{
+    if !variable.is_open {
+        return Status::Closed;
+    }
+    let mut engine = take(alloc, mem::replace(&mut variable.held, nothing()));
+    let status = answer(engine.read(txn, item), reply);
+    variable.held = give(engine);
+    status
+}
+
+/// Answers a write as `step` does.
+#[inline(always)]
+pub(crate) fn write(
+    alloc: Global,
+    variable: &mut EsrEngine,
+    txn: TxnId,
+    item: ItemId,
+    value: i64,
+    reply: &mut EsrReply,
+) -> Status
+    ensures { IsEventCall (Write txn item value) variable.old.held.history variable.new.held.history reply.old reply.new
+        (status_number result) }
+{
+    if !variable.is_open {
+        return Status::Closed;
+    }
+    let mut engine = take(alloc, mem::replace(&mut variable.held, nothing()));
+    let status = answer(engine.write(txn, item, value), reply);
     variable.held = give(engine);
     status
 }

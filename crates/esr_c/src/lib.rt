@@ -20,7 +20,7 @@ ghost use Rattle.esr_core.specs.Renewed.{has_active, renewed};
 ghost use Rattle.esr_engine.specs.Room.{NeverStuck, counts_of};
 ghost use Rattle.esr_c.specs.Many.{AreAnswered, IsAnsweredStatus, IsEnd};
 ghost use Rattle.esr_picture.specs.Picture.{IsSvg};
-ghost use Rattle.esr_c.specs.Past.{IsExplanationOf, IsLedgerOf, IsScriptOf, IsScriptStatus, IsTellingStatus, IsTextIn, IsTextLong, names_of};
+ghost use Rattle.esr_c.specs.Past.{AreNamed, IsExplanationOf, IsLedgerOf, IsScriptOf, IsScriptStatus, IsTellingStatus, IsTextIn, IsTextLong, names_of};
 ghost use Rattle.esr_c.specs.Answers.{opened, IsEventCall, IsForUpdateCall, IsTotal, IsAccount, IsFound, IsCounted, IsBundleIn, IsBundleLong, AreValuesIn, GoesOn, IsSound, IsOpenStatus, IsWeightedOpenStatus, IsRenewStatus, IsValuesStatus, IsAuditStatus, IsVerdictIn};
 
 mod account;
@@ -41,7 +41,9 @@ use audit::{show_bundle, show_finding, show_values, totals_of};
 pub use batch::EsrEvent;
 use batch::answer_all;
 pub use engine::EsrEngine;
-use engine::{Status, end, go_on, go_on_aborting, open, open_with, out_of, read_for_update, step};
+use engine::{
+    Status, end, go_on, go_on_aborting, open, open_with, out_of, read, read_for_update, step, write,
+};
 use esr_engine::Counts;
 use esr_history::{Event, TxnId};
 use esr_items::ItemId;
@@ -138,11 +140,7 @@ pub extern "C" fn esr_read(
     ensures { IsEventCall (Read (record { 0 = txn })
         (record { 0 = item })) engine.old.held.history engine.new.held.history reply.old reply.new result }
 {
-    let event = Event::Read {
-        txn: TxnId(txn),
-        item: ItemId(item),
-    };
-    step(alloc, engine, event, reply).number()
+    read(alloc, engine, TxnId(txn), ItemId(item), reply).number()
 }
 
 /// Writes an item.
@@ -158,12 +156,7 @@ pub extern "C" fn esr_write(
     ensures { IsEventCall (Write (record { 0 = txn })
         (record { 0 = item }) value) engine.old.held.history engine.new.held.history reply.old reply.new result }
 {
-    let event = Event::Write {
-        txn: TxnId(txn),
-        item: ItemId(item),
-        value,
-    };
-    step(alloc, engine, event, reply).number()
+    write(alloc, engine, TxnId(txn), ItemId(item), value, reply).number()
 }
 
 /// Reads an item for an update that is going to write it: the write lock is taken first, where it is not held. The reply
@@ -485,6 +478,7 @@ pub extern "C" fn esr_picture(
     ensures refused { IfSome engine.old.held.history (λ h. (result ≡ 6) ↔ (is_committed_query h query ≡ false)) }
     ensures same { engine.new.held.history ≡ engine.old.held.history }
     ensures bad { result ≡ 5 → IfSome engine.old.held.history (λ h. names_of h names.now ≡ None) }
+    ensures named { (result ≡ 0) ⊎ (result ≡ 7) → IfSome engine.old.held.history (λ h. AreNamed h names.now) }
     ensures picture { result ≡ 0 → IsTextIn IsSvg count.new bytes.new }
     ensures small { result ≡ 7 → (length bytes.old < count.new) × IsTextLong IsSvg count.new }
     ensures kept { result ≢ 0 → bytes.new ≡ bytes.old }

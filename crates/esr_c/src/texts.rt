@@ -9,7 +9,7 @@ ghost use Rattle.esr_audit.specs.Findings.{IsFindingOf};
 ghost use Rattle.esr_explain.specs.Explain.{explanation};
 ghost use Rattle.esr_picture.specs.Picture.{IsSvg};
 ghost use Rattle.esr_c.specs.Answers.{status_number};
-ghost use Rattle.esr_c.specs.Past.{IsExplanationOf, IsTellingStatus, IsTextIn, IsTextLong, names_of};
+ghost use Rattle.esr_c.specs.Past.{AreNamed, IsExplanationOf, IsTellingStatus, IsTextIn, IsTextLong, names_of};
 
 use crate::audit::{find, hand_out};
 use crate::engine::Status;
@@ -98,6 +98,7 @@ fn picture_text(
 ) -> Result<Vec<u8>, Status>
     ensures same { engine.new ≡ engine.old }
     ensures ok { IfOk result (λ text. IsSvg text.items) }
+    ensures named { IfOk result (λ _. AreNamed engine.old names.now) }
     ensures refused { IsErrOf result Status.NotACommittedQuery ↔ (is_committed_query engine.old query ≡ false) }
     ensures bad { IsErrOf result Status.BadNames → names_of engine.old names.now ≡ None }
     ensures err { IfErr result (λ e. (e ≡ Status.NotACommittedQuery) ⊎ ((e ≡ Status.BadNames) ⊎ (e ≡ Status.NoMemory))) }
@@ -150,6 +151,7 @@ pub(crate) fn show_picture(
     ensures open { result ≢ Status.Closed }
     ensures refused { (result ≡ Status.NotACommittedQuery) ↔ (is_committed_query engine.old query ≡ false) }
     ensures bad { result ≡ Status.BadNames → names_of engine.old names.now ≡ None }
+    ensures named { (result ≡ Status.Done) ⊎ (result ≡ Status.TooSmall) → AreNamed engine.old names.now }
     ensures picture { result ≡ Status.Done → IsTextIn IsSvg count.new bytes.new }
     ensures small { result ≡ Status.TooSmall → (length bytes.old < count.new) × IsTextLong IsSvg count.new }
     ensures kept { result ≢ Status.Done → bytes.new ≡ bytes.old }
