@@ -1,11 +1,12 @@
 -- Costs and chains gathered one after another.
-use Rattle.std.proofs.Common.{◌≡◌, ℕ, ℤ, pos, refl, ◌+◌, ◌<◌, ◌≤◌, Bool, true, false, cond, List, [], ◌∷◌, ◌++◌, length, take, get_or, map, filter, arith, ap, ◌∙◌, sym, w64, FitsSigned, append-nil, eqb}
-use Rattle.std.specs.List.{range_with_len, AllByRecursion}
+use Rattle.std.proofs.Common.{◌≡◌, ℕ, ℤ, pos, refl, ◌+◌, ◌<◌, ◌≤◌, Bool, true, false, cond, ◌||◌, List, [], ◌∷◌, ◌++◌, length, take, get_or, map, filter, arith, ap, ◌∙◌, sym, subst, inl, inr, zero, suc, set, Vec, Global, w64, FitsSigned, append-nil, eqb, eq-eqb, ne_eqb, get_or-set_same, get_or-set_other}
+use Rattle.std.specs.List.{list_any, range_with_len, AllByRecursion}
 use Rattle.std.proofs.lemmas.Int.{ints}
-use Rattle.std.proofs.lemmas.List.{take_more, map-append}
+use Rattle.std.proofs.lemmas.Bool.{cases_eq}
+use Rattle.std.proofs.lemmas.List.{take_more, map-append, map-set, get_or-map, length-map}
 use Rattle.esr_history.proofs.Charges.{range-push}
 use Rattle.esr_items.specs.Values.{IsValue}
-use Rattle.esr_audit.specs.Reads.{values_of, ItemRead}
+use Rattle.esr_audit.specs.Reads.{values_of, list_at, ItemRead}
 
 pub value_fits : (v : ℤ) → IsValue v → FitsSigned w64 v
 value_fits v h = omega (arith, ints)
@@ -49,7 +50,78 @@ pub chain_skip : {X Y : Type 0} (view : X → Y) (G : ℕ → Y) (P : ℕ → Bo
 chain_skip view G P n chains so_far fails =
     so_far ∙ sym (ap (map G) (items_more P n ∙ ap (λ b. filter P (range_with_len 0 n) ++ (cond b (n ∷ []) [])) fails ∙ append-nil (filter P (range_with_len 0 n))))
 
--- the values that were read of one item
+-- ---- lists of values, one for each item
+
+pub list_push : (lists : List (Vec ℤ Global)) (v : Vec ℤ Global) → v.items ≡ [] → ((x : ℕ) → list_at lists x ≡ []) → (x : ℕ) → list_at (lists ++ v ∷ []) x ≡ []
+list_push [] v e none zero = e
+list_push [] v e none (suc x) = refl
+list_push (w ∷ lists) v e none zero = none 0
+list_push (w ∷ lists) v e none (suc x) = list_push lists v e (λ y. none (suc y)) x
+
+-- the list at a place
+pub list_is : (lists : List (Vec ℤ Global)) (x : ℕ) (v : Vec ℤ Global) → x < length lists → v ≡ get_or lists x v → v.items ≡ list_at lists x
+list_is lists x v inside is =
+    let items : Vec ℤ Global → List ℤ = λ w. w.items in
+    ap items is ∙ sym (get_or-map items lists x v [] inside)
+
+-- a value was put to those of its item
+module _ (lists : List (Vec ℤ Global)) (read : ItemRead) (was now : Vec ℤ Global) (inside : read.item < length lists) (is : was ≡ get_or lists read.item was) (grown : now.items ≡ was.items ++ read.value ∷ []) where
+  abbrev seen : Vec ℤ Global → List ℤ
+  seen v = v.items
+
+  at_item : list_at (set lists read.item now) read.item ≡ list_at lists read.item ++ values_of (read ∷ []) read.item
+  at_item =
+      ap (λ l. get_or l read.item []) (map-set seen lists read.item now)
+      ∙ get_or-set_same (map seen lists) read.item now.items [] (omega (arith, inside, length-map lists seen))
+      ∙ grown
+      ∙ ap (λ vs. vs ++ read.value ∷ []) (list_is lists read.item was inside is)
+      ∙ ap (λ b. list_at lists read.item ++ map (λ (r : ItemRead). r.value) (cond b (read ∷ []) [])) (sym (eq-eqb read.item read.item refl))
+
+  pub put_at : (x : ℕ) → list_at (set lists read.item now) x ≡ list_at lists x ++ values_of (read ∷ []) x
+  put_at x = elim (cases_eq x read.item) [
+    | inl e ↦ subst (λ y. list_at (set lists read.item now) y ≡ list_at lists y ++ values_of (read ∷ []) y) (sym e) at_item
+    | inr ne ↦
+        ap (λ l. get_or l x []) (map-set seen lists read.item now)
+        ∙ get_or-set_other (map seen lists) read.item x now.items [] ne
+        ∙ sym (append-nil (list_at lists x))
+        ∙ ap (λ b. list_at lists x ++ map (λ (r : ItemRead). r.value) (cond b (read ∷ []) [])) (sym (ne_eqb read.item x (λ q. ne (sym q))))
+  ]
+
+-- ---- the values that were read of one item
+
+pub values_append : (before after : List ItemRead) (x : ℕ) → values_of (before ++ after) x ≡ values_of before x ++ values_of after x
+values_append [] after x = refl
+values_append (r ∷ before) after x = at (eqb r.item x) (values_append before after x)
+  where
+    at : (b : Bool) → values_of (before ++ after) x ≡ values_of before x ++ values_of after x
+        → map (λ (s : ItemRead). s.value) (cond b (r ∷ filter (λ (s : ItemRead). eqb s.item x) (before ++ after)) (filter (λ (s : ItemRead). eqb s.item x) (before ++ after)))
+        ≡ map (λ (s : ItemRead). s.value) (cond b (r ∷ filter (λ (s : ItemRead). eqb s.item x) before) (filter (λ (s : ItemRead). eqb s.item x) before)) ++ values_of after x
+    at true rest = ap (λ vs. r.value ∷ vs) rest
+    at false rest = rest
+
+-- one read more
+pub values_more : (reads : List ItemRead) (i x : ℕ) (d : ItemRead) → i < length reads → values_of (take (i + 1) reads) x ≡ values_of (take i reads) x ++ values_of (get_or reads i d ∷ []) x
+values_more reads i x d l = ap (λ rs. values_of rs x) (take_more reads i d l) ∙ values_append (take i reads) (get_or reads i d ∷ []) x
+
+-- an item was read where there is a value
+pub none_read : (reads : List ItemRead) (x : ℕ) → length (values_of reads x) ≡ 0 → list_any (λ (r : ItemRead). eqb r.item x) reads ≡ false
+none_read [] x e = refl
+none_read (r ∷ reads) x e = at (eqb r.item x) e (none_read reads x)
+  where
+    at : (b : Bool) → length (map (λ (s : ItemRead). s.value) (cond b (r ∷ filter (λ (s : ItemRead). eqb s.item x) reads) (filter (λ (s : ItemRead). eqb s.item x) reads))) ≡ 0
+        → (length (values_of reads x) ≡ 0 → list_any (λ (s : ItemRead). eqb s.item x) reads ≡ false) → (b || list_any (λ (s : ItemRead). eqb s.item x) reads) ≡ false
+    at true e rest = absurd (omega arith)
+    at false e rest = rest e
+
+pub some_read : (reads : List ItemRead) (x : ℕ) → (length (values_of reads x) ≡ 0 → ⊥) → list_any (λ (r : ItemRead). eqb r.item x) reads ≡ true
+some_read [] x n = absurd (n refl)
+some_read (r ∷ reads) x n = at (eqb r.item x) n (some_read reads x)
+  where
+    at : (b : Bool) → (length (map (λ (s : ItemRead). s.value) (cond b (r ∷ filter (λ (s : ItemRead). eqb s.item x) reads) (filter (λ (s : ItemRead). eqb s.item x) reads))) ≡ 0 → ⊥)
+        → ((length (values_of reads x) ≡ 0 → ⊥) → list_any (λ (s : ItemRead). eqb s.item x) reads ≡ true) → (b || list_any (λ (s : ItemRead). eqb s.item x) reads) ≡ true
+    at true n rest = refl
+    at false n rest = rest n
+
 pub values_few : (reads : List ItemRead) (x : ℕ) → length (values_of reads x) ≤ length reads
 values_few [] x = omega arith
 values_few (r ∷ reads) x = at (eqb r.item x) (values_few reads x)

@@ -1,6 +1,7 @@
 -- What an auditor gathers: the values that a query read, and their distances from the versions of an item.
-use Rattle.std.specs.Prelude.{ℕ, ℤ, ◌==◌, List, [], ◌∷◌, Option, Some, None, filter, map, sum_by}
+use Rattle.std.specs.Prelude.{ℕ, ℤ, ◌==◌, List, [], ◌∷◌, Option, Some, None, Vec, filter, map, slice_index_or, sum_by}
 use Rattle.std.specs.List.{list_any, range_with_len}
+use Rattle.std.specs.declared.alloc.Global.{Global}
 use Rattle.esr_items.specs.Values.{value_at}
 use Rattle.esr_history.specs.Operations.{Operation}
 use Rattle.esr_order.specs.declared.accesses.Access.{Access}
@@ -22,6 +23,10 @@ item_read_in a = record { item = a.item.0; value = a.value }
 abbrev pub values_of : List ItemRead → ℕ → List ℤ
 values_of reads x = map (λ r. r.value) (filter (λ r. r.item == x) reads)
 
+-- what a list of lists has at a place, nothing past its end
+abbrev pub list_at : List (Vec ℤ Global) → ℕ → List ℤ
+list_at lists x = slice_index_or (map (λ v. v.items) lists) x []
+
 -- the distance of values of item x from a version, summed
 abbrev pub distance_sum : (ℕ → ℤ → ℤ → ℕ) → ℕ → List ℤ → ℤ → ℕ
 distance_sum d x values version = sum_by (λ v. d x v version) values
@@ -30,13 +35,17 @@ abbrev pub values_in : Option orders.Chain → List ℤ
 values_in None = []
 values_in (Some c) = c.values
 
--- the chain of item x, from those who wrote it with the values that they left, and what was read
-abbrev pub gathered_from : (ℕ → ℤ → ℤ → ℕ) → List ℤ → Option orders.Chain → List ItemRead → ℕ → Chain
-gathered_from d opening chain reads x = record {
+-- the chain of item x, from those who wrote it with the values that they left, and the values that were read of it
+abbrev pub gathered_by : (ℕ → ℤ → ℤ → ℕ) → List ℤ → Option orders.Chain → List ℤ → ℕ → Chain
+gathered_by d opening chain values x = record {
   item = x;
   writers = writers_in chain;
-  costs = map (distance_sum d x (values_of reads x)) (value_at opening x ∷ values_in chain);
+  costs = map (distance_sum d x values) (value_at opening x ∷ values_in chain);
 }
+
+-- the same from all that was read
+abbrev pub gathered_from : (ℕ → ℤ → ℤ → ℕ) → List ℤ → Option orders.Chain → List ItemRead → ℕ → Chain
+gathered_from d opening chain reads x = gathered_by d opening chain (values_of reads x) x
 
 -- the same of an order
 abbrev pub gathered : (ℕ → ℤ → ℤ → ℕ) → List ℤ → Ordered → List ItemRead → ℕ → Chain

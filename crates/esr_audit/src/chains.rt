@@ -3,15 +3,14 @@
 //!
 //! The writers move out of the order into the chain, and the values that they left are let go as soon as their
 //! distances are summed, so that the next item's costs may lie where they lay.
-ghost use Rattle.std.specs.Prelude.{◌≡◌, ◌<◌, ◌≤◌, ◌∷◌, ◌==◌, ℕ, length, map, All, IfOk, option_map};
-ghost use Rattle.std.specs.List.{list_any};
+ghost use Rattle.std.specs.Prelude.{◌≡◌, ◌<◌, ◌≤◌, [], ◌∷◌, ◌++◌, ℕ, length, map, All, IfOk, OnOk, option_map};
 ghost use Rattle.esr_items.specs.Values.{IsValue};
 ghost use Rattle.esr_base.specs.declared.limits.TheConstants.{MOST_READS};
 ghost use Rattle.esr_order.specs.Chains as orders;
 ghost use Rattle.esr_order.specs.Orders.{chain_at};
 ghost use Rattle.esr_cert.specs.Views.{chain_of as chain_view};
 ghost use Rattle.esr_order.specs.Chains.{seen_links, writers_in};
-ghost use Rattle.esr_audit.specs.Reads.{values_of, distance_sum, values_in, gathered, gathered_from, items_in};
+ghost use Rattle.esr_audit.specs.Reads.{values_of, list_at, distance_sum, values_in, gathered, gathered_by, items_in};
 
 use crate::reads::ItemRead;
 use esr_cert::Chain;
@@ -20,22 +19,46 @@ use esr_items::{ItemId, Metric};
 use esr_order::{Links, Order};
 use std::alloc::{AllocError, Global};
 
-/// The values that were read of an item.
-fn values_of(alloc: Global, reads: &[ItemRead], item: u32) -> Result<Vec<i64>, AllocError>
-    ensures { IfOk result (λ v. v.items ≡ values_of reads.now item) }
+/// So many lists with no value in them.
+fn no_values(alloc: Global, count: u32) -> Result<Vec<Vec<i64>>, AllocError>
+    ensures count { IfOk result (λ lists. length lists.items ≡ count) }
+    ensures none { IfOk result (λ lists. (x : ℕ) → list_at lists.items x ≡ []) }
 {
-    reads
-        .iter()
-        .filter(|r| r.item == item)
-        .map(|r| r.value)
-        .collect(alloc)
+    let mut lists = Vec::with_capacity(alloc, count as usize)?;
+    for _i in 0..count {
+        lists.push(Vec::new(alloc))?;
+    }
+    Ok(lists)
 }
 
-/// Whether the item was read.
-fn is_read(reads: &[ItemRead], item: u32) -> bool
-    ensures { result ≡ list_any (λ r. r.item == item) reads.now }
+/// Puts a value that was read to those of its item, if there is a list of that.
+fn put_value(lists: &mut Vec<Vec<i64>>, read: ItemRead) -> Result<(), AllocError>
+    ensures count { OnOk result (length lists.new.items ≡ length lists.old.items) }
+    ensures values { OnOk result ((x : ℕ) → x < length lists.old.items
+        → list_at lists.new.items x ≡ list_at lists.old.items x ++ values_of (read ∷ []) x) }
 {
-    reads.iter().any(|r| r.item == item)
+    let x = read.item as usize;
+    if x < lists.len() {
+        lists[x].push(read.value)?;
+    }
+    Ok(())
+}
+
+/// The values that were read of each of so many items. To look for those of one item after another among all reads takes
+/// time that grows with the square of these.
+fn values_by_item(
+    alloc: Global,
+    reads: &[ItemRead],
+    items: u32,
+) -> Result<Vec<Vec<i64>>, AllocError>
+    ensures count { IfOk result (λ lists. length lists.items ≡ items) }
+    ensures values { IfOk result (λ lists. (x : ℕ) → x < items → list_at lists.items x ≡ values_of reads.now x) }
+{
+    let mut lists = no_values(alloc, items)?;
+    for read in reads {
+        put_value(&mut lists, *read)?;
+    }
+    Ok(lists)
 }
 
 /// The distance of the values from a version of the item, summed.
@@ -93,28 +116,27 @@ fn writers_and_values(alloc: Global, links: Option<Links>) -> (Vec<u32>, Vec<i64
     }
 }
 
-/// The chain of an item, of those who wrote it and the values that they left.
+/// The chain of an item, of those who wrote it and the values that they left, and of the values that were read of it.
 fn chain_of<M: Metric>(
     alloc: Global,
     history: &History<M>,
     links: Option<Links>,
-    reads: &[ItemRead],
+    values: &[i64],
     x: ItemId,
 ) -> Result<Chain, AllocError>
     requires item { x.0 < length history.now.schedule.opening }
-    requires few { length reads.now ≤ MOST_READS }
-    requires reads { All (λ r. IsValue r.value) reads.now }
+    requires few { length values.now ≤ MOST_READS }
+    requires values { All IsValue values.now }
     requires versions { All IsValue (values_in (option_map seen_links links)) }
-    ensures { IfOk result (λ c. chain_view c ≡ gathered_from (M.distance_by history.now.schedule.weights)
-        history.now.schedule.opening (option_map seen_links links) reads.now x.0) }
+    ensures { IfOk result (λ c. chain_view c ≡ gathered_by (M.distance_by history.now.schedule.weights)
+        history.now.schedule.opening (option_map seen_links links) values.now x.0) }
 {
-    let values = values_of(alloc, reads, x.0)?;
     let (writers, versions) = writers_and_values(alloc, links);
     let costs = costs_of(
         alloc,
         history.metric(),
         x,
-        &values,
+        values,
         history.opening(x),
         &versions,
     )?;
@@ -143,11 +165,13 @@ pub fn chains_of<M: Metric>(
     ensures before { order.new.before ≡ order.old.before }
     ensures must { order.new.must ≡ order.old.must }
 {
+    let lists = values_by_item(alloc, reads, history.items())?;
     let mut chains = Vec::new(alloc);
     for x in 0..history.items() {
-        if is_read(reads, x) {
+        let values = &lists[x as usize];
+        if !values.is_empty() {
             let links = order.take_chain(alloc, ItemId(x));
-            chains.push(chain_of(alloc, history, links, reads, ItemId(x))?)?;
+            chains.push(chain_of(alloc, history, links, values, ItemId(x))?)?;
         }
     }
     Ok(chains)

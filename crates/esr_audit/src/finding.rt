@@ -50,11 +50,22 @@ impl From<Finding> for Summary {
     ghost from_gives = { λ f s. seen_summary s ≡ summary f };
 
     fn from(finding: Finding) -> Summary {
+        let Finding {
+            query,
+            distance,
+            import,
+            before,
+            problem,
+            certificate,
+        } = finding;
+        // what is kept is to lie where these lay, and not among them
+        drop(problem);
+        drop(certificate);
         Summary {
-            query: finding.query,
-            distance: finding.distance,
-            import: finding.import,
-            before: TxnList::of(finding.before),
+            query,
+            distance,
+            import,
+            before: TxnList::of(before),
         }
     }
 }

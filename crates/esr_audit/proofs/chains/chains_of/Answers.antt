@@ -1,35 +1,65 @@
 -- Why `chains_of` keeps its contract: the goals that are left to a proof of ours.
-use Rattle.std.proofs.Common.{◌≡◌, ℕ, map, ap, ◌∙◌, sym, eqb, Bool, arith}
+use Rattle.std.proofs.Common.{◌≡◌, ◌<◌, ℕ, ℤ, List, Bool, All, true, map, length, option_map, ap, ◌∙◌, sym, subst, eqb, eq-eqb, true≢false, vec_len, arith}
 use Rattle.std.specs.List.{list_any}
+use Rattle.std.proofs.lemmas.Bool.{eqb-true}
+use Rattle.std.proofs.lemmas.List.Elements.{All-from_recursion, recursion_from_All}
+use Rattle.esr_items.specs.Values.{IsValue}
+use Rattle.esr_order.specs.Chains.{seen_links}
 use Rattle.esr_order.specs.Orders.{Ordered, chain_at}
 use Rattle.esr_cert.specs.Problem as spec
 use Rattle.esr_cert.specs.Views.{chain_of as chain_view}
-use Rattle.esr_audit.specs.Reads.{gathered, gathered_from, ItemRead}
-use Rattle.esr_audit.proofs.Gathered.{chain_step, chain_skip}
+use Rattle.esr_audit.specs.Reads.{values_of, gathered, gathered_by, gathered_from, ItemRead}
+use Rattle.esr_audit.proofs.Gathered.{list_is, values_few, values_in_range, none_read, some_read, chain_step, chain_skip}
 use Rattle.esr_audit.proofs.chains.chains_of.Goals as goal
-use Rattle.esr_audit.proofs.chains.chains_of.Goals.{then-is_read+in_ok-chain_of+in_ok-push, else-is_read}
+use Rattle.esr_audit.proofs.chains.chains_of.Goals.{then-not-is_empty+in_ok-chain_of+in_ok-push, else-not-is_empty}
+
+pub chain_of-requires-clause-few : goal.chain_of-requires-clause-few
+chain_of-requires-clause-few g c =
+    let x : ℕ = c.loop-x.x in
+    let inside : x < length c.in_ok-lists.lists.items = omega (arith, c.loop-x-test.true, c.items.ensures.items, c.items-x-end.ensures.items, c.in_ok-lists.ensures.count) in
+    let values = c.deref.ensures.value ∙ list_is c.in_ok-lists.lists.items x c.index-values.result.now inside c.index-values.ensures ∙ c.in_ok-lists.ensures.values x (omega (arith, inside, c.in_ok-lists.ensures.count)) in
+    omega (arith, values_few c.args.reads.now x, ap (λ (xs : List ℤ). length xs) values, c.requires.few)
+
+pub chain_of-requires-clause-values : goal.chain_of-requires-clause-values
+chain_of-requires-clause-values g c =
+    let x : ℕ = c.loop-x.x in
+    let inside : x < length c.in_ok-lists.lists.items = omega (arith, c.loop-x-test.true, c.items.ensures.items, c.items-x-end.ensures.items, c.in_ok-lists.ensures.count) in
+    let values = c.deref.ensures.value ∙ list_is c.in_ok-lists.lists.items x c.index-values.result.now inside c.index-values.ensures ∙ c.in_ok-lists.ensures.values x (omega (arith, inside, c.in_ok-lists.ensures.count)) in
+    subst (All IsValue) (sym values)
+    (All-from_recursion IsValue (values_of c.args.reads.now x) (values_in_range c.args.reads.now x (recursion_from_All (λ (r : ItemRead). IsValue r.value) c.args.reads.now c.requires.reads)))
 
 pub loop-x-preserved : goal.loop-x-preserved
 loop-x-preserved g c =
     let h = c.args.history.now.schedule in
     let d = g.M.Metric.distance_by h.weights in
-    let G : ℕ → spec.Chain = gathered d h.opening c.args.order.now c.args.reads.now in
-    let P : ℕ → Bool = λ x. list_any (λ (r : ItemRead). eqb r.item x) c.args.reads.now in
-    elim c.if-is_read.branch [
-      | then-is_read+in_ok-chain_of+in_ok-push w ↦
+    let reads = c.args.reads.now in
+    let x : ℕ = c.loop-x.x in
+    let G : ℕ → spec.Chain = gathered d h.opening c.args.order.now reads in
+    let P : ℕ → Bool = λ y. list_any (λ (r : ItemRead). eqb r.item y) reads in
+    let list = c.index-values.result.now in
+    let inside : x < length c.in_ok-lists.lists.items = omega (arith, c.loop-x-test.true, c.items.ensures.items, c.items-x-end.ensures.items, c.in_ok-lists.ensures.count) in
+    let values : list.items ≡ values_of reads x = list_is c.in_ok-lists.lists.items x list inside c.index-values.ensures ∙ c.in_ok-lists.ensures.values x (omega (arith, inside, c.in_ok-lists.ensures.count)) in
+    let size : vec_len list ≡ length (values_of reads x) = omega (arith, list.ok.0, ap (λ (xs : List ℤ). length xs) values) in
+    elim c.if-not-is_empty.branch [
+      | then-not-is_empty+in_ok-chain_of+in_ok-push w ↦
           let taken = w.take_chain-links.ensures in
-          let is : chain_view w.in_ok-chain_of.field-0 ≡ G c.loop-x.x = w.in_ok-chain_of.ensures ∙ ap (λ o. gathered_from d h.opening o c.args.reads.now c.loop-x.x) (taken.chain ∙ c.loop-x.invariant.left c.loop-x.x (omega arith)) in record {
-            chains = ap (λ v. map chain_view v.items) w.chains-is ∙ chain_step chain_view G P c.loop-x.x c.loop-x.chains.items w.push.new.self.items w.in_ok-chain_of.field-0 c.loop-x.invariant.chains (sym c.is_read.ensures ∙ w.if-is_read.true) w.in_ok-push.ensures.items is;
+          let some : P x ≡ true = some_read reads x (λ none. true≢false (sym (eq-eqb (vec_len list) 0 (size ∙ none)) ∙ (sym c.is_empty.ensures ∙ w.if-not-is_empty.true))) in
+          let is : chain_view w.in_ok-chain_of.field-0 ≡ G x =
+          w.in_ok-chain_of.ensures
+          ∙ ap (λ vs. gathered_by d h.opening (option_map seen_links w.take_chain-links.result) vs x) (w.deref.ensures.value ∙ values)
+          ∙ ap (λ o. gathered_from d h.opening o reads x) (taken.chain ∙ c.loop-x.invariant.left x (omega arith)) in record {
+            chains = ap (λ v. map chain_view v.items) w.chains-is ∙ chain_step chain_view G P x c.loop-x.chains.items w.push.new.self.items w.in_ok-chain_of.field-0 c.loop-x.invariant.chains some w.in_ok-push.ensures.items is;
             left = λ y later. ap (λ o. chain_at o y) w.order-is ∙ taken.others y (λ e. omega arith) ∙ c.loop-x.invariant.left y (omega arith);
             commits = ap (λ (o : Ordered). o.commits) w.order-is ∙ taken.commits ∙ c.loop-x.invariant.commits;
             before = ap (λ (o : Ordered). o.before) w.order-is ∙ taken.before ∙ c.loop-x.invariant.before;
             must = ap (λ (o : Ordered). o.must) w.order-is ∙ taken.must ∙ c.loop-x.invariant.must;
           }
-      | else-is_read w ↦ record {
-        chains = ap (λ v. map chain_view v.items) w.chains-is ∙ chain_skip chain_view G P c.loop-x.x c.loop-x.chains.items c.loop-x.invariant.chains (sym c.is_read.ensures ∙ w.if-is_read.false);
-        left = λ y later. ap (λ o. chain_at o y) w.order-is ∙ c.loop-x.invariant.left y (omega arith);
-        commits = ap (λ (o : Ordered). o.commits) w.order-is ∙ c.loop-x.invariant.commits;
-        before = ap (λ (o : Ordered). o.before) w.order-is ∙ c.loop-x.invariant.before;
-        must = ap (λ (o : Ordered). o.must) w.order-is ∙ c.loop-x.invariant.must;
-      }
+      | else-not-is_empty w ↦
+          let none = none_read reads x (sym size ∙ eqb-true (vec_len list) 0 (sym c.is_empty.ensures ∙ w.if-not-is_empty.false)) in record {
+            chains = ap (λ v. map chain_view v.items) w.chains-is ∙ chain_skip chain_view G P x c.loop-x.chains.items c.loop-x.invariant.chains none;
+            left = λ y later. ap (λ o. chain_at o y) w.order-is ∙ c.loop-x.invariant.left y (omega arith);
+            commits = ap (λ (o : Ordered). o.commits) w.order-is ∙ c.loop-x.invariant.commits;
+            before = ap (λ (o : Ordered). o.before) w.order-is ∙ c.loop-x.invariant.before;
+            must = ap (λ (o : Ordered). o.must) w.order-is ∙ c.loop-x.invariant.must;
+          }
     ]

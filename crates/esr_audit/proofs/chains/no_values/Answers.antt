@@ -1,0 +1,12 @@
+-- Why `no_values` keeps its contract: the goals that are left to a proof of ours.
+use Rattle.std.proofs.Common.{◌+◌, ◌∙◌, ap, length}
+use Rattle.std.proofs.lemmas.List.{length_push}
+use Rattle.esr_audit.specs.Reads.{list_at}
+use Rattle.esr_audit.proofs.Gathered.{list_push}
+use Rattle.esr_audit.proofs.chains.no_values.Goals as goal
+
+pub loop-i-preserved : goal.loop-i-preserved
+loop-i-preserved c = record {
+  count = ap length c.in_ok-push.ensures.items ∙ length_push c.loop-i.lists.items c.new.result ∙ ap (λ n. n + 1) c.loop-i.invariant.count;
+  none = λ x. ap (λ lists. list_at lists x) c.in_ok-push.ensures.items ∙ list_push c.loop-i.lists.items c.new.result c.new.ensures.items c.loop-i.invariant.none x;
+}
