@@ -20,7 +20,7 @@ mod teller;
 
 pub use answer::{Fault, fault_of, is_error};
 pub use kept_line::KeptLine;
-pub use listing::Listing;
+pub use listing::{Listing, Unlisted};
 pub use observer::{End, Observer, Standing, Unobserved};
 pub use place::{Place, Source};
 pub use reason::{Finding, NumberFault, Reason, find_reason};

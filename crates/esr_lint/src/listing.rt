@@ -16,9 +16,21 @@ pub struct Listing<'a, W> {
     writer: W,
     source: Source<'a>,
     text: String,
+    /// How many bytes of the text are whole lines: more only where there was no memory for the rest of one.
+    whole: usize,
     lines: u64,
     count: u64,
-    failed: bool,
+    /// Nothing is listed behind what could not be.
+    failed: Option<Unlisted>,
+}
+
+/// Why something of a list was not written.
+#[derive(Clone, Copy, PartialEq, Eq, Debug)]
+pub enum Unlisted {
+    /// There was no memory for it.
+    NoMemory,
+    /// The writer did not take it.
+    Write,
 }
 
 impl<'a, W: Write> Listing<'a, W> {
@@ -27,9 +39,10 @@ impl<'a, W: Write> Listing<'a, W> {
             writer,
             source,
             text: String::new(alloc),
+            whole: 0,
             lines: 0,
             count: 0,
-            failed: false,
+            failed: None,
         }
     }
 
@@ -43,25 +56,43 @@ impl<'a, W: Write> Listing<'a, W> {
         self.lines.saturating_add(1)
     }
 
-    /// Writes the rest of the list. Gives whether all of it was written.
-    pub fn finish(&mut self) -> bool {
+    /// Writes the rest of the list.
+    ///
+    /// # Errors
+    /// Why something of the list was not written, whatever came first.
+    pub fn finish(&mut self) -> Result<(), Unlisted> {
         self.send();
-        !self.failed
+        match self.failed {
+            Some(why) => Err(why),
+            None => Ok(()),
+        }
     }
 
-    /// Writes what was listed and is not written yet.
+    /// Notes why something is not written.
+    fn fail(&mut self, why: Unlisted) {
+        self.failed = self.failed.or(Some(why));
+    }
+
+    /// Writes the lines that are not written yet.
     fn send(&mut self) {
-        if self.writer.write_all(self.text.as_bytes()).is_err() || self.writer.flush().is_err() {
-            self.failed = true;
+        let lines = self.text.as_bytes().get(..self.whole).unwrap_or_default();
+        let failed = self.writer.write_all(lines).is_err() || self.writer.flush().is_err();
+        if failed {
+            self.fail(Unlisted::Write);
         }
         self.text.clear();
+        self.whole = 0;
     }
 
     /// Counts what is listed, and notes whether there was memory for it.
     fn note(&mut self, listed: bool) {
         self.count = self.count.saturating_add(1);
-        self.failed = self.failed || !listed;
-        if self.text.len() >= ROOM {
+        if listed {
+            self.whole = self.text.len();
+        } else {
+            self.fail(Unlisted::NoMemory);
+        }
+        if self.whole >= ROOM {
             self.send();
         }
     }
@@ -70,6 +101,9 @@ impl<'a, W: Write> Listing<'a, W> {
 impl<W: Write> Observer for Listing<'_, W> {
     fn see_line(&mut self, number: u64, line: &[u8], answer: &[u8]) {
         self.lines = number;
+        if self.failed.is_some() {
+            return;
+        }
         let Some(fault) = mistake_of(line, answer) else {
             return;
         };
@@ -80,7 +114,7 @@ impl<W: Write> Observer for Listing<'_, W> {
     }
 
     fn see_transaction(&mut self, name: &str, standing: Standing) {
-        if standing.end != End::Active {
+        if standing.end != End::Active || self.failed.is_some() {
             return;
         }
         let source = self.source;

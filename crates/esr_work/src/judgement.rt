@@ -8,7 +8,7 @@ use crate::fail;
 use crate::fault::RunText;
 use crate::meter::{Meter, Watching};
 use crate::open::open_file;
-use esr_bundle::{Verdict, judge};
+use esr_bundle::{JudgeFault, Verdict, judge};
 use esr_claim::{Claim, claim_of, detail_of};
 use esr_history::Watched;
 use esr_lint::{Source, Teller, When};
@@ -150,8 +150,11 @@ fn judge_claim<I: Read + Drop>(
     let alloc = rt.alloc();
     let mut reader = Watched::new(Copied::new(alloc, input));
     let mut verdict = Watched::new(Vec::new(alloc));
-    if let Err(fault) = judge(alloc, &mut reader, &mut verdict) {
-        return fail(rt, &format_args!("{source}{fault}"), 1);
+    match judge(alloc, &mut reader, &mut verdict) {
+        Ok(_) => {}
+        // the verdict is kept in memory, and no device has failed
+        Err(JudgeFault::Write) => return fail(rt, &"out of memory", 1),
+        Err(fault) => return fail(rt, &format_args!("{source}{fault}"), 1),
     }
     let Some(bytes) = reader.inner().copy() else {
         return fail(rt, &"out of memory", 1);

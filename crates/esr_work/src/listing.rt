@@ -6,8 +6,8 @@ ghost use Rattle.esr_base.specs.Watch.{failed};
 use crate::fail;
 use crate::fault::RunText;
 use esr_history::Watched;
-use esr_lint::{Listing, Source};
-use esr_script::lint;
+use esr_lint::{Listing, Source, Unlisted};
+use esr_script::{RunFault, lint};
 use std::io;
 use std::io::Read;
 
@@ -21,19 +21,17 @@ pub fn list_faults<I: Read + Drop>(
     let mut reader = Watched::new(input);
     let mut listing = Listing::new(alloc, io::writer(rt), source);
     let ended = lint(alloc, &mut reader, &mut listing);
-    let written = listing.finish();
-    match ended {
-        Err(fault) => fail(
-            rt,
-            &RunText {
-                source,
-                fault,
-                line: listing.next_line(),
-                query: None,
-            },
-            1,
-        ),
-        Ok(()) if !written => fail(rt, &"write failed", 1),
-        Ok(()) => u8::from(listing.count() > 0),
-    }
+    let fault = match (ended, listing.finish()) {
+        (Err(fault), _) => fault,
+        (Ok(()), Err(Unlisted::NoMemory)) => RunFault::NoMemory,
+        (Ok(()), Err(Unlisted::Write)) => RunFault::Write,
+        (Ok(()), Ok(())) => return u8::from(listing.count() > 0),
+    };
+    let text = RunText {
+        source,
+        fault,
+        line: listing.next_line(),
+        query: None,
+    };
+    fail(rt, &text, 1)
 }

@@ -193,6 +193,14 @@ fn holds_back(job: Job<'_>) -> bool {
     job.bail && !matches!(job.task, Task::Run)
 }
 
+/// The fault that is told: what is held back is kept in memory, and no device has failed then.
+fn told_fault(job: Job<'_>, fault: RunFault) -> RunFault {
+    match fault {
+        RunFault::Write if holds_back(job) => RunFault::NoMemory,
+        fault => fault,
+    }
+}
+
 /// Tells how it ended, and writes what was held back.
 fn conclude<R: Print + Eprint + Clock, W: Write>(
     rt: &R,
@@ -209,7 +217,7 @@ fn conclude<R: Print + Eprint + Clock, W: Write>(
             rt,
             &RunText {
                 source,
-                fault,
+                fault: told_fault(job, fault),
                 line: observer.next_line(),
                 query: Some(observer.refusal()),
             },
