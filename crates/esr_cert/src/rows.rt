@@ -69,7 +69,7 @@ fn count_others(arcs: &Arcs, _nodes: usize, first: usize, degrees: &mut Vec<u32>
 }
 
 /// How many steps start at each node: the arcs that leave it, and those that come to it. The ends of a chain's arcs are
-/// read off the chain: to ask for each arc by its number took a tenth of an audit.
+/// read off the chain, since an arc that is asked for by its number is looked up.
 fn degrees_of(alloc: Global, nodes: usize, arcs: &Arcs) -> Result<Vec<u32>, AllocError>
     requires few { length arcs.now ≤ MOST_ARCS }
     requires ends { HaveEnds arcs.now nodes }
