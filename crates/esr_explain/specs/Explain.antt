@@ -1,5 +1,5 @@
 -- What is explained of a committed query of a history.
-use Rattle.std.specs.Prelude.{ℕ, ℤ, ◌+◌, ◌-◌, ◌==◌, List, [], ◌∷◌, ◌++◌, Bool, true, false, not, Option, Some, None, codes, decimal, length, take, filter, nat_lt, slice_get, slice_index_or, if◌then◌else◌, option_map}
+use Rattle.std.specs.Prelude.{ℕ, ℤ, ◌+◌, ◌-◌, ◌==◌, List, [], ◌∷◌, ◌++◌, not, Option, Some, None, codes, decimal, length, take, filter, nat_lt, slice_get, slice_index_or, if◌then◌else◌, option_map}
 use Rattle.std.specs.List.{flat_map, range_with_len}
 use Rattle.std.specs.Fmt.{signed_decimal}
 use Rattle.esr_history.specs.declared.event.Event.{Event}
@@ -13,6 +13,8 @@ use Rattle.esr_order.specs.Least.{least_set, least_cost}
 use Rattle.esr_order.specs.Placements.{is_among}
 use Rattle.esr_report.specs.Names.{name_of_transaction}
 use Rattle.esr_report.specs.Lines.{line, names_line}
+use Rattle.esr_explain.specs.declared.charges.Operation.{Operation}
+use Rattle.esr_explain.specs.declared.charges.Operation.TheVariants as operation
 use Rattle.esr_explain.specs.declared.charges.Meeting.{Meeting}
 use Rattle.esr_explain.specs.declared.charges.Charge.{Charge}
 
@@ -62,8 +64,8 @@ read_meets h x = if nat_lt x (length h.opening) then writer (done h) x else None
 -- where an operation on an item meets an update: a read the one that has written it, a write the one that writes
 abbrev pub meeting : Schedule → Event → Option Meeting
 meeting h (Read t x) =
-    option_map (λ u. record { by_read = true; update = record { 0 = u }; item = x }) (read_meets h x.0)
-meeting h (Write u x v) = Some (record { by_read = false; update = u; item = x })
+    option_map (λ u. record { operation = operation.Read; update = record { 0 = u }; item = x }) (read_meets h x.0)
+meeting h (Write u x v) = Some (record { operation = operation.Write; update = u; item = x })
 meeting h _ = None
 
 -- The charge to q of the entry at place i: what q imported by it, and what is left then of both limits.
@@ -79,9 +81,9 @@ charge_of d h q i m = record {
 }
 
 -- the words that begin the line of a charge
-abbrev pub verb : Bool → List ℕ
-verb true = codes "charge read"
-verb false = codes "charge write"
+abbrev pub verb : Operation → List ℕ
+verb operation.Read = codes "charge read"
+verb operation.Write = codes "charge write"
 
 -- with these words for the operation, the update and the item
 abbrev pub named_charge_line : (verb update item : List ℕ) → Charge → List ℕ
@@ -93,7 +95,7 @@ named_charge_line verb update item c = line (
 
 abbrev pub charge_line : (items transactions : List (List ℕ)) → Charge → List ℕ
 charge_line items transactions c =
-    named_charge_line (verb c.meeting.by_read) (name_of_transaction transactions c.meeting.update.0)
+    named_charge_line (verb c.meeting.operation) (name_of_transaction transactions c.meeting.update.0)
     (name_of_item items c.meeting.item.0) c
 
 -- the line of a meeting by which q is charged

@@ -17,10 +17,17 @@ use esr_items::{ItemId, Lent, Metric, Store, Weighted};
 use esr_report::{Names, name_of_transaction, push_line};
 use std::alloc::{AllocError, Global};
 
+/// What a query may be charged for: a read of its own, or a write of what it has read.
+#[derive(Clone, Copy)]
+pub enum Operation {
+    Read,
+    Write,
+}
+
 /// An operation on an item, and the update that it meets there.
 #[derive(Clone, Copy)]
 pub struct Meeting {
-    pub by_read: bool,
+    pub operation: Operation,
     pub update: TxnId,
     pub item: ItemId,
 }
@@ -48,13 +55,12 @@ pub fn name_of_item(items: &Names, x: ItemId) -> &str
 }
 
 /// The words that begin the line of a charge.
-fn verb(by_read: bool) -> &'static str
-    ensures { result.now ≡ verb by_read }
+fn verb(operation: Operation) -> &'static str
+    ensures { result.now ≡ verb operation }
 {
-    if by_read {
-        "charge read"
-    } else {
-        "charge write"
+    match operation {
+        Operation::Read => "charge read",
+        Operation::Write => "charge write",
     }
 }
 
@@ -117,7 +123,7 @@ fn charge_line(
 {
     let update = name_of_transaction(transactions, charge.meeting.update);
     let item = name_of_item(items, charge.meeting.item);
-    named_charge_line(out, verb(charge.meeting.by_read), update, item, charge)
+    named_charge_line(out, verb(charge.meeting.operation), update, item, charge)
 }
 
 /// Where an event meets an update, of a machine that is to answer it.
@@ -131,7 +137,7 @@ fn met_by(machine: &Machine<Lent<'_>>, event: Event) -> Option<Meeting>
             }
             match machine.writer(item) {
                 Some(update) => Some(Meeting {
-                    by_read: true,
+                    operation: Operation::Read,
                     update,
                     item,
                 }),
@@ -143,7 +149,7 @@ fn met_by(machine: &Machine<Lent<'_>>, event: Event) -> Option<Meeting>
             item,
             value: _,
         } => Some(Meeting {
-            by_read: false,
+            operation: Operation::Write,
             update: txn,
             item,
         }),

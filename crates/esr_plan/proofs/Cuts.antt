@@ -249,13 +249,6 @@ taken false x y new is e = cc
 pub not_failed : (b : Bool) → b ≡ false → b ≡ true → ⊥
 not_failed b off on = let e : false ≡ true = sym off ∙ on in cc
 
-pub extended : (known mid left : Option (List ℕ)) (bytes more grown : List ℕ) → Consumes known mid bytes → Consumes mid left more → grown ≡ bytes ++ more → Consumes known left grown
-extended None mid left bytes more grown took next is = tt
-extended (Some xs) None left bytes more grown took next is = absurd took
-extended (Some xs) (Some ys) None bytes more grown took next is = absurd next
-extended (Some xs) (Some ys) (Some zs) bytes more grown took next is =
-    took ∙ (ap (λ l. bytes ++ l) next ∙ (sym (append_assoc bytes more zs) ∙ ap (λ l. l ++ zs) (sym is)))
-
 same_error : {T : Type 0} (r : Result T DriveFault) (e f : DriveFault) → r ≡ Err e → r ≡ Err f → e ≡ f
 same_error (Ok x) e f a b = cc
 same_error (Err g) e f a b = cc

@@ -2,6 +2,9 @@
 //! of its numbers.
 //!
 //! The weight that was given, or that none was, stays in the plan: an item's line is answered as it was written.
+//!
+//! What is kept beside the plan agrees with it (`IsSound`). That is no invariant of the type, since an error may leave a
+//! draft half changed; it is then let go of.
 
 ghost use Rattle.esr_line.specs.declared.limits.TheConstants.{MAX_LINES};
 ghost use Rattle.std.specs.Prelude.{◌≡◌, ◌+◌, ◌<◌, ◌≤◌, ◌⊎◌, ◌^◌, true, false, Ok, Err, Some, None, OnOk, IfOk, IfErr, length};

@@ -3,11 +3,11 @@
 ghost use Rattle.std.specs.Prelude.{◌≤◌};
 
 use crate::elements::{push_horizontal, push_straight, push_text, push_vertical};
-use crate::scene::{Lane, Scene, Update, have_stray};
+use crate::scene::{Lane, Scene, Stretch, have_stray};
 use std::alloc::AllocError;
 
 /// What a picture may have to explain.
-#[derive(Clone, Copy)]
+#[derive(Clone, Copy, PartialEq, Eq)]
 enum Key {
     Read,
     Other,
@@ -58,58 +58,31 @@ fn words_of(key: Key) -> &'static str {
     }
 }
 
-/// Whether a lane has a stretch of one version, or of several, of which some were read, or none.
-fn has_stretch(lane: &Lane<'_>, is_one: bool, is_read: bool) -> bool {
-    for stretch in &lane.stretches {
-        let reads = if is_one { stretch.reads } else { stretch.seen };
-        if (stretch.versions == 1) == is_one && (reads > 0) == is_read {
-            return true;
-        }
+/// What a stretch shows: one version or several, of which some were read, or none.
+fn key_of(stretch: &Stretch) -> Key {
+    match (stretch.versions, stretch.reads, stretch.seen) {
+        (1, 0, _) => Key::Other,
+        (1, _, _) => Key::Read,
+        (_, _, 0) => Key::Several,
+        _ => Key::SeveralRead,
     }
-    false
 }
 
-/// Whether some lane has such a stretch.
-fn have_stretch(lanes: &[Lane<'_>], is_one: bool, is_read: bool) -> bool {
-    for lane in lanes {
-        if has_stretch(lane, is_one, is_read) {
-            return true;
-        }
-    }
-    false
-}
-
-/// Whether some update is on that side of the line.
-fn are_on_side(updates: &[Update<'_>], line: u8, before: bool) -> bool {
-    for update in updates {
-        if update.slot != line && (update.slot < line) == before {
-            return true;
-        }
-    }
-    false
-}
-
-/// Whether the query had to be behind some update.
-fn have_must(updates: &[Update<'_>]) -> bool {
-    for update in updates {
-        if update.must {
-            return true;
-        }
-    }
-    false
+/// Whether a lane has a stretch that shows this.
+fn has_stretch(lane: &Lane<'_>, key: Key) -> bool {
+    lane.stretches.iter().any(|stretch| key_of(stretch) == key)
 }
 
 /// Whether the picture has what a key means.
 fn occurs(scene: &Scene<'_>, key: Key) -> bool {
     match key {
-        Key::Read => have_stretch(&scene.lanes, true, true),
-        Key::Other => have_stretch(&scene.lanes, true, false),
-        Key::Several => have_stretch(&scene.lanes, false, false),
-        Key::SeveralRead => have_stretch(&scene.lanes, false, true),
+        Key::Read | Key::Other | Key::Several | Key::SeveralRead => {
+            scene.lanes.iter().any(|lane| has_stretch(lane, key))
+        }
         Key::Stray => have_stray(&scene.lanes),
-        Key::Before => are_on_side(&scene.updates, scene.line, true),
-        Key::After => are_on_side(&scene.updates, scene.line, false),
-        Key::Must => have_must(&scene.updates),
+        Key::Before => scene.updates.iter().any(|update| update.slot < scene.line),
+        Key::After => scene.updates.iter().any(|update| update.slot > scene.line),
+        Key::Must => scene.updates.iter().any(|update| update.must),
         Key::First => !scene.arrows.is_empty(),
         Key::Nearest => !scene.lanes.is_empty(),
     }
