@@ -312,30 +312,21 @@ fn is_cheaper_elsewhere(
     Ok(costs.cheaper_place(places).is_some())
 }
 
-/// Those of the updates that are before the line, or those that are not.
-fn on_side(
-    alloc: Global,
-    updates: &[u32],
-    inside: &[bool],
-    before: bool,
-) -> Result<Vec<u32>, AllocError> {
-    let mut side = Vec::new(alloc);
-    for update in updates {
-        if is_marked(inside, *update) == before {
-            side.push(*update)?;
-        }
-    }
-    Ok(side)
-}
-
 /// The updates before the line, and those after it.
 fn sides_of(
     alloc: Global,
     updates: &[u32],
     inside: &[bool],
 ) -> Result<(Vec<u32>, Vec<u32>), AllocError> {
-    let before = on_side(alloc, updates, inside, true)?;
-    let after = on_side(alloc, updates, inside, false)?;
+    let mut before = Vec::new(alloc);
+    let mut after = Vec::new(alloc);
+    for update in updates {
+        if is_marked(inside, *update) {
+            before.push(*update)?;
+        } else {
+            after.push(*update)?;
+        }
+    }
     Ok((before, after))
 }
 

@@ -1,13 +1,12 @@
 -- The parts of a row, by what is found of all transactions at once.
-use Rattle.std.proofs.Common.{◌≡◌, ℕ, zero, suc, ◌-◌, ◌<◌, ◌≤◌, Bool, false, List, [], ◌∷◌, length, refl, sym, ◌∙◌, ap, ap₂, arith, Option, Some, None, map, is_some, slice_get, unwrap_or, if◌then◌else◌}
+use Rattle.std.proofs.Common.{◌≡◌, ℕ, zero, suc, ◌-◌, ◌≤◌, Bool, false, List, [], sym, ◌∙◌, ap, ap₂, arith, Option, Some, map, is_some, slice_get, unwrap_or, if◌then◌else◌}
 use Rattle.std.proofs.lemmas.Option.{slice_get-map}
-use Rattle.esr_history.specs.declared.event.Entry.{Entry}
 use Rattle.esr_base.specs.declared.numbers.TxnId.{TxnId}
-use Rattle.esr_history.specs.Events.{accepted, beginning, beginnings, is_query, limit_of}
+use Rattle.esr_history.specs.Events.{beginnings, is_query, limit_of}
 use Rattle.esr_history.specs.Machine.{Distance, Schedule, charges_in, done, export_in, import_in, IsLegal}
 use Rattle.esr_history.specs.declared.back_links.Facts.{Facts}
-use Rattle.esr_history.specs.BackLinks.{accepted_end, begun_count, facts_of, last_place}
-use Rattle.esr_order.proofs.Commits.{commit_at_end, end_some, facts_none}
+use Rattle.esr_history.specs.BackLinks.{accepted_end, facts_of, last_place}
+use Rattle.esr_order.proofs.Commits.{commit_at_end, end_some}
 use Rattle.esr_sheet.specs.declared.kinds.Kind.{Kind}
 use Rattle.esr_sheet.specs.declared.kinds.Kind.TheVariants.{Update}
 use Rattle.esr_sheet.specs.declared.rows.End.{End}
@@ -17,22 +16,6 @@ use Rattle.esr_sheet.specs.declared.tallies.Tally.{Tally}
 use Rattle.esr_items.specs.Weights.{weighted}
 use Rattle.esr_sheet.specs.Rows.{charged_of, distance_of, end_of, kind_at, kind_of, row_of, tally_of}
 use Rattle.esr_sheet.specs.Entries.{end_at}
-
-inside : {X : Type 0} (xs : List X) (k : ℕ) → k < length xs → (x : X) × (slice_get xs k ≡ Some x)
-inside [] k l = absurd (omega arith)
-inside (x ∷ xs) zero l = (x, refl)
-inside (x ∷ xs) (suc k) l = inside xs k (omega arith)
-
--- a transaction that has begun has facts
-pub has_facts : (es : List Entry) (t : ℕ) → 1 ≤ t → t ≤ begun_count es → None ≡ facts_of es t → ⊥
-has_facts es t low high none = at t low high (facts_none es t none)
-  where
-    at : (k : ℕ) → 1 ≤ k → k ≤ begun_count es → beginning (accepted es) k ≡ None → ⊥
-    at zero low high is = omega arith
-    at (suc k) low high is =
-        let b = inside (beginnings (accepted es)) k (omega arith) in
-        let bad : None ≡ Some b.0 = sym is ∙ b.1 in
-        cc
 
 -- its kind
 pub kind_there : (h : Schedule) (kinds : List Kind) (t : ℕ) → 1 ≤ t → kinds ≡ map kind_of (beginnings (done h)) → unwrap_or (slice_get kinds (t - 1)) Update ≡ kind_at h t

@@ -1,5 +1,4 @@
 -- The ledger of what a script leads to.
-use Rattle.std.specs.Prelude.{⊤}
 use Rattle.std.proofs.Common.{◌≡◌, ◌∙◌, ℕ, List, ap, IfOk, Result, Ok, Err}
 use Rattle.esr_items.specs.Weights.{weighted}
 use Rattle.esr_history.specs.Machine.{Schedule}
@@ -19,11 +18,6 @@ ledger_told s c recorded first last text is = (
       ∙ (ap (λ (h : Schedule). ledger_csv weighted h c.transactions first last) recorded.history
       ∙ ap (λ names. ledger_csv weighted s.history names first last) recorded.transactions),
 )
-
--- what holds of every text
-pub whatever : {T E : Type 0} (r : Result T E) → IfOk r (λ _. ⊤)
-whatever (Ok x) = tt
-whatever (Err e) = tt
 
 -- the same of a text that is made, if it is
 pub csv_told : {T E : Type 0} (items : T → List ℕ) (s : ScriptState) (c : Chronicle) → IsRecorded s c → (first last : ℕ → ℕ) (r : Result T E)

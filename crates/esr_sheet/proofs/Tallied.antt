@@ -1,7 +1,6 @@
 -- What one more entry adds to the tallies.
-use Rattle.std.proofs.Common.{◌≡◌, ℕ, ◌+◌, ◌<◌, ◌≤◌, ◌^◌, ◌&&◌, Bool, true, false, cond, if◌then◌else◌, List, [], ◌∷◌, ◌++◌, length, get_or, set, refl, sym, ◌∙◌, ap, ap₂, filter, length-append, arith, subst, Some, count_by, get_or-set_same, get_or-set_other, length-set, ⊎_elim, All, replicate}
-use Rattle.std.proofs.lemmas.List.{get_or-replicate, length-replicate}
-use Rattle.std.proofs.lemmas.List.Sums.{count_by-le-length, length-filter}
+use Rattle.std.proofs.Common.{◌≡◌, ℕ, ◌+◌, ◌<◌, ◌&&◌, Bool, true, false, cond, if◌then◌else◌, List, [], ◌∷◌, ◌++◌, length, get_or, set, refl, sym, ◌∙◌, ap, ap₂, filter, length-append, arith, Some, count_by, get_or-set_same, get_or-set_other, length-set, ⊎_elim}
+use Rattle.std.proofs.lemmas.List.Sums.{length-filter}
 use Rattle.std.proofs.lemmas.Bool.{cases_eq, eq-eqb, ne_eqb}
 use Rattle.std.proofs.lemmas.List.Elements.{filter-append}
 use Rattle.esr_history.specs.declared.event.Reply.{Reply}
@@ -11,7 +10,7 @@ use Rattle.esr_history.specs.declared.event.Refusal.TheVariants.{BlockedByLock, 
 use Rattle.esr_history.specs.BackLinks.{txn_in, is_key}
 use Rattle.esr_sheet.specs.declared.tallies.Tally.{Tally}
 use Rattle.esr_sheet.specs.Rows.{by_export, by_import, by_lock, count_of, is_read, is_write, tally_of}
-use Rattle.esr_sheet.specs.Entries.{AreTallies, IsCountable, with_answer}
+use Rattle.esr_sheet.specs.Entries.{AreTallies, with_answer}
 
 none_more : (n : ℕ) → n + 0 ≡ n
 none_more n = omega arith
@@ -50,15 +49,6 @@ tally_more es e t =
     (λ i. tally (counted_one is_read es e t i) (counted_one is_write es e t i) (counted_one by_lock es e t i) (counted_one by_import es e t i) (counted_one by_export es e t i))
     ∙ one_more (count_of is_read es t) (count_of is_write es t) (count_of by_lock es t) (count_of by_import es t) (count_of by_export es t) (is_key (txn_in e) t) e.reply
 
--- no count is above the number of entries
-pub few : (p : Reply → Bool) (es : List Entry) (t : ℕ) → count_of p es t ≤ length es
-few p es t = count_by-le-length (λ (e : Entry). is_key (txn_in e) t && p e.reply) es
-
--- the tallies where an entry is of no transaction that there is
-pub not_counted : (es : List Entry) (e : Entry) (tallies : List Tally) → ((t : ℕ) → t < length tallies → is_key (txn_in e) t ≡ false) → AreTallies es tallies → AreTallies (es ++ e ∷ []) tallies
-not_counted es e tallies other are t l d =
-    are t l d ∙ sym (tally_more es e t ∙ ap (λ (b : Bool). if b then with_answer (tally_of es t) e.reply else tally_of es t) (other t l))
-
 -- the tallies where it is of transaction n
 pub is_counted : (es : List Entry) (e : Entry) (tallies : List Tally) (n : ℕ) (d : Tally) → n < length tallies → txn_in e ≡ Some n → AreTallies es tallies
     → AreTallies (es ++ e ∷ []) (set tallies n (with_answer (get_or tallies n d) e.reply))
@@ -79,22 +69,3 @@ is_counted es e tallies n d within is are t l f =
     ∙ (are t low f
     ∙ sym (tally_more es e t ∙ ap (λ (b : Bool). if b then with_answer (tally_of es t) e.reply else tally_of es t) key)))
     (cases_eq t n)
-
--- there is room for one more of each
-countable : (es : List Entry) (t : ℕ) → length es + 1 < 2 ^ 64 → IsCountable (tally_of es t)
-countable es t l = record {
-  reads = let n : count_of is_read es t ≤ length es = few is_read es t in omega (arith, n, l);
-  writes = let n : count_of is_write es t ≤ length es = few is_write es t in omega (arith, n, l);
-  by_lock = let n : count_of by_lock es t ≤ length es = few by_lock es t in omega (arith, n, l);
-  by_import = let n : count_of by_import es t ≤ length es = few by_import es t in omega (arith, n, l);
-  by_export = let n : count_of by_export es t ≤ length es = few by_export es t in omega (arith, n, l);
-}
-
-pub all_countable : (es : List Entry) (tallies : List Tally) → AreTallies es tallies → length es + 1 < 2 ^ 64 → All IsCountable tallies
-all_countable es tallies are l k d within = subst IsCountable (sym (are k within d)) (countable es k l)
-
--- the tallies of no entries
-pub none_counted : (n : ℕ) (x : Tally) → x ≡ tally_of [] 0 → AreTallies [] (replicate n x)
-none_counted n x is t l d =
-    let long : length (replicate n x) ≡ n = length-replicate n x in
-    get_or-replicate n t x d (omega (arith, long, l)) ∙ is

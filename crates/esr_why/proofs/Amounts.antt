@@ -8,9 +8,9 @@ use Rattle.std.proofs.lemmas.List.Sums.{sum_by-cons}
 use Rattle.esr_base.specs.declared.numbers.ItemId.{ItemId}
 use Rattle.esr_base.specs.declared.numbers.TxnId.{TxnId}
 use Rattle.esr_history.specs.declared.event.Event.TheVariants.{Read, Write}
-use Rattle.esr_history.specs.Events.{numbers, is_query, is_update, current_value, committed_value}
+use Rattle.esr_history.specs.Events.{is_query, is_update, current_value, committed_value}
 use Rattle.esr_history.specs.ItemLocks.{item_locks}
-use Rattle.esr_history.specs.Machine.{Distance, Schedule, Charge, done, distance_in, due_in, writer, charge_of_read, charge_of_write, total}
+use Rattle.esr_history.specs.Machine.{Distance, Schedule, Charge, done, distance_in, due_in, writer, charge_of_read, total}
 use Rattle.esr_locks.specs.declared.lists.QueryReads.{QueryReads}
 use Rattle.esr_locks.specs.Rows.{query_and_count}
 use Rattle.esr_core.specs.States.{charges_to}
@@ -55,9 +55,6 @@ module _ (d : Distance) (h : Schedule) where
       ap (λ b. if b then charge_of_read (distance_in d h) h.opening (done h) q.0 x.0 (writer (done h) x.0) else []) query
       ∙ ap (charge_of_read (distance_in d h) h.opening (done h) q.0 x.0) found
 
-  pub read_none : (q : TxnId) (x : ItemId) → is_query (done h) q.0 ≡ true → writer (done h) x.0 ≡ None → [] ≡ shortfalls d h (Read q x)
-  read_none q x query found = sym (ap (shortfalls_of d h) (due_of_read q x None query found))
-
   pub read_some : (q : TxnId) (x : ItemId) (u : ℕ) → is_query (done h) q.0 ≡ true → writer (done h) x.0 ≡ Some u
       → listed (import_lack d h q.0 (d h.weights x.0 (current_value h.opening (done h) x.0) (committed_value h.opening (done h) x.0)))
       ++ listed (export_lack d h u (d h.weights x.0 (current_value h.opening (done h) x.0) (committed_value h.opening (done h) x.0))) ≡ shortfalls d h (Read q x)
@@ -96,9 +93,3 @@ module _ (d : Distance) (h : Schedule) where
       several u.0 (each x v) rs some
       ∙ (ap (λ (qs : List (ℕ × ℕ)). shortfalls_of d h (charges_by u.0 (charges_to (each x v) qs))) is
       ∙ sym (ap (shortfalls_of d h) (due_of_write u x v update)))
-
-  pub nothing_due_read : (q : TxnId) (x : ItemId) → is_query (done h) q.0 ≡ false → [] ≡ shortfalls d h (Read q x)
-  nothing_due_read q x isnt = sym (ap (λ b. shortfalls_of d h (if b then charge_of_read (distance_in d h) h.opening (done h) q.0 x.0 (writer (done h) x.0) else [])) isnt)
-
-  pub nothing_due_write : (u : TxnId) (x : ItemId) (v : ℤ) → is_update (done h) u.0 ≡ false → [] ≡ shortfalls d h (Write u x v)
-  nothing_due_write u x v isnt = sym (ap (λ b. shortfalls_of d h (if b then filter_map (charge_of_write (distance_in d h) h.opening (done h) u.0 x.0 v) (numbers (done h)) else [])) isnt)

@@ -4,6 +4,5 @@
 mod Current
 mod Noting
 mod Places
-mod Blocked
 mod Amounts
 mod Waiting

@@ -1,28 +1,27 @@
 -- What is noted of an accepted event keeps the locks and the last values those of the history.
-use Rattle.std.proofs.Common.{◌≡◌, ℕ, zero, suc, ℤ, ◌<◌, ◌≤◌, List, [], ◌∷◌, ◌++◌, length, Bool, true, false, not, ◌&&◌, ◌==◌, refl, sym, ◌∙◌, ap, subst, arith, inl, inr, Option, None, Some, if◌then◌else◌, get_or, set, pos, map, All, unwrap_or, option_map, append-nil, w64, FitsSigned, IfOk, Result, Ok, Err, is_err, get_or-set_other, get_or-set_same}
+use Rattle.std.proofs.Common.{◌≡◌, ℕ, zero, suc, ℤ, ◌<◌, ◌≤◌, List, [], ◌∷◌, ◌++◌, length, Bool, true, false, ◌&&◌, ◌==◌, refl, sym, ◌∙◌, ap, subst, arith, inl, inr, Option, None, Some, if◌then◌else◌, get_or, pos, map, All, append-nil, w64, FitsSigned, IfOk, Result, Ok, Err, is_err, get_or-set_other, get_or-set_same}
 use Rattle.std.proofs.Math.ListN.{length-set}
 use Rattle.std.specs.List.{filter_map, cons_option, range_with_len}
-use Rattle.std.proofs.lemmas.Bool.{cases_lt, cases_eq, eq-eqb, ne_eqb, false≢true, false_from_ne_true}
+use Rattle.std.proofs.lemmas.Bool.{cases_lt, cases_eq, eq-eqb, ne_eqb}
 use Rattle.std.proofs.lemmas.Bool.Decides.{nat_tests}
 use Rattle.std.proofs.lemmas.Int.{ints}
 use Rattle.std.proofs.lemmas.List.Elements.{All-get_or}
 use Rattle.std.proofs.lemmas.Option.{same_Some, slice_get-get_or}
 use Rattle.std.proofs.lemmas.List.FromFn.{length-map-range_with_len, get_or-map-range_with_len}
 use Rattle.esr_items.specs.Weights.{weighted}
-use Rattle.esr_items.specs.Values.{value_at, IsValue, is_value, both_versions}
+use Rattle.esr_items.specs.Values.{value_at, IsValue, both_versions}
 use Rattle.esr_items.specs.declared.store.Versions.{Versions}
 use Rattle.esr_history.specs.declared.event.Event.{Event}
 use Rattle.esr_history.specs.declared.event.Event.TheVariants.{BeginUpdate, BeginQuery, Read, Write, Commit, Abort}
 use Rattle.esr_history.specs.declared.event.Reply.{Reply}
 use Rattle.esr_history.specs.declared.event.Refusal.{Refusal}
-use Rattle.esr_history.specs.declared.event.Reply.TheVariants.{Refused, Value, Begun, Wrote, Committed, Aborted}
 use Rattle.esr_history.specs.declared.event.Refusal.TheVariants.{NoSuchItem, ValueOutOfRange}
-use Rattle.esr_history.specs.Events.{written, last_value, last_written, is_begun, is_active, is_query, is_update, committed_value, current_value, is_refusal, all_reads_of}
+use Rattle.esr_history.specs.Events.{written, last_value, last_written, is_active, is_query, committed_value, current_value, is_refusal}
 use Rattle.esr_history.specs.ItemLocks.{ItemLocks, item_locks, locks_of}
 use Rattle.esr_history.specs.Machine.{Distance, Schedule, done, extended, refusal, reasons, reply_to, answered, acceptance}
 use Rattle.esr_history.specs.Orderly.{IsOrderly}
 use Rattle.esr_history.proofs.Allowed.{none_applies, read_allowed, write_allowed}
-use Rattle.esr_history.proofs.Lawful.{when_none, not_ended, update_from, done-refused, done-accepted, acceptance_accepts, follows}
+use Rattle.esr_history.proofs.Lawful.{when_none, update_from, done-accepted, acceptance_accepts, follows}
 use Rattle.esr_history.proofs.Lists.{filter_map_push, last_value_push}
 use Rattle.esr_history.proofs.Orderly.{active_parts, IsOrderly-push}
 use Rattle.esr_locks.specs.Tables.{locks_at}
@@ -156,16 +155,6 @@ module _ (d : Distance) (h : Schedule) (o : IsOrderly (done h)) where
 
 -- ---- what stands beside the machine
 
-pub beside_refused : (h : Schedule) (e : Event) (why : Refusal) (locks : List ItemLocks) (values : List ℤ) → IsBeside h locks values → IsBeside (extended h e (Refused why)) locks values
-beside_refused h e why locks values b =
-    let same = done-refused h e why in
-    record {
-      locked = b.locked ∙ ap (λ (es : List Event). locks_of es (length h.opening)) (sym same);
-      count = b.count;
-      last = λ x l. b.last x l ∙ ap (λ (es : List Event). last_written (λ t. true) h.opening es x) (sym same);
-      range = b.range;
-    }
-
 pub beside_accepted : (d : Distance) (h : Schedule) → IsOrderly (done h) → (e : Event) (r : Reply) (locks : List ItemLocks) (values : List ℤ) → refusal d h e ≡ None → is_refusal r ≡ false → IsBeside h locks values
     → IsBeside (extended h e r) (noted (is_query_read h e) e locks) (values_noted e values)
 beside_accepted d h o e r locks values none ok b =
@@ -216,14 +205,6 @@ stepped h new e (Err x) ok is added = cc
 
 pub accepted_reply : (d : Distance) (h : Schedule) (e : Event) → refusal d h e ≡ None → is_refusal (reply_to d h e) ≡ false
 accepted_reply d h e none = ap (λ (w : Option Refusal). is_refusal (answered w (acceptance h e))) none ∙ acceptance_accepts h e
-
-pub beside_refusal : (h : Schedule) (e : Event) (r : Reply) (locks : List ItemLocks) (values : List ℤ) → is_refusal r ≡ true → IsBeside h locks values → IsBeside (extended h e r) locks values
-beside_refusal h e (Refused why) locks values is b = beside_refused h e why locks values b
-beside_refusal h e (Value v) locks values is b = absurd (false≢true is)
-beside_refusal h e (Begun t) locks values is b = absurd (false≢true is)
-beside_refusal h e Wrote locks values is b = absurd (false≢true is)
-beside_refusal h e Committed locks values is b = absurd (false≢true is)
-beside_refusal h e Aborted locks values is b = absurd (false≢true is)
 
 -- what stands for a missing element does not matter where there is one
 pub get_or_either : {X : Type 0} (xs : List X) (i : ℕ) (d e : X) → i < length xs → get_or xs i d ≡ get_or xs i e

@@ -1,9 +1,7 @@
 -- What a blocked event would have added to limits that it would have passed.
-use Rattle.std.specs.Prelude.{◌≡◌, ℕ, ◌+◌, List, [], ◌∷◌, ◌++◌, Bool, true, false, Option, Some, None, nat_lt, if◌then◌else◌}
+use Rattle.std.specs.Prelude.{ℕ, ◌+◌, List, [], ◌∷◌, ◌++◌, Option, Some, None, nat_lt, if◌then◌else◌}
 use Rattle.std.specs.List.{filter_map}
 use Rattle.esr_history.specs.declared.event.Event.{Event}
-use Rattle.esr_history.specs.declared.event.Refusal.{Refusal}
-use Rattle.esr_history.specs.declared.event.Refusal.TheVariants.{BlockedByLock, BlockedByImport, BlockedByExport}
 use Rattle.esr_history.specs.Events.{limit_of}
 use Rattle.esr_history.specs.Machine.{Distance, Schedule, Charge, done, due_in, charges_in, import_in, export_in, total}
 use Rattle.esr_why.specs.declared.shortfall.Side.{Side}
@@ -48,10 +46,3 @@ shortfalls_of d h cs = filter_map (λ c. import_lack d h c.query c.amount) cs ++
 -- what an event that comes after a history lacks for the charges that are due
 abbrev pub shortfalls : Distance → Schedule → Event → List Shortfall
 shortfalls d h e = shortfalls_of d h (due_in d h e)
-
--- a refusal for a lock or a limit
-abbrev pub is_blocked : Refusal → Bool
-is_blocked (BlockedByLock u) = true
-is_blocked (BlockedByImport q) = true
-is_blocked (BlockedByExport u) = true
-is_blocked _ = false
