@@ -6,7 +6,7 @@ ghost use Rattle.esr_history.specs.Machine.{done};
 ghost use Rattle.esr_c.specs.Answers.{IsAccount, account_fields, standing_number};
 
 use crate::engine::Status;
-use esr_engine::{Account, Engine, Standing};
+use esr_engine::{Account, Engine, Kind, Standing};
 use esr_history::TxnId;
 
 /// An account: whether it is a query's, how it stands (0 while active, else 4 committed or 5 aborted), its limit, and
@@ -35,7 +35,7 @@ fn fields(account: Account) -> EsrAccount
     ensures { result ≡ account_fields account }
 {
     EsrAccount {
-        query: account.kind.is_query(),
+        query: matches!(account.kind, Kind::Query),
         standing: standing_number(account.standing),
         limit: account.limit,
         charged: account.charged,

@@ -276,9 +276,6 @@ picked : (p : Text × List Text) → bytes_eq p.0 help ≡ false → (subs : Lis
 picked p other [] serves there none = absurd (true≢false (sym there))
 picked p other (s ∷ rest) serves there none = go (answers_to p.0 (label_of s)) refl there none (picked p other rest serves.1)
   where
-    later : Option Shape
-    later = find (λ s. answers_to p.0 (label_of s)) rest
-
     go : (b : Bool) → answers_to p.0 (label_of s) ≡ b → is_some (option_map (λ s. rows_at s p.1) (cond b (Some s) (find (λ s. answers_to p.0 (label_of s)) rest))) ≡ true
         → option_map_or (λ s. level_fault s [] nothing_held p.1 false []) (cond b (Some s) (find (λ s. answers_to p.0 (label_of s)) rest)) [] ≡ []
         → (is_some (option_map (λ s. rows_at s p.1) (find (λ s. answers_to p.0 (label_of s)) rest)) ≡ true
