@@ -6,6 +6,7 @@ use Rattle.std.proofs.lemmas.Str.{IsUtf8-from_ascii}
 use Rattle.std.proofs.lemmas.Bool.{cases_Bool, or_cases, and_parts}
 use Rattle.std.proofs.lemmas.Option.{cond_some}
 use Rattle.std.specs.List.{position, position_or_len, onto_first, list_all}
+use Rattle.esr_line.proofs.Bytes.{name_bytes}
 use Rattle.esr_line.specs.Command.{is_letter, is_name_byte, is_name, is_between, words_of, is_blank, one_of, totals_command}
 
 pub chosen_none : (v : Bool) (n : ℕ) → cond v (Some n) None ≡ None → v ≡ false
@@ -49,13 +50,8 @@ all_small [] e i = omega arith
 all_small (b ∷ bs) e zero = name_byte_small b (and_parts _ _ e).0
 all_small (b ∷ bs) e (suc i) = all_small bs (and_parts _ _ e).1 i
 
-name_ascii : (word : List ℕ) → is_name word ≡ true → (i : ℕ) → get_or word i 0 < 128
-name_ascii [] e i = omega arith
-name_ascii (b ∷ bs) e zero = letter_small b (and_parts _ _ e).0
-name_ascii (b ∷ bs) e (suc i) = all_small bs (and_parts _ _ (and_parts _ _ e).1).1 i
-
 pub name_utf8 : (word : List ℕ) → is_name word ≡ true → IsUtf8 word
-name_utf8 word e = IsUtf8-from_ascii word (name_ascii word e)
+name_utf8 word e = IsUtf8-from_ascii word (all_small word (name_bytes word e))
 
 -- ---- how many words
 

@@ -5,4 +5,5 @@ pub mod Prefix
 pub mod Cutting
 pub mod Blanks
 pub mod Laws
+pub mod Bytes
 pub mod Spelling

@@ -1,59 +1,39 @@
 -- What a line spells, and what is read from it.
-use Rattle.std.proofs.Common.{◌≡◌, ℕ, suc, ◌<◌, ◌^◌, ℤ, pos, negsuc, nat_abs, List, [], ◌∷◌, inl, inr, ◌⊎◌, Bool, true, false, not, ◌&&◌, cond, refl, ◌∙◌, ap, subst, arith, nat_eq, Some, None, Option, option_map, option_and_then, codes, decimal, eqb-true}
-use Rattle.std.specs.List.{AllByRecursion, join_with_byte, list_all}
+use Rattle.std.proofs.Common.{◌≡◌, ℕ, ◌<◌, ◌^◌, ℤ, nat_abs, List, [], ◌∷◌, inl, inr, ◌⊎◌, true, false, not, ◌&&◌, cond, refl, ◌∙◌, ap, subst, arith, nat_eq, Some, None, Option, option_map, option_and_then, codes, decimal}
+use Rattle.std.specs.List.{AllByRecursion, join_with_byte}
 use Rattle.std.specs.Option.{option_or}
-use Rattle.std.specs.Str.{bytes_eq, all_ascii_digits}
-use Rattle.std.specs.Char.{is_ascii_digit}
+use Rattle.std.specs.Str.{bytes_eq}
 use Rattle.std.specs.Fmt.{signed_decimal}
 use Rattle.std.proofs.lemmas.List.Elements.{All-nil, All-cons}
 use Rattle.std.proofs.lemmas.List.Splits.{join_with_byte-slice_split}
 use Rattle.std.proofs.lemmas.Slice.Eq.{bytes_eq-Decides}
-use Rattle.esr_line.specs.Command.{Command, item, weighted_item, begin_update, begin_query, begin_strict_query, read, write, commit, abort, audit, totals, words, is_letter, is_name_byte, is_name, IsName, IsLimit, IsCommand, Spells, IsPlainWord, words_of, name_of, limit_in, int_of, one_of, two_of, three_of, four_of, both, plain_item_command, weighted_item_command, item_command, plain_begin_command, strict_query_command, begin_command, read_command, write_command, one_name_of, totals_command, command_of, command_by, reading}
-use Rattle.std.proofs.lemmas.Bool.{cases_Bool, and_parts}
-use Rattle.esr_line.proofs.Laws.{and_then_some, map_some, split_join, number_again, number_found, all_digits, int_again, int_found}
+use Rattle.esr_line.specs.Command.{Command, item, weighted_item, begin_update, begin_query, begin_strict_query, read, write, commit, abort, audit, totals, words, is_name, IsName, IsLimit, IsCommand, Spells, IsPlainWord, words_of, name_of, limit_in, int_of, one_of, two_of, three_of, four_of, both, plain_item_command, weighted_item_command, item_command, plain_begin_command, strict_query_command, begin_command, read_command, write_command, one_name_of, totals_command, command_of, command_by, reading}
+use Rattle.std.proofs.lemmas.Bool.{cases_Bool, and_parts, not-true}
+use Rattle.esr_line.proofs.Bytes.{lacks, name_lacks, number_lacks, int_lacks}
+use Rattle.esr_line.proofs.Laws.{and_then_some, map_some, split_join, number_again, number_found, int_again, int_found}
 use Rattle.std.proofs.lemmas.Grind.{common_steps}
 
 -- ---- words without blanks
 
-unlike : (p : ℕ → Bool) → p 32 ≡ false → (b : ℕ) → p b ≡ true → nat_eq b 32 ≡ false
-unlike p not_blank b holds = grind (arith, cases_Bool (nat_eq b 32), nat_eq b 32, eqb-true)
+plain : (bs : List ℕ) → lacks 32 bs ≡ true → IsPlainWord bs
+plain [] h = All-nil (λ b. nat_eq b 32 ≡ false)
+plain (b ∷ bs) h =
+    let parts = and_parts (not (nat_eq b 32)) (lacks 32 bs) h in
+    All-cons (λ b. nat_eq b 32 ≡ false) b bs (not-true (nat_eq b 32) parts.0) (plain bs parts.1)
 
-plain_list : (p : ℕ → Bool) → p 32 ≡ false → (bs : List ℕ) → list_all p bs ≡ true → IsPlainWord bs
-plain_list p not_blank [] h = All-nil (λ b. nat_eq b 32 ≡ false)
-plain_list p not_blank (b ∷ bs) h =
-    let parts = and_parts (p b) (list_all p bs) h in
-    All-cons (λ b. nat_eq b 32 ≡ false) b bs (unlike p not_blank b parts.0) (plain_list p not_blank bs parts.1)
-
-plain_text : (bs : List ℕ) → list_all (λ b. not (nat_eq b 32)) bs ≡ true → IsPlainWord bs
-plain_text bs h = plain_list (λ b. not (nat_eq b 32)) refl bs h
-
-plain_digits : (bs : List ℕ) → all_ascii_digits bs ≡ true → IsPlainWord bs
-plain_digits [] h = All-nil (λ b. nat_eq b 32 ≡ false)
-plain_digits (b ∷ bs) h =
-    let parts = and_parts (is_ascii_digit b) (all_ascii_digits bs) h in
-    All-cons (λ b. nat_eq b 32 ≡ false) b bs (unlike is_ascii_digit refl b parts.0) (plain_digits bs parts.1)
-
-plain_name : (name : List ℕ) → is_name name ≡ true → IsPlainWord name
-plain_name [] h = All-nil (λ b. nat_eq b 32 ≡ false)
-plain_name (b ∷ bs) h =
-    let parts = and_parts _ _ h in
-    let more = and_parts _ _ parts.1 in
-    All-cons (λ b. nat_eq b 32 ≡ false) b bs (unlike is_letter refl b parts.0) (plain_list is_name_byte refl bs more.1)
+plain_name : (name : List ℕ) → IsName name → IsPlainWord name
+plain_name name h = plain name (name_lacks 32 refl name h)
 
 plain_number : (n : ℕ) → n < 10 ^ 19 → IsPlainWord (decimal n)
-plain_number n small = plain_digits (decimal n) (all_digits n small)
+plain_number n small = plain (decimal n) (number_lacks 32 refl n small)
 
 plain_int : (v : ℤ) → nat_abs v < 10 ^ 18 → IsPlainWord (signed_decimal v)
-plain_int (pos n) small = plain_number n (omega arith)
-plain_int (negsuc n) small = All-cons (λ b. nat_eq b 32 ≡ false) 45 (decimal (suc n)) refl (plain_number (suc n) (omega arith))
+plain_int v small = plain (signed_decimal v) (int_lacks 32 refl refl v small)
 
 -- ---- a spelled command is read
 
 named : (name : List ℕ) → IsName name → name_of name ≡ Some name
 named name h = rw h refl
-
-word : (name : List ℕ) → IsName name → IsPlainWord name
-word name h = plain_name name h
 
 found : (line k : List ℕ) (ws : List (List ℕ)) (c : Command) → line ≡ join_with_byte 32 (k ∷ ws) → IsPlainWord k → AllByRecursion IsPlainWord ws
     → command_of k ws ≡ Some c → reading line ≡ Some c
@@ -61,31 +41,31 @@ found line k ws c is first rest e = ap reading is ∙ ap command_by (split_join 
 
 pub spelled : (line : List ℕ) (c : Command) → Spells line c → reading line ≡ Some c
 spelled line (item n v) h =
-    found line (codes "item") (n ∷ signed_decimal v ∷ []) (item n v) h.1 (plain_text (codes "item") refl) (word n h.0.0, (plain_int v h.0.1, tt))
+    found line (codes "item") (n ∷ signed_decimal v ∷ []) (item n v) h.1 (plain (codes "item") refl) (plain_name n h.0.0, (plain_int v h.0.1, tt))
     (rw (named n h.0.0, int_again v h.0.1) refl)
 spelled line (weighted_item n v w) h =
-    found line (codes "item") (n ∷ signed_decimal v ∷ codes "weight" ∷ decimal w ∷ []) (weighted_item n v w) h.1 (plain_text (codes "item") refl)
-    (word n h.0.0, (plain_int v h.0.1, (plain_text (codes "weight") refl, (plain_number w h.0.2, tt))))
+    found line (codes "item") (n ∷ signed_decimal v ∷ codes "weight" ∷ decimal w ∷ []) (weighted_item n v w) h.1 (plain (codes "item") refl)
+    (plain_name n h.0.0, (plain_int v h.0.1, (plain (codes "weight") refl, (plain_number w h.0.2, tt))))
     (rw (named n h.0.0, int_again v h.0.1, number_again (10 ^ 19) w (omega arith) h.0.2) refl)
 spelled line (begin_update n l) h =
-    found line (codes "begin") (n ∷ codes "update" ∷ decimal l ∷ []) (begin_update n l) h.1 (plain_text (codes "begin") refl)
-    (word n h.0.0, (plain_text (codes "update") refl, (plain_number l h.0.1, tt))) (rw (named n h.0.0, number_again (10 ^ 19) l (omega arith) h.0.1) refl)
+    found line (codes "begin") (n ∷ codes "update" ∷ decimal l ∷ []) (begin_update n l) h.1 (plain (codes "begin") refl)
+    (plain_name n h.0.0, (plain (codes "update") refl, (plain_number l h.0.1, tt))) (rw (named n h.0.0, number_again (10 ^ 19) l (omega arith) h.0.1) refl)
 spelled line (begin_query n l) h =
-    found line (codes "begin") (n ∷ codes "query" ∷ decimal l ∷ []) (begin_query n l) h.1 (plain_text (codes "begin") refl)
-    (word n h.0.0, (plain_text (codes "query") refl, (plain_number l h.0.1, tt))) (rw (named n h.0.0, number_again (10 ^ 19) l (omega arith) h.0.1) refl)
+    found line (codes "begin") (n ∷ codes "query" ∷ decimal l ∷ []) (begin_query n l) h.1 (plain (codes "begin") refl)
+    (plain_name n h.0.0, (plain (codes "query") refl, (plain_number l h.0.1, tt))) (rw (named n h.0.0, number_again (10 ^ 19) l (omega arith) h.0.1) refl)
 spelled line (begin_strict_query n l) h =
-    found line (codes "begin") (n ∷ codes "query" ∷ decimal l ∷ codes "strict" ∷ []) (begin_strict_query n l) h.1 (plain_text (codes "begin") refl)
-    (word n h.0.0, (plain_text (codes "query") refl, (plain_number l h.0.1, (plain_text (codes "strict") refl, tt))))
+    found line (codes "begin") (n ∷ codes "query" ∷ decimal l ∷ codes "strict" ∷ []) (begin_strict_query n l) h.1 (plain (codes "begin") refl)
+    (plain_name n h.0.0, (plain (codes "query") refl, (plain_number l h.0.1, (plain (codes "strict") refl, tt))))
     (rw (named n h.0.0, number_again (10 ^ 19) l (omega arith) h.0.1) refl)
 spelled line (read t x) h =
-    found line (codes "read") (t ∷ x ∷ []) (read t x) h.1 (plain_text (codes "read") refl) (word t h.0.0, (word x h.0.1, tt)) (rw (named t h.0.0, named x h.0.1) refl)
+    found line (codes "read") (t ∷ x ∷ []) (read t x) h.1 (plain (codes "read") refl) (plain_name t h.0.0, (plain_name x h.0.1, tt)) (rw (named t h.0.0, named x h.0.1) refl)
 spelled line (write t x v) h =
-    found line (codes "write") (t ∷ x ∷ signed_decimal v ∷ []) (write t x v) h.1 (plain_text (codes "write") refl)
-    (word t h.0.0, (word x h.0.1, (plain_int v h.0.2, tt))) (rw (named t h.0.0, named x h.0.1, int_again v h.0.2) refl)
-spelled line (commit t) h = found line (codes "commit") (t ∷ []) (commit t) h.1 (plain_text (codes "commit") refl) (word t h.0, tt) (rw (named t h.0) refl)
-spelled line (abort t) h = found line (codes "abort") (t ∷ []) (abort t) h.1 (plain_text (codes "abort") refl) (word t h.0, tt) (rw (named t h.0) refl)
-spelled line (audit t) h = found line (codes "audit") (t ∷ []) (audit t) h.1 (plain_text (codes "audit") refl) (word t h.0, tt) (rw (named t h.0) refl)
-spelled line totals h = found line (codes "totals") [] totals h.1 (plain_text (codes "totals") refl) tt refl
+    found line (codes "write") (t ∷ x ∷ signed_decimal v ∷ []) (write t x v) h.1 (plain (codes "write") refl)
+    (plain_name t h.0.0, (plain_name x h.0.1, (plain_int v h.0.2, tt))) (rw (named t h.0.0, named x h.0.1, int_again v h.0.2) refl)
+spelled line (commit t) h = found line (codes "commit") (t ∷ []) (commit t) h.1 (plain (codes "commit") refl) (plain_name t h.0, tt) (rw (named t h.0) refl)
+spelled line (abort t) h = found line (codes "abort") (t ∷ []) (abort t) h.1 (plain (codes "abort") refl) (plain_name t h.0, tt) (rw (named t h.0) refl)
+spelled line (audit t) h = found line (codes "audit") (t ∷ []) (audit t) h.1 (plain (codes "audit") refl) (plain_name t h.0, tt) (rw (named t h.0) refl)
+spelled line totals h = found line (codes "totals") [] totals h.1 (plain (codes "totals") refl) tt refl
 
 -- ---- what is read is spelled
 

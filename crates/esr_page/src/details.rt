@@ -6,7 +6,7 @@ use crate::rows::{Row, Rows};
 use esr_audit::{AuditError, Finding, audit_query};
 use esr_history::TxnId;
 use esr_report::name_of_transaction;
-use esr_story::{Audited, Part, Story, story_of};
+use esr_story::{Audited, Part, story_of};
 use esr_telling::Chronicle;
 use esr_text::{first, push_number};
 use std::alloc::{AllocError, Global};
@@ -66,20 +66,6 @@ fn push_heading(out: &mut String, name: &str, distance: u64) -> Result<(), Alloc
 }
 
 impl<P: Part, W: Part> Page<'_, P, W> {
-    /// Picture and words of a query of which the history tells this.
-    fn push_parts(
-        &self,
-        alloc: Global,
-        out: &mut String,
-        audited: &Audited<'_>,
-        lines: &[u32],
-        story: &Story,
-    ) -> Result<(), AllocError> {
-        self.picture.push(alloc, out, audited, lines, story)?;
-        out.push_str("</div>\n")?;
-        self.words.push(alloc, out, audited, lines, story)
-    }
-
     /// Picture and words of a query, within its section.
     fn push(
         &self,
@@ -89,7 +75,9 @@ impl<P: Part, W: Part> Page<'_, P, W> {
         lines: &[u32],
     ) -> Result<(), AllocError> {
         let story = story_of(alloc, audited.history, audited.finding.query)?;
-        self.push_parts(alloc, out, audited, lines, &story)
+        self.picture.push(alloc, out, audited, lines, &story)?;
+        out.push_str("</div>\n")?;
+        self.words.push(alloc, out, audited, lines, &story)
     }
 
     /// A query with picture and words.

@@ -175,29 +175,26 @@ module _ (items transactions : List (List ℕ)) (h : Schedule) (names : AreNames
         ap length (filter_map-append beginning_of (done before) (e ∷ []) ∙ ap (λ o. beginnings (done before) ++ cons_option o []) is)
         ∙ length-append (beginnings (done before)) (b ∷ [])
 
+    -- a begin that is kept was given the next number, whose name is spelled, and its limit is in range
+    begun_kept : (e : Event) (b : _) (limit : ℕ) (r : Reply) → beginning_of e ≡ Some b
+        → r ≡ answered (first_reason (when (nat_lt 1000000000000000000 limit) LimitOutOfRange ∷ when (nat_le 65535 (length (beginnings (done before)))) TooManyTransactions ∷ [])) (Begun (record { 0 = length (beginnings (done before)) + 1 }))
+        → is_kept r ≡ true → length (beginnings (done (extended before e r))) ≤ length (beginnings (done h))
+        → (r ≡ Begun (record { 0 = length (beginnings (done before)) + 1 })) × (IsName (name_of_transaction transactions (length (beginnings (done before)) + 1)) × (limit < 10 ^ 19))
+    begun_kept e b limit r begins_so is stays few =
+        let low = passed (nat_lt 1000000000000000000 limit) LimitOutOfRange _ _ refl (ap is_kept (sym is) ∙ stays) in
+        let room = passed (nat_le 65535 (length (beginnings (done before)))) TooManyTransactions _ _ refl low.1 in
+        let begun = is ∙ none_left _ _ LimitOutOfRange TooManyTransactions _ low.0 room.0 in
+        let name = new_name e r (length (beginnings (done before))) begun refl (begins e b begins_so) few in
+        (begun, (name, omega (arith, ltb-false 1000000000000000000 limit low.0)))
+
     asks : (e : Event) (r : Reply) → r ≡ reply_to weighted before e → is_kept r ≡ true
         → length (beginnings (done (extended before e r))) ≤ length (beginnings (done h)) → Asks e r
     asks (BeginUpdate limit) r is stays few =
-        let a = passed (nat_lt 1000000000000000000 limit) LimitOutOfRange _ _ refl (ap is_kept (sym is) ∙ stays) in
-        let b = passed (nat_le 65535 (length (beginnings (done before)))) TooManyTransactions _ _ refl a.1 in
-        let n = length (beginnings (done before)) in
-        let begun : r ≡ Begun (record { 0 = n + 1 }) = is ∙ none_left _ _ LimitOutOfRange TooManyTransactions _ a.0 b.0 in
-        let name = new_name (BeginUpdate limit) r n begun refl (begins (BeginUpdate limit) _ refl) few in
-        rw begun ((name, omega (arith, ltb-false 1000000000000000000 limit a.0)), refl)
+        let kept = begun_kept (BeginUpdate limit) _ limit r refl is stays few in rw kept.0 (kept.1, refl)
     asks (BeginQuery limit true) r is stays few =
-        let a = passed (nat_lt 1000000000000000000 limit) LimitOutOfRange _ _ refl (ap is_kept (sym is) ∙ stays) in
-        let b = passed (nat_le 65535 (length (beginnings (done before)))) TooManyTransactions _ _ refl a.1 in
-        let n = length (beginnings (done before)) in
-        let begun : r ≡ Begun (record { 0 = n + 1 }) = is ∙ none_left _ _ LimitOutOfRange TooManyTransactions _ a.0 b.0 in
-        let name = new_name (BeginQuery limit true) r n begun refl (begins (BeginQuery limit true) _ refl) few in
-        rw begun ((name, omega (arith, ltb-false 1000000000000000000 limit a.0)), refl)
+        let kept = begun_kept (BeginQuery limit true) _ limit r refl is stays few in rw kept.0 (kept.1, refl)
     asks (BeginQuery limit false) r is stays few =
-        let a = passed (nat_lt 1000000000000000000 limit) LimitOutOfRange _ _ refl (ap is_kept (sym is) ∙ stays) in
-        let b = passed (nat_le 65535 (length (beginnings (done before)))) TooManyTransactions _ _ refl a.1 in
-        let n = length (beginnings (done before)) in
-        let begun : r ≡ Begun (record { 0 = n + 1 }) = is ∙ none_left _ _ LimitOutOfRange TooManyTransactions _ a.0 b.0 in
-        let name = new_name (BeginQuery limit false) r n begun refl (begins (BeginQuery limit false) _ refl) few in
-        rw begun ((name, omega (arith, ltb-false 1000000000000000000 limit a.0)), refl)
+        let kept = begun_kept (BeginQuery limit false) _ limit r refl is stays few in rw kept.0 (kept.1, refl)
     asks (Read t x) r is stays few =
         let a = passed (not (is_begun (done before) t.0)) NoSuchTransaction _ _ refl (ap is_kept (sym is) ∙ stays) in
         let b = passed (not (is_active (done before) t.0)) AlreadyEnded _ _ refl a.1 in

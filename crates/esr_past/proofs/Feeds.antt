@@ -1,15 +1,13 @@
 -- A spelled command is one line, and stands for what it spells.
-use Rattle.std.proofs.Common.{◌≡◌, ℕ, suc, ◌+◌, ◌<◌, ◌^◌, ℤ, pos, negsuc, nat_abs, List, [], ◌∷◌, ◌++◌, Bool, true, false, not, ◌&&◌, nat_eq, Option, Some, None, option_and_then, inl, inr, refl, ◌∙◌, ap, sym, arith, length, codes, decimal, eqb-true, append_assoc}
+use Rattle.std.proofs.Common.{◌≡◌, ℕ, ◌+◌, ◌<◌, ◌^◌, ℤ, nat_abs, List, [], ◌∷◌, ◌++◌, Bool, true, not, ◌&&◌, nat_eq, Option, Some, None, option_and_then, refl, ◌∙◌, ap, arith, length, codes, decimal, append_assoc}
 use Rattle.std.specs.List.{AllByRecursion, cons_option, filter_map, join_with_byte, list_all}
-use Rattle.std.specs.Str.{all_ascii_digits}
-use Rattle.std.specs.Char.{is_ascii_digit}
 use Rattle.std.specs.Fmt.{signed_decimal}
-use Rattle.std.proofs.lemmas.Bool.{true≢false, and_parts, cases_Bool, not_from_false, not-true}
+use Rattle.std.proofs.lemmas.Bool.{and_parts, not-true}
 use Rattle.std.proofs.lemmas.List.Folds.{list_all-append}
-use Rattle.esr_line.specs.Command.{Command, item, weighted_item, begin_update, begin_query, begin_strict_query, read, write, commit, abort, audit, totals, words, spelling, is_letter, is_name_byte, is_name, IsName, IsCommand, reading}
+use Rattle.esr_line.specs.Command.{Command, item, weighted_item, begin_update, begin_query, begin_strict_query, read, write, commit, abort, audit, totals, words, spelling, is_name, IsName, IsCommand, reading}
 use Rattle.esr_line.specs.Lines.{lines, line_len}
 use Rattle.esr_line.proofs.Cutting.{lines-line}
-use Rattle.esr_line.proofs.Laws.{all_digits}
+use Rattle.esr_line.proofs.Bytes.{int_lacks, name_lacks, number_lacks}
 use Rattle.esr_line.proofs.Spelling.{spelled}
 use Rattle.esr_past.specs.Again.{found_in}
 use Rattle.esr_past.specs.Lines.{line_of}
@@ -17,37 +15,14 @@ use Rattle.esr_past.specs.Lines.{line_of}
 abbrev no_feed : ℕ → Bool
 no_feed b = not (nat_eq b 10)
 
-unlike : (p : ℕ → Bool) → p 10 ≡ false → (b : ℕ) → p b ≡ true → no_feed b ≡ true
-unlike p none b holds = elim (cases_Bool (nat_eq b 10)) [
-  | inl same ↦ absurd (true≢false (sym holds ∙ (ap p (eqb-true b 10 same) ∙ none)))
-  | inr apart ↦ not_from_false (nat_eq b 10) apart
-]
-
-each : (p : ℕ → Bool) → p 10 ≡ false → (bs : List ℕ) → list_all p bs ≡ true → list_all no_feed bs ≡ true
-each p none [] h = refl
-each p none (b ∷ bs) h =
-    let parts = and_parts (p b) (list_all p bs) h in
-    rw (unlike p none b parts.0, each p none bs parts.1) refl
-
-digits : (bs : List ℕ) → all_ascii_digits bs ≡ true → list_all no_feed bs ≡ true
-digits [] h = refl
-digits (b ∷ bs) h =
-    let parts = and_parts (is_ascii_digit b) (all_ascii_digits bs) h in
-    rw (unlike is_ascii_digit refl b parts.0, digits bs parts.1) refl
-
 name_line : (name : List ℕ) → IsName name → list_all no_feed name ≡ true
-name_line [] h = refl
-name_line (b ∷ bs) h =
-    let parts = and_parts _ _ h in
-    let more = and_parts _ _ parts.1 in
-    rw (unlike is_letter refl b parts.0, each is_name_byte refl bs more.1) refl
+name_line name h = name_lacks 10 refl name h
 
 number_line : (n : ℕ) → n < 10 ^ 19 → list_all no_feed (decimal n) ≡ true
-number_line n small = digits (decimal n) (all_digits n small)
+number_line n small = number_lacks 10 refl n small
 
 int_line : (v : ℤ) → nat_abs v < 10 ^ 18 → list_all no_feed (signed_decimal v) ≡ true
-int_line (pos n) small = number_line n (omega arith)
-int_line (negsuc n) small = number_line (suc n) (omega arith)
+int_line v small = int_lacks 10 refl refl v small
 
 joined : (ws : List (List ℕ)) → AllByRecursion (λ w. list_all no_feed w ≡ true) ws → list_all no_feed (join_with_byte 32 ws) ≡ true
 joined [] all = refl

@@ -1,10 +1,8 @@
 -- Names that are spelled: each is a name of a line, and there is one for each item and each transaction.
-use Rattle.std.proofs.Common.{◌≡◌, ℕ, zero, suc, ◌+◌, ◌<◌, ◌≤◌, ◌^◌, List, [], ◌∷◌, ◌++◌, Bool, true, false, ◌&&◌, ◌||◌, not, cond, nat_eq, nat_le, Option, Some, None, inl, inr, refl, ◌∙◌, ap, ap₂, sym, subst, arith, All, length, map, filter, codes, decimal, slice_index_or}
+use Rattle.std.proofs.Common.{◌≡◌, ℕ, zero, suc, ◌+◌, ◌<◌, ◌≤◌, ◌^◌, List, [], ◌∷◌, ◌++◌, Bool, true, false, ◌&&◌, not, cond, nat_le, Option, Some, None, inl, inr, refl, ◌∙◌, ap, ap₂, sym, subst, arith, All, length, map, filter, codes, decimal, slice_index_or}
 use Rattle.std.specs.Borrow.{Bor}
 use Rattle.std.specs.List.{list_all, range_with_len, cons_option}
-use Rattle.std.specs.Str.{all_ascii_digits}
-use Rattle.std.specs.Char.{is_ascii_digit}
-use Rattle.std.proofs.lemmas.Bool.{true≢false, and_parts, cases_Bool}
+use Rattle.std.proofs.lemmas.Bool.{and_parts, cases_Bool}
 use Rattle.std.proofs.lemmas.Bool.Decides.{nat_tests}
 use Rattle.std.proofs.lemmas.Fmt.{length-decimal-le}
 use Rattle.std.proofs.lemmas.List.{length-map, map-append}
@@ -13,28 +11,12 @@ use Rattle.esr_history.specs.Events.{accepted, beginning_of, beginnings, is_refu
 use Rattle.esr_history.specs.Machine.{Schedule, done}
 use Rattle.esr_history.specs.declared.event.Entry.{Entry}
 use Rattle.esr_history.specs.declared.event.Event.{Event}
-use Rattle.esr_line.specs.Command.{is_between, is_letter, is_name, is_name_byte, IsName}
+use Rattle.esr_line.specs.Command.{is_letter, is_name, is_name_byte, IsName}
+use Rattle.esr_line.proofs.Bytes.{digit_bytes}
 use Rattle.esr_line.proofs.Laws.{all_digits}
 use Rattle.esr_report.specs.Names.{all_distinct}
 use Rattle.esr_past.specs.Again.{AreNames, GivesAgain, IsPast}
 use Rattle.esr_past.specs.Naming.{numbered, all_numbered, are_names, first_names, named, spelled}
-
-or_right : (a c : Bool) → c ≡ true → (a || c) ≡ true
-or_right true c h = refl
-or_right false c h = h
-
-or_left : (a c : Bool) → a ≡ true → (a || c) ≡ true
-or_left true c h = refl
-or_left false c h = absurd (true≢false (sym h))
-
-digit_byte : (b : ℕ) → is_ascii_digit b ≡ true → is_name_byte b ≡ true
-digit_byte b is = or_right (is_letter b) (is_between 48 57 b || nat_eq b 95) (or_left (is_between 48 57 b) (nat_eq b 95) is)
-
-digit_bytes : (bs : List ℕ) → all_ascii_digits bs ≡ true → list_all is_name_byte bs ≡ true
-digit_bytes [] h = refl
-digit_bytes (b ∷ bs) h =
-    let parts = and_parts (is_ascii_digit b) (all_ascii_digits bs) h in
-    rw (digit_byte b parts.0, digit_bytes bs parts.1) refl
 
 at_most : (m n : ℕ) → m ≤ n → nat_le m n ≡ true
 at_most m n le = grind (arith, nat_tests)

@@ -121,46 +121,35 @@ fn push_sum(out: &mut String, joint: &str, name: &str, amount: u64) -> Result<()
     push_number(out, amount)
 }
 
-/// Sums of items.
-fn push_item_sums(out: &mut String, tale: &Tale<'_>, sums: &[Sum]) -> Result<(), AllocError> {
-    let mut joint = " ";
-    for sum in first(sums, MOST_NAMES) {
-        push_sum(out, joint, tale.item(ItemId(sum.number)), sum.amount)?;
-        joint = ", ";
-    }
-    push_rest(out, sums.len())
+/// What charges are added up by.
+#[derive(Clone, Copy)]
+enum By {
+    Item,
+    Update,
 }
 
-/// Sums of updates.
-fn push_update_sums(out: &mut String, tale: &Tale<'_>, sums: &[Sum]) -> Result<(), AllocError> {
-    let mut joint = " ";
-    for sum in first(sums, MOST_NAMES) {
-        push_sum(out, joint, tale.name(TxnId(sum.number)), sum.amount)?;
-        joint = ", ";
-    }
-    push_rest(out, sums.len())
-}
-
-/// The sums by item.
-fn push_by_item(
+/// Sums of charges, most first, each with its name.
+fn push_sums_by(
     alloc: Global,
     out: &mut String,
     tale: &Tale<'_>,
     story: &Story,
+    by: By,
 ) -> Result<(), AllocError> {
-    let sums = story.sums_by_item(alloc)?;
-    push_item_sums(out, tale, &sums)
-}
-
-/// The sums by update.
-fn push_by_update(
-    alloc: Global,
-    out: &mut String,
-    tale: &Tale<'_>,
-    story: &Story,
-) -> Result<(), AllocError> {
-    let sums = story.sums_by_update(alloc)?;
-    push_update_sums(out, tale, &sums)
+    let sums = match by {
+        By::Item => story.sums_by_item(alloc)?,
+        By::Update => story.sums_by_update(alloc)?,
+    };
+    let mut joint = " ";
+    for sum in first(&sums, MOST_NAMES) {
+        let name = match by {
+            By::Item => tale.item(ItemId(sum.number)),
+            By::Update => tale.name(TxnId(sum.number)),
+        };
+        push_sum(out, joint, name, sum.amount)?;
+        joint = ", ";
+    }
+    push_rest(out, sums.len())
 }
 
 /// The sums by item and by update.
@@ -171,9 +160,9 @@ fn push_sums(
     story: &Story,
 ) -> Result<(), AllocError> {
     out.push_str("By item:")?;
-    push_by_item(alloc, out, tale, story)?;
+    push_sums_by(alloc, out, tale, story, By::Item)?;
     out.push_str(". By update:")?;
-    push_by_update(alloc, out, tale, story)?;
+    push_sums_by(alloc, out, tale, story, By::Update)?;
     out.push('.')
 }
 

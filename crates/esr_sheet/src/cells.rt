@@ -24,23 +24,23 @@ pub enum Cell {
     Last,
 }
 
-/// All of them, each with the name of its field.
-pub const CELLS: [(Cell, &str); 15] = [
-    (Cell::Number, "number"),
-    (Cell::Name, "name"),
-    (Cell::Kind, "kind"),
-    (Cell::Limit, "limit"),
-    (Cell::Charged, "charged"),
-    (Cell::Left, "left"),
-    (Cell::Reads, "reads"),
-    (Cell::Writes, "writes"),
-    (Cell::ByLock, "blocked_by_lock"),
-    (Cell::ByImport, "blocked_by_import"),
-    (Cell::ByExport, "blocked_by_export"),
-    (Cell::End, "end"),
-    (Cell::Distance, "distance"),
-    (Cell::First, "first_line"),
-    (Cell::Last, "last_line"),
+/// All of them, each with the name of its field and the head of its column.
+pub const CELLS: [(Cell, &str, &str); 15] = [
+    (Cell::Number, "number", "number"),
+    (Cell::Name, "name", "name"),
+    (Cell::Kind, "kind", "kind"),
+    (Cell::Limit, "limit", "limit"),
+    (Cell::Charged, "charged", "charged"),
+    (Cell::Left, "left", "left"),
+    (Cell::Reads, "reads", "reads"),
+    (Cell::Writes, "writes", "writes"),
+    (Cell::ByLock, "blocked_by_lock", "lock"),
+    (Cell::ByImport, "blocked_by_import", "import"),
+    (Cell::ByExport, "blocked_by_export", "export"),
+    (Cell::End, "end", "end"),
+    (Cell::Distance, "distance", "distance"),
+    (Cell::First, "first_line", "from"),
+    (Cell::Last, "last_line", "to"),
 ];
 
 /// What is in a cell.

@@ -24,7 +24,7 @@ fn push_content(out: &mut String, content: Content<'_>) -> Result<(), AllocError
 /// Appends the object of a row, with its name and lines.
 fn push_row(out: &mut String, name: &str, row: &Row, span: Span) -> Result<(), AllocError> {
     let mut before = "{";
-    for (cell, field) in CELLS.iter() {
+    for (cell, field, _) in CELLS.iter() {
         out.push_str(before)?;
         push_word(out, field)?;
         out.push_str(":")?;

@@ -3,7 +3,7 @@
 
 ghost use Rattle.esr_sheet.specs.Entries.{AreColumns};
 
-use crate::cells::{Cell, Content, content_of};
+use crate::cells::{CELLS, Cell, Content, content_of};
 use crate::rows::{Columns, Row, row_behind};
 use crate::spans::{Span, Spans};
 use crate::words::push_number;
@@ -11,25 +11,6 @@ use esr_history::History;
 use esr_items::Weighted;
 use esr_report::{Names, name_of_transaction};
 use std::alloc::{AllocError, Global};
-
-/// The columns, with their heads. Those of what blocked stand below the words "blocked by".
-const COLUMNS: [(Cell, &str); 15] = [
-    (Cell::Number, "number"),
-    (Cell::Name, "name"),
-    (Cell::Kind, "kind"),
-    (Cell::Limit, "limit"),
-    (Cell::Charged, "charged"),
-    (Cell::Left, "left"),
-    (Cell::Reads, "reads"),
-    (Cell::Writes, "writes"),
-    (Cell::ByLock, "lock"),
-    (Cell::ByImport, "import"),
-    (Cell::ByExport, "export"),
-    (Cell::End, "end"),
-    (Cell::Distance, "distance"),
-    (Cell::First, "from"),
-    (Cell::Last, "to"),
-];
 
 /// Whether the words of a column stand on its left.
 fn is_of_words(cell: Cell) -> bool {
@@ -59,7 +40,7 @@ impl Widths {
     /// Widens the columns to their heads.
     fn of_heads() -> Widths {
         let mut widths = Widths([0; 15]);
-        for (width, (_, head)) in widths.0.iter_mut().zip(COLUMNS.iter()) {
+        for (width, (_, _, head)) in widths.0.iter_mut().zip(CELLS.iter()) {
             *width = head.len();
         }
         widths
@@ -67,7 +48,7 @@ impl Widths {
 
     /// Widens the columns to the cells of a row.
     fn widen(&mut self, name: &str, row: &Row, span: Span) {
-        for (width, (cell, _)) in self.0.iter_mut().zip(COLUMNS.iter()) {
+        for (width, (cell, _, _)) in self.0.iter_mut().zip(CELLS.iter()) {
             *width = (*width).max(width_of(content_of(*cell, name, row, span)));
         }
     }
@@ -103,17 +84,17 @@ fn push_cell(
     Ok(())
 }
 
-/// Appends the heads.
+/// Appends the heads. Those of what blocked stand below the words "blocked by".
 fn push_heads(out: &mut String, widths: &Widths) -> Result<(), AllocError> {
     let mut before = 0usize;
-    for (width, (cell, _)) in widths.0.iter().zip(COLUMNS.iter()) {
+    for (width, (cell, _, _)) in widths.0.iter().zip(CELLS.iter()) {
         if *cell == Cell::ByLock {
             push_blanks(out, before)?;
             out.push_str("blocked by\n")?;
         }
         before = before.saturating_add(*width).saturating_add(2);
     }
-    for (width, (cell, head)) in widths.0.iter().zip(COLUMNS.iter()) {
+    for (width, (cell, _, head)) in widths.0.iter().zip(CELLS.iter()) {
         if *cell != Cell::Number {
             out.push_str("  ")?;
         }
@@ -130,7 +111,7 @@ fn push_row(
     row: &Row,
     span: Span,
 ) -> Result<(), AllocError> {
-    for (width, (cell, _)) in widths.0.iter().zip(COLUMNS.iter()) {
+    for (width, (cell, _, _)) in widths.0.iter().zip(CELLS.iter()) {
         if *cell != Cell::Number {
             out.push_str("  ")?;
         }

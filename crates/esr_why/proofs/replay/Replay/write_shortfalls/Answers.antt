@@ -1,7 +1,7 @@
 -- Why `Replay::write_shortfalls` keeps its contract: the goals that are left to a proof of ours.
 use Rattle.std.proofs.Common.{◌≡◌, ◌∙◌, ◌++◌, ◌*◌, ◌≤◌, [], List, ℕ, ℤ, Option, ap, ap₂, sym, subst, map, filter_map, sum_by, w64, to_z, of_z}
 use Rattle.std.proofs.lemmas.Int.{to_z-of_z}
-use Rattle.esr_items.specs.Values.{largest_distance}
+use Rattle.esr_items.specs.Values.{IsValue, largest_distance}
 use Rattle.esr_items.specs.Weights.{weighted, weighted-bounded}
 use Rattle.esr_history.specs.Events.{current_value}
 use Rattle.esr_history.specs.ItemLocks.{item_locks}
@@ -20,19 +20,19 @@ returns-then-is_empty c =
     sym c.query_reads-reads.ensures.reads ∙ ap (map query_and_count) (no_elements c.query_reads-reads.result.now (sym c.is_empty.ensures ∙ c.if-is_empty.true)) in
     c.new-found.ensures.items ∙ write_none weighted h c.args.u c.args.x c.args.value c.requires.update none
 
+-- the distance of two values in range, as their bytes have them, is small
+small : (ws : List ℕ) (x : ℕ) (v w : ℤ) (n : ℕ) → n ≡ weighted ws x (to_z w64 (of_z w64 v)) (to_z w64 (of_z w64 w)) → IsValue v → IsValue w → n ≤ largest_distance
+small ws x v w n is fits fits_too =
+    let same = is ∙ ap₂ (weighted ws x) (to_z-of_z w64 v (value_fits v fits)) (to_z-of_z w64 w (value_fits w fits_too)) in
+    subst (λ k. k ≤ largest_distance) (sym same) (weighted-bounded ws x v w fits fits_too)
+
 pub push_imports-requires-clause-amount : goal.push_imports-requires-clause-amount
 push_imports-requires-clause-amount c =
-    let w = c.metric.result.now.0.now in let before = c.current-before.result in
-    let same : c.distance-amount.result ≡ weighted w c.args.x.0 c.args.value before =
-    c.distance-amount.ensures ∙ ap₂ (weighted w c.args.x.0) (to_z-of_z w64 c.args.value (value_fits c.args.value c.requires.value)) (to_z-of_z w64 before (value_fits before c.current-before.ensures.range)) in
-    subst (λ n. n ≤ largest_distance) (sym same) (weighted-bounded w c.args.x.0 c.args.value before c.requires.value c.current-before.ensures.range)
+    small c.metric.result.now.0.now c.args.x.0 c.args.value c.current-before.result c.distance-amount.result c.distance-amount.ensures c.requires.value c.current-before.ensures.range
 
 pub total-requires-clause-amount : goal.total-requires-clause-amount
 total-requires-clause-amount c =
-    let w = c.metric.result.now.0.now in let before = c.current-before.result in
-    let same : c.distance-amount.result ≡ weighted w c.args.x.0 c.args.value before =
-    c.distance-amount.ensures ∙ ap₂ (weighted w c.args.x.0) (to_z-of_z w64 c.args.value (value_fits c.args.value c.requires.value)) (to_z-of_z w64 before (value_fits before c.current-before.ensures.range)) in
-    subst (λ n. n ≤ largest_distance) (sym same) (weighted-bounded w c.args.x.0 c.args.value before c.requires.value c.current-before.ensures.range)
+    small c.metric.result.now.0.now c.args.x.0 c.args.value c.current-before.result c.distance-amount.result c.distance-amount.ensures c.requires.value c.current-before.ensures.range
 
 pub returns : goal.returns
 returns c =
