@@ -29,11 +29,19 @@ starts_below n (chain ∷ chains) zero l = omega (arith, starts_below (n + lengt
 starts_below n (chain ∷ chains) (suc k) l = starts_below (n + length chain.costs) chains k (omega arith)
 
 -- the arcs of the next of the code's chains begin where those of one end
-pub begin_next : (chains : List code.Chain) (k : ℕ) (chain : code.Chain) → k < length chains → chain ≡ get_or chains k chain → get_or (starts_from 0 (map chain_of chains)) k 0 + length chain.costs.items ≡ get_or (starts_from 0 (map chain_of chains)) (k + 1) 0
+begin_next : (chains : List code.Chain) (k : ℕ) (chain : code.Chain) → k < length chains → chain ≡ get_or chains k chain → get_or (starts_from 0 (map chain_of chains)) k 0 + length chain.costs.items ≡ get_or (starts_from 0 (map chain_of chains)) (k + 1) 0
 begin_next chains k chain inside is =
     let next : k + 1 ≡ suc k = omega arith in
     let here : get_or (map chain_of chains) k (chain_of chain) ≡ chain_of chain = get_or-map chain_of chains k chain (chain_of chain) inside ∙ ap chain_of (sym is) in
     omega (arith, starts_next 0 (map chain_of chains) k (chain_of chain) (omega (arith, length-map chains chain_of, inside)), ap (λ (c : Chain). length c.costs) here, ap (λ n. get_or (starts_from 0 (map chain_of chains)) n 0) next)
+
+-- a loop over the chains comes to the next one, whose arcs begin where those before it end
+module _ {arcs : List Arc} {source : ℕ} (chains : List code.Chain) {k begin : ℕ} {chain : code.Chain} (links : HaveLinks arcs source chains) (at : begin ≡ get_or (starts_from 0 (map chain_of chains)) k 0) (inside : k < length chains) (is : chain ≡ get_or chains k chain) where
+  pub links_here : HasLinks arcs source chain begin
+  links_here = subst (HasLinks arcs source chain) (sym at) (links k chain inside is)
+
+  pub links_after : (n : ℕ) → n ≡ length chain.costs.items → (begin + n ≡ get_or (starts_from 0 (map chain_of chains)) (k + 1) 0) × (begin + n ≤ length arcs)
+  links_after n count = (omega (arith, at, count, begin_next chains k chain inside is), omega (arith, links_here.inside, count))
 
 module _ (p : Problem) (sound : is_sound p ≡ true) where
   abbrev starts : List ℕ

@@ -1,12 +1,12 @@
 -- One step of each loop over a list.
-use Rattle.std.proofs.Common.{◌≡◌, ◌≢◌, ℕ, zero, suc, ◌+◌, ◌≤◌, ◌<◌, List, [], ◌∷◌, Bool, true, false, cond, ◌&&◌, ◌||◌, nat_lt, nat_le, refl, sym, ap, ◌∙◌, sum_by, arith, length, slice_index, get_or, drop, take, map}
+use Rattle.std.proofs.Common.{◌≡◌, ◌≢◌, ℕ, zero, suc, ◌+◌, ◌≤◌, ◌<◌, List, [], ◌∷◌, Bool, true, false, cond, ◌&&◌, ◌||◌, nat_lt, nat_le, refl, sym, ap, ◌∙◌, sum_by, arith, length, get_or, drop, take, map}
 use Rattle.std.proofs.lemmas.Bool.Decides.{nat_tests}
 use Rattle.std.proofs.lemmas.List.{drop_more, length-map, get_or-map}
 use Rattle.std.specs.List.{list_all, list_any}
 use Rattle.std.proofs.lemmas.List.Sums.{sum_by_more}
 use Rattle.std.proofs.lemmas.Bool.{or_left, or_right, or_from}
 use Rattle.esr_cert.specs.Parts.{is_row_within, are_rows_within}
-use Rattle.esr_cert.specs.Problem.{Chain, is_ascending, version, greatest, pair_lt, are_pairs_ascending, are_linked}
+use Rattle.esr_cert.specs.Problem.{Chain, is_ascending, version, pair_lt, are_pairs_ascending, are_linked}
 
 pub ascending_yes : (xs : List ℕ) (i j : ℕ) → j ≡ i + 1 → j < length xs → get_or xs i 0 < get_or xs j 0 → is_ascending (drop i xs) ≡ is_ascending (drop j xs)
 ascending_yes xs i j e h l =

@@ -3,6 +3,9 @@
 //! A first pass counts the steps of each node, and a second one puts each into its row, so nothing is sorted, and a row
 //! ascends by the numbers of its arcs. Before there was one set of rows the check had an index of its own and the
 //! solver laid out the steps: the same thing twice, and 17 MB beside 19 in the largest audits.
+//!
+//! `_arcs`, `_nodes` and `_begin` are read by clauses alone, and are no ghost values: one is picked from what a call passes
+//! besides, and that does not tell which arcs are meant.
 ghost use Rattle.std.specs.Prelude.{◌≡◌, ◌+◌, ◌<◌, ◌≤◌, length, set, sum, Contains, IfOk};
 ghost use Rattle.std.specs.List.Sorted.{IsNonDecreasingBy};
 ghost use Rattle.esr_cert.specs.Steps.{arc_of, order_of, step_at};
