@@ -72,6 +72,7 @@ pub fn answer_lines<R: Read, S: Sink, O: Observer>(
 
 /// Has the sink take what is answered, and then reads once. Gives the count of bytes that came: none at the end of the
 /// input.
+#[tactic(auto, using(crate::proofs::Handed::handed_on))]
 fn read_on<R: Read, S: Sink>(
     reader: &mut Watched<R>,
     sink: &mut S,
@@ -94,8 +95,6 @@ fn read_on<R: Read, S: Sink>(
     ensures reader { failed reader.new ≡ is_read_fault result }
     ensures sink { S.has_failed sink.new ≡ is_write_fault result }
 {
-    if let Err(fault) = sink.take(out) {
-        return Err(fault);
-    }
+    sink.take(out)?;
     pending.fill(reader)
 }
