@@ -61,6 +61,7 @@ fn answer<S: Sink, O: Observer>(
 }
 
 /// Answers the next line, and goes on after its line feed.
+#[tactic(auto, using(crate::proofs::Handed::handed_on))]
 pub fn answer_next<S: Sink, O: Observer>(
     next: Next,
     pending: &mut Pending,
@@ -86,20 +87,15 @@ pub fn answer_next<S: Sink, O: Observer>(
     ensures read { is_read_fault result ≡ false }
     ensures write { is_write_fault result ≡ false }
 {
-    let length = match next_length(next, count) {
-        Ok(length) => length,
-        Err(fault) => return Err(fault),
-    };
-    if let Err(fault) = answer(
+    let length = next_length(next, count)?;
+    answer(
         &pending.bytes()[..length],
         count,
         script,
         sink,
         out,
         observer,
-    ) {
-        return Err(fault);
-    }
+    )?;
     pending.skip(length + 1);
     Ok(())
 }
