@@ -1,6 +1,7 @@
 -- Why the loop over lines, with its buffer, its stages and its ends, writes what the definitions say. Only the
 -- bodies of this crate use them.
 
+pub mod Handed
 pub mod Steps
 mod Unread
 pub mod Held

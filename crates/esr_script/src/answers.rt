@@ -7,13 +7,13 @@ ghost use Rattle.std.specs.Prelude.{◌≡◌, ◌≢◌, ℕ, List, ◌+◌, �
 ghost use Rattle.std.specs.Io.KnownBytes.{IsAtEnd};
 ghost use Rattle.esr_script.specs.Replays.{IsReplay};
 ghost use Rattle.esr_line.specs.Lines.{line_len, IsNext};
-ghost use Rattle.esr_script.specs.Text.{Obeys, Leads, answer};
+ghost use Rattle.esr_script.specs.Text.{answer};
 ghost use Rattle.esr_script.specs.Parts.{Standing, IsAnswer, IsHeldRun, IsUnread, is_read_fault, is_write_fault};
 
 use crate::fault::RunFault;
 use crate::input::Pending;
 use crate::script::Script;
-use crate::sink::Sink;
+use crate::sink::{Audience, Sink};
 use esr_line::{MAX_LINES, Next};
 use esr_lint::Observer;
 
@@ -36,6 +36,7 @@ fn next_length(next: Next, count: u64) -> Result<usize, RunFault>
 }
 
 /// Answers a line that has so many before it, and lets the observer see it with its answer.
+#[inline(always)]
 fn answer<S: Sink, O: Observer>(
     line: &[u8],
     count: u64,
@@ -47,54 +48,20 @@ fn answer<S: Sink, O: Observer>(
     requires { count ≤ MAX_LINES }
     ensures { IsAnswer (S.contents sink.now) (answer script.old line.now) script.new out.old.items out.new.items result }
 {
-    if sink.is_read() {
-        answer_in_full(line, count, script, out, observer)
-    } else {
-        answer_unread(line, count, script, out, observer)
-    }
-}
-
-/// The same where the text is read.
-fn answer_in_full<O: Observer>(
-    line: &[u8],
-    count: u64,
-    script: &mut Script,
-    out: &mut Vec<u8>,
-    observer: &mut O,
-) -> Result<(), RunFault>
-    requires { count ≤ MAX_LINES }
-    ensures { Obeys (answer script.old line.now) script.new out.old.items out.new.items result }
-{
     let before = out.len();
-    if let Err(fault) = script.answer(line, out) {
-        return Err(fault);
-    }
-    observer.see_line(count + 1, line, out.get(before..).unwrap_or(&[]));
-    Ok(())
-}
-
-/// The same where nobody reads it: only the observer sees what was made of the answer.
-fn answer_unread<O: Observer>(
-    line: &[u8],
-    count: u64,
-    script: &mut Script,
-    out: &mut Vec<u8>,
-    observer: &mut O,
-) -> Result<(), RunFault>
-    requires { count ≤ MAX_LINES }
-    ensures answered { Leads (answer script.old line.now) script.new result }
-    ensures out { out.new.items ≡ [] }
-{
-    out.clear();
-    let ended = script.answer_unread(line, out);
+    let audience = sink.audience();
+    let ended = script.answer(line, audience, out);
     if ended.is_ok() {
-        observer.see_line(count + 1, line, out);
+        observer.see_line(count + 1, line, out.get(before..).unwrap_or(&[]));
     }
-    out.clear();
+    if let Audience::Nobody = audience {
+        out.clear();
+    }
     ended
 }
 
 /// Answers the next line, and goes on after its line feed.
+#[tactic(auto, using(crate::proofs::Handed::handed_on))]
 pub fn answer_next<S: Sink, O: Observer>(
     next: Next,
     pending: &mut Pending,
@@ -120,20 +87,15 @@ pub fn answer_next<S: Sink, O: Observer>(
     ensures read { is_read_fault result ≡ false }
     ensures write { is_write_fault result ≡ false }
 {
-    let length = match next_length(next, count) {
-        Ok(length) => length,
-        Err(fault) => return Err(fault),
-    };
-    if let Err(fault) = answer(
+    let length = next_length(next, count)?;
+    answer(
         &pending.bytes()[..length],
         count,
         script,
         sink,
         out,
         observer,
-    ) {
-        return Err(fault);
-    }
+    )?;
     pending.skip(length + 1);
     Ok(())
 }

@@ -21,6 +21,7 @@ use std::io::{Read, Write};
 use std::thread::Threads;
 
 /// The output.
+#[tactic(auto, using(crate::proofs::Handed::handed_on))]
 fn prepare<T: Threads + Sync, R: Read, G: Gate + Sync, O: Observer>(
     rt: &T,
     alloc: Global,
@@ -36,10 +37,8 @@ fn prepare<T: Threads + Sync, R: Read, G: Gate + Sync, O: Observer>(
     ensures reader { failed reader.new ≡ is_read_fault result }
     ensures write { is_write_fault result ≡ false }
 {
-    match replay(alloc, reader, observer) {
-        Ok(mut script) => script.audit_all(rt, workers, gate),
-        Err(fault) => Err(fault),
-    }
+    let mut script = replay(alloc, reader, observer)?;
+    script.audit_all(rt, workers, gate)
 }
 
 /// Runs a script without writing its output, audits its whole history by so many workers, 1 to 64, and writes the
@@ -49,6 +48,7 @@ fn prepare<T: Threads + Sync, R: Read, G: Gate + Sync, O: Observer>(
 /// # Errors
 /// `LineTooLong`, `HistoryFull` and `TooManyLines` where `run` would end so. After a fault other than `Write` nothing
 /// was written, after `Write` a prefix of the output. `NotACommittedQuery` never comes.
+#[tactic(auto, using(crate::proofs::Handed::handed_on))]
 pub fn audit<T: Threads + Sync, R: Read, W: Write, G: Gate + Sync, O: Observer>(
     rt: &T,
     alloc: Global,
@@ -64,9 +64,6 @@ pub fn audit<T: Threads + Sync, R: Read, W: Write, G: Gate + Sync, O: Observer>(
     ensures { ReadsAndWrites R.remaining W.contents reader.old reader.new writer.old writer.new
         IsAuditedBy result }
 {
-    let mut out = match prepare(rt, alloc, reader, workers, gate, observer) {
-        Ok(out) => out,
-        Err(fault) => return Err(fault),
-    };
+    let mut out = prepare(rt, alloc, reader, workers, gate, observer)?;
     send_all(&mut out, writer)
 }

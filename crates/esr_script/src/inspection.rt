@@ -14,6 +14,7 @@ use std::alloc::Global;
 use std::io::Read;
 
 /// Runs a script without writing its output, and lets the observer see each line, and then each transaction.
+#[tactic(auto, using(crate::proofs::Handed::handed_on))]
 pub fn lint<R: Read, O: Observer>(
     alloc: Global,
     reader: &mut Watched<R>,
@@ -24,11 +25,6 @@ pub fn lint<R: Read, O: Observer>(
         → IsReachedBy (λ _. ⊤) ⊥ input (R.remaining (inner reader.new)) result }
     ensures reader { failed reader.new ≡ is_read_fault result }
 {
-    match replay(alloc, reader, observer) {
-        Ok(script) => {
-            script.show_transactions(observer);
-            Ok(())
-        }
-        Err(fault) => Err(fault),
-    }
+    replay(alloc, reader, observer)?.show_transactions(observer);
+    Ok(())
 }

@@ -26,6 +26,7 @@ use std::io::Read;
 const OUTPUT_FULL: usize = 32768;
 
 /// Answers line after line. What is answered and not taken yet is in `out`.
+#[tactic(auto, using(crate::proofs::Handed::handed_on))]
 pub fn answer_lines<R: Read, S: Sink, O: Observer>(
     reader: &mut Watched<R>,
     sink: &mut S,
@@ -52,19 +53,15 @@ pub fn answer_lines<R: Read, S: Sink, O: Observer>(
     'lines: loop {
         let next = next_line(pending.bytes());
         if let Next::More = next {
-            match read_on(reader, sink, pending, out) {
-                Err(fault) => return Err(fault),
-                Ok(0) => return answer_last(pending, count, script, sink, out, observer),
-                Ok(_) => continue 'lines,
+            let came = read_on(reader, sink, pending, out)?;
+            if came == 0 {
+                return answer_last(pending, count, script, sink, out, observer);
             }
+            continue 'lines;
         }
-        if let Err(fault) = answer_next(next, pending, count, script, sink, out, observer) {
-            return Err(fault);
-        }
+        answer_next(next, pending, count, script, sink, out, observer)?;
         if out.len() >= OUTPUT_FULL {
-            if let Err(fault) = sink.take(out) {
-                return Err(fault);
-            }
+            sink.take(out)?;
         }
         count += 1;
     }
@@ -72,6 +69,7 @@ pub fn answer_lines<R: Read, S: Sink, O: Observer>(
 
 /// Has the sink take what is answered, and then reads once. Gives the count of bytes that came: none at the end of the
 /// input.
+#[tactic(auto, using(crate::proofs::Handed::handed_on))]
 fn read_on<R: Read, S: Sink>(
     reader: &mut Watched<R>,
     sink: &mut S,
@@ -94,8 +92,6 @@ fn read_on<R: Read, S: Sink>(
     ensures reader { failed reader.new ≡ is_read_fault result }
     ensures sink { S.has_failed sink.new ≡ is_write_fault result }
 {
-    if let Err(fault) = sink.take(out) {
-        return Err(fault);
-    }
+    sink.take(out)?;
     pending.fill(reader)
 }

@@ -20,6 +20,7 @@ use std::io::Read;
 /// # Errors
 /// `NotACommittedQuery` exactly where the run has no fault and the name is that of no committed query. `LineTooLong`,
 /// `HistoryFull` and `TooManyLines` where `run` would end so. `Write` never comes.
+#[tactic(auto, using(crate::proofs::Handed::handed_on))]
 pub fn ask<R: Read, O: Observer>(
     alloc: Global,
     reader: &mut Watched<R>,
@@ -32,8 +33,6 @@ pub fn ask<R: Read, O: Observer>(
     ensures reader { failed reader.new ≡ is_read_fault result }
     ensures write { is_write_fault result ≡ false }
 {
-    match replay(alloc, reader, observer) {
-        Ok(script) => script.tell_of(name, observer),
-        Err(fault) => Err(fault),
-    }
+    let script = replay(alloc, reader, observer)?;
+    script.tell_of(name, observer)
 }

@@ -31,6 +31,7 @@ fn text_or_fault(text: Result<Vec<u8>, AllocError>) -> Result<Vec<u8>, RunFault>
 }
 
 /// The text of what a script tells of its query of that name.
+#[tactic(auto, using(crate::proofs::Handed::handed_on))]
 fn telling_text<R: Read, T: Telling, O: Observer>(
     alloc: Global,
     reader: &mut Watched<R>,
@@ -46,10 +47,8 @@ fn telling_text<R: Read, T: Telling, O: Observer>(
     ensures reader { failed reader.new ≡ is_read_fault result }
     ensures write { is_write_fault result ≡ false }
 {
-    match ask(alloc, reader, name, observer) {
-        Ok(mut asked) => text_or_fault(telling.text_of(alloc, &mut asked)),
-        Err(fault) => Err(fault),
-    }
+    let mut asked = ask(alloc, reader, name, observer)?;
+    text_or_fault(telling.text_of(alloc, &mut asked))
 }
 
 /// Runs a script without writing its output, and writes the text of what it tells of its query of that name.
@@ -57,6 +56,7 @@ fn telling_text<R: Read, T: Telling, O: Observer>(
 /// # Errors
 /// As `ask` has them; `NoMemory` also where no text is made. After a fault other than `Write` nothing was written,
 /// after `Write` a prefix of the text.
+#[tactic(auto, using(crate::proofs::Handed::handed_on))]
 pub fn tell<R: Read, W: Write, T: Telling, O: Observer>(
     alloc: Global,
     reader: &mut Watched<R>,
@@ -70,9 +70,6 @@ pub fn tell<R: Read, W: Write, T: Telling, O: Observer>(
     ensures { ReadsAndWrites R.remaining W.contents reader.old reader.new writer.old writer.new
         (λ input. IsToldBy (T.IsTextOf telling.now (final input) name.now) input name.now) result }
 {
-    let mut text = match telling_text(alloc, reader, name, telling, observer) {
-        Ok(text) => text,
-        Err(fault) => return Err(fault),
-    };
+    let mut text = telling_text(alloc, reader, name, telling, observer)?;
     send_all(&mut text, writer)
 }

@@ -64,6 +64,7 @@ fn is_lost(ended: Result<(), RunFault>) -> bool
 }
 
 /// Sends the rest of the output of a run that ended so, unless the reader or the writer has failed.
+#[tactic(auto, using(crate::proofs::Handed::handed_on))]
 fn send_rest<W: Write>(
     ended: Result<(), RunFault>,
     out: &mut Vec<u8>,
@@ -80,8 +81,6 @@ fn send_rest<W: Write>(
     if is_lost(ended) {
         return ended;
     }
-    if let Err(fault) = send_all(out, writer) {
-        return Err(fault);
-    }
+    send_all(out, writer)?;
     ended
 }

@@ -18,6 +18,7 @@ ghost use Rattle.esr_line.specs.Command as command;
 
 use crate::book::push_audit;
 use crate::fault::RunFault;
+use crate::sink::Audience;
 use crate::stage::Stage;
 use esr_audit::{AuditError, Finding};
 use esr_board::Gate;
@@ -447,25 +448,25 @@ impl Script {
         }
     }
 
-    /// Answers a line whose text nobody reads, so that no query is audited for it.
-    pub fn answer_unread(&mut self, line: &[u8], out: &mut Vec<u8>) -> Result<(), RunFault>
-        ensures { Leads (answer self.old line.now) self.new result }
+    /// Answers a line at the end of the output. An error leaves the output as it was. For nobody no query is audited, and
+    /// what is put behind the output is promised by nothing.
+    #[tactic(auto, using(crate::proofs::Unread::obeyed))]
+    pub fn answer(
+        &mut self,
+        line: &[u8],
+        audience: Audience,
+        out: &mut Vec<u8>,
+    ) -> Result<(), RunFault>
+        ensures state { Leads (answer self.old line.now) self.new result }
+        ensures text { audience ≡ Audience.Somebody
+            → Obeys (answer self.old line.now) self.new out.old.items out.new.items result }
     {
         match parse_line(line) {
             Parsed::Skipped => Ok(()),
             Parsed::NotACommand => line_or_fault(error_line(out, LineError::NotACommand)),
-            Parsed::Command(Line::Audit { txn }) => self.pass_audit(txn, out),
-            Parsed::Command(line) => self.obey(line, out),
-        }
-    }
-
-    /// Answers a line at the end of the output. An error leaves the output as it was.
-    pub fn answer(&mut self, line: &[u8], out: &mut Vec<u8>) -> Result<(), RunFault>
-        ensures { Obeys (answer self.old line.now) self.new out.old.items out.new.items result }
-    {
-        match parse_line(line) {
-            Parsed::Skipped => Ok(()),
-            Parsed::NotACommand => line_or_fault(error_line(out, LineError::NotACommand)),
+            Parsed::Command(Line::Audit { txn }) if audience == Audience::Nobody => {
+                self.pass_audit(txn, out)
+            }
             Parsed::Command(line) => self.obey(line, out),
         }
     }

@@ -62,6 +62,7 @@ fn text_of<S: Survey>(
 }
 
 /// The text of a survey of a script.
+#[tactic(auto, using(crate::proofs::Handed::handed_on))]
 fn survey_text<R: Read, S: Survey, O: Observer>(
     alloc: Global,
     reader: &mut Watched<R>,
@@ -76,10 +77,8 @@ fn survey_text<R: Read, S: Survey, O: Observer>(
     ensures write { is_write_fault result ≡ false }
 {
     let mut numbering = Numbering::new(alloc, observer);
-    match replay(alloc, reader, &mut numbering) {
-        Ok(script) => text_of(alloc, script, numbering.lines(), survey),
-        Err(fault) => Err(fault),
-    }
+    let script = replay(alloc, reader, &mut numbering)?;
+    text_of(alloc, script, numbering.lines(), survey)
 }
 
 /// Runs a script without writing its output, and writes the text of a survey of it.
@@ -88,6 +87,7 @@ fn survey_text<R: Read, S: Survey, O: Observer>(
 /// `LineTooLong`, `HistoryFull` and `TooManyLines` where `run` would end so; `NotACommittedQuery` where the survey has
 /// nothing to tell; `NoMemory` also where no text is made. After a fault other than `Write` nothing was written, after
 /// `Write` a prefix of the text.
+#[tactic(auto, using(crate::proofs::Handed::handed_on))]
 pub fn survey<R: Read, W: Write, S: Survey, O: Observer>(
     alloc: Global,
     reader: &mut Watched<R>,
@@ -100,9 +100,6 @@ pub fn survey<R: Read, W: Write, S: Survey, O: Observer>(
     ensures { ReadsAndWrites R.remaining W.contents reader.old reader.new writer.old writer.new
         (λ input. IsSurveyedBy (S.IsTextOf survey.now (final input)) input) result }
 {
-    let mut text = match survey_text(alloc, reader, survey, observer) {
-        Ok(text) => text,
-        Err(fault) => return Err(fault),
-    };
+    let mut text = survey_text(alloc, reader, survey, observer)?;
     send_all(&mut text, writer)
 }

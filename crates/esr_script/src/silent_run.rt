@@ -18,6 +18,7 @@ use std::alloc::Global;
 use std::io::Read;
 
 /// What a run keeps after all lines of the input. Their output is dropped.
+#[tactic(auto, using(crate::proofs::Handed::handed_on))]
 pub fn replay<R: Read, O: Observer>(
     alloc: Global,
     reader: &mut Watched<R>,
@@ -43,8 +44,6 @@ pub fn replay<R: Read, O: Observer>(
         observer,
     );
     observer.see_end();
-    match ended {
-        Ok(()) => Ok(script),
-        Err(fault) => Err(fault),
-    }
+    ended?;
+    Ok(script)
 }

@@ -14,15 +14,22 @@ use crate::output::send_all;
 use esr_history::Watched;
 use std::io::Write;
 
+/// Who reads the text that a sink takes.
+#[derive(Clone, Copy, PartialEq)]
+pub enum Audience {
+    Somebody,
+    Nobody,
+}
+
 /// What takes the text of lines.
 pub trait Sink {
     ghost contents: { Self → Option (List ℕ) };
 
     ghost has_failed: { Self → Bool };
 
-    /// Whether anybody reads what it takes.
-    fn is_read(&self) -> bool
-        ensures { result ≡ false → contents self.now ≡ None };
+    /// Who reads what it takes.
+    fn audience(&self) -> Audience
+        ensures { result ≡ Audience.Nobody → contents self.now ≡ None };
 
     /// Takes what the buffer holds, and empties the buffer.
     fn take(&mut self, text: &mut Vec<u8>) -> Result<(), RunFault>
@@ -38,8 +45,8 @@ impl<W: Write> Sink for Watched<W> {
 
     ghost has_failed = { failed };
 
-    fn is_read(&self) -> bool {
-        true
+    fn audience(&self) -> Audience {
+        Audience::Somebody
     }
 
     fn take(&mut self, text: &mut Vec<u8>) -> Result<(), RunFault> {
@@ -56,8 +63,8 @@ impl Sink for Dropped {
 
     ghost has_failed = { λ _. false };
 
-    fn is_read(&self) -> bool {
-        false
+    fn audience(&self) -> Audience {
+        Audience::Nobody
     }
 
     fn take(&mut self, text: &mut Vec<u8>) -> Result<(), RunFault> {

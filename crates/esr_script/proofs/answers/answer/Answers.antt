@@ -2,9 +2,9 @@
 use Rattle.esr_script.proofs.Held.{answered_in_full, answered_unread}
 use Rattle.esr_script.proofs.answers.answer.Goals as goal
 
-pub returns-then-is_read : goal.returns-then-is_read
-returns-then-is_read g c = answered_in_full _ _ _ _ _ _ c.answer_in_full.ensures
+pub returns-in-Nobody : goal.returns-in-Nobody
+returns-in-Nobody g c =
+    answered_unread _ _ _ _ _ _ (c.audience-audience.ensures c.in-Nobody.is) c.answer-ended.ensures.state c.clear.ensures.items
 
-pub returns-else-is_read : goal.returns-else-is_read
-returns-else-is_read g c =
-    answered_unread _ _ _ _ _ _ (c.is_read.ensures c.if-is_read.false) c.answer_unread.ensures.answered c.answer_unread.ensures.out
+pub returns-in_default : goal.returns-in_default
+returns-in_default g c = answered_in_full _ _ _ _ _ _ (c.answer-ended.ensures.text c.in_default.is)

@@ -6,23 +6,24 @@ use Rattle.esr_line.specs.Lines.{line_len}
 use Rattle.esr_script.specs.Parts.{IsHeldRun}
 use Rattle.esr_script.proofs.Buffers.{same_bytes}
 use Rattle.esr_script.proofs.Steps.{advance}
+use Rattle.esr_script.proofs.Handed.{handed_on}
 use Rattle.esr_script.proofs.Held.{all_sent, all_grown, is_not_read, unread, held_read, held_write}
 use Rattle.esr_script.proofs.lines.answer_lines.Goals as goal
-use Rattle.esr_script.proofs.lines.answer_lines.Goals.{then-len-ge-OUTPUT_FULL+in_default-take, else-len-ge-OUTPUT_FULL}
+use Rattle.esr_script.proofs.lines.answer_lines.Goals.{then-len-ge-OUTPUT_FULL+in_ok-take, else-len-ge-OUTPUT_FULL}
 
-pub returns-in-Err-clause-text : goal.returns-in-Err-clause-text
-returns-in-Err-clause-text g c input known =
+pub returns-in_err-came-clause-text : goal.returns-in_err-came-clause-text
+returns-in_err-came-clause-text g c = rw (handed_on _ _ c.from_residual.ensures.1) λ input known.
     let inv = c.lines.invariant.text input known in
     let more = rw c.bytes.ensures at c.in-More.ensures in
-    elim c.in-Err.ensures.faults [
+    elim c.in_err-came.ensures.faults [
       | inl e ↦
-          let none = c.in-Err.ensures.read (ap (λ f. Err f) e) in
-          let sent = c.in-Err.ensures.sent (rw e refl) in
+          let none = c.in_err-came.ensures.read (ap (λ f. Err f) e) in
+          let sent = c.in_err-came.ensures.sent (rw e refl) in
           let here = all_sent _ (unread input _ _ _ _ _ _ _ inv.2 none.0 none.1) in
           let plain : line_len c.read_on.new.pending ≡ length c.read_on.new.pending = rw none.0 more.0 in
           (inv.0 ++ c.lines.out.items, Appends-trans _ _ _ _ _ inv.1 sent.1, rw (e, sent.0) (held_read input _ _ _ _ (inv.0 ++ c.lines.out.items) [] here plain))
       | inr e ↦
-          let part = c.in-Err.ensures.write (ap (λ f. Err f) e) in
+          let part = c.in_err-came.ensures.write (ap (λ f. Err f) e) in
           let other = g.R.Read.remaining (inner c.read_on.new.reader) in (
             inv.0 ++ part.0,
             Appends-trans _ _ _ _ _ inv.1 part.2,
@@ -30,104 +31,104 @@ returns-in-Err-clause-text g c input known =
           )
     ]
 
-pub returns-in-Ok-eq0-clause-text : goal.returns-in-Ok-eq0-clause-text
-returns-in-Ok-eq0-clause-text g c input known =
+pub returns-then-came-eq0-clause-text : goal.returns-then-came-eq0-clause-text
+returns-then-came-eq0-clause-text g c input known =
     let inv = c.lines.invariant.text input known in
     let more = rw c.bytes.ensures at c.in-More.ensures in
-    let came = c.in-Ok-eq0.ensures.ok in
-    let sent = c.in-Ok-eq0.ensures.sent refl in
+    let came = c.in_ok-came.ensures.ok in
+    let sent = c.in_ok-came.ensures.sent refl in
     let here = all_sent _ (advance input _ _ _ _ _ _ _ came.0 inv.2 came.2 came.3) in
-    let same : c.read_on.new.pending ≡ c.lines.pending = same_bytes _ _ came.0 _ came.1 c.in-Ok-eq0.field-0-test came.2 in
+    let same : c.read_on.new.pending ≡ c.lines.pending = same_bytes _ _ came.0 _ came.1 c.if-came-eq0.true came.2 in
     let plain : line_len c.read_on.new.pending ≡ length c.read_on.new.pending = rw same more.0 in
-    let held = c.answer_last.ensures.held input (inv.0 ++ c.lines.out.items) _ (rw sent.0 here) (came.4 c.in-Ok-eq0.field-0-test) plain in (
+    let held = c.answer_last.ensures.held input (inv.0 ++ c.lines.out.items) _ (rw sent.0 here) (came.4 c.if-came-eq0.true) plain in (
       (inv.0 ++ c.lines.out.items) ++ held.0,
       Appends-trans _ _ _ _ _ (Appends-trans _ _ _ _ _ inv.1 sent.1) held.1,
       held.2,
     )
 
-pub returns-in-Err-clause-replay : goal.returns-in-Err-clause-replay
-returns-in-Err-clause-replay g c kept input known = elim c.in-Err.ensures.faults [
+pub returns-in_err-came-clause-replay : goal.returns-in_err-came-clause-replay
+returns-in_err-came-clause-replay g c = rw (handed_on _ _ c.from_residual.ensures.1) λ kept input known. elim c.in_err-came.ensures.faults [
   | inl e ↦ rw e tt
   | inr e ↦ let lost = rw e at kept in absurd (cc)
 ]
 
-pub returns-in-Ok-eq0-clause-replay : goal.returns-in-Ok-eq0-clause-replay
-returns-in-Ok-eq0-clause-replay g c kept input known =
+pub returns-then-came-eq0-clause-replay : goal.returns-then-came-eq0-clause-replay
+returns-then-came-eq0-clause-replay g c kept input known =
     let inv = c.lines.invariant.text input known in
     let more = rw c.bytes.ensures at c.in-More.ensures in
-    let came = c.in-Ok-eq0.ensures.ok in
+    let came = c.in_ok-came.ensures.ok in
     let here = advance input _ _ _ _ _ _ _ came.0 inv.2 came.2 came.3 in
-    let same : c.read_on.new.pending ≡ c.lines.pending = same_bytes _ _ came.0 _ came.1 c.in-Ok-eq0.field-0-test came.2 in
+    let same : c.read_on.new.pending ≡ c.lines.pending = same_bytes _ _ came.0 _ came.1 c.if-came-eq0.true came.2 in
     let plain : line_len c.read_on.new.pending ≡ length c.read_on.new.pending = rw same more.0 in
-    c.answer_last.ensures.replay input _ _ here (came.4 c.in-Ok-eq0.field-0-test) plain
+    c.answer_last.ensures.replay input _ _ here (came.4 c.if-came-eq0.true) plain
 
-pub lines-preserved-in-Ok : goal.lines-preserved-in-Ok
-lines-preserved-in-Ok g c =
+pub lines-preserved-in-More : goal.lines-preserved-in-More
+lines-preserved-in-More g c =
     record {
       bound = c.lines.invariant.bound;
-      reader = c.in-Ok.ensures.reader;
-      sink = c.in-Ok.ensures.sink;
+      reader = c.in_ok-came.ensures.reader;
+      sink = c.in_ok-came.ensures.sink;
       text = λ input known.
           let inv = c.lines.invariant.text input known in
-          let came = c.in-Ok.ensures.ok in
-          let sent = c.in-Ok.ensures.sent refl in
+          let came = c.in_ok-came.ensures.ok in
+          let sent = c.in_ok-came.ensures.sent refl in
           let here = all_sent _ (advance input _ _ _ _ _ _ _ came.0 inv.2 came.2 came.3) in
           (inv.0 ++ c.lines.out.items, Appends-trans _ _ _ _ _ inv.1 sent.1, rw sent.0 here);
     }
 
-pub returns-in-Err-answer_next : goal.returns-in-Err-answer_next
-returns-in-Err-answer_next g c =
-    record {
+pub returns-in_err-answer_next : goal.returns-in_err-answer_next
+returns-in_err-answer_next g c =
+    rw (handed_on _ _ c.from_residual-in_err-answer_next.ensures.1) record {
       text = λ input known.
           let inv = c.lines.invariant.text input known in
-          let held = c.in-Err-answer_next.ensures.held input inv.0 _ inv.2 in
+          let held = c.in_err-answer_next.ensures.held input inv.0 _ inv.2 in
           (inv.0 ++ held.0, Appends-trans _ _ _ _ _ inv.1 held.1, held.2);
       replay = λ kept input known.
           let inv = c.lines.invariant.text input known in
-          c.in-Err-answer_next.ensures.replay input _ _ inv.2;
-      read = λ h. absurd (is_not_read _ c.in-Err-answer_next.ensures.read h);
-      reader = c.lines.invariant.reader ∙ sym c.in-Err-answer_next.ensures.read;
-      sink = c.lines.invariant.sink ∙ sym c.in-Err-answer_next.ensures.write;
+          c.in_err-answer_next.ensures.replay input _ _ inv.2;
+      read = λ h. absurd (is_not_read _ c.in_err-answer_next.ensures.read h);
+      reader = c.lines.invariant.reader ∙ sym c.in_err-answer_next.ensures.read;
+      sink = c.lines.invariant.sink ∙ sym c.in_err-answer_next.ensures.write;
     }
 
-pub returns-in-Err-take : goal.returns-in-Err-take
-returns-in-Err-take g c =
-    record {
+pub returns-in_err-take : goal.returns-in_err-take
+returns-in_err-take g c =
+    rw (handed_on _ _ c.from_residual-in_err-take.ensures.1) record {
       text = λ input known.
           let inv = c.lines.invariant.text input known in
-          let answered = c.in_default-answer_next.ensures.text in
+          let answered = c.in_ok-answer_next.ensures.text in
           let after = all_grown inv.0 _ answered.0 answered.1 _ answered.2 (answered.4 input _ _ inv.2) in
           let front = inv.0 ++ answered.1 in
-          let failed = c.in-Err-take.ensures.err in
+          let failed = c.in_err-take.ensures.err in
           let part = failed.1 in
           (front ++ part.0, Appends-trans _ _ _ _ _ (Appends-trans _ _ _ _ _ inv.1 answered.3) part.2, rw failed.0 (held_write input _ _ _ _ front _ after part.0 part.1 (g.R.Read.remaining (inner c.lines.reader)) c.take.new.text.items));
       replay = λ kept input known.
-          let is = c.in-Err-take.ensures.err.0 in
+          let is = c.in_err-take.ensures.err.0 in
           let lost = rw is at kept in
           absurd (cc);
-      read = λ h. let is = c.in-Err-take.ensures.err.0 in cc;
-      reader = let is = c.in-Err-take.ensures.err.0 in rw is c.lines.invariant.reader;
+      read = λ h. let is = c.in_err-take.ensures.err.0 in cc;
+      reader = let is = c.in_err-take.ensures.err.0 in rw is c.lines.invariant.reader;
       sink = search rules;
     }
 
 pub lines-preserved : goal.lines-preserved
 lines-preserved g c =
     record {
-      bound = omega (arith, c.lines.invariant.bound, c.in_default-answer_next.ensures.few);
+      bound = omega (arith, c.lines.invariant.bound, c.in_ok-answer_next.ensures.few);
       reader = c.lines.invariant.reader;
       sink = elim c.if-len-ge-OUTPUT_FULL.branch [
-        | then-len-ge-OUTPUT_FULL+in_default-take w ↦ rw w.sink-is (w.in_default-take.ensures.failed ∙ rw c.lines.invariant.sink refl)
+        | then-len-ge-OUTPUT_FULL+in_ok-take w ↦ rw w.sink-is (w.in_ok-take.ensures.failed ∙ rw c.lines.invariant.sink refl)
         | else-len-ge-OUTPUT_FULL w ↦ rw w.sink-is c.lines.invariant.sink
       ];
       text = λ input known.
           let inv = c.lines.invariant.text input known in
-          let answered = c.in_default-answer_next.ensures.text in
+          let answered = c.in_ok-answer_next.ensures.text in
           let after = all_grown inv.0 _ answered.0 answered.1 _ answered.2 (answered.4 input _ _ inv.2) in
           let front = inv.0 ++ answered.1 in
           let taken = Appends-trans _ _ _ _ _ inv.1 answered.3 in
           elim c.if-len-ge-OUTPUT_FULL.branch [
-            | then-len-ge-OUTPUT_FULL+in_default-take w ↦
-                let sent = w.in_default-take.ensures.ok in
+            | then-len-ge-OUTPUT_FULL+in_ok-take w ↦
+                let sent = w.in_ok-take.ensures.ok in
                 rw (w.sink-is, w.out-is) (front ++ c.answer_next.new.out.items, Appends-trans _ _ _ _ _ taken sent.1, rw sent.0 (all_sent _ after))
             | else-len-ge-OUTPUT_FULL w ↦ rw (w.sink-is, w.out-is) (front, taken, after)
           ];

@@ -1,0 +1,8 @@
+-- Why `Script::answer` keeps its contract: the goals that are left to a proof of ours.
+use Rattle.esr_script.proofs.Unread.{passed}
+use Rattle.esr_script.proofs.script.Script.answer.Goals as goal
+
+pub returns-in-Command-Audit-clause-state : goal.returns-in-Command-Audit-clause-state
+returns-in-Command-Audit-clause-state c =
+    let read = c.in-Command-Audit.ensures.read in
+    passed c.args.self.now c.pass_audit.new.self c.args.line.now read.0 c.in-Command-Audit.txn.now (rw c.in-Command-Audit.field-0-is at read.1) _ c.pass_audit.ensures.ok c.pass_audit.ensures.faults
