@@ -2,6 +2,7 @@
 -- history.
 
 pub mod Calling
+pub mod Pieced
 pub mod Tasks
 pub mod Texts
 pub mod Worked

@@ -4,3 +4,4 @@ pub mod Drive
 pub mod Runs
 pub mod Driven
 pub mod Faults
+pub mod Pieces

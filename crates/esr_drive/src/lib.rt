@@ -7,6 +7,7 @@
 mod blocks;
 mod findings;
 mod form;
+mod pieces;
 mod pipeline;
 mod run;
 mod threads;

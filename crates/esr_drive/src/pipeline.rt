@@ -19,14 +19,13 @@ ghost use Rattle.esr_plan.specs.Plan.{cut_fault, weights_of};
 use crate::blocks::{Driven, drive_blocks};
 use crate::findings::push_findings;
 use crate::form::Form;
+use crate::pieces::push_blocks;
 use esr_board::Gate;
 use esr_history::Watched;
 use esr_items::Store;
 use esr_lint::Observer;
 use esr_past::named_script;
-use esr_plan::{
-    DriveFault, Sheet, begun_names, metric_of, push_blocks, push_items, read_all, sheet_of,
-};
+use esr_plan::{DriveFault, Sheet, begun_names, metric_of, push_items, read_all, sheet_of};
 use esr_report::totals_line;
 use esr_session::LEDGER_PARTS;
 use std::alloc::{AllocError, Global};
@@ -200,7 +199,7 @@ fn answers_from<R: Threads + Sync>(
         sheet.values.as_slice(),
         sheet.weights.as_slice(),
     )?;
-    push_blocks(&mut out, &names, blocks, replies)?;
+    push_blocks(rt, alloc, &mut out, &names, blocks, replies)?;
     push_findings(rt, alloc, &mut out, &driven.history, &names, workers)?;
     totals_line(&mut out, totals.import, totals.export, totals.entries)?;
     Ok(out)

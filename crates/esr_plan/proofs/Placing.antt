@@ -1,16 +1,19 @@
 -- Where the begins of a block are, and what its calls name, after one more call.
-use Rattle.std.proofs.Common.{◌≡◌, ℕ, zero, suc, ◌+◌, ◌<◌, ◌≤◌, inl, inr, List, [], ◌∷◌, ◌++◌, Bool, true, false, cond, nat_lt, length, take, get_or, Option, Some, None, refl, ap, sym, subst, ◌∙◌, arith, ltb-true, ltb-false, one-add, if◌then◌else◌, slice_get, option_map, bytes_eq}
+use Rattle.std.proofs.Common.{◌≡◌, ℕ, zero, suc, ◌+◌, ◌-◌, ◌<◌, ◌≤◌, inl, inr, List, [], ◌∷◌, ◌++◌, Bool, true, false, cond, nat_lt, length, take, get_or, Option, Some, None, refl, ap, sym, subst, ◌∙◌, arith, ltb-true, ltb-false, one-add, if◌then◌else◌, slice_get, option_map, unwrap_or, bytes_eq, IfSome}
 use Rattle.std.specs.List.{position, position_or_len}
 use Rattle.std.proofs.lemmas.Bool.Decides.{nat_tests}
-use Rattle.std.proofs.lemmas.List.{take-append-le, take_all, get_or_append_left, get_or_at, length_push}
+use Rattle.std.proofs.lemmas.List.{take-append-le, take_all, take_more, get_or_append_left, get_or_at, length_push}
 use Rattle.std.proofs.lemmas.Slice.Eq.{bytes_eq-Decides}
 use Rattle.std.proofs.lemmas.Bool.{cases_Bool}
-use Rattle.std.proofs.lemmas.Option.{cond_some}
+use Rattle.std.proofs.lemmas.Option.{cond_some, unwrap_or-slice_get}
 use Rattle.esr_history.proofs.Ascending.{le_ltb, lt_ltb}
 use Rattle.esr_report.specs.Names.{position_of}
 use Rattle.esr_plan.specs.Plan.{new_name}
 use Rattle.esr_plan.specs.Blocks.{begins}
-use Rattle.esr_plan.specs.Calls.{command_of, place_of, IsResolved, AreResolved, Call}
+use Rattle.esr_plan.specs.declared.call.Caller.{Caller}
+use Rattle.esr_plan.specs.declared.call.Operand.{Operand}
+use Rattle.esr_plan.specs.declared.call.Call.TheVariants.{Begin, Read, Write, Commit, Abort}
+use Rattle.esr_plan.specs.Calls.{caller_of, command_of, operand_of, place_of, IsCaller, IsOperand, IsResolved, AreResolved, Call}
 use Rattle.esr_plan.specs.Drafts.{place_since, ArePlaces}
 
 -- ---- the first place that passes a test
@@ -74,12 +77,15 @@ abbrev begins_by : List ℕ → Option (List ℕ) → Bool
 begins_by name begun = elim begun [ Some other ↦ bytes_eq name other | None ↦ false ]
 
 -- a call that begins nothing
-pub places_kept : (calls : List Call) (call : Call) (earlier : ℕ) (places : List ℕ) (begun : List (List ℕ)) → new_name (command_of call) ≡ None
-    → ArePlaces calls earlier places begun → ArePlaces (calls ++ call ∷ []) earlier places begun
-places_kept calls call earlier places begun plain are name =
+place_kept : (calls : List Call) (call : Call) (name : List ℕ) → new_name (command_of call) ≡ None → place_of (calls ++ call ∷ []) name ≡ place_of calls name
+place_kept calls call name plain =
     let silent : begins name (command_of call) ≡ false = ap (begins_by name) plain in
     position_push (λ c. begins name (command_of c)) calls call
-    ∙ (ap (λ b. or_last (place_of calls name) b (length calls)) silent ∙ (none_is (place_of calls name) (length calls) ∙ are name))
+    ∙ (ap (λ b. or_last (place_of calls name) b (length calls)) silent ∙ none_is (place_of calls name) (length calls))
+
+pub places_kept : (calls : List Call) (call : Call) (earlier : ℕ) (places : List ℕ) (begun : List (List ℕ)) → new_name (command_of call) ≡ None
+    → ArePlaces calls earlier places begun → ArePlaces (calls ++ call ∷ []) earlier places begun
+places_kept calls call earlier places begun plain are name = place_kept calls call name plain ∙ are name
 
 get_early : (places : List ℕ) (more : List ℕ) (k : ℕ) → k < length places → slice_get (places ++ more) k ≡ slice_get places k
 get_early [] more k lt = absurd (omega (arith, lt))
@@ -157,3 +163,57 @@ resolved_more names calls call are is i c lt = elim (cases_Bool (nat_lt i (lengt
       subst (λ (l : List Call). IsResolved names l (get_or (calls ++ call ∷ []) i c)) (sym (take-append-le i calls (call ∷ []) (omega (arith, at)) ∙ take_all i calls (omega (arith, at))))
       (subst (λ (x : Call). IsResolved names calls x) (sym (get_or_at calls call [] c i at)) is)
 ]
+
+-- ---- what the last call of a block names, the next one may name too
+
+last_at : (calls : List Call) (call : Call) → slice_get calls (length calls - 1) ≡ Some call → (length calls - 1 < length calls) × (get_or calls (length calls - 1) call ≡ call)
+last_at [] call is = cc
+last_at (c ∷ calls) call is = (
+  omega arith,
+  sym (unwrap_or-slice_get (c ∷ calls) (length (c ∷ calls) - 1) call) ∙ ap (λ o. unwrap_or o call) is,
+)
+
+caller_behind : (names : List (List ℕ)) (earlier : List Call) (call : Call) (txn : Caller) → IsResolved names earlier call → caller_of call ≡ Some txn → IsCaller (earlier ++ call ∷ []) txn
+caller_behind names earlier (Begin name k limit) txn resolved is = cc
+caller_behind names earlier (Read t x) txn resolved is =
+    let same : t ≡ txn = cc in
+    subst (λ (y : Caller). IsCaller (earlier ++ Read t x ∷ []) y) same (resolved.0 ∙ sym (place_kept earlier (Read t x) t.name.now refl))
+caller_behind names earlier (Write t x value) txn resolved is =
+    let same : t ≡ txn = cc in
+    subst (λ (y : Caller). IsCaller (earlier ++ Write t x value ∷ []) y) same (resolved.0 ∙ sym (place_kept earlier (Write t x value) t.name.now refl))
+caller_behind names earlier (Commit t) txn resolved is =
+    let same : t ≡ txn = cc in
+    subst (λ (y : Caller). IsCaller (earlier ++ Commit t ∷ []) y) same (resolved ∙ sym (place_kept earlier (Commit t) t.name.now refl))
+caller_behind names earlier (Abort t) txn resolved is =
+    let same : t ≡ txn = cc in
+    subst (λ (y : Caller). IsCaller (earlier ++ Abort t ∷ []) y) same (resolved ∙ sym (place_kept earlier (Abort t) t.name.now refl))
+
+last_calls : (names : List (List ℕ)) (calls : List Call) (call : Call) (txn : Caller) → AreResolved names calls → slice_get calls (length calls - 1) ≡ Some call → caller_of call ≡ Some txn → IsCaller calls txn
+last_calls names calls call txn are last is =
+    let i = length calls - 1 in
+    let at = last_at calls call last in
+    let resolved : IsResolved names (take i calls) call = subst (λ (c : Call). IsResolved names (take i calls) c) at.1 (are i call at.0) in
+    let parts : calls ≡ take i calls ++ call ∷ [] =
+    sym (take_all (i + 1) calls (omega (arith, at.0))) ∙ (take_more calls i call at.0 ∙ ap (λ (c : Call). take i calls ++ c ∷ []) at.1) in
+    subst (λ (l : List Call). IsCaller l txn) (sym parts) (caller_behind names (take i calls) call txn resolved is)
+
+pub last_caller : (names : List (List ℕ)) (calls : List Call) (call : Call) (txn : Option Caller) → AreResolved names calls → slice_get calls (length calls - 1) ≡ Some call → txn ≡ caller_of call → IfSome txn (IsCaller calls)
+last_caller names calls call None are last is = tt
+last_caller names calls call (Some txn) are last is = last_calls names calls call txn are last (sym is)
+
+operand_resolved : (names : List (List ℕ)) (earlier : List Call) (call : Call) (x : Operand) → IsResolved names earlier call → operand_of call ≡ Some x → IsOperand names x
+operand_resolved names earlier (Begin name k limit) x resolved is = cc
+operand_resolved names earlier (Read t y) x resolved is =
+    let same : y ≡ x = cc in
+    subst (λ (z : Operand). IsOperand names z) same resolved.1
+operand_resolved names earlier (Write t y value) x resolved is =
+    let same : y ≡ x = cc in
+    subst (λ (z : Operand). IsOperand names z) same resolved.1
+operand_resolved names earlier (Commit t) x resolved is = cc
+operand_resolved names earlier (Abort t) x resolved is = cc
+
+pub last_operand : (names : List (List ℕ)) (calls : List Call) (call : Call) (x : Operand) → AreResolved names calls → slice_get calls (length calls - 1) ≡ Some call → operand_of call ≡ Some x → IsOperand names x
+last_operand names calls call x are last is =
+    let i = length calls - 1 in
+    let at = last_at calls call last in
+    operand_resolved names (take i calls) call x (subst (λ (c : Call). IsResolved names (take i calls) c) at.1 (are i call at.0)) is

@@ -8,7 +8,7 @@ use Rattle.esr_plan.specs.Calls.{command_of, answers_of, Call}
 use Rattle.esr_plan.specs.Tables.{answered}
 use Rattle.esr_plan.proofs.Noting.{answer_at, length_answers}
 use Rattle.esr_plan.specs.Blocks.{Answered}
-use Rattle.esr_plan.specs.Text.{item_text, items_text, subject_of, replies_text, blocks_text}
+use Rattle.esr_plan.specs.Text.{item_text, items_text, subject_of, replies_text, block_text, blocks_text}
 
 -- one line more
 pub lines_more : {X : Type 0} (f : X → List ℕ) (xs : List X) (i : ℕ) (x : X) (old mid all : List ℕ)
@@ -67,15 +67,14 @@ length_taken : {X : Type 0} (xs : List X) (i : ℕ) → i < length xs → length
 length_taken xs i lt = omega (arith, length-take i xs, lt)
 
 -- the lines of one more block
-pub blocks_text_more : (names : List (List ℕ)) (bs : List (List Answered)) (i : ℕ) (b : List Answered) (old mid said all : List ℕ)
-    → mid ≡ old ++ blocks_text names 0 (take i bs) → i < length bs → b ≡ get_or bs i b → said ≡ mid ++ session_line i → all ≡ said ++ replies_text names b
+pub blocks_text_more : (names : List (List ℕ)) (bs : List (List Answered)) (i : ℕ) (b : List Answered) (old mid all : List ℕ)
+    → mid ≡ old ++ blocks_text names 0 (take i bs) → i < length bs → b ≡ get_or bs i b → all ≡ mid ++ block_text names i b
     → all ≡ old ++ blocks_text names 0 (take (i + 1) bs)
-blocks_text_more names bs i b old mid said all so_far lt is line more =
-    more ∙ (ap (λ l. l ++ replies_text names b) (line ∙ ap (λ l. l ++ session_line i) so_far)
-    ∙ (append_assoc (old ++ blocks_text names 0 (take i bs)) (session_line i) (replies_text names b)
-    ∙ (append_assoc old (blocks_text names 0 (take i bs)) (session_line i ++ replies_text names b)
+blocks_text_more names bs i b old mid all so_far lt is more =
+    more ∙ (ap (λ l. l ++ block_text names i b) so_far
+    ∙ (append_assoc old (blocks_text names 0 (take i bs)) (block_text names i b)
     ∙ ap (λ l. old ++ l) (sym (ap (blocks_text names 0) (take_more bs i b lt ∙ ap (λ x. take i bs ++ x ∷ []) (sym is))
-    ∙ (blocks-snoc names 0 (take i bs) b ∙ ap (λ n. blocks_text names 0 (take i bs) ++ (session_line n ++ replies_text names b)) (ap (λ n. 0 + n) (length_taken bs i lt) ∙ omega arith)))))))
+    ∙ (blocks-snoc names 0 (take i bs) b ∙ ap (λ n. blocks_text names 0 (take i bs) ++ block_text names n b) (ap (λ n. 0 + n) (length_taken bs i lt) ∙ omega arith))))))
 
 pub blocks_text_all : (names : List (List ℕ)) (bs : List (List Answered)) (i : ℕ) (old all : List ℕ) → length bs ≤ i
     → all ≡ old ++ blocks_text names 0 (take i bs) → all ≡ old ++ blocks_text names 0 bs

@@ -1,5 +1,5 @@
 -- Calls, read from the structs that lend their names.
-use Rattle.std.specs.Prelude.{◌≡◌, ℕ, ◌<◌, List, [], ◌∷◌, true, false, Option, length, take, slice_get, slice_index_or, unwrap_or, position, option_and_then}
+use Rattle.std.specs.Prelude.{◌≡◌, ℕ, ◌<◌, List, [], ◌∷◌, true, false, Option, Some, None, length, take, slice_get, slice_index_or, unwrap_or, position, option_and_then}
 use Rattle.esr_base.specs.declared.numbers.TxnId.{TxnId}
 use Rattle.esr_history.specs.declared.event.Event.{Event}
 use Rattle.esr_history.specs.declared.event.Event.TheVariants as event
@@ -73,6 +73,19 @@ IsCaller earlier txn = txn.begin ≡ place_of earlier txn.name.now
 -- the number is that of the item's name
 abbrev pub IsOperand : List (List ℕ) → Operand → Type 0
 IsOperand names x = x.item ≡ item_called names x.name.now
+
+-- the transaction that a call names, where it begins none, and its item
+abbrev pub caller_of : Call → Option Caller
+caller_of (call.Begin name k limit) = None
+caller_of (call.Read txn x) = Some txn
+caller_of (call.Write txn x value) = Some txn
+caller_of (call.Commit txn) = Some txn
+caller_of (call.Abort txn) = Some txn
+
+abbrev pub operand_of : Call → Option Operand
+operand_of (call.Read txn x) = Some x
+operand_of (call.Write txn x value) = Some x
+operand_of _ = None
 
 -- what the call names, after these calls of its block
 abbrev pub IsResolved : List (List ℕ) → List Call → Call → Type 0

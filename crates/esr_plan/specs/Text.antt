@@ -51,10 +51,14 @@ items_text (name ∷ names) (value ∷ values) (weight ∷ weights) =
 abbrev pub replies_text : List (List ℕ) → List Answered → List ℕ
 replies_text names answers = flat_map (λ a. reply_line names (subject_of a.command) a.reply) answers
 
+-- the block of number k
+abbrev pub block_text : List (List ℕ) → ℕ → List Answered → List ℕ
+block_text names k b = session_line k ++ replies_text names b
+
 -- the blocks from number k on
 abbrev pub blocks_text : List (List ℕ) → ℕ → List (List Answered) → List ℕ
 blocks_text names k [] = []
-blocks_text names k (b ∷ blocks) = session_line k ++ replies_text names b ++ blocks_text names (k + 1) blocks
+blocks_text names k (b ∷ blocks) = block_text names k b ++ blocks_text names (k + 1) blocks
 
 -- the line of what is told of a query: the query, its distance, its import, and the updates before its position
 abbrev pub told_text : List (List ℕ) → ℕ × ℕ × ℕ × List ℕ → List ℕ

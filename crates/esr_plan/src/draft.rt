@@ -7,12 +7,13 @@
 //! draft half changed; it is then let go of.
 
 ghost use Rattle.esr_line.specs.declared.limits.TheConstants.{MAX_LINES};
-ghost use Rattle.std.specs.Prelude.{◌≡◌, ◌+◌, ◌<◌, ◌≤◌, ◌⊎◌, ◌^◌, true, false, Ok, Err, Some, None, OnOk, IfOk, IfErr, length};
+ghost use Rattle.std.specs.Prelude.{◌≡◌, ◌+◌, ◌-◌, ◌<◌, ◌≤◌, ◌⊎◌, ◌^◌, true, false, Ok, Err, Some, None, OnOk, IfOk, IfErr, IfSome, length, slice_get, option_copied};
 ghost use Rattle.esr_items.specs.Weights.{is_weight};
 ghost use Rattle.esr_line.specs.Lines.{lines};
 ghost use Rattle.esr_line.specs.Command.{view};
 ghost use Rattle.esr_plan.specs.Plan.{with_session, with_item, with_operation, with_begin, with_command, with_line, plan_from, nothing, new_name, weight_in};
 ghost use Rattle.esr_plan.specs.Calls.{begin_command, command_of, place_of, IsCaller, IsOperand, IsResolved};
+ghost use Rattle.esr_plan.specs.Blocks.{item_called};
 ghost use Rattle.esr_plan.specs.Drafts.{plan_in, current_calls, IsSound, IsWrong};
 
 use crate::call::{Call, Caller, Kind, Operand};
@@ -146,28 +147,67 @@ impl<'a> Draft<'a> {
         self.places.get(number).copied()
     }
 
+    /// The last call of the open block.
+    fn last_call(&self) -> Option<&Call<'a>>
+        ensures { option_copied result ≡ slice_get (current_calls self.now) (length (current_calls self.now) - 1) }
+    {
+        match &self.current {
+            Some(block) => block.last(),
+            None => None,
+        }
+    }
+
+    /// The transaction that the line before names, where it begins none.
+    fn last_caller(&self) -> Option<Caller<'a>>
+        requires { IsSound self.now }
+        ensures { IfSome result (IsCaller (current_calls self.now)) }
+    {
+        self.last_call()?.caller()
+    }
+
+    /// The item that the line before names.
+    #[tactic(auto, using(crate::proofs::Placing::last_operand))]
+    fn last_operand(&self) -> Option<Operand<'a>>
+        requires { IsSound self.now }
+        ensures { IfSome result (IsOperand self.now.names) }
+    {
+        self.last_call()?.operand()
+    }
+
     /// The transaction that a line names.
     fn caller(&self, name: &'a str) -> Caller<'a>
         requires { IsSound self.now }
         ensures name { result.name.now ≡ name.entry.now }
         ensures begin { IsCaller (current_calls self.now) result }
     {
-        Caller {
-            name,
-            begin: self.place_of(name),
-        }
+        let begin = match self.last_caller() {
+            Some(last) if last.name == name => last.begin,
+            _ => self.place_of(name),
+        };
+        Caller { name, begin }
     }
 
     /// The item that a line names.
     fn operand(&self, name: &'a str) -> Operand<'a>
+        requires { IsSound self.now }
         ensures name { result.name.now ≡ name.entry.now }
         ensures item { IsOperand self.now.names result }
     {
-        let item = match self.names.number_of(name) {
-            Some(position) => ItemId(position),
-            None => ItemId(MOST_ITEMS as u32),
+        let item = match self.last_operand() {
+            Some(last) if last.name == name => last.item,
+            _ => self.item_of(name),
         };
         Operand { name, item }
+    }
+
+    /// The number that an item's name stands for.
+    fn item_of(&self, name: &str) -> ItemId
+        ensures { result ≡ item_called self.now.names name.now }
+    {
+        match self.names.number_of(name) {
+            Some(position) => ItemId(position),
+            None => ItemId(MOST_ITEMS as u32),
+        }
     }
 
     /// Adds a call that begins no transaction.

@@ -18,4 +18,4 @@ pub use opening::metric_of;
 pub use reader::read_all;
 pub use sheet::{Sheet, sheet_of};
 pub use table::{BegunNames, begun_names};
-pub use text::{push_blocks, push_items, push_summaries};
+pub use text::{block_text, push_items, push_summaries};

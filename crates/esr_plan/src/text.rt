@@ -1,11 +1,12 @@
-//! The text of a drive, part by part: items, blocks, what was found of each query, totals.
+//! The text of a drive, part by part: items, blocks, what was found of each query. The text of a block is a piece of its
+//! own, since threads make them.
 
 ghost use Rattle.esr_base.specs.declared.limits.TheConstants.{MOST_ITEMS};
-ghost use Rattle.std.specs.Prelude.{◌≡◌, ◌<◌, ◌≤◌, slice_index_or, ◌++◌, [], OnOk, length, map, flat_map};
+ghost use Rattle.std.specs.Prelude.{◌≡◌, ◌<◌, ◌≤◌, slice_index_or, ◌++◌, [], IfOk, OnOk, length, map, flat_map};
 ghost use Rattle.esr_audit.specs.Findings.{seen_summary};
 ghost use Rattle.esr_report.specs.Lines.{reply_line};
-ghost use Rattle.esr_plan.specs.Calls.{command_of, answers_of, AreAnswered, all_answers};
-ghost use Rattle.esr_plan.specs.Text.{item_text, items_text, subject_of, replies_text, blocks_text, told_text};
+ghost use Rattle.esr_plan.specs.Calls.{command_of, answers_of};
+ghost use Rattle.esr_plan.specs.Text.{item_text, items_text, subject_of, replies_text, block_text, told_text};
 ghost use Rattle.esr_plan.specs.Tables.{names_in};
 
 use crate::call::Call;
@@ -15,7 +16,7 @@ use esr_history::Reply;
 use esr_report::{
     Names, audit_line, item_line, name_of_transaction, reply_line, session_line, weighted_item_line,
 };
-use std::alloc::AllocError;
+use std::alloc::{AllocError, Global};
 
 /// The name at a place.
 fn name_at(names: &Names, place: usize) -> &str
@@ -92,23 +93,22 @@ fn push_replies(
     Ok(())
 }
 
-/// Appends the lines of the blocks.
-pub fn push_blocks(
-    out: &mut Vec<u8>,
+/// The lines of the block of this number.
+pub fn block_text(
+    alloc: Global,
     names: &BegunNames<'_>,
-    blocks: &[Vec<Call<'_>>],
-    replies: &[Vec<Reply>],
-) -> Result<(), AllocError>
-    requires { AreAnswered (map (λ b. b.items) blocks.now) (map (λ r. r.items) replies.now) }
-    ensures { OnOk result (out.new.items ≡ out.old.items
-        ++ blocks_text (names_in names.now) 0 (all_answers (map (λ b. b.items) blocks.now)
-        (map (λ r. r.items) replies.now))) }
+    number: u64,
+    calls: &[Call<'_>],
+    replies: &[Reply],
+) -> Result<Vec<u8>, AllocError>
+    requires { length replies.now ≡ length calls.now }
+    ensures { IfOk result (λ text. text.items
+        ≡ block_text (names_in names.now) number (answers_of calls.now replies.now)) }
 {
-    for i in 0..blocks.len() {
-        session_line(out, i as u64)?;
-        push_replies(out, names, blocks[i].as_slice(), replies[i].as_slice())?;
-    }
-    Ok(())
+    let mut text = Vec::new(alloc);
+    session_line(&mut text, number)?;
+    push_replies(&mut text, names, calls, replies)?;
+    Ok(text)
 }
 
 /// Appends the line of what was found of a query.

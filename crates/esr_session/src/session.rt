@@ -13,9 +13,9 @@ use crate::lock::{Locked, Pocket, step_on};
 use crate::matcher::HasReceipts;
 use crate::receipt::{Receipt, is_blocked};
 use esr_core::StepError;
-use esr_history::Event;
+use esr_history::{Event, Reply};
 use esr_items::Metric;
-use std::alloc::Global;
+use std::alloc::{AllocError, Global};
 use std::marker::Model;
 use std::sync::{Arc, Mutex, Wait};
 
@@ -49,6 +49,29 @@ impl<M: Metric + Drop, N: Naming> Session<M, N> {
         let Session { shared: _, pocket } = self;
         let Pocket { receipts, share: _ } = pocket;
         receipts
+    }
+
+    /// Takes room for the receipts of so many calls, where there are none yet, and writes to it. Memory is slow at its
+    /// first touch, and in a hold of the lock all others would wait for it.
+    ///
+    /// # Errors
+    /// Where memory was refused.
+    pub fn make_room(&mut self, alloc: Global, calls: usize) -> Result<(), AllocError>
+        ensures { self.new ≡ self.old }
+    {
+        let pocket = &mut self.pocket;
+        if !pocket.receipts.is_empty() {
+            return Ok(());
+        }
+        let unused = Receipt {
+            at: 0,
+            event: Event::BeginUpdate { limit: 0 },
+            reply: Reply::Wrote,
+        };
+        let mut receipts = Vec::from_elem(alloc, unused, calls)?;
+        receipts.clear();
+        pocket.receipts = receipts;
+        Ok(())
     }
 
     /// Takes the lock once, and makes one step of the engine's machine.

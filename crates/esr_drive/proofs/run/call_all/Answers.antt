@@ -9,8 +9,9 @@ use Rattle.esr_drive.proofs.run.call_all.Goals as goal
 
 pub loop-progress-init : goal.loop-progress-init
 loop-progress-init g c =
-    let none = subst (λ (rs : List Receipt). IsUnderWay c.args.calls.now [] 0 rs) (sym c.requires) (begun c.args.calls.now) in
-    (refl, subst (λ (l : List Reply). IsUnderWay c.args.calls.now l 0 c.args.session.now) (sym c.in-Ok.ensures.items) none)
+    let session = c.make_room.new.self in
+    let none = subst (λ (rs : List Receipt). IsUnderWay c.args.calls.now [] 0 rs) (sym (c.make_room.ensures ∙ c.requires)) (begun c.args.calls.now) in
+    (refl, subst (λ (l : List Reply). IsUnderWay c.args.calls.now l 0 session) (sym c.in-Ok.ensures.items) none)
 
 pub loop-progress-smaller : goal.loop-progress-smaller
 loop-progress-smaller g c =
@@ -22,7 +23,7 @@ loop-progress-smaller g c =
     let len = ap length inv.0 in
     let lt : length old.replies.items < length c.args.calls.now = search rules in
     let few = few_calls new.calls.now new.replies.items new.blocked c.call_several.new.self heard.1 new.few in
-    nearer old.calls.now old.replies.items (length c.args.calls.now) c.in_ok-call_several.field-0 c.loop-progress.session made.0 c.call_several.new.self len lt (c.in_ok-call_several.ensures.none c.lines_of_hold-most.ensures.0) made.1 made.4 (omega (arith, few, ap length heard.0, len))
+    nearer old.calls.now old.replies.items (length c.args.calls.now) c.in_ok-call_several.field-0 c.loop-progress.session made.0 c.call_several.new.self len lt (c.in_ok-call_several.ensures.none c.lines_of_hold-lines.ensures.0) made.1 made.4 (omega (arith, few, ap length heard.0, len))
 
 pub loop-progress-preserved : goal.loop-progress-preserved
 loop-progress-preserved g c =
