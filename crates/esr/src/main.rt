@@ -11,6 +11,7 @@ ghost use Rattle.esr_base.specs.Watch.{failed};
 ghost use Rattle.esr_cli.specs.Job.{work_of, HasWorkers as HasItsWorkers};
 ghost use Rattle.esr_drive.specs.Drive.{HasWorkers};
 
+use either::{Left, Right};
 use esr_cli::{Format, Job, Progress, Task, command};
 use esr_drive::{Form, NoGate, drive};
 use esr_explain::Explaining;
@@ -24,8 +25,8 @@ use esr_script::Copied;
 use esr_sheet::{AuditSheet, Data, ExplanationSheet, Ledger};
 use esr_why::Why;
 use esr_work::{
-    Certifying, DriveText, Question, Running, TellingOf, audit_script, check, fail, is_shown,
-    line_at_fault, list_faults, open_file, survey_script, work_on,
+    Certifying, DriveText, Question, Running, SurveyOf, TellingOf, audit_script, check, fail,
+    is_shown, line_at_fault, list_faults, open_file, work_on,
 };
 use std::alloc::AllocError;
 use std::io;
@@ -70,7 +71,8 @@ fn main(rt: HostRuntime) -> ExitCode {
     }
 }
 
-/// Does the job, from the file that is named or standard input to standard output.
+/// Does the job, from the file that is named or standard input to standard output. Both are one kind of input, so all that
+/// reads is proved and compiled once.
 fn do_job<'a, R: Input + Print + Eprint + Files + AllocGlobal + Clock + Threads + Wait + Sync>(
     rt: &'a R,
     shows: bool,
@@ -81,13 +83,14 @@ fn do_job<'a, R: Input + Print + Eprint + Files + AllocGlobal + Clock + Threads 
     if job.format.is_none() {
         return fail(rt, &"--format takes text, csv or json", 2);
     }
-    match job.file.filter(|file| *file != "-") {
-        None => do_task(rt, shows, job, Source(None), rt.reader()),
+    let (source, input) = match job.file.filter(|file| *file != "-") {
+        None => (Source(None), Left(rt.reader())),
         Some(path) => match open_file(rt, path) {
-            Ok(file) => do_task(rt, shows, job, Source(Some(path)), file),
-            Err(why) => fail(rt, &format_args!("{path}: {why}"), 1),
+            Ok(file) => (Source(Some(path)), Right(file)),
+            Err(why) => return fail(rt, &format_args!("{path}: {why}"), 1),
         },
-    }
+    };
+    do_task(rt, shows, job, source, input)
 }
 
 /// Does the work of a job, from this input.
@@ -105,7 +108,8 @@ fn do_task<
             work_on(rt, shows, job, source, input, &work)
         }
         Task::Explain { name, prose: true } => {
-            survey_script(rt, shows, job, source, input, &Prose { name })
+            let survey = &Prose { name };
+            work_on(rt, shows, job, source, input, &SurveyOf { survey })
         }
         Task::Explain { name, prose: false } => match data_of(job.format) {
             Some(data) => {
@@ -125,22 +129,30 @@ fn do_task<
             work_on(rt, shows, job, source, input, &work)
         }
         Task::Page { worst } => {
-            let page = Page {
+            let survey = &Page {
                 worst,
                 picture: &Drawing,
                 words: &Passage,
             };
-            survey_script(rt, shows, job, source, input, &page)
+            work_on(rt, shows, job, source, input, &SurveyOf { survey })
         }
         Task::Audit { workers } => match data_of(job.format) {
-            Some(data) => survey_script(rt, shows, job, source, input, &AuditSheet { data }),
+            Some(data) => {
+                let survey = &AuditSheet { data };
+                work_on(rt, shows, job, source, input, &SurveyOf { survey })
+            }
             None => audit_script(rt, shows, job, source, input, workers),
         },
         Task::Ledger => {
-            let format = sheet_format(job.format);
-            survey_script(rt, shows, job, source, input, &Ledger { format })
+            let survey = &Ledger {
+                format: sheet_format(job.format),
+            };
+            work_on(rt, shows, job, source, input, &SurveyOf { survey })
         }
-        Task::Why { name } => survey_script(rt, shows, job, source, input, &Why { name }),
+        Task::Why { name } => {
+            let survey = &Why { name };
+            work_on(rt, shows, job, source, input, &SurveyOf { survey })
+        }
         Task::Check {
             script,
             query,

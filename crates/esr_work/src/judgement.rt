@@ -4,12 +4,13 @@
 ghost use Rattle.std.specs.Prelude.{◌≡◌, false};
 ghost use Rattle.esr_base.specs.Watch.{failed};
 
+use crate::claim::{Claim, claim_of};
+use crate::detail::detail_of;
 use crate::fail;
 use crate::fault::RunText;
 use crate::meter::{Meter, Watching};
 use crate::open::open_file;
 use esr_bundle::{JudgeFault, Verdict, judge};
-use esr_claim::{Claim, claim_of, detail_of};
 use esr_history::Watched;
 use esr_lint::{Source, Teller, When};
 use esr_script::{Copied, ask};

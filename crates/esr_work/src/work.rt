@@ -1,8 +1,9 @@
 //! What is done with a script: its answers are written, or a text of what it leads to.
 //!
-//! Each way reads through a reader that notes a failed read and writes through one that notes a failed write, and lets an
-//! observer see each line; how it ended is told in one place. With `--bail` what a script leads to is made first and
-//! written only where no line was at fault; a run answers each line as it comes.
+//! Whatever it is, but for an audit of the whole, it is a `Work` and done by one function: it reads through a reader that
+//! notes a failed read and writes through one that notes a failed write, and lets an observer see each line; how it ended
+//! is told in one place. With `--bail` what a script leads to is made first and written only where no line was at fault; a
+//! run answers each line as it comes.
 
 ghost use Rattle.std.specs.Prelude.{◌≡◌, ◌≤◌, false};
 ghost use Rattle.esr_base.specs.Watch.{failed};
@@ -94,6 +95,24 @@ impl<T: Telling> Work for TellingOf<'_, T> {
     }
 }
 
+/// Writes a text of what a whole script leads to.
+#[derive(Drop)]
+pub struct SurveyOf<'a, S> {
+    pub survey: &'a S,
+}
+
+impl<S: Survey> Work for SurveyOf<'_, S> {
+    fn work<R: Read, W: Write, O: Observer>(
+        &self,
+        alloc: Global,
+        reader: &mut Watched<R>,
+        writer: &mut Watched<W>,
+        observer: &mut O,
+    ) -> Result<(), RunFault> {
+        survey(alloc, reader, writer, self.survey, observer)
+    }
+}
+
 /// Does some work on a script.
 pub fn work_on<R: Print + Eprint + AllocGlobal + Clock, I: Read + Drop, W: Work>(
     rt: &R,
@@ -113,7 +132,8 @@ pub fn work_on<R: Print + Eprint + AllocGlobal + Clock, I: Read + Drop, W: Work>
     conclude(rt, job, source, ended, &observer, writer.inner())
 }
 
-/// Writes the audit of a script.
+/// Writes the audit of a script. This is no `Work`, since no proof is generated for a method of a trait that hands what it
+/// knows by a bound to threads.
 pub fn audit_script<R: Print + Eprint + AllocGlobal + Clock + Threads + Sync, I: Read + Drop>(
     rt: &R,
     shows: bool,
@@ -143,32 +163,12 @@ pub fn audit_script<R: Print + Eprint + AllocGlobal + Clock + Threads + Sync, I:
     conclude(rt, job, source, ended, &observer, writer.inner())
 }
 
-/// Writes a text of what a whole script leads to.
-pub fn survey_script<R: Print + Eprint + AllocGlobal + Clock, I: Read + Drop, S: Survey>(
-    rt: &R,
-    shows: bool,
-    job: Job<'_>,
-    source: Source<'_>,
-    input: I,
-    survey_of: &S,
-) -> u8 {
-    let alloc = rt.alloc();
-    let mut reader = Watched::new(input);
-    let mut writer = Watched::new(Output::new(alloc, io::writer(rt), holds_back(job)));
-    let teller = Teller::new(rt, alloc, source, When::AtOnce, "");
-    let meter = Meter::new(rt, shows);
-    let mut observer = Watching::new(teller, &meter);
-    match survey(alloc, &mut reader, &mut writer, survey_of, &mut observer) {
-        Err(RunFault::NotACommittedQuery) => fail(rt, &nobody(job.task), 1),
-        ended => conclude(rt, job, source, ended, &observer, writer.inner()),
-    }
-}
-
 /// What is told where a survey has nothing to tell, since nobody has the name that was asked for.
-fn nobody(task: Task<'_>) -> &'static str {
+fn nobody(task: Task<'_>) -> Option<&'static str> {
     match task {
-        Task::Why { .. } => "not a transaction",
-        _ => "not a query",
+        Task::Why { .. } => Some("not a transaction"),
+        Task::Explain { prose: true, .. } => Some("not a query"),
+        _ => None,
     }
 }
 
@@ -183,7 +183,9 @@ fn when_of(task: Task<'_>) -> When {
 /// The committed query that is asked for, if one is.
 fn sought_by(task: Task<'_>) -> &str {
     match task {
-        Task::Certify { name, .. } | Task::Explain { name, .. } | Task::Picture { name } => name,
+        Task::Certify { name, .. }
+        | Task::Explain { name, prose: false }
+        | Task::Picture { name } => name,
         _ => "",
     }
 }
@@ -210,10 +212,11 @@ fn conclude<R: Print + Eprint + Clock, W: Write>(
     observer: &Watching<'_, '_, '_, R, R>,
     output: &Output<W>,
 ) -> u8 {
-    match ended {
-        Ok(()) if job.bail && observer.faults() > 0 => 1,
-        Ok(()) => release(rt, output),
-        Err(fault) => fail(
+    match (ended, nobody(job.task)) {
+        (Ok(()), _) if job.bail && observer.faults() > 0 => 1,
+        (Ok(()), _) => release(rt, output),
+        (Err(RunFault::NotACommittedQuery), Some(words)) => fail(rt, &words, 1),
+        (Err(fault), _) => fail(
             rt,
             &RunText {
                 source,

@@ -1,7 +1,7 @@
 -- Why `is_same` keeps its contract: the goals that are left to a proof of ours.
 use Rattle.std.proofs.Common.{◌≡◌, ◌∙◌, sym}
-use Rattle.esr_claim.proofs.Sameness.{same_problem}
-use Rattle.esr_claim.proofs.comparison.is_same.Goals as goal
+use Rattle.esr_work.proofs.Sameness.{same_problem}
+use Rattle.esr_work.proofs.comparison.is_same.Goals as goal
 
 pub returns : goal.returns
 returns c = λ t.

@@ -1,9 +1,9 @@
 -- Why `claim_of` keeps its contract: the goals that are left to a proof of ours.
 use Rattle.std.proofs.Common.{◌≡◌, Ok}
 use Rattle.esr_cert.specs.Views.{certificate_of}
-use Rattle.esr_claim.specs.declared.claim.Claim.TheVariants.{Of}
-use Rattle.esr_claim.proofs.Claimed.{claims_bad, shown_by}
-use Rattle.esr_claim.proofs.claim.claim_of.Goals as goal
+use Rattle.esr_work.specs.declared.claim.Claim.TheVariants.{Of}
+use Rattle.esr_work.proofs.Claimed.{claims_bad, shown_by}
+use Rattle.esr_work.proofs.claim.claim_of.Goals as goal
 
 pub returns-in-Ok-clause-claim : goal.returns-in-Ok-clause-claim
 returns-in-Ok-clause-claim c = (Ok (c.in-Ok.problem, certificate_of c.in-Ok.certificate), c.in-Ok.ensures, c.claim_on.ensures)

@@ -9,8 +9,8 @@ use Rattle.esr_cert.specs.declared.problem.BundleFault.{BundleFault}
 use Rattle.esr_audit.specs.Problems as problems
 use Rattle.esr_bundle.specs.Reading.{Means}
 use Rattle.esr_telling.specs.State.{ScriptState, transaction_called}
-use Rattle.esr_claim.specs.declared.claim.Claim.{Claim}
-use Rattle.esr_claim.specs.declared.claim.Claim.TheVariants.{Of, NotOf, Invalid, Bad}
+use Rattle.esr_work.specs.declared.claim.Claim.{Claim}
+use Rattle.esr_work.specs.declared.claim.Claim.TheVariants.{Of, NotOf, Invalid, Bad}
 
 -- The claim of a bundle beside the problem of the query: its certificate has no fault, and its problem is that one, or
 -- nothing is said of it; or its first fault; or that the bytes are no bundle.

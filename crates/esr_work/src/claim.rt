@@ -1,11 +1,17 @@
-//! The claim of a bundle about a query, and its line.
+//! Whether a bundle is about a query of a script, and the line that says so: what is claimed of a report can be checked by
+//! who has the script.
+//!
+//! A valid bundle shows the least cost of its own problem, and says not which report that is: the empty bundle is valid.
+//! So its problem is compared with the one that the script gives for the query, which stands for it. That the texts of two
+//! bundles be compared was rejected: a certificate with another flow shows the same. What is told of a fault beside its
+//! number is advice, and promised by no clause.
 
 ghost use Rattle.std.specs.Prelude.{◌≡◌, ◌≢◌, ℕ, List, Ok, IfOk, IsOk};
 ghost use Rattle.esr_cert.specs.Faults.{bundle_fault_number};
 ghost use Rattle.esr_cert.specs.Views.{certificate_of};
 ghost use Rattle.esr_telling.specs.Ask.{IsAnswered};
 ghost use Rattle.esr_telling.specs.State.{ScriptState};
-ghost use Rattle.esr_claim.specs.Claims.{IsClaim, IsClaimOf, ShowsDistance, claim_line};
+ghost use Rattle.esr_work.specs.Claims.{IsClaim, IsClaimOf, ShowsDistance, claim_line};
 
 use crate::comparison::is_same;
 use esr_bundle::from_json;

@@ -12,9 +12,9 @@ use Rattle.esr_bundle.specs.Reading.{IsReadingOf, Means}
 use Rattle.esr_telling.specs.Ask.{IsAnswered}
 use Rattle.esr_telling.specs.State.{ScriptState, transaction_called}
 use Rattle.esr_telling.specs.declared.query.Asked.{Asked}
-use Rattle.esr_claim.specs.declared.claim.Claim.{Claim}
-use Rattle.esr_claim.specs.declared.claim.Claim.TheVariants.{Of, Bad}
-use Rattle.esr_claim.specs.Claims.{IsClaim, IsClaimOf, ShowsDistance}
+use Rattle.esr_work.specs.declared.claim.Claim.{Claim}
+use Rattle.esr_work.specs.declared.claim.Claim.TheVariants.{Of, Bad}
+use Rattle.esr_work.specs.Claims.{IsClaim, IsClaimOf, ShowsDistance}
 
 bad_fault : (asked : Problem) (bytes : List ℕ) (f : BundleFault) → f ≢ NoMemory → IsReadingOf bytes (Err f) → IsClaimOf asked bytes (Bad (bundle_fault_number f))
 bad_fault asked bytes Json other h = (Err Json, h, refl)
