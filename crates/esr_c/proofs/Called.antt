@@ -1,5 +1,5 @@
 -- A call that gave the engine an event, from what was told of its engine: whichever event it was.
-use Rattle.std.proofs.Common.{◌≡◌, ◌≢◌, ◌↔◌, ◌⊎◌, ◌∙◌, inl, inr, ap, refl, sym, subst, arith, true, Some, Result, Ok, Err, IfOk, IfErr, OnErr, IsErrOf}
+use Rattle.std.proofs.Common.{◌≡◌, ◌↔◌, ◌⊎◌, ◌∙◌, inl, inr, ap, refl, sym, subst, arith, true, Some, Result, Ok, Err, IfOk, IfErr, OnErr, IsErrOf}
 use Rattle.esr_items.specs.Weights.{weighted}
 use Rattle.esr_history.specs.declared.event.Event.{Event}
 use Rattle.esr_history.specs.declared.event.Reply.{Reply}
