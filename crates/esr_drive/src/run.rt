@@ -6,11 +6,8 @@
 //! still come between each other, as a drive is there to show. A long block answers 1,024 lines in a hold, about a tenth
 //! of a millisecond; to wake a thread that sleeps takes some tens of microseconds, which a much shorter hold would not
 //! outweigh. A blocked line ends a hold. To let another thread run (`yield_now`) before the line is given again halved
-//! how often that is, and was slower where other programs want the processors too.
-//!
-//! A long hold ends with a transaction, if one ends in its second half. One that it leaves open keeps its locks while the
-//! others run, who then give each line that meets them up to 100 times, an entry of the history each time: where 16
-//! blocks shared their items they gave as many lines again as they had.
+//! how often that is, and was slower where other programs want the processors too. To end a long hold with a transaction,
+//! so that it leaves no lock behind, gave lines again more often and was slower: a hold ends most often at a blocked line.
 //!
 //! Memory is slow at its first touch, and in a hold everyone would wait for it. So a block writes to the room for its
 //! replies and receipts before its first hold, beside the others.
@@ -32,9 +29,6 @@ const TURNS: u32 = 100;
 
 /// The most lines that a block has answered in one hold of the lock.
 const MOST_LINES: usize = 1024;
-
-/// From so many lines on a hold ends with a transaction, if it can.
-const LONG_HOLD: usize = 32;
 
 /// A block under way: its calls, the last replies to the first of them, and how often the next one was blocked.
 #[derive(Drop)]
@@ -93,8 +87,8 @@ pub fn run_block<N: Naming, R: Wait>(
     Ran { session, outcome }
 }
 
-/// The most lines that a block answers in its next hold of the lock, after so many.
-fn most_of_hold(answered: usize) -> usize
+/// How many lines a block answers in its next hold of the lock, after so many.
+fn lines_of_hold(answered: usize) -> usize
     ensures { (1 ≤ result) × (result ≤ MOST_LINES) }
 {
     if answered / 8 < MOST_LINES {
@@ -102,29 +96,6 @@ fn most_of_hold(answered: usize) -> usize
     } else {
         MOST_LINES
     }
-}
-
-/// Whether the call ends a transaction, if it is answered so.
-fn is_end(call: &Call<'_>) -> bool {
-    matches!(call, Call::Commit { .. } | Call::Abort { .. })
-}
-
-/// How many of the calls ahead, of a hold of at most so many: to the last end of a transaction in its second half.
-fn lines_of_hold(ahead: &[Call<'_>], most: usize) -> usize
-    requires { (1 ≤ most) × (most ≤ MOST_LINES) }
-    ensures { (1 ≤ result) × (result ≤ MOST_LINES) }
-{
-    if most < LONG_HOLD {
-        return most;
-    }
-    let mut lines = most;
-    while lines > most / 2 {
-        if ahead.get(lines - 1).is_some_and(is_end) {
-            return lines;
-        }
-        lines -= 1;
-    }
-    most
 }
 
 /// Room for so many replies, that has been written to.
@@ -160,9 +131,8 @@ fn call_all<N: Naming, R: Wait>(
         blocked: 0,
     };
     while progress.replies.len() < calls.len() {
-        let answered = progress.replies.len();
-        let lines = lines_of_hold(&calls[answered..], most_of_hold(answered));
-        session.call_several(rt, &mut progress, lines)?;
+        let most = lines_of_hold(progress.replies.len());
+        session.call_several(rt, &mut progress, most)?;
     }
     let Progress { replies, .. } = progress;
     Ok(replies)

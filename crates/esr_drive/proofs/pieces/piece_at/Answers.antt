@@ -28,5 +28,5 @@ returns c =
     let at : answers_of c.as_slice.result.now c.as_slice-2.result.now ≡ get_or (all_answers (map (λ b. b.items) bs) (map (λ r. r.items) rs)) c.args.i [] =
     ap₂ answers_of c.as_slice.ensures.value c.as_slice-2.ensures.value
     ∙ all_at (map (λ b. b.items) bs) (map (λ r. r.items) rs) c.args.i b.items r.items [] are (omega (arith, lt, length-map bs (λ b. b.items))) (items_at (λ b. b.items) bs c.args.i b lt c.index-blocks-i.is)
-        (items_at (λ r. r.items) rs c.args.i r (omega (arith, lt, as_many bs rs are)) c.index-replies-i.is) in
+    (items_at (λ r. r.items) rs c.args.i r (omega (arith, lt, as_many bs rs are)) c.index-replies-i.is) in
     subst (λ (a : List Answered). IfOk c.block_text.result (λ text. text.items ≡ block_text (names_in c.args.names.now) c.args.i a)) at c.block_text.ensures
