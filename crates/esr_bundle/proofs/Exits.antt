@@ -13,6 +13,11 @@ pub passes : {T E : Type 0} (P : E → Type 0) (r : Result T E) (x : E) → IsEr
 passes P (Ok t) x h p = tt
 passes P (Err e) x h p = subst P (sym h) p
 
+-- what `?` hands on: the error itself, since it converts to itself
+pub handed_on : {T E : Type 0} (r : Result T E) (e : E) → IsErrAnd r (λ f. f ≡ e) → r ≡ Err e
+handed_on (Ok value) e h = absurd h
+handed_on (Err f) e h = ap (λ x. Err x) h
+
 pub no_at : {X Y : Type 0} (p : Y → Bool) (f : X → Y) (xs : List X) (i : ℕ) (x : X) → i < length xs → x ≡ get_or xs i x → p (f x) ≡ false → list_all p (map f xs) ≡ false
 no_at p f xs i x l e n =
     false_from_ne_true (list_all p (map f xs)) (λ h. true≢false (sym (all_at p (map f xs) h i (f x) (rw length-map l)) ∙ ap p (get_or_map_read f xs i x l e) ∙ n))

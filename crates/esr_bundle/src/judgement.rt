@@ -78,6 +78,7 @@ fn read_some<R: Read>(
 }
 
 /// Reads to the end of the input.
+#[tactic(auto, using(crate::proofs::Exits::handed_on))]
 fn read_all<R: Read>(alloc: Global, reader: &mut Watched<R>) -> Result<Vec<u8>, JudgeFault>
     requires { failed reader.old ≡ false }
     ensures ok { IfOk result (λ v. Consumes (R.remaining (inner reader.old)) (R.remaining (inner reader.new)) v.items
@@ -93,10 +94,7 @@ fn read_all<R: Read>(alloc: Global, reader: &mut Watched<R>) -> Result<Vec<u8>, 
     };
     let mut bytes = Vec::new(alloc);
     'chunks: loop {
-        let count = match read_some(reader, &mut chunk, &mut bytes) {
-            Ok(count) => count,
-            Err(fault) => return Err(fault),
-        };
+        let count = read_some(reader, &mut chunk, &mut bytes)?;
         if count == 0 {
             return Ok(bytes);
         }
@@ -151,6 +149,7 @@ fn verdict_line(alloc: Global, verdict: Verdict) -> Result<Vec<u8>, AllocError>
 /// `invalid K` with the number of its first fault, or `bad K` with the number of the bundle's fault.
 ///
 /// After a fault other than `Write` nothing was written, after `Write` a prefix of the line was.
+#[tactic(auto, using(crate::proofs::Exits::handed_on))]
 pub fn judge<R: Read, W: Write>(
     alloc: Global,
     reader: &mut Watched<R>,
@@ -166,10 +165,7 @@ pub fn judge<R: Read, W: Write>(
     ensures reader { IsTrue (failed reader.new) ↔ IsErrOf result JudgeFault.Read }
     ensures writer { IsTrue (failed writer.new) ↔ IsErrOf result JudgeFault.Write }
 {
-    let bytes = match read_all(alloc, reader) {
-        Ok(bytes) => bytes,
-        Err(fault) => return Err(fault),
-    };
+    let bytes = read_all(alloc, reader)?;
     let Ok(verdict) = verdict_of(alloc, &bytes) else {
         return Err(JudgeFault::NoMemory);
     };

@@ -1,8 +1,8 @@
 -- Rows that lie one after another in one list.
-use Rattle.std.proofs.Common.{◌≡◌, ◌⊎◌, ℕ, zero, suc, ◌+◌, ◌-◌, ◌<◌, ◌≤◌, List, [], ◌∷◌, ◌++◌, length, take, drop, slice_set, map, refl, sym, ap, ◌∙◌, subst, inl, inr, All, arith, IsTrue}
+use Rattle.std.proofs.Common.{◌≡◌, ◌⊎◌, ℕ, zero, suc, ◌+◌, ◌-◌, ◌<◌, ◌≤◌, List, [], ◌∷◌, ◌++◌, length, take, drop, slice_set, map, refl, sym, ap, ap₂, ◌∙◌, subst, inl, inr, All, arith, IsTrue}
 use Rattle.std.proofs.Math.Seq.{drop-append_seam}
 use Rattle.std.proofs.lemmas.Bool.{cases_eq}
-use Rattle.std.proofs.lemmas.List.{take-append-le, take_all, drop-append-le, length-append, length-map, get_or-set_same, get_or-set_other, map-set}
+use Rattle.std.proofs.lemmas.List.{take-append-le, take_all, drop-append-le, length-append, get_or-set_same, get_or-set_other, map-set}
 use Rattle.esr_history.specs.declared.event.Entry.{Entry}
 use Rattle.esr_history.specs.Events.{accepted, is_committed}
 use Rattle.esr_history.specs.Machine.{Distance, Schedule, IsLegal}
@@ -37,29 +37,31 @@ row_last list more n is = ap (take (n - length list)) (drop-append_seam list mor
 abbrev pub put : List Span → ℕ → ℕ → ℕ → List Span
 put spans t b n = slice_set spans t (record { begin = b; end = n })
 
-module _ (list more : List Access) (spans : List Span) (t b n : ℕ) (starts : b ≡ length list) (is : n ≡ length (list ++ more)) (all : All (IsWithin (length list)) spans) (there : t < length spans) where
-  -- the rows then
-  rows_put : map (row_in (list ++ more)) (put spans t b n) ≡ slice_set (map (row_in list) spans) t more
-  rows_put =
-      map-set (row_in (list ++ more)) spans t (record { begin = b; end = n })
-      ∙ (ap (λ r. slice_set (map (row_in (list ++ more)) spans) t r) (ap (λ k. take (n - k) (drop k (list ++ more))) starts ∙ row_last list more n is)
-      ∙ ap (λ rs. slice_set rs t more) (rows_stay list more spans all))
+-- a list that more was put behind, with rows in what it was
+module _ (list more grown : List Access) (grew : grown ≡ list ++ more) (spans : List Span) (all : All (IsWithin (length list)) spans) (rows : List (List Access)) (seen : map (row_in list) spans ≡ rows) where
+  rows_in : map (row_in grown) spans ≡ rows
+  rows_in = ap (λ l. map (row_in l) spans) grew ∙ (rows_stay list more spans all ∙ seen)
 
-  inside : t < length (map (row_in list) spans)
-  inside = omega (arith, there, length-map spans (row_in list))
+  -- no row of what is more
+  pub row_unput : (u : ℕ) → row_at (map (row_in grown) spans) u ≡ row_at rows u
+  row_unput u = ap (λ rs. row_at rs u) rows_in
 
-  pub row_put : row_at (map (row_in (list ++ more)) (put spans t b n)) t ≡ more
-  row_put = ap (λ rs. row_at rs t) rows_put ∙ get_or-set_same (map (row_in list) spans) t more [] inside
+  -- a row of it
+  module _ (t b n : ℕ) (starts : b ≡ length list) (ends : n ≡ length grown) (there : t < length rows) where
+    last : row_in grown (record { begin = b; end = n }) ≡ more
+    last = ap (λ l. take (n - b) (drop b l)) grew ∙ (ap (λ k. take (n - k) (drop k (list ++ more))) starts ∙ row_last list more n (ends ∙ ap length grew))
 
-  pub row_others : (u : ℕ) → (row_at (map (row_in (list ++ more)) (put spans t b n)) u ≡ row_at (map (row_in list) spans) u) ⊎ ((u ≡ t) × (row_at (map (row_in (list ++ more)) (put spans t b n)) u ≡ more))
-  row_others u = elim (cases_eq u t) [
-    | inl e ↦ inr (e, ap (row_at (map (row_in (list ++ more)) (put spans t b n))) e ∙ row_put)
-    | inr ne ↦ inl (ap (λ rs. row_at rs u) rows_put ∙ get_or-set_other (map (row_in list) spans) t u more [] ne)
-  ]
+    rows_put : map (row_in grown) (put spans t b n) ≡ slice_set rows t more
+    rows_put = map-set (row_in grown) spans t (record { begin = b; end = n }) ∙ ap₂ (λ rs r. slice_set rs t r) rows_in last
 
--- more behind all rows, and no row of it
-pub row_unput : (list more : List Access) (spans : List Span) → All (IsWithin (length list)) spans → (u : ℕ) → row_at (map (row_in (list ++ more)) spans) u ≡ row_at (map (row_in list) spans) u
-row_unput list more spans all u = ap (λ rs. row_at rs u) (rows_stay list more spans all)
+    pub row_put : row_at (map (row_in grown) (put spans t b n)) t ≡ more
+    row_put = ap (λ rs. row_at rs t) rows_put ∙ get_or-set_same rows t more [] there
+
+    pub row_others : (u : ℕ) → (row_at (map (row_in grown) (put spans t b n)) u ≡ row_at rows u) ⊎ ((u ≡ t) × (row_at (map (row_in grown) (put spans t b n)) u ≡ more))
+    row_others u = elim (cases_eq u t) [
+      | inl e ↦ inr (e, ap (row_at (map (row_in grown) (put spans t b n))) e ∙ row_put)
+      | inr ne ↦ inl (ap (λ rs. row_at rs u) rows_put ∙ get_or-set_other rows t u more [] ne)
+    ]
 
 -- rows of the entries, with a row of t
 pub rows_more : (entries : List Entry) (rows more : List (List Access)) (t : ℕ) (row : List Access) → AreRowsOf entries rows → IsTrue (is_committed (accepted entries) t) → row ≡ accesses_in entries t

@@ -11,18 +11,18 @@ chunks-init g c =
 
 pub returns-then-count-eq0-clause-ok : goal.returns-then-count-eq0-clause-ok
 returns-then-count-eq0-clause-ok g c =
-    let came = c.in-Ok-read_some.ensures.ok in
+    let came = c.in_ok-count.ensures.ok in
     let same = no_more _ _ came.0 came.2 (came.1 ∙ c.if-count-eq0.true) in
     (rw came.2 (Consumes-trans _ _ _ _ _ c.chunks.invariant.read came.3), came.4 c.if-count-eq0.true, rw same c.chunks.invariant.bound)
 
 pub returns-then-len-gt-MAX_BYTES-clause-long : goal.returns-then-len-gt-MAX_BYTES-clause-long
 returns-then-len-gt-MAX_BYTES-clause-long g c is =
-    let came = c.in-Ok-read_some.ensures.ok in
+    let came = c.in_ok-count.ensures.ok in
     (c.read_some.new.bytes.items, rw came.2 (Consumes-trans _ _ _ _ _ c.chunks.invariant.read came.3), omega arith)
 
 pub chunks-preserved : goal.chunks-preserved
 chunks-preserved g c =
-    let came = c.in-Ok-read_some.ensures.ok in
+    let came = c.in_ok-count.ensures.ok in
     record {
       bound = omega arith;
       read = rw came.2 (Consumes-trans _ _ _ _ _ c.chunks.invariant.read came.3);

@@ -1,10 +1,10 @@
 -- Why `near_of` keeps its contract: the goals that are left to a proof of ours.
-use Rattle.std.proofs.Common.{◌≡◌, ◌<◌, ◌-◌, ◌⊎◌, ◌||◌, suc, true, false, sym, ◌∙◌, ap, subst, inl, inr, length, map, reverse, All, arith}
+use Rattle.std.proofs.Common.{◌≡◌, ◌<◌, ◌-◌, ◌⊎◌, suc, true, sym, ◌∙◌, subst, inl, inr, length, map, reverse, All, arith}
 use Rattle.std.specs.List.{list_any}
 use Rattle.esr_history.specs.Queries.{updates_of}
 use Rattle.esr_order.specs.Scans.{Access}
 use Rattle.esr_order.specs.Near.{AreNear}
-use Rattle.esr_order.specs.Seeking.{marked, is_access, seen_items, conflicts_with}
+use Rattle.esr_order.specs.Seeking.{seen_items, conflicts_with}
 use Rattle.esr_order.proofs.Accessed.{accesses_inside}
 use Rattle.esr_order.proofs.Gathered.{commits_length}
 use Rattle.esr_order.proofs.Seeking.{IsNearFrom, near_all, sought_near, sought_keep, sought_add}
