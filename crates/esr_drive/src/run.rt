@@ -7,7 +7,7 @@
 //! of a millisecond; to wake a thread that sleeps takes some tens of microseconds, which a much shorter hold would not
 //! outweigh. A blocked line ends a hold. To let another thread run (`yield_now`) before the line is given again halved
 //! how often that is, and was slower where other programs want the processors too. To end a long hold with a transaction,
-//! so that it leaves no lock behind, gave lines again more often and was slower: a hold ends most often at a blocked line.
+//! so that it leaves no lock behind, gave lines again more often and was slower.
 //!
 //! Memory is slow at its first touch, and in a hold everyone would wait for it. So a block writes to the room for its
 //! replies and receipts before its first hold, beside the others.

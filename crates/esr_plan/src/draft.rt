@@ -1,6 +1,9 @@
 //! Makes the plan of a drive file, line after line, or tells what is wrong with the first line at fault, by the lowest
 //! of its numbers.
 //!
+//! A line mostly names the transaction of the line before it, and often its item. So a name is compared with that line's
+//! before it is looked up; the line is there, and nothing has to be kept for it.
+//!
 //! The weight that was given, or that none was, stays in the plan: an item's line is answered as it was written.
 //!
 //! What is kept beside the plan agrees with it (`IsSound`). That is no invariant of the type, since an error may leave a
