@@ -1,11 +1,11 @@
 //! Bundles beside the script that they are about. What a claim is, is proved; its line is compared byte for byte, and
 //! the words about a fault are in no clause.
 
-use esr_work::{claim_of, detail_of};
 use esr_history::Watched;
 use esr_lint::Unobserved;
 use esr_script::ask;
 use esr_telling::Asked;
+use esr_work::{claim_of, detail_of};
 use std::alloc::{AllocError, Global};
 use std::process::Abort;
 use std::str::from_utf8;
