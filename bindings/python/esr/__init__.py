@@ -18,7 +18,7 @@ finding says afterwards by how much it was.
 """
 
 from ._bank import Bank, Counts, Finding, Query, Update
-from ._errors import Blocked, Deadlock, EsrError, HistoryFull, OutOfRange, Refused, UnknownItem
+from ._errors import Blocked, Deadlock, EsrError, HistoryFull, OutOfRange, Overtaken, Refused, UnknownItem
 
 __all__ = [
     "Bank",
@@ -29,6 +29,7 @@ __all__ = [
     "Finding",
     "HistoryFull",
     "OutOfRange",
+    "Overtaken",
     "Query",
     "Refused",
     "UnknownItem",

@@ -10,8 +10,10 @@ used up at once where whoever is waited for is not let run meanwhile, as happens
 
 import ctypes
 import math
+import mmap
 import random
 import re
+import struct
 import threading
 import time
 from dataclasses import dataclass, field
@@ -19,7 +21,7 @@ from types import TracebackType
 from typing import Callable, Dict, Iterable, List, Mapping, Optional, Set, Tuple, Type, TypeVar
 
 from . import _library as c
-from ._errors import Blocked, Deadlock, EsrError, HistoryFull, OutOfRange, Refused, UnknownItem
+from ._errors import Blocked, Deadlock, EsrError, HistoryFull, OutOfRange, Overtaken, Refused, UnknownItem
 
 NEARLY_FULL = 100_000
 """Where no more entries are left nothing begins until the engine is renewed: what is active has room to go on."""
@@ -48,6 +50,10 @@ ROUND = 0.01
 """In so long everybody who waits has tried again."""
 SHARE = 0.05
 """How many seconds the first attempt waits for one event. Each attempt waits twice as long as the one before."""
+MOST_RERUNS = 64
+"""How often a function that was overtaken runs anew before its update is run step by step."""
+LARGEST = 10**12
+"""The largest value to either side of 0."""
 NOT_COMMITTED = "only a report that has committed is audited"
 T = TypeVar("T")
 
@@ -184,6 +190,9 @@ class Bank:
 
     `patience` is how many seconds a transaction waits for others, in all: then it is told that it is blocked.
 
+    Where the bank is `optimistic`, `transact` runs a function beside the engine first, on the committed values of one
+    moment, and gives its events at once. A function that others have overtaken runs anew.
+
     `before_renewal` is called with the bank when a history is about to be gone: `due()` has the reports that were not
     audited yet. It must begin nothing.
 
@@ -200,9 +209,15 @@ class Bank:
         *,
         weights: Mapping[str, int] = {},
         patience: float = 10.0,
+        optimistic: bool = False,
         before_renewal: Optional[Callable[["Bank"], None]] = None,
     ) -> None:
         self._numbers = {name: number for number, name in enumerate(items)}
+        self._optimistic = optimistic
+        self._mirror: Dict[Optional[str], Tuple[int, int]] = {name: (0, value) for name, value in items.items()}
+        """The committed value of each item with the number of the commit that brought it, and at None the last number.
+        Each commit changes it by one update, in which no other thread comes between."""
+        self._mirror[None] = (0, 0)
         spelled = all(re.fullmatch("[A-Za-z][A-Za-z0-9_]{0,15}", name) for name in items)
         self._names = "\n".join(items).encode() if spelled else b""
         self._engine = c.Engine()
@@ -260,6 +275,21 @@ class Bank:
         400
         """
         waiting, age = _Waiting(self._patience, SHARE), None
+        if self._optimistic:
+            draft = _Draft(self, limit, waiting)
+            for _ in range(MOST_RERUNS):
+                draft._restart()
+                try:
+                    told = body(draft)
+                except Exception:
+                    if not draft._overtaken:
+                        raise
+                    continue
+                given = not draft._overtaken and draft._give()
+                if given is None:
+                    break
+                if given:
+                    return told
         while True:
             update = Update(self, limit, waiting, age)
             try:
@@ -294,11 +324,28 @@ class Bank:
         >>> Bank({"checking": 500})["checking"]
         500
         """
-        number = self._number_of(name)
-        values, count = (ctypes.c_int64 * len(self._numbers))(), ctypes.c_size_t()
+        self._number_of(name)
+        return self._mirror[name][1]
+
+    def snapshot(self) -> Dict[str, int]:
+        """The committed values of all items at one moment: exact, without a limit, and without waiting for an update. What
+        an update has not committed is not in it; a report sees that, and tells how far it was off.
+
+        >>> Bank({"checking": 500, "savings": 1500}).snapshot()
+        {'checking': 500, 'savings': 1500}
+        """
+        values, count = (ctypes.c_int64 * max(1, len(self._numbers)))(), ctypes.c_size_t()
         with self._lock:
             self._check(c.library.esr_values(self._engine, values, len(values), count))
-        return values[number]
+        return dict(zip(self._numbers, values))
+
+    def _publish(self, wrote: Mapping[str, int]) -> None:
+        """Shows what a commit wrote. The lock is held."""
+        if wrote:
+            now = self._mirror[None][0] + 1
+            shown: Dict[Optional[str], Tuple[int, int]] = {name: (now, value) for name, value in wrote.items()}
+            shown[None] = (now, 0)
+            self._mirror.update(shown)
 
     def script(self) -> str:
         """The history since the last renewal as a script of `esr run`: each entry that was accepted or blocked, by the names
@@ -325,16 +372,23 @@ class Bank:
             return self._text(c.library.esr_ledger).decode()
 
     def _text(self, call: Callable[..., int], *words: object) -> bytes:
-        """A text that a call writes, at its second try where the first room was too small. The lock is held."""
-        count, room = ctypes.c_size_t(), 16384
+        """A text that a call writes. The lock is held.
+
+        There is room for nearly any text of the history, so that it is made once: pages that nobody writes cost nothing.
+        One that is longer all the same is made twice.
+        """
+        history, count = self._counts(), ctypes.c_size_t()
+        room = 2**18 + 128 * history.entries + 256 * history.transactions
         while True:
-            text = (ctypes.c_uint8 * room)()
+            pages = mmap.mmap(-1, room)
+            text = (ctypes.c_uint8 * room).from_buffer(pages)
             status = call(self._engine, *words, text, room, count)
+            del text
             if status == c.NOT_A_COMMITTED_QUERY:
                 raise EsrError(NOT_COMMITTED)
             if status != c.TOO_SMALL:
                 self._check(status)
-                return bytes(text[: count.value])
+                return pages[: count.value]
             room = count.value
 
     def due(self) -> List["Query"]:
@@ -433,6 +487,15 @@ class Bank:
         given = (c.Event * len(events))(*events)
         self._check(c.library.esr_do(self._engine, given, len(events), replies, len(replies), True, answered))
         return list(replies[: answered.value])
+
+    def _packed(self, events: List[int]) -> Tuple[int, ...]:
+        """The replies to events in turn, to the first that is refused: five numbers each, and four. The lock is held, and
+        the interpreter's too: there are few, and Python's own objects would take longer than they do."""
+        count, answered = len(events) // 5, ctypes.c_size_t()
+        replies = ctypes.create_string_buffer(24 * count)
+        given = struct.pack("@" + "IIIQq" * count, *events)
+        self._check(c.library.esr_do_packed(self._engine, given, count, replies, count, True, answered))
+        return struct.unpack_from("@" + "IIIq" * answered.value, replies)
 
     def _begin(self, transaction: "_Transaction", call: Callable[..., int], *words: int) -> None:
         with self._lock:
@@ -558,13 +621,17 @@ class Update(_Transaction):
     def __init__(self, bank: Bank, limit: int, waiting: Optional[_Waiting] = None, age: Optional[int] = None) -> None:
         super().__init__(bank, waiting, age)
         self._limit = limit
+        self._wrote: Dict[str, int] = {}
 
     def __enter__(self) -> "Update":
         self._bank._begin(self, c.library.esr_begin_update, self._limit)
         return self
 
     def __exit__(self, kind: Optional[Type[BaseException]], error: object, trace: Optional[TracebackType]) -> None:
-        self._bank._end(self.number, c.library.esr_abort if kind else c.library.esr_commit)
+        with self._bank._lock:
+            self._bank._end(self.number, c.library.esr_abort if kind else c.library.esr_commit)
+            if not kind:
+                self._bank._publish(self._wrote)
 
     def write(self, name: str, value: int) -> None:
         """Writes an item.
@@ -579,6 +646,7 @@ class Update(_Transaction):
         if not -(2**63) <= value < 2**63:
             raise Refused(5, WORDS[5], 0)
         bank._step(self, lambda: bank._answer(c.library.esr_write, self.number, item, value))
+        self._wrote[name] = value
 
     def add(self, name: str, more: int) -> int:
         """Adds to an item and answers its new value. It takes the write lock before it reads, so that two that add to one
@@ -601,7 +669,110 @@ class Update(_Transaction):
             return bank._answer(c.library.esr_write, self.number, item, max(-(2**62), min(total, 2**62)))
 
         bank._step(self, both)
+        self._wrote[name] = total
         return total
+
+
+class _Draft(Update):
+    """An update whose function runs beside the engine: what it has read is of one moment, and its events are kept.
+
+    They are the first read of each item that it had not written before, and the last value that it wrote to an item. The
+    engine's replies to the reads are compared with what it saw.
+    """
+
+    def __init__(self, bank: Bank, limit: int, waiting: _Waiting) -> None:
+        super().__init__(bank, limit, waiting)
+        self._restart()
+
+    def _restart(self) -> None:
+        self._overtaken: Optional[Overtaken] = None
+        self._seen: Dict[str, Tuple[int, int]] = {}
+        self._wrote = {}
+        self._events: List[Tuple[int, str]] = []
+        self._moment = self._bank._mirror[None][0]
+
+    def _is_stale(self) -> bool:
+        mirror = self._bank._mirror
+        return any(mirror[name] is not seen for name, seen in self._seen.items())
+
+    def read(self, name: str) -> int:
+        if self._overtaken:
+            raise self._overtaken
+        if name in self._wrote:
+            return self._wrote[name]
+        if name in self._seen:
+            return self._seen[name][1]
+        self._bank._number_of(name)
+        mirror = self._bank._mirror
+        while True:
+            shown = mirror[name]
+            if shown[0] <= self._moment:
+                self._seen[name] = shown
+                self._events.append((c.READ, name))
+                return shown[1]
+            # it came after the moment of what was read before: is that of a later moment too?
+            now = mirror[None][0]
+            if self._is_stale():
+                self._overtaken = Overtaken("others have changed what this update had read: it runs anew")
+                raise self._overtaken
+            self._moment = now
+
+    def read_all(self, names: Iterable[str]) -> List[int]:
+        return [self.read(name) for name in names]
+
+    def write(self, name: str, value: int) -> None:
+        if self._overtaken:
+            raise self._overtaken
+        self._bank._number_of(name)
+        if not -LARGEST <= value <= LARGEST:
+            raise Refused(5, WORDS[5], 0)
+        if name not in self._wrote:
+            self._events.append((c.WRITE, name))
+        self._wrote[name] = value
+
+    def add(self, name: str, more: int) -> int:
+        total = self.read(name) + more
+        self.write(name, total)
+        return total
+
+    @property
+    def charged(self) -> int:
+        """The engine has not charged it, as it has not come there."""
+        return 0
+
+    def _give(self) -> Optional[bool]:
+        """Gives the engine its events as an update of its own under one lock. Whether it has committed: else its function
+        runs anew; None where something is in its way, for which the update has to wait."""
+        bank = self._bank
+        with bank._lock:
+            bank._make_room(self)
+            if self._is_stale():
+                return False
+            reply = bank._answer(c.library.esr_begin_update, self._limit)
+            if reply.kind == c.REFUSED:
+                raise OutOfRange(WORDS[reply.refusal])
+            self.number = txn = reply.txn
+            self._renewals = bank.renewals
+            is_as_seen, blocked = True, False
+            if self._events:
+                numbers, wrote, seen = bank._numbers, self._wrote, self._seen
+                events: List[int] = []
+                for kind, name in self._events:
+                    events += (kind, txn, numbers[name], 0, wrote[name] if kind == c.WRITE else 0)
+                try:
+                    replies = bank._packed(events)
+                except BaseException:
+                    bank._answer(c.library.esr_abort, txn)
+                    raise
+                blocked = replies[-4] == c.REFUSED
+                is_as_seen = not blocked and all(
+                    kind == c.WRITE or value == seen[name][1]
+                    for (kind, name), value in zip(self._events, replies[3::4])
+                )
+            bank._answer(c.library.esr_commit if is_as_seen else c.library.esr_abort, txn)
+            if is_as_seen:
+                bank._publish(self._wrote)
+        return None if blocked else is_as_seen
 
 
 class Query(_Transaction):
@@ -651,16 +822,14 @@ class Query(_Transaction):
             return self._finding
 
     def _audit(self) -> Finding:
-        found, room = c.Finding(), 64
-        while True:
-            before = (ctypes.c_uint32 * room)()
-            status = c.library.esr_audit(self._bank._engine, self.number, before, room, found)
-            if status == c.NOT_A_COMMITTED_QUERY:
-                raise EsrError(NOT_COMMITTED)
-            if status != c.TOO_SMALL:
-                self._bank._check(status)
-                return Finding(found.distance, found.imported, tuple(before[: found.count]), self)
-            room = found.count
+        # with room for all from the start an audit is made once
+        found, room = c.Finding(), max(1, self._bank._counts().transactions)
+        before = (ctypes.c_uint32 * room)()
+        status = c.library.esr_audit(self._bank._engine, self.number, before, room, found)
+        if status == c.NOT_A_COMMITTED_QUERY:
+            raise EsrError(NOT_COMMITTED)
+        self._bank._check(status)
+        return Finding(found.distance, found.imported, tuple(before[: found.count]), self)
 
     def bundle(self) -> bytes:
         """Its audit as JSON, which `esr check` judges without this engine.

@@ -82,6 +82,15 @@ class Blocked(Refused):
     """
 
 
+class Overtaken(EsrError):
+    """Others have changed what the function of an optimistic update had read: it runs anew, and its caller is not told.
+
+    >>> from esr import Overtaken
+    >>> issubclass(Overtaken, EsrError)
+    True
+    """
+
+
 class Deadlock(EsrError):
     """The transaction was the youngest of a ring in which each waits for the next.
 

@@ -12,7 +12,7 @@ import types
 from ctypes import POINTER, c_bool, c_char_p, c_int64, c_size_t, c_uint8, c_uint32, c_uint64
 
 DONE, BAD_NAMES, NOT_A_COMMITTED_QUERY, TOO_SMALL, FULL, NO_MEMORY = 0, 5, 6, 7, 12, 13
-READ = 2
+READ, WRITE = 2, 3
 BEGUN, VALUE, WROTE, COMMITTED, ABORTED, REFUSED = 1, 2, 3, 4, 5, 6
 QUICK = {"esr_begin_update", "esr_begin_query", "esr_read", "esr_write", "esr_read_for_update", "esr_commit", "esr_abort"}
 QUICK |= {"esr_totals_of", "esr_counts_of", "esr_account_of"}
@@ -87,6 +87,10 @@ def _load() -> types.SimpleNamespace:
         call = getattr(quick if name in QUICK else library, name)
         call.argtypes, call.restype = arguments, c_uint32
         setattr(calls, name, call)
+    # the same call as esr_do, of bytes
+    calls.esr_do_packed = ctypes.PyDLL(path).esr_do
+    calls.esr_do_packed.argtypes = [engine, c_char_p, c_size_t, c_char_p, c_size_t, c_bool, POINTER(c_size_t)]
+    calls.esr_do_packed.restype = c_uint32
     calls.esr_close = library.esr_close
     calls.esr_close.argtypes, calls.esr_close.restype = [engine], None
     return calls

@@ -294,11 +294,114 @@ class Banks(unittest.TestCase):
             with self.assertRaises(EsrError):
                 tell()
 
-    def test_a_soak_loses_nothing(self):
+    def test_an_optimistic_update_is_an_ordinary_one(self):
+        """The history has its first reads and its last writes; it sees what it wrote, and refusals are the same."""
+        bank = two_accounts(optimistic=True)
+
+        def move(update):
+            before = update.read("checking")
+            update.write("checking", 1)
+            update.write("checking", before - 100)
+            update.add("savings", 100)
+            self.assertEqual(update.read_all(["checking", "savings"]), [400, 1600])
+            return before, update.charged
+
+        self.assertEqual(bank.transact(200, move), (500, 0))
+        self.assertEqual(
+            bank.script(),
+            "item checking 500\nitem savings 1500\nbegin t1 update 200\nread t1 checking\nwrite t1 checking 400\n"
+            "read t1 savings\nwrite t1 savings 1600\ncommit t1\n",
+        )
+        self.assertEqual(bank.snapshot(), {"checking": 400, "savings": 1600})
+        for error, body in [
+            (UnknownItem, lambda update: update.read("pocket")),
+            (Refused, lambda update: update.write("checking", 10**12 + 1)),
+            (ZeroDivisionError, lambda update: update.write("checking", 1 // 0)),
+        ]:
+            with self.assertRaises(error):
+                bank.transact(0, body)
+        with self.assertRaises(OutOfRange):
+            bank.transact(10**18 + 1, lambda update: update.read("checking"))
+        self.assertEqual((bank["checking"], bank.counts.active, bank.counts.transactions), (400, 0, 1))
+
+    def test_an_overtaken_function_runs_anew(self):
+        """It never sees values that were not together, not even where it takes its own errors for others."""
+        for swallows in (False, True):
+            bank, runs = two_accounts(optimistic=True), []
+
+            def move(update):
+                runs.append(update)
+                checking = update.read("checking")
+                if len(runs) == 1:
+                    bank.transact(200, lambda other: (other.add("checking", -100), other.add("savings", 100)))
+                try:
+                    savings = update.read("savings")
+                except EsrError as why:
+                    if swallows:
+                        return update.number
+                    raise ValueError from why
+                self.assertEqual(checking + savings, 2000)
+                return update.add("savings", 1)
+
+            self.assertEqual((bank.transact(200, move), len(runs)), (1601, 2))
+            self.assertEqual(bank.snapshot(), {"checking": 400, "savings": 1601})
+
+    def test_an_optimistic_update_waits(self):
+        """For a lock, and for a report whose limit is in its way; a report that has read is charged for it."""
+        bank, has_read = two_accounts(optimistic=True), threading.Event()
+        with bank.report(100) as report:
+            self.assertEqual(report.read("checking"), 500)
+            bank.transact(100, lambda update: update.add("checking", -100))
+            self.assertEqual(report.charged, 100)
+
+        def slow(limit):
+            with bank.report(0) as report:
+                value = report.read("checking")
+                has_read.set()
+                time.sleep(0.05)
+                self.assertEqual(report.read("checking"), value)
+
+        def hold():
+            with bank.update(1) as update:
+                update.add("savings", 1)
+                has_read.set()
+                time.sleep(0.05)
+
+        for body, item, value in [(lambda: slow(0), "checking", 401), (hold, "savings", 1502)]:
+            has_read.clear()
+            thread = threading.Thread(target=body)
+            thread.start()
+            has_read.wait()
+            self.assertEqual(bank.transact(100, lambda update: update.add(item, 1)), value)
+            thread.join()
+
+    def test_audits_and_texts_are_made_once(self):
+        """There is room for them from the start."""
+        bank, calls = two_accounts(), []
+        for _ in range(200):
+            with bank.update(0) as update:
+                update.add("checking", 1)
+        with bank.report(0) as report:
+            report.read_all(["checking", "savings"] * 200)
+        library = esr._bank.c.library
+        for name in ("esr_audit", "esr_bundle", "esr_explain", "esr_picture", "esr_history_script", "esr_ledger"):
+            call = getattr(library, name)
+            setattr(library, name, lambda *words, call=call, name=name: calls.append(name) or call(*words))
+            self.addCleanup(setattr, library, name, call)
+        self.assertEqual(report.finding.before, tuple(range(1, 201)))
+        texts = [report.bundle(), report.explain(), report.picture(), bank.script(), bank.ledger()]
+        self.assertTrue(all(texts))
+        self.assertEqual(len(calls), len(set(calls)))
+
+    def test_a_soak_loses_nothing_either_way(self):
+        for words in ({}, {"optimistic": True}):
+            self.soak(**words)
+
+    def soak(self, **words):
         """Eight threads move money and read sums: no sum is off by more than it imported, every transfer that was told
         committed is in the accounts and no other, and no thread is stuck."""
         names = [f"account{n}" for n in range(16)]
-        bank, change = Bank({name: 1000 for name in names}), collections.Counter()
+        bank, change = Bank({name: 1000 for name in names}, **words), collections.Counter()
         end, counts = time.monotonic() + float(os.environ.get("ESR_SOAK_SECONDS", "2")), collections.Counter()
 
         def client(seed):

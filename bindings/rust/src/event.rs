@@ -232,6 +232,12 @@ pub enum Error {
     TransactionActive,
     /// The update or report was the youngest of a ring in which each waits for the next: it was given up.
     Deadlock,
+    /// Others have changed what the body of an optimistic update had read: it runs anew. No caller is answered this, and a
+    /// body hands it on.
+    Overtaken,
+    /// The history is full, and the work before its renewal fails: see
+    /// [`BankBuilder::try_before_renewal`](crate::BankBuilder::try_before_renewal).
+    RenewalFailed,
     /// Two items of one name.
     NameTwice,
     /// The event was refused. [`Engine::step`](crate::Engine::step) answers [`Reply::Refused`] in its place.
@@ -251,8 +257,10 @@ impl fmt::Display for Error {
             Error::NoMemory => "out of memory",
             Error::TransactionActive => "a transaction is active",
             Error::Deadlock => "deadlock: given up as the youngest of a ring",
+            Error::Overtaken => "overtaken: others have changed what was read",
+            Error::RenewalFailed => "history full: the work before its renewal failed",
             Error::NameTwice => "two items of one name",
-            Error::Refused(_) => "refused",
+            Error::Refused(why) => return write!(f, "refused: {why}"),
         })
     }
 }

@@ -41,14 +41,20 @@
 #![warn(missing_docs)]
 
 mod bank;
+mod draft;
 mod event;
+mod metrics;
 mod patience;
 mod sys;
 mod transact;
+mod twin;
 mod waits;
 
-pub use bank::{Bank, BankBuilder, BankQuery, BankUpdate, Closing, Report};
+pub use bank::{
+    Bank, BankBuilder, BankQuery, BankUpdate, Closing, LastRefusal, Report, last_refusal,
+};
 pub use event::{Account, Counts, Error, Event, Finding, Refusal, Reply, Standing, Totals, Txn};
+pub use metrics::{Active, Metrics};
 pub use patience::Patience;
 pub use transact::{Update, transact};
 
@@ -116,7 +122,7 @@ fn check(status: u32) -> Result<(), Error> {
     }
 }
 
-fn refusal_of(reply: sys::Reply) -> Refusal {
+pub(crate) fn refusal_of(reply: sys::Reply) -> Refusal {
     let txn = Txn(reply.txn);
     match reply.refusal {
         1 => Refusal::NoSuchTransaction,
@@ -190,21 +196,31 @@ fn text(bytes: Vec<u8>) -> String {
     String::from_utf8(bytes).expect("texts are ASCII")
 }
 
-/// A list that a call writes, at its second try where the first room was too small.
-fn list_by<T: Copy>(
-    blank: T,
+/// A list that a call writes, at its second try where the first room was too small. A room is not filled beforehand, so
+/// what is not written costs next to nothing.
+///
+/// # Safety
+/// Where the call answers 0, it has written as many elements at the pointer as it counts, which are at most the room.
+unsafe fn list_by<T: Copy>(
     room: usize,
     mut call: impl FnMut(*mut T, usize, &mut usize) -> u32,
 ) -> Result<Vec<T>, Error> {
-    let mut list = vec![blank; room];
+    let mut list: Vec<T> = Vec::new();
+    // (where there is no memory for the whole room, the second try asks for what is needed)
+    let _ = list.try_reserve_exact(room);
     let mut count = 0;
-    let mut status = call(list.as_mut_ptr(), list.len(), &mut count);
+    let mut status = call(list.as_mut_ptr(), list.capacity(), &mut count);
     if status == 7 {
-        list.resize(count, blank);
-        status = call(list.as_mut_ptr(), list.len(), &mut count);
+        #[cfg(test)]
+        tests::SECOND_TRIES.set(tests::SECOND_TRIES.get() + 1);
+        list.try_reserve_exact(count).map_err(|_| Error::NoMemory)?;
+        status = call(list.as_mut_ptr(), list.capacity(), &mut count);
     }
     check(status)?;
-    list.truncate(count);
+    assert!(count <= list.capacity());
+    // SAFETY: so many elements were written, by what the caller promises.
+    unsafe { list.set_len(count) };
+    list.shrink_to_fit();
     Ok(list)
 }
 
@@ -557,10 +573,12 @@ impl Engine {
     /// # Errors
     /// `NoMemory`.
     pub fn values(&mut self) -> Result<Vec<i64>, Error> {
-        // SAFETY: the pointer and the length are those of one list.
-        list_by(0, MOST_ITEMS, |values, room, count| unsafe {
-            sys::esr_values(&mut self.raw, values, room, count)
-        })
+        // SAFETY: the pointer and the length are those of one list, whose head the call writes.
+        unsafe {
+            list_by(MOST_ITEMS, |values, room, count| {
+                sys::esr_values(&mut self.raw, values, room, count)
+            })
+        }
     }
 
     /// The audit of a committed query.
@@ -580,13 +598,16 @@ impl Engine {
     /// `NotACommittedQuery`, `NoMemory`.
     pub fn audit(&mut self, query: Txn) -> Result<Finding, Error> {
         let mut found = sys::Finding::default();
-        let before = list_by(0, 16, |before, room, count| {
-            // SAFETY: the pointer and the length are those of one list.
-            let status =
-                unsafe { sys::esr_audit(&mut self.raw, query.0, before, room, &mut found) };
-            *count = found.count;
-            status
-        })?;
+        // with room for all from the start an audit is made once
+        let all = self.counts().transactions as usize;
+        // SAFETY: the pointer and the length are those of one list, whose head the call writes.
+        let before = unsafe {
+            list_by(all, |before, room, count| {
+                let status = sys::esr_audit(&mut self.raw, query.0, before, room, &mut found);
+                *count = found.count;
+                status
+            })?
+        };
         Ok(Finding {
             distance: found.distance,
             import: found.import,
@@ -609,10 +630,13 @@ impl Engine {
     /// # Errors
     /// `NotACommittedQuery`, `NoMemory`.
     pub fn bundle(&mut self, query: Txn) -> Result<Vec<u8>, Error> {
-        // SAFETY: the pointer and the length are those of one list.
-        list_by(0, 4_096, |bytes, room, count| unsafe {
-            sys::esr_bundle(&mut self.raw, query.0, bytes, room, count)
-        })
+        let room = self.room_for_text();
+        // SAFETY: the pointer and the length are those of one list, whose head the call writes.
+        unsafe {
+            list_by(room, |bytes, room, count| {
+                sys::esr_bundle(&mut self.raw, query.0, bytes, room, count)
+            })
+        }
     }
 
     /// The history so far as a script of `esr run`, which gives each entry again that was accepted or blocked. Items are
@@ -631,22 +655,58 @@ impl Engine {
     /// `BadNames`, `NoMemory`.
     pub fn script(&mut self, names: &[&str]) -> Result<String, Error> {
         let names = names.join("\n");
-        // SAFETY: the pointers and the lengths are those of two lists.
-        let bytes = list_by(0, 4_096, |bytes, room, count| unsafe {
-            let (raw, length) = (&mut self.raw, names.len());
-            sys::esr_history_script(raw, names.as_ptr(), length, bytes, room, count)
-        })?;
+        let room = self.room_for_text();
+        // SAFETY: the pointers and the lengths are those of two lists; the call writes the head of one.
+        let bytes = unsafe {
+            list_by(room, |bytes, room, count| {
+                let (raw, length) = (&mut self.raw, names.len());
+                sys::esr_history_script(raw, names.as_ptr(), length, bytes, room, count)
+            })?
+        };
         Ok(text(bytes))
+    }
+
+    /// Room for any text of the history, by which it is made once: a line of a script has at most 46 bytes, a row of the
+    /// ledger 160, and what is not written is only reserved. A text that is longer all the same is made twice.
+    fn room_for_text(&mut self) -> usize {
+        let counts = self.counts();
+        (1 << 18) + 128 * counts.entries as usize + 256 * counts.transactions as usize
+    }
+
+    /// Gives events of one transaction in turn, to the first that is not answered or is refused, without lists of its own.
+    /// How many were answered, and the error that ended it, if one did.
+    pub(crate) fn replay(
+        &mut self,
+        events: &[sys::Event],
+        replies: &mut [sys::Reply],
+    ) -> (usize, Option<Error>) {
+        let mut answered = 0;
+        // SAFETY: the pointers and the lengths are those of two lists of the caller's.
+        let status = unsafe {
+            sys::esr_do(
+                &mut self.raw,
+                events.as_ptr(),
+                events.len(),
+                replies.as_mut_ptr(),
+                replies.len(),
+                true,
+                &mut answered,
+            )
+        };
+        (answered, check(status).err())
     }
 
     /// What a call tells of a query, by these names of the items.
     fn tell(&mut self, call: sys::Telling, query: Txn, names: &[&str]) -> Result<String, Error> {
         let names = names.join("\n");
-        // SAFETY: the pointers and the lengths are those of two lists.
-        let bytes = list_by(0, 4_096, |bytes, room, count| unsafe {
-            let (raw, length) = (&mut self.raw, names.len());
-            call(raw, query.0, names.as_ptr(), length, bytes, room, count)
-        })?;
+        let room = self.room_for_text();
+        // SAFETY: the pointers and the lengths are those of two lists; the call writes the head of one.
+        let bytes = unsafe {
+            list_by(room, |bytes, room, count| {
+                let (raw, length) = (&mut self.raw, names.len());
+                call(raw, query.0, names.as_ptr(), length, bytes, room, count)
+            })?
+        };
         Ok(text(bytes))
     }
 
@@ -701,10 +761,13 @@ impl Engine {
     /// # Errors
     /// `NoMemory`.
     pub fn ledger(&mut self) -> Result<String, Error> {
-        // SAFETY: the pointer and the length are those of one list.
-        let bytes = list_by(0, 4_096, |bytes, room, count| unsafe {
-            sys::esr_ledger(&mut self.raw, bytes, room, count)
-        })?;
+        let room = self.room_for_text();
+        // SAFETY: the pointer and the length are those of one list, whose head the call writes.
+        let bytes = unsafe {
+            list_by(room, |bytes, room, count| {
+                sys::esr_ledger(&mut self.raw, bytes, room, count)
+            })?
+        };
         Ok(text(bytes))
     }
 
@@ -755,5 +818,46 @@ impl Drop for Engine {
 impl fmt::Debug for Engine {
     fn fmt(&self, f: &mut fmt::Formatter<'_>) -> fmt::Result {
         f.debug_struct("Engine").finish_non_exhaustive()
+    }
+}
+
+#[cfg(test)]
+mod tests {
+    use super::*;
+    use std::cell::Cell;
+
+    thread_local! {
+        pub(crate) static SECOND_TRIES: Cell<u32> = const { Cell::new(0) };
+    }
+
+    /// There is room for audits and texts from the start, so each is made once.
+    #[test]
+    fn audits_and_texts_are_made_once() -> Result<(), Error> {
+        let mut engine = Engine::open(&[0; 300])?;
+        for n in 0..1_000 {
+            let update = engine.begin_update(0)?;
+            engine.write(update, n % 300, -999_999_999_999)?;
+            engine.commit(update)?;
+        }
+        let late = engine.begin_update(10_u64.pow(18))?;
+        engine.write(late, 7, 5)?;
+        let query = engine.begin_query(10_u64.pow(18))?;
+        for item in 0..1_000 {
+            engine.read(query, item % 300)?;
+        }
+        engine.commit(query)?;
+        engine.abort(late)?;
+        let finding = engine.audit(query)?;
+        assert!(finding.before.capacity() <= finding.before.len().max(16));
+        let lengths = [
+            engine.bundle(query)?.len(),
+            engine.explain(query, &[])?.len(),
+            engine.picture(query, &[])?.len(),
+            engine.script(&[])?.len(),
+            engine.ledger()?.len(),
+        ];
+        println!("{} before, texts {lengths:?}", finding.before.len());
+        assert_eq!(SECOND_TRIES.get(), 0);
+        Ok(())
     }
 }

@@ -73,6 +73,8 @@ impl Default for Patience {
 #[derive(Clone, Copy, Debug)]
 pub(crate) struct Waiting {
     left: Duration,
+    /// What has been waited in this attempt, and before it began.
+    waited: Duration,
     /// How many rounds only let others run.
     yields: u32,
     /// The first pause behind these, which is doubled from round to round.
@@ -101,6 +103,7 @@ impl Waiting {
     pub(crate) fn of_engine(patience: Patience) -> Waiting {
         Waiting {
             left: patience.total,
+            waited: Duration::ZERO,
             yields: 4,
             pause: Duration::from_micros(20),
             share: draw(Duration::from_millis(2)),
@@ -113,6 +116,7 @@ impl Waiting {
     pub(crate) fn of_bank(patience: Patience) -> Waiting {
         Waiting {
             left: patience.total,
+            waited: Duration::ZERO,
             yields: 0,
             pause: Duration::from_millis(1),
             share: draw(Duration::from_millis(50)),
@@ -128,6 +132,20 @@ impl Waiting {
     /// Counts a time that has gone by in vain.
     pub(crate) fn spend(&mut self, time: Duration) {
         self.left = self.left.saturating_sub(time);
+        self.waited += time;
+    }
+
+    /// The patience of the next attempt, which counts its own time.
+    pub(crate) fn of_next_attempt(self) -> Waiting {
+        Waiting {
+            waited: Duration::ZERO,
+            ..self
+        }
+    }
+
+    /// How long this attempt has waited.
+    pub(crate) fn waited(&self) -> Duration {
+        self.waited
     }
 
     /// Counts an attempt that had no room in the history: as a share, so that one that never has any ends too.

@@ -12,7 +12,7 @@ pub(crate) const CLOSED: Engine = Engine {
 };
 
 #[repr(C)]
-#[derive(Clone, Copy, Default)]
+#[derive(Clone, Copy, Default, Debug)]
 pub(crate) struct Reply {
     pub kind: u32,
     pub refusal: u32,
@@ -56,7 +56,7 @@ pub(crate) struct Account {
 }
 
 #[repr(C)]
-#[derive(Clone, Copy, Default)]
+#[derive(Clone, Copy, Default, Debug)]
 pub(crate) struct Event {
     pub kind: u32,
     pub txn: u32,

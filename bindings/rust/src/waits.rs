@@ -95,6 +95,12 @@ impl Waits {
         self.given_up.remove(&txn)
     }
 
+    /// Whether a transaction waits: for whom, where that one has not ended, and at which item.
+    pub(crate) fn wait_of(&self, txn: Txn) -> Option<(Option<Txn>, u32)> {
+        let wait = self.waiting.get(&txn);
+        wait.map(|wait| (wait.blocker, wait.item))
+    }
+
     /// Whether a transaction has been given up.
     pub(crate) fn has_given_up(&self, txn: Txn) -> bool {
         self.given_up.contains_key(&txn)

@@ -1,8 +1,8 @@
-//! Audits: what is found of one committed query, and of all of a history.
+//! Audits of one committed query, and of every committed query of a history.
 //!
-//! A finding carries its problem, so whoever doubts it can check the certificate. Why an audit fails is two things
-//! only: there is no such committed query, or no memory; that the parts of the problem keep the rules of shape and
-//! range follows from the limits of the engine.
+//! A finding contains its problem, so anyone can check the certificate. An audit fails only if the transaction is not a
+//! committed query or if an allocation fails: that the problem satisfies the rules of shape and range follows from the limits
+//! of the engine.
 ghost use Rattle.std.specs.Prelude.{◌≡◌, ◌↔◌, false, List, None, map, All, IfOk, IfErr, IsErrOf, IsTrue, filter_map, slice_get};
 ghost use Rattle.esr_history.specs.declared.event.Entry.{Entry};
 ghost use Rattle.esr_history.specs.Legal.{along};

@@ -1,8 +1,8 @@
-//! The chains of a query's problem: for each item that it read, the writers in commit order, and what the reads of it
-//! cost after none of them, after one, and so on.
+//! The chains of a query's problem: for each item that the query read, the writers in commit order, and the cost of the
+//! query's reads before the first writer and after each of them.
 //!
-//! The writers move out of the order into the chain, and the values that they left are let go as soon as their
-//! distances are summed, so that the next item's costs may lie where they lay.
+//! Writers are moved from the order into the chain, and the written values are freed as soon as their distances have been
+//! summed, so that the costs of the next item can reuse their memory.
 ghost use Rattle.std.specs.Prelude.{◌≡◌, ◌<◌, ◌≤◌, [], ◌∷◌, ◌++◌, ℕ, length, map, All, IfOk, OnOk, option_map};
 ghost use Rattle.esr_items.specs.Values.{IsValue};
 ghost use Rattle.esr_base.specs.declared.limits.TheConstants.{MOST_READS};

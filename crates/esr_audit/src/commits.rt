@@ -1,5 +1,5 @@
-//! The transactions that committed: the updates, and the queries, each in commit order. An audit of a whole history
-//! makes these lists once for all its queries.
+//! The committed updates and the committed queries of a history, each in commit order. An audit of a whole history computes
+//! the two lists once for all queries.
 ghost use Rattle.std.specs.Prelude.{◌≡◌, ◌≤◌, not, filter, map, All, IfOk, IsTrue, vec_len};
 ghost use Rattle.esr_base.specs.declared.limits.TheConstants.{MOST_TRANSACTIONS};
 ghost use Rattle.esr_history.specs.Events.{is_query};

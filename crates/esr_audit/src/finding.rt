@@ -1,5 +1,5 @@
-//! What audits find, and why one gives no answer. The certificate's set names positions among the problem's updates;
-//! the finding gives transactions.
+//! The results and errors of audits. The set of a certificate contains positions among the problem's updates; a finding
+//! contains the transactions themselves.
 
 ghost use Rattle.std.specs.Prelude.{◌≡◌};
 ghost use Rattle.esr_audit.specs.declared.finding.AuditError.TheVariants.{NoMemory};

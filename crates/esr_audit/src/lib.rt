@@ -1,8 +1,8 @@
-//! Audits of committed queries: the least distance of what a query read from any serial placement, with a certificate.
+//! Audits of committed queries: the minimum distance of a query's reads from any serial placement, with a certificate.
 //!
-//! An audit needs a history and nothing else. It makes the problem that stands for the query, of the updates near to
-//! it, has it solved, and tells what is found. The certificate says nothing without the problem, and that the problem
-//! stands for the query is what is promised here (`StandsFor`), not by the checker.
+//! An audit needs only a history. It builds the query's problem, restricted to the near updates, solves it, and returns a
+//! finding. A certificate is meaningless without its problem. That the problem is the query's is a promise of this crate
+//! (`StandsFor`), not of the checker.
 #![tactic(auto)]
 
 mod audit;

@@ -1,5 +1,5 @@
-//! The problem that stands for a committed query: near updates, pairs, what it must have seen, and the chains of what
-//! it read. It is made by `Problem::of_sound`, since by proof it breaks no rule.
+//! Builds the problem of a committed query: near updates, pairs, required updates (of a strict query), and the chains of the
+//! items that it read. `Problem::of_sound` constructs it without validation, because it is proved to satisfy every rule.
 ghost use Rattle.std.specs.Prelude.{map, IfOk, IsTrue};
 ghost use Rattle.esr_history.specs.Events.{is_query};
 ghost use Rattle.esr_history.specs.Machine.{done};

@@ -1,4 +1,4 @@
-//! What a query read, item by item and in order.
+//! The reads of a query, grouped by item, in order.
 ghost use Rattle.std.specs.Prelude.{◌≡◌, not, filter, map, IfOk};
 ghost use Rattle.esr_history.specs.Events.{is_query};
 ghost use Rattle.esr_history.specs.Machine.{done};

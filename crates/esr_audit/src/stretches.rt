@@ -1,9 +1,9 @@
-//! Lists of transactions in little room.
+//! Compressed lists of transactions.
 //!
-//! What comes before a query is mostly nearly all that committed before it, and transactions mostly commit in the order
-//! in which they begin. So such a list is kept as stretches of consecutive numbers, where these are few, and else as it
-//! is. A summary of 65,000 updates takes some bytes then for 260,000. Rejected: a bit for each number, which needs the
-//! order of commits to be read again.
+//! The set before a query usually contains nearly all updates that committed before it, and transactions usually commit in
+//! the order of their begins. Such a list is stored as intervals of consecutive numbers if there are few of these, and
+//! uncompressed otherwise. A summary of 65,000 updates then takes a few bytes instead of 260,000. Rejected: a bit set, because
+//! reading it back would require the commit order again.
 ghost use Rattle.std.specs.Prelude.{◌≡◌, ◌≤◌, ◌++◌, ◌∷◌, [], true, OnOk, IfOk, IfSome, map, flat_map};
 ghost use Rattle.esr_audit.specs.Stretches.{listed, numbers_in};
 

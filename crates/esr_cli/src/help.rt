@@ -1,27 +1,27 @@
-//! What help says behind the arguments of each command: what it reads, what it writes, and an example that runs.
+//! The text that `--help` prints after the options of each subcommand: input, output, and an example that works.
 //!
-//! `checks/shell` runs each line that begins with `$` and compares what follows it.
+//! `checks/shell` executes each line that starts with `$` and compares its output with the lines that follow.
 
-/// The lines of a script, for the program and for `run`.
-pub const SCRIPT: &str = "A script is a list of lines, each answered by one line:
+/// The lines of a script, for the help of `esr` and of `esr run`.
+pub const SCRIPT: &str = "A script is a list of lines. Each line produces one line of output:
 
   item NAME VALUE             declares an item (before all other lines)
-  item NAME VALUE weight W    the same; distances count W times, 1 to 1000
-  begin NAME update LIMIT     begins an update, which may export at most LIMIT
-  begin NAME query LIMIT      begins a query, which may import at most LIMIT
-  begin NAME query LIMIT strict   the same, audited behind all that had committed
+  item NAME VALUE weight W    same, with distances multiplied by W (1 to 1000)
+  begin NAME update LIMIT     begins an update that may export at most LIMIT
+  begin NAME query LIMIT      begins a query that may import at most LIMIT
+  begin NAME query LIMIT strict   same, audited after all earlier commits
   read TRANSACTION ITEM
   write TRANSACTION ITEM VALUE
   commit TRANSACTION
   abort TRANSACTION
-  audit QUERY                 how far a committed query is from a serial order
-  totals                      what was imported and exported, and the entries
-  # a comment                 skipped, as an empty line is
+  audit QUERY                 distance of a committed query from a serial order
+  totals                      total import and export, and number of entries
+  # a comment                 ignored, as are empty lines
 
-One blank separates words, and lines end with a line feed alone. A NAME is a
-letter and up to 15 letters, digits or _. Numbers are whole, without a plus sign
-or zeros in front: a VALUE from -1000000000000 to 1000000000000, a LIMIT from 0
-to 1000000000000000000. esr lint FILE says what is wrong with a line.
+Words are separated by a single space, and lines end with LF. A NAME is a letter
+followed by up to 15 letters, digits or _. Numbers are integers without plus sign
+or leading zeros: a VALUE from -1000000000000 to 1000000000000, a LIMIT from 0 to
+1000000000000000000. Run esr lint FILE to find errors in a script.
 
 For example:
 
@@ -34,40 +34,40 @@ For example:
   commit q
   audit q
 
-The manual has every rule: esr(1), esr(5).";
+See esr(1) and esr(5) for the complete rules.";
 
 pub const CERTIFY: &str =
-    "The bundle is JSON: a query's audit as a problem, with a certificate of its least
-cost. esr check judges it without the script, for one who trusts neither.
+    "The bundle is JSON: the problem of a query's audit, with a certificate of its
+minimum cost. esr check verifies it without the script or the engine.
 
 For example:
 
   $ printf 'item a 1\\nbegin q query 0\\nread q a\\ncommit q\\n' | esr certify q | esr check
   valid 0";
 
-pub const CHECK: &str = "It writes one line:
+pub const CHECK: &str = "Prints one line:
 
-  valid W      the certificate shows that W is the least cost (status 0)
-  invalid K    it does not (status 1): 1 the set does not ascend, 2 holds no
-               position, 3 is not closed; 4 an amount is above its arc, or a
-               list has another length; 5 more flows into an update than out of
-               it, or less; 6 the worth is not the flow's, or not the set's
-               cost; 7 the count of augmentations is too large
-  bad K        the bytes are no bundle (status 1): 1 no JSON, 2 a key or a value
-               is another, 3 a number is out of range
+  valid W      the certificate proves that W is the minimum cost (status 0)
+  invalid K    it does not (status 1): 1 set not ascending, 2 set contains an
+               unknown update, 3 set not closed; 4 flow exceeds the capacity of
+               an arc, or a list has the wrong length; 5 flow not conserved at
+               an update; 6 worth differs from the flow or from the cost of the
+               set; 7 too many augmentations
+  bad K        not a bundle (status 1): 1 not JSON, 2 wrong key or type, 3 number
+               out of range
 
 For example:
 
   $ printf '{' | esr check
   bad 1
 
-With --script and --query it writes valid W of NAME only where the problem of the
-bundle is the one that the script gives for that query; else a valid bundle speaks
-of something else: valid W, not of NAME (status 1).";
+With --script and --query, prints valid W of NAME if the problem of the bundle is
+the problem of that query in the script, and valid W, not of NAME (status 1) if
+the bundle is valid but its problem is a different one.";
 
 pub const EXPLAIN: &str =
-    "It tells of a committed query what it read beside the value of the nearest
-placement, each charge to it, and the updates before and after that placement.
+    "Prints each read of a committed query with the value at the nearest placement,
+each charge, and the updates before and after that placement.
 
 For example:
 
@@ -78,8 +78,8 @@ For example:
   distance 0 import 0";
 
 pub const PICTURE: &str =
-    "The picture has a lane for each item that the query read, green where the item
-has the value that was read, and a line for the placement of least distance.
+    "The picture has a lane for each item that the query read, green wherever the item
+has the value that was read, and a line at the placement of minimum distance.
 
 For example:
 
@@ -87,8 +87,8 @@ For example:
   1";
 
 pub const AUDIT: &str =
-    "It writes the committed updates in a serial order, a line for each committed
-query, and the totals. Lines at fault are told on standard error first.
+    "Prints the committed updates in a serial order, one line per committed query, and
+the totals. Errors in the script are reported on standard error first.
 
 For example:
 
@@ -98,9 +98,9 @@ For example:
   totals import 0 export 0 entries 3";
 
 pub const DRIVE: &str =
-    "A drive file has item lines, and then blocks: a line session, and behind it the
-lines begin, read, write, commit and abort of one thread. A blocked line is given
-again, up to 100 times. The first line at fault ends it, before any block runs.
+    "A drive file consists of item lines, followed by blocks. A block is a line session
+followed by the begin, read, write, commit and abort lines of one thread. Blocked
+lines are tried up to 100 times. If a line has an error, no block is executed.
 
 For example:
 
@@ -113,26 +113,26 @@ For example:
   totals import 0 export 0 entries 3";
 
 pub const EXPLORE: &str =
-    "It runs the sessions of a drive file on one thread, one line after another, in many
-interleavings: drawn ones, or all. It writes for each session how often its lines
-were blocked, and for each query the worst and the middle import and distance.
+    "Runs the sessions of a drive file on one thread, line by line, in many
+interleavings: random ones, or all. Prints how often the lines of each session
+were blocked, and the maximum and median import and distance of each query.
 
-Which limit does a report need? Give it a large one, and look at the worst import.
+To find the limit that a report needs, set a large one and see the worst import.
 
 For example:
 
-  $ printf 'item a 1\nsession\nbegin q query 0\nread q a\ncommit q\n' | esr explore --all
+  $ printf 'item a 1\\nsession\\nbegin q query 0\\nread q a\\ncommit q\\n' | esr explore --all
   interleavings 1 of 1
   session 0 blocked worst 0 middle 0 gave up 0
   query q committed 1 import worst 0 middle 0 distance worst 0 middle 0";
 
 pub const LEDGER: &str =
-    "It writes a row for each transaction that began, in order: its number, name and
-kind, its limit, what it was charged and what is left, how many reads and writes
-were accepted and how many were blocked, by a lock, an import or an export limit,
-how it ended, its first and last line, and a committed query's distance.
+    "Prints one row per transaction, in the order of the begins: number, name, kind,
+limit, charges and remaining limit, number of accepted reads and writes, number
+of events blocked by locks, import limits and export limits, outcome, first and
+last line, and the distance of a committed query.
 
-Which limit does a report need? Run it with a large one, and look at the charge.
+To find the limit that a report needs, set a large one and see the charges.
 
 For example:
 
@@ -140,9 +140,9 @@ For example:
   1,q,query,0,0,0,1,0,0,0,0,committed,0,2,4";
 
 pub const WHY: &str =
-    "It tells of each blocked line what was asked for, what would have been charged, what
-was left, and which limit would let it pass; or which lock it waited for, and when
-that was released. Transactions that wait for one another are named as a deadlock.
+    "Prints, for each blocked line, the request and either the charge, the remaining
+limit and the limit that would suffice, or the lock that blocked it and when that
+lock was released. A cycle of waiting transactions is reported as a deadlock.
 
 For example:
 
@@ -150,9 +150,9 @@ For example:
   line 5: read v a: blocked by the write lock of u; u ended at line 6";
 
 pub const LINT: &str =
-    "It lists lines that are no commands, lines that are answered by an error or by a
-refusal 1 to 8, and transactions that are still active at the end, each as
-FILE:LINE:COLUMN: REASON, of each FILE in turn. The status is 1 where there is one.
+    "Lists invalid lines, lines that produce an error or a refusal 1 to 8, and
+transactions that are still active at the end, as FILE:LINE:COLUMN: REASON, for
+each FILE in turn. The exit status is 1 if anything was listed.
 
 For example:
 
@@ -160,8 +160,9 @@ For example:
   line 2:1: \"wirte\" is no command; write?";
 
 pub const PAGE: &str =
-    "The page is one HTML file with nothing outside it: the sums, a chart and a table
-of all queries, picture and sentences of those farthest off, the serial order.
+    "The page is a single self-contained HTML file: totals, a chart and a table of all
+queries, pictures and explanations of those with the largest distance, and the
+serial order.
 
 For example:
 

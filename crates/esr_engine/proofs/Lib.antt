@@ -7,3 +7,4 @@ pub mod Stepped
 pub mod Standings
 pub mod Locking
 pub mod Renewal
+pub mod Reports

@@ -3,6 +3,7 @@
 ghost use Rattle.std.specs.Prelude.{◌≡◌, is_some};
 ghost use Rattle.esr_items.specs.Weights.{weighted};
 ghost use Rattle.esr_history.specs.Events.{kind_of};
+ghost use Rattle.esr_history.specs.ReportBounds.{ImportBoundsActive};
 ghost use Rattle.esr_engine.specs.Accounts.{account_of, charged_to};
 ghost use Rattle.esr_engine.specs.Standings.{standing_at};
 ghost use Rattle.esr_order.specs.Scans.{commit_in};
@@ -64,10 +65,12 @@ impl Engine {
         }
     }
 
-    /// The account of a transaction, or None where it has not begun.
-    #[tactic(auto, using(crate::proofs::Standings::no_account))]
+    /// The account of a transaction, or None where it has not begun. What an active report has read so far is off by at
+    /// most what it was charged, from the committed values and from any mixture of these and the current ones.
+    #[tactic(auto, using(crate::proofs::Standings::no_account, crate::proofs::Reports::active_bounded))]
     pub fn account(&self, t: TxnId) -> Option<Account>
-        ensures { result ≡ account_of weighted self.now t.0 }
+        ensures account { result ≡ account_of weighted self.now t.0 }
+        ensures bound { ImportBoundsActive weighted self.now }
     {
         let history = self.machine.history();
         match history.facts(t) {

@@ -23,14 +23,14 @@ abbrev pub IsCovered : Setting → Trace → (ℕ → ℕ) → Type 0
 IsCovered s t m = (q : ℕ) → ended_in t q ≡ false → update_in t q ≡ false → (w : ℕ → ℤ) → IsMixture s.opening t w → distance_in s.distance t q w ≤ m q
 
 -- an operation of another leaves the reads of q
-reads_with : (t : Trace) (o : Operation) (q : ℕ) → read_by q o ≡ false → filter (read_by q) (t.operations ++ o ∷ []) ≡ filter (read_by q) t.operations
+pub reads_with : (t : Trace) (o : Operation) (q : ℕ) → read_by q o ≡ false → filter (read_by q) (t.operations ++ o ∷ []) ≡ filter (read_by q) t.operations
 reads_with t o q h = filter_push_false (read_by q) t.operations o h
 
 read_parts : (q : ℕ) (o : Operation) → read_by q o ≡ true → (o.writes ≡ false) × (o.txn ≡ q)
 read_parts q o h = let p = and_parts (not o.writes) (eqb o.txn q) h in (not-true o.writes p.0, eqb-true o.txn q p.1)
 
 -- where single distances grow by at most k at the elements that c counts, so do the sums
-sums_within : (p c : Operation → Bool) (f g : Operation → ℕ) (k : ℕ) (xs : List Operation) →
+pub sums_within : (p c : Operation → Bool) (f g : Operation → ℕ) (k : ℕ) (xs : List Operation) →
     ((o : Operation) → In o xs → p o ≡ true → f o ≤ g o + cond (c o) k 0) →
     sum_by f (filter p xs) ≤ sum_by g (filter p xs) + count_by c xs * k
 sums_within p c f g k [] h = omega arith
@@ -63,10 +63,10 @@ sums_within p c f g k (x ∷ xs) h =
     join_none false r s n k h = omega arith
 
 -- a transaction that was not begun has read nothing
-unbegun : {s : Setting} {t : Trace} {m : ℕ → ℕ} → Reached s t m → (q : ℕ) → begun_in t q ≡ false → filter (read_by q) t.operations ≡ []
+pub unbegun : {s : Setting} {t : Trace} {m : ℕ → ℕ} → Reached s t m → (q : ℕ) → begun_in t q ≡ false → filter (read_by q) t.operations ≡ []
 unbegun {t = t} r q h = grind (arith, filter_none_in, false_from_ne_true, true≢false, known r, begun_in t, read_parts)
 
-query_from : (o : Option Beginning) → is_some o ≡ true → says (λ s. not s.query) o ≡ false → says (λ s. s.query) o ≡ true
+pub query_from : (o : Option Beginning) → is_some o ≡ true → says (λ s. not s.query) o ≡ false → says (λ s. s.query) o ≡ true
 query_from None b h = absurd (true≢false (sym b))
 query_from (Some s) b h = not-false s.query h
 

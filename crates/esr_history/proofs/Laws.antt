@@ -23,7 +23,7 @@ use Rattle.esr_history.proofs.Reaches.{legal_reached}
 use Rattle.esr_history.proofs.Onward.{IsAfter, legal_after, legal_front, has_begins}
 
 -- operations of entries in two parts
-operations-append : (xs ys : List Entry) → operations_in (xs ++ ys) ≡ operations_in xs ++ operations_in ys
+pub operations-append : (xs ys : List Entry) → operations_in (xs ++ ys) ≡ operations_in xs ++ operations_in ys
 operations-append xs ys = grind (arith, filter-append, filter_map-append, filter)
 
 module _ (d : Distance) (h : Schedule) (legal : IsLegal d h) where

@@ -17,7 +17,7 @@ use Rattle.esr_history.proofs.Allowed.{NoneApplies, none_applies, read_allowed, 
 use Rattle.esr_history.proofs.Lawful.{done-refused, done-accepted, not_ended, begun_number, update_from, when_none}
 use Rattle.esr_history.proofs.Charges.{import-push}
 use Rattle.esr_history.proofs.Membership.{In, any-from_In}
-use Rattle.esr_history.proofs.Traces.{Setting, Trace, Keeps, ended_in, query_in, read_of, write_of, current_in, committed_in, read_count_in, Active, NoOtherWriter, NoOtherUser, with_operation, with_commit, with_abort, with_begins, Reached, Reached.nothing, Reached.begin, Reached.read_update, Reached.read_query, Reached.write, Reached.commit, Reached.abort}
+use Rattle.esr_history.proofs.Traces.{Setting, Trace, Keeps, ended_in, query_in, read_of, write_of, current_in, committed_in, read_count_in, Active, NoOtherWriter, NoOtherUser, with_operation, with_commit, with_abort, with_begins, Reached, Reached.nothing, IsKept, reached_kept}
 use Rattle.esr_history.proofs.Versions.{wrote_by}
 use Rattle.esr_history.proofs.Words.{query_not_update, trace, aborter, read_item_by, wrote_trace, read_trace, reads_trace, committed_trace, current_trace, active_trace, trace_active}
 
@@ -90,18 +90,11 @@ module _ (d : Distance) (h : Schedule) where
   no_imports : (e : Event) (r : Reply) → is_refusal r ≡ false → ((q : ℕ) → import_in (due_in d h e) q ≡ 0) → imports d (extended h e r) ≡ imports d h
   no_imports e r is none = fun_ext (λ q. with_imports e r is q ∙ (ap (λ n. imports d h q + n) (none q) ∙ add-zero (imports d h q)))
 
-  linked : (e : Event) (r : Reply) (t : Trace) (m : ℕ → ℕ) → trace (extended h e r) ≡ t → imports d (extended h e r) ≡ m → Reached (setting d h) t m → IsReached d (extended h e r)
-  linked e r t m same sums reached =
-      subst (λ (w : Trace). Reached (setting d h) w (imports d (extended h e r))) (sym same) (subst (λ (w : ℕ → ℕ). Reached (setting d h) t w) (sym sums) reached)
-
   pub refused_trace : (e : Event) (why : Refusal) → trace (extended h e (Refused why)) ≡ trace h
   refused_trace e why = grind (arith, done-refused h e why, operations-refused, aborter)
 
   pub refused_imports : (e : Event) (why : Refusal) → imports d (extended h e (Refused why)) ≡ imports d h
   refused_imports e why = ap (λ (es : List Event). import_in (charges (distance_in d h) h.opening es)) (done-refused h e why)
-
-  refused_step : (e : Event) (why : Refusal) → IsReached d h → IsReached d (extended h e (Refused why))
-  refused_step e why reached = linked e (Refused why) (trace h) (imports d h) (refused_trace e why) (refused_imports e why) reached
 
   -- where no update holds a lock, all who used the item have ended
   active_user : (u : ℕ) → is_update (done h) u ≡ true → ended_in (trace h) u ≡ false → is_active (done h) u ≡ true
@@ -173,42 +166,51 @@ module _ (d : Distance) (h : Schedule) where
       at None was is_it = absurd (true≢false (sym is_it))
       at (Some b) was is_it = beginning-push (done h) e u b was ∙ sym was
 
-  begin_step : (e : Event) (r : Reply) → is_refusal r ≡ false → operation_by e r ≡ None → committer e ≡ None → aborter e ≡ None → ((q : ℕ) → import_in (due_in d h e) q ≡ 0) → IsReached d h → IsReached d (extended h e r)
+-- what the steps keep is kept by each entry of the machine
+module _ (d : Distance) (h : Schedule) (P : Trace → (ℕ → ℕ) → Type 0) (kept : IsKept (setting d h) P) where
+  linked : (e : Event) (r : Reply) (t : Trace) (m : ℕ → ℕ) → trace (extended h e r) ≡ t → imports d (extended h e r) ≡ m → P t m → P (trace (extended h e r)) (imports d (extended h e r))
+  linked e r t m same sums reached =
+      subst (λ (w : Trace). P w (imports d (extended h e r))) (sym same) (subst (λ (w : ℕ → ℕ). P t w) (sym sums) reached)
+
+  refused_step : (e : Event) (why : Refusal) → P (trace h) (imports d h) → P (trace (extended h e (Refused why))) (imports d (extended h e (Refused why)))
+  refused_step e why reached = linked e (Refused why) (trace h) (imports d h) (refused_trace d h e why) (refused_imports d h e why) reached
+
+  begin_step : (e : Event) (r : Reply) → is_refusal r ≡ false → operation_by e r ≡ None → committer e ≡ None → aborter e ≡ None → ((q : ℕ) → import_in (due_in d h e) q ≡ 0) → P (trace h) (imports d h) → P (trace (extended h e r)) (imports d (extended h e r))
   begin_step e r is op c a free reached =
-      linked e r (with_begins (trace h) (beginning (done h ++ e ∷ []))) (imports d h) (begin_trace e r is op c a) (no_imports e r is free) (begin reached (beginning (done h ++ e ∷ [])) (begins_kept e))
+      linked e r (with_begins (trace h) (beginning (done h ++ e ∷ []))) (imports d h) (begin_trace d h e r is op c a) (no_imports d h e r is free) (kept.begins (trace h) (imports d h) reached (beginning (done h ++ e ∷ [])) (begins_kept d h e))
 
-  commit_step : (t : TxnId) → IsReached d h → is_active (done h) t.0 ≡ true → IsReached d (extended h (Commit t) Committed)
+  commit_step : (t : TxnId) → P (trace h) (imports d h) → is_active (done h) t.0 ≡ true → P (trace (extended h (Commit t) Committed)) (imports d (extended h (Commit t) Committed))
   commit_step t reached act =
-      linked (Commit t) Committed (with_commit (trace h) t.0) (imports d h) (commit_trace t) (no_imports (Commit t) Committed refl (λ q. refl)) (commit reached t.0 (active_trace h t.0 act))
+      linked (Commit t) Committed (with_commit (trace h) t.0) (imports d h) (commit_trace d h t) (no_imports d h (Commit t) Committed refl (λ q. refl)) (kept.commits (trace h) (imports d h) reached t.0 (active_trace h t.0 act))
 
-  abort_step : (t : TxnId) → IsReached d h → is_active (done h) t.0 ≡ true → IsReached d (extended h (Abort t) Aborted)
+  abort_step : (t : TxnId) → P (trace h) (imports d h) → is_active (done h) t.0 ≡ true → P (trace (extended h (Abort t) Aborted)) (imports d (extended h (Abort t) Aborted))
   abort_step t reached act =
-      linked (Abort t) Aborted (with_abort (trace h) t.0) (imports d h) (abort_trace t) (no_imports (Abort t) Aborted refl (λ q. refl)) (abort reached t.0 (active_trace h t.0 act))
+      linked (Abort t) Aborted (with_abort (trace h) t.0) (imports d h) (abort_trace d h t) (no_imports d h (Abort t) Aborted refl (λ q. refl)) (kept.aborts (trace h) (imports d h) reached t.0 (active_trace h t.0 act))
 
   -- a read by an update, which is charged nothing
-  update_reads : (t : TxnId) (x : ItemId) → IsReached d h → is_active (done h) t.0 ≡ true → is_query (done h) t.0 ≡ false → blocked_by (other_writer (done h) t.0 x.0) ≡ None
-      → IsReached d (extended h (Read t x) (Value (current_value h.opening (done h) x.0)))
+  update_reads : (t : TxnId) (x : ItemId) → P (trace h) (imports d h) → is_active (done h) t.0 ≡ true → is_query (done h) t.0 ≡ false → blocked_by (other_writer (done h) t.0 x.0) ≡ None
+      → P (trace (extended h (Read t x) (Value (current_value h.opening (done h) x.0)))) (imports d (extended h (Read t x) (Value (current_value h.opening (done h) x.0))))
   update_reads t x reached act not_query free =
       let o : Operation = read_of t.0 x.0 (current_value h.opening (done h) x.0) in
       linked (Read t x) (Value (current_value h.opening (done h) x.0)) (with_operation (trace h) (read_of t.0 x.0 (current_in (value_at h.opening) (trace h) x.0))) (imports d h)
-      (operation_trace (Read t x) (Value (current_value h.opening (done h) x.0)) o refl refl refl refl refl ∙ ap (λ v. with_operation (trace h) (read_of t.0 x.0 v)) (current_trace h x.0))
-      (no_imports (Read t x) (Value (current_value h.opening (done h) x.0)) refl
+      (operation_trace d h (Read t x) (Value (current_value h.opening (done h) x.0)) o refl refl refl refl refl ∙ ap (λ v. with_operation (trace h) (read_of t.0 x.0 v)) (current_trace h x.0))
+      (no_imports d h (Read t x) (Value (current_value h.opening (done h) x.0)) refl
       (λ q. ap (λ b. import_in (if b then charge_of_read (distance_in d h) h.opening (done h) t.0 x.0 (writer (done h) x.0) else []) q) not_query))
-      (read_update reached t.0 x.0 (active_trace h t.0 act) (update_from (done h) t.0 (active_parts (done h) t.0 act).0 not_query)
-      (no_writer t.0 x.0 (unfound_other (λ u. holds_write (done h) u x.0) t.0 (option_map_none (λ u. BlockedByLock (record { 0 = u })) (other_writer (done h) t.0 x.0) free))))
+      (kept.update_reads (trace h) (imports d h) reached t.0 x.0 (active_trace h t.0 act) (update_from (done h) t.0 (active_parts (done h) t.0 act).0 not_query)
+      (no_writer d h t.0 x.0 (unfound_other d h (λ u. holds_write (done h) u x.0) t.0 (option_map_none (λ u. BlockedByLock (record { 0 = u })) (other_writer (done h) t.0 x.0) free))))
 
-  query_reads : (t : TxnId) (x : ItemId) → IsReached d h → is_active (done h) t.0 ≡ true → is_query (done h) t.0 ≡ true
-      → IsReached d (extended h (Read t x) (Value (current_value h.opening (done h) x.0)))
+  query_reads : (t : TxnId) (x : ItemId) → P (trace h) (imports d h) → is_active (done h) t.0 ≡ true → is_query (done h) t.0 ≡ true
+      → P (trace (extended h (Read t x) (Value (current_value h.opening (done h) x.0)))) (imports d (extended h (Read t x) (Value (current_value h.opening (done h) x.0))))
   query_reads t x reached act query =
       let o : Operation = read_of t.0 x.0 (current_value h.opening (done h) x.0) in
       linked (Read t x) (Value (current_value h.opening (done h) x.0)) (with_operation (trace h) (read_of t.0 x.0 (current_in (value_at h.opening) (trace h) x.0))) (λ q. imports d h q + import_in (due_in d h (Read t x)) q)
-      (operation_trace (Read t x) (Value (current_value h.opening (done h) x.0)) o refl refl refl refl refl ∙ ap (λ v. with_operation (trace h) (read_of t.0 x.0 v)) (current_trace h x.0))
-      (fun_ext (with_imports (Read t x) (Value (current_value h.opening (done h) x.0)) refl))
-      (read_query reached t.0 x.0 (import_in (due_in d h (Read t x))) (active_trace h t.0 act) (query_not_update (done h) t.0 query) (paid (writer (done h) x.0) refl))
+      (operation_trace d h (Read t x) (Value (current_value h.opening (done h) x.0)) o refl refl refl refl refl ∙ ap (λ v. with_operation (trace h) (read_of t.0 x.0 v)) (current_trace h x.0))
+      (fun_ext (with_imports d h (Read t x) (Value (current_value h.opening (done h) x.0)) refl))
+      (kept.query_reads (trace h) (imports d h) reached t.0 x.0 (import_in (due_in d h (Read t x))) (active_trace h t.0 act) (query_not_update (done h) t.0 query) (paid (writer (done h) x.0) refl))
     where
       paid : (w : Option ℕ) → writer (done h) x.0 ≡ w
           → NoOtherWriter (trace h) t.0 x.0 ⊎ (distance_in d h x.0 (current_in (value_at h.opening) (trace h) x.0) (committed_in (value_at h.opening) (trace h) x.0) ≤ import_in (due_in d h (Read t x)) t.0)
-      paid None none = inl (no_writer t.0 x.0 (λ u other update. unfound (λ u. holds_write (done h) u x.0) none u update))
+      paid None none = inl (no_writer d h t.0 x.0 (λ u other update. unfound d h (λ u. holds_write (done h) u x.0) none u update))
       paid (Some u) some =
           let c : Charge = record { query = t.0; update = u; amount = distance_in d h x.0 (current_value h.opening (done h) x.0) (committed_value h.opening (done h) x.0) } in
           let one : due_in d h (Read t x) ≡ c ∷ [] = ap (λ b. if b then charge_of_read (distance_in d h) h.opening (done h) t.0 x.0 (writer (done h) x.0) else []) query ∙ ap (charge_of_read (distance_in d h) h.opening (done h) t.0 x.0) some in
@@ -217,14 +219,14 @@ module _ (d : Distance) (h : Schedule) where
           inr (rw (amount, one) (first_amount c []))
 
   -- a write is charged to each active query that has read the item
-  write_step : (t : TxnId) (x : ItemId) (v : ℤ) → IsReached d h → is_active (done h) t.0 ≡ true → is_query (done h) t.0 ≡ false → blocked_by (other_holder (done h) t.0 x.0) ≡ None
-      → IsReached d (extended h (Write t x v) Wrote)
+  write_step : (t : TxnId) (x : ItemId) (v : ℤ) → P (trace h) (imports d h) → is_active (done h) t.0 ≡ true → is_query (done h) t.0 ≡ false → blocked_by (other_holder (done h) t.0 x.0) ≡ None
+      → P (trace (extended h (Write t x v) Wrote)) (imports d (extended h (Write t x v) Wrote))
   write_step t x v reached act not_query free =
       linked (Write t x v) Wrote (with_operation (trace h) (write_of t.0 x.0 v)) (λ q. imports d h q + import_in (due_in d h (Write t x v)) q)
-      (operation_trace (Write t x v) Wrote (write_of t.0 x.0 v) refl refl refl refl refl)
-      (fun_ext (with_imports (Write t x v) Wrote refl))
-      (write reached t.0 x.0 v (import_in (due_in d h (Write t x v))) (active_trace h t.0 act) update
-      (no_user t.0 x.0 (unfound_other (λ u. holds_read (done h) u x.0 || holds_write (done h) u x.0) t.0 (option_map_none (λ u. BlockedByLock (record { 0 = u })) (other_holder (done h) t.0 x.0) free)))
+      (operation_trace d h (Write t x v) Wrote (write_of t.0 x.0 v) refl refl refl refl refl)
+      (fun_ext (with_imports d h (Write t x v) Wrote refl))
+      (kept.writes (trace h) (imports d h) reached t.0 x.0 v (import_in (due_in d h (Write t x v))) (active_trace h t.0 act) update
+      (no_user d h t.0 x.0 (unfound_other d h (λ u. holds_read (done h) u x.0 || holds_write (done h) u x.0) t.0 (option_map_none (λ u. BlockedByLock (record { 0 = u })) (other_holder (done h) t.0 x.0) free)))
       paid)
     where
       update : is_update (done h) t.0 ≡ true
@@ -250,24 +252,27 @@ module _ (d : Distance) (h : Schedule) where
                 rw none (omega arith)
           ])
 
-  accepted_step : (e : Event) → IsReached d h → NoneApplies (reasons d h e) → IsReached d (extended h e (acceptance h e))
-  accepted_step (Read t x) reached none =
+  accepted_kept : (e : Event) → P (trace h) (imports d h) → NoneApplies (reasons d h e) → P (trace (extended h e (acceptance h e))) (imports d (extended h e (acceptance h e)))
+  accepted_kept (Read t x) reached none =
       grind (arith, read_allowed d h t x none, not_ended, cases_Bool (is_query (done h) t.0), query_reads, update_reads)
-  accepted_step (Write t x v) reached none = grind (arith, write_allowed d h t x v none, write_step, not_ended, when_none)
-  accepted_step (Commit t) reached none = commit_step t reached (not_ended h t.0 (end_allowed h t none).active)
-  accepted_step (Abort t) reached none = abort_step t reached (not_ended h t.0 (end_allowed h t none).active)
-  accepted_step e reached none = begin_step e (acceptance h e) refl refl refl refl (λ q. refl) reached
+  accepted_kept (Write t x v) reached none = grind (arith, write_allowed d h t x v none, write_step, not_ended, when_none)
+  accepted_kept (Commit t) reached none = commit_step t reached (not_ended h t.0 (end_allowed h t none).active)
+  accepted_kept (Abort t) reached none = abort_step t reached (not_ended h t.0 (end_allowed h t none).active)
+  accepted_kept e reached none = begin_step e (acceptance h e) refl refl refl refl (λ q. refl) reached
 
-  pub reached_step : (e : Event) (r : Reply) → r ≡ reply_to d h e → IsReached d h → IsReached d (extended h e r)
-  reached_step e r is reached = at (refusal d h e) refl
+  pub kept_step : (e : Event) (r : Reply) → r ≡ reply_to d h e → P (trace h) (imports d h) → P (trace (extended h e r)) (imports d (extended h e r))
+  kept_step e r is reached = at (refusal d h e) refl
     where
-      at : (why : Option Refusal) → refusal d h e ≡ why → IsReached d (extended h e r)
+      at : (why : Option Refusal) → refusal d h e ≡ why → P (trace (extended h e r)) (imports d (extended h e r))
       at None none =
           let answer : r ≡ acceptance h e = is ∙ ap (λ w. answered w (acceptance h e)) none in
-          subst (λ w. IsReached d (extended h e w)) (sym answer) (accepted_step e reached (none_applies (reasons d h e) none))
+          subst (λ w. P (trace (extended h e w)) (imports d (extended h e w))) (sym answer) (accepted_kept e reached (none_applies (reasons d h e) none))
       at (Some why) some =
           let answer : r ≡ Refused why = is ∙ ap (λ w. answered w (acceptance h e)) some in
-          subst (λ w. IsReached d (extended h e w)) (sym answer) (refused_step e why reached)
+          subst (λ w. P (trace (extended h e w)) (imports d (extended h e w))) (sym answer) (refused_step e why reached)
+
+pub reached_step : (d : Distance) (h : Schedule) (e : Event) (r : Reply) → r ≡ reply_to d h e → IsReached d h → IsReached d (extended h e r)
+reached_step d h = kept_step d h (Reached (setting d h)) (reached_kept (setting d h))
 
 pub legal_reached : (d : Distance) (h : Schedule) → IsLegal d h → IsReached d h
 legal_reached d h legal = legal_induction d (IsReached d) (λ g e r is reached. reached_step d g e r is reached) h nothing legal

@@ -107,3 +107,27 @@ pub data Reached (s : Setting) : Trace → (ℕ → ℕ) → Type 0 where
       Reached s (with_operation t (write_of u x v)) (λ q. m q + c q)
   commit : {t : Trace} {m : ℕ → ℕ} → Reached s t m → (u : ℕ) → Active t u → Reached s (with_commit t u) m
   abort : {t : Trace} {m : ℕ → ℕ} → Reached s t m → (u : ℕ) → Active t u → Reached s (with_abort t u) m
+
+-- what each accepted step keeps
+pub record IsKept (s : Setting) (P : Trace → (ℕ → ℕ) → Type 0) : Type 0 where
+  pub begins : (t : Trace) (m : ℕ → ℕ) → P t m → (b : ℕ → Option Beginning) → Keeps t.beginning b → P (with_begins t b) m
+  pub update_reads : (t : Trace) (m : ℕ → ℕ) → P t m → (u x : ℕ) → Active t u → update_in t u ≡ true → NoOtherWriter t u x →
+      P (with_operation t (read_of u x (current_in s.opening t x))) m
+  pub query_reads : (t : Trace) (m : ℕ → ℕ) → P t m → (u x : ℕ) (c : ℕ → ℕ) → Active t u → update_in t u ≡ false →
+      NoOtherWriter t u x ⊎ (s.distance x (current_in s.opening t x) (committed_in s.opening t x) ≤ c u) →
+      P (with_operation t (read_of u x (current_in s.opening t x))) (λ q. m q + c q)
+  pub writes : (t : Trace) (m : ℕ → ℕ) → P t m → (u x : ℕ) (v : ℤ) (c : ℕ → ℕ) → Active t u → update_in t u ≡ true → NoOtherUser t u x →
+      ((q : ℕ) → Active t q → query_in t q ≡ true → read_count_in t x q * s.distance x v (current_in s.opening t x) ≤ c q) →
+      P (with_operation t (write_of u x v)) (λ q. m q + c q)
+  pub commits : (t : Trace) (m : ℕ → ℕ) → P t m → (u : ℕ) → Active t u → P (with_commit t u) m
+  pub aborts : (t : Trace) (m : ℕ → ℕ) → P t m → (u : ℕ) → Active t u → P (with_abort t u) m
+
+pub reached_kept : (s : Setting) → IsKept s (Reached s)
+reached_kept s = record {
+  begins = λ t m r b k. begin r b k;
+  update_reads = λ t m r u x a up free. read_update r u x a up free;
+  query_reads = λ t m r u x c a up paid. read_query r u x c a up paid;
+  writes = λ t m r u x v c a up free paid. write r u x v c a up free paid;
+  commits = λ t m r u a. commit r u a;
+  aborts = λ t m r u a. abort r u a;
+}

@@ -6,4 +6,7 @@ pub mod Cutting
 pub mod Blanks
 pub mod Laws
 pub mod Bytes
+pub mod Classes
+pub mod Fronts
+pub mod Feeds
 pub mod Spelling

@@ -69,7 +69,7 @@ spelled line totals h = found line (codes "totals") [] totals h.1 (plain (codes 
 
 -- ---- what is read is spelled
 
-name_found : (text name : List ℕ) → name_of text ≡ Some name → IsName name × (text ≡ name)
+pub name_found : (text name : List ℕ) → name_of text ≡ Some name → IsName name × (text ≡ name)
 name_found text name e = grind (arith, cases_Bool (is_name text))
 
 both_found : {A B C : Type 0} (f : A → B → C) (a : Option A) (b : Option B) (c : C) → both f a b ≡ Some c → (x : A) × (y : B) × (a ≡ Some x) × (b ≡ Some y) × (f x y ≡ c)

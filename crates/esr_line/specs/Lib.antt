@@ -2,3 +2,4 @@
 
 pub mod Lines
 pub mod Command
+pub mod Classes

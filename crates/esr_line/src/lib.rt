@@ -9,6 +9,7 @@
 mod limits;
 mod next;
 mod parse;
+mod quick;
 mod words;
 
 pub use limits::{INPUT_ROOM, MAX_LINE_BYTES, MAX_LINES};

@@ -4,6 +4,7 @@ ghost use Rattle.std.specs.Prelude.{◌≡◌, nat_eq, position};
 ghost use Rattle.esr_line.specs.Lines.{line_len, IsNext};
 
 use crate::limits::MAX_LINE_BYTES;
+use memchr::memchr;
 
 /// What comes next in the bytes ahead.
 #[derive(Clone, Copy)]
@@ -18,7 +19,7 @@ pub enum Next {
 fn find_line_feed(bytes: &[u8]) -> Option<usize>
     ensures { result ≡ position (λ b. nat_eq b 10) bytes.now }
 {
-    bytes.iter().position(|b| *b == b'\n')
+    memchr(b'\n', bytes)
 }
 
 /// The count of bytes before the first line feed.

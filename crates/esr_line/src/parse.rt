@@ -7,6 +7,7 @@
 ghost use Rattle.std.specs.Prelude.{◌≡◌, ◌↔◌, Option, Some, option_map, IsTrue};
 ghost use Rattle.esr_line.specs.Command.{Command, is_skipped, Spells, words_of, words_after, totals_command, plain_item_command, weighted_item_command, item_command, plain_begin_command, strict_query_command, begin_command, read_command, write_command, one_name_command, reading, view, command_in, IsReadingOf};
 
+use crate::quick::quick;
 use crate::words::{cut_word, four_words, int, limit, name, one_word, three_words, two_words};
 
 /// A command, with its names as text of the line that spells it.
@@ -202,8 +203,10 @@ fn totals(words: Option<&[u8]>) -> Option<Line<'static>>
     }
 }
 
-/// The command that the line spells.
-fn command(line: &[u8]) -> Option<Line<'_>>
+/// The command that the words of the line spell.
+#[cold]
+#[inline(never)]
+fn by_words(line: &[u8]) -> Option<Line<'_>>
     ensures { option_map view result ≡ reading line.now }
 {
     let (word, more) = cut_word(line);
@@ -221,6 +224,17 @@ fn command(line: &[u8]) -> Option<Line<'_>>
         item(words)
     } else {
         of_one_name(word, words)
+    }
+}
+
+/// The command that the line spells.
+#[inline(always)]
+fn command(line: &[u8]) -> Option<Line<'_>>
+    ensures { option_map view result ≡ reading line.now }
+{
+    match quick(line) {
+        Some(found) => Some(found),
+        None => by_words(line),
     }
 }
 

@@ -1,10 +1,11 @@
 //! The words of a line, and what each may be: names, limits and whole numbers, in their one decimal form.
 
 ghost use Rattle.esr_line.specs.declared.words.TheConstants.{INT_END};
-ghost use Rattle.std.specs.Prelude.{◌≡◌, ◌∷◌, ◌<◌, ◌≤◌, ◌^◌, Option, option_map, length, IfSome, IfNone, true, false};
+ghost use Rattle.std.specs.Prelude.{◌≡◌, ◌∷◌, ◌<◌, ◌≤◌, ◌^◌, Option, option_map, length, IfSome, IfNone, IsTrue, true, false};
 ghost use Rattle.std.specs.Str.{all_ascii_digits};
 ghost use Rattle.std.specs.List.{position, list_all};
 ghost use Rattle.esr_line.specs.Command.{is_letter, is_name_byte, is_name, value_from, number_below, is_blank, words_of, words_after, name_of, limit_in, int_of, one_of, two_of, three_of, four_of};
+ghost use Rattle.esr_line.specs.Classes.{tells_of};
 
 use std::str::from_utf8_unchecked;
 
@@ -65,24 +66,59 @@ pub fn four_words(bytes: &[u8]) -> Option<(&[u8], &[u8], &[u8], &[u8])>
     Some((first, second, third, fourth))
 }
 
-fn is_letter(byte: u8) -> bool
+/// Whether a name may begin with the byte.
+pub fn is_letter(byte: u8) -> bool
     ensures { result ≡ is_letter byte }
 {
     matches!(byte, b'a'..=b'z' | b'A'..=b'Z')
 }
 
-fn is_name_byte(byte: u8) -> bool
-    ensures { result ≡ is_name_byte byte }
+/// Whether a name may have the byte, for each byte: a line asks it of most of its own.
+static NAME_BYTES: [bool; 256] = [
+    false, false, false, false, false, false, false, false, false, false, false, false, false,
+    false, false, false, false, false, false, false, false, false, false, false, false, false,
+    false, false, false, false, false, false, false, false, false, false, false, false, false,
+    false, false, false, false, false, false, false, false, false, true, true, true, true, true,
+    true, true, true, true, true, false, false, false, false, false, false, false, true, true,
+    true, true, true, true, true, true, true, true, true, true, true, true, true, true, true, true,
+    true, true, true, true, true, true, true, true, false, false, false, false, true, false, true,
+    true, true, true, true, true, true, true, true, true, true, true, true, true, true, true, true,
+    true, true, true, true, true, true, true, true, true, false, false, false, false, false, false,
+    false, false, false, false, false, false, false, false, false, false, false, false, false,
+    false, false, false, false, false, false, false, false, false, false, false, false, false,
+    false, false, false, false, false, false, false, false, false, false, false, false, false,
+    false, false, false, false, false, false, false, false, false, false, false, false, false,
+    false, false, false, false, false, false, false, false, false, false, false, false, false,
+    false, false, false, false, false, false, false, false, false, false, false, false, false,
+    false, false, false, false, false, false, false, false, false, false, false, false, false,
+    false, false, false, false, false, false, false, false, false, false, false, false, false,
+    false, false, false, false, false, false, false, false, false, false, false, false, false,
+    false, false, false, false, false, false, false, false, false, false,
+];
+
+#[inline(always)]
+fn name_bytes() -> &'static [bool; 256]
+    ensures { IsTrue (tells_of 0 result.now) }
 {
-    is_letter(byte) || matches!(byte, b'0'..=b'9' | b'_')
+    &NAME_BYTES
 }
 
+/// Whether a name may have the byte.
+#[inline(always)]
+pub fn is_name_byte(byte: u8) -> bool
+    ensures { result ≡ is_name_byte byte }
+{
+    name_bytes()[byte as usize]
+}
+
+#[inline(always)]
 fn all_name_bytes(text: &[u8]) -> bool
     ensures { result ≡ list_all is_name_byte text.now }
 {
     text.iter().all(|b| is_name_byte(*b))
 }
 
+#[inline(always)]
 fn is_name(text: &[u8]) -> bool
     ensures { result ≡ is_name text.now }
 {
@@ -93,6 +129,7 @@ fn is_name(text: &[u8]) -> bool
 }
 
 /// The name that the word is.
+#[inline(always)]
 pub fn name(word: &[u8]) -> Option<&str>
     ensures { option_map (λ name. name.now) result ≡ name_of word.now }
 {

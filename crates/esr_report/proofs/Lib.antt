@@ -2,3 +2,5 @@
 
 pub mod Positions
 pub mod Joins
+pub mod Keys
+pub mod Keyed

@@ -77,7 +77,7 @@ differs a b e = elim (which (bytes_eq b a)) [
   | inr f ↦ f
 ]
 
-both_false : (a b : Bool) → (a || b) ≡ false → (a ≡ false) × (b ≡ false)
+pub both_false : (a b : Bool) → (a || b) ≡ false → (a ≡ false) × (b ≡ false)
 both_false true b e = cc
 both_false false b e = (refl, e)
 

@@ -3,3 +3,5 @@
 pub mod Names
 pub mod Lines
 pub mod Subjects
+pub mod Keys
+pub mod Keyed

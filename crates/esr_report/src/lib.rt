@@ -2,6 +2,7 @@
 //! and drives.
 #![tactic(auto)]
 
+mod key;
 mod lines;
 mod names;
 

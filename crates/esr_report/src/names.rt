@@ -1,13 +1,16 @@
 //! A table of names, in the order in which they were bound; none is bound twice.
 //!
-//! A spelling has at most 16 bytes, so each name lies in the table itself, in 24 bytes; as a `String` its text would be
-//! a block of 32 bytes besides. A longer name, which no line spells, has no room and is refused as where memory is.
+//! A name is looked up by three numbers (`key`), so that none is copied or compared byte by byte to be found; its text, of
+//! at most 16 bytes, lies beside them, 48 bytes in all. A longer name, which no line spells, has no room and is refused as
+//! where memory is.
 
 ghost use Rattle.std.specs.Prelude.{◌≡◌, ℕ, ◌+◌, ◌<◌, ◌≤◌, ◌^◌, List, [], ◌∷◌, ◌++◌, map, length, All, IfOk, OnOk, OnErr, slice_get, option_map, Option, None, true};
 ghost use Rattle.esr_report.specs.Names.{position_of, all_distinct};
+ghost use Rattle.esr_report.specs.Keyed.{IsKeyOf};
 
+use crate::key::{Key, key_of};
 use arrayvec::ArrayString;
-use indexmap::IndexSet;
+use indexmap::IndexMap;
 use std::alloc::{AllocError, Global};
 use std::marker::Model;
 
@@ -27,17 +30,17 @@ type Name = ArrayString<16>;
 /// A table of names, in the order in which they were bound. No name is bound twice.
 #[derive(Drop)]
 pub struct Names {
-    names: IndexSet<Name>,
+    names: IndexMap<Key, Name>,
 }
 
 impl Model for Names {
     ghost Value = { List (List ℕ) };
 
-    ghost view = { λ n. map (λ name. name.bytes) n.names.keys };
+    ghost view = { λ n. map (λ entry. entry.1.bytes) n.names.entries };
 
-    ghost invariant = { λ n. (length n.names.keys ≤ 2 ^ 32)
-        × (all_distinct (map (λ name. name.bytes) n.names.keys) ≡ true)
-        × All (λ name. length name.bytes ≤ 16) n.names.keys };
+    ghost invariant = { λ n. (length n.names.entries ≤ 2 ^ 32)
+        × (all_distinct (map (λ entry. entry.1.bytes) n.names.entries) ≡ true)
+        × All (λ entry. IsKeyOf entry.0 entry.1.bytes) n.names.entries };
 }
 
 impl Names {
@@ -45,7 +48,7 @@ impl Names {
         ensures { result ≡ [] }
     {
         Names {
-            names: IndexSet::new(alloc),
+            names: IndexMap::new(alloc),
         }
     }
 
@@ -63,9 +66,10 @@ impl Names {
         ensures { result ≡ position_of self.now name.now }
     {
         let names = &self.names;
-        let Ok(key) = Name::from(name) else {
+        if name.len() > 16 {
             return None;
-        };
+        }
+        let key = key_of(name);
         match names.get_index_of(&key) {
             Some(position) => Some(position as u32),
             None => None,
@@ -77,7 +81,7 @@ impl Names {
         ensures { option_map (λ name. name.now) result ≡ slice_get self.now number }
     {
         match self.names.get_index(number as usize) {
-            Some(name) => Some(name.as_str()),
+            Some((_, name)) => Some(name.as_str()),
             None => None,
         }
     }
@@ -95,10 +99,10 @@ impl Names {
         ensures err { OnErr result (self.new ≡ self.old) }
     {
         let position = self.names.len();
-        let Ok(key) = Name::from(name) else {
+        let Ok(text) = Name::from(name) else {
             return Err(AllocError);
         };
-        self.names.insert(key)?;
+        self.names.insert(key_of(name), text)?;
         Ok(position as u32)
     }
 }

@@ -16,3 +16,4 @@ pub mod Stages
 pub mod Parts
 pub mod ReaderToWriter
 pub mod Worked
+pub mod Echoes

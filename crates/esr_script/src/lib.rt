@@ -10,6 +10,7 @@ mod audit_text;
 mod book;
 mod bundles;
 mod copier;
+mod echo;
 mod engine;
 mod entry_lines;
 mod fault;

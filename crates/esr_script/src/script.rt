@@ -4,7 +4,7 @@
 //! there is one order of refusals, and the refusal is an entry like any other.
 
 ghost use Rattle.esr_board.specs.declared.board.TheConstants.{MOST_SEATS};
-ghost use Rattle.std.specs.Prelude.{◌≡◌, ◌≢◌, ℕ, List, ◌+◌, ◌<◌, ◌≤◌, ◌⊎◌, [], ◌++◌, Ok, Err, None, OnErr, OnOk, IfOk, IfErr, IsErrOf, IsOk, true, false, ◌↔◌, length, pos};
+ghost use Rattle.std.specs.Prelude.{◌≡◌, ◌≢◌, ℕ, List, ◌+◌, ◌<◌, ◌≤◌, ◌⊎◌, [], ◌∷◌, ◌++◌, Ok, Err, None, OnErr, OnOk, IfOk, IfErr, IsErrOf, IsOk, true, false, ◌↔◌, length, pos};
 ghost use Rattle.esr_report.specs.Names.{position_of};
 ghost use Rattle.esr_report.specs.Subjects.{named_by};
 ghost use Rattle.esr_script.specs.Text.{Obeys, Leads, start, closed, transaction_called, item_called, item_error, with_item, begin, ask, obey, answer, ScriptState};
@@ -12,11 +12,15 @@ ghost use Rattle.esr_script.specs.Stages.{IsBegin, is_running, history_of};
 ghost use Rattle.esr_telling.specs.Ask.{IsAnswered, IsFoundOf, IsRecorded};
 ghost use Rattle.esr_script.specs.Audit.{audit_output};
 ghost use Rattle.esr_history.specs.Queries.{is_committed_query};
-ghost use Rattle.esr_line.specs.Command.{view};
+ghost use Rattle.esr_line.specs.Command.{view, Spells};
+ghost use Rattle.std.specs.List.{join_with_byte};
+ghost use Rattle.std.specs.Fmt.{signed_decimal};
+ghost use Rattle.esr_script.specs.Echoes.{IsEcho};
 ghost use Rattle.esr_base.specs.declared.limits.TheConstants.{MOST_ENTRIES, MOST_ITEMS};
 ghost use Rattle.esr_line.specs.Command as command;
 
 use crate::book::push_audit;
+use crate::echo::{Echo, push_reply};
 use crate::fault::RunFault;
 use crate::sink::Audience;
 use crate::stage::Stage;
@@ -27,8 +31,7 @@ use esr_items::{ItemId, LARGEST_VALUE, LARGEST_WEIGHT, MOST_ITEMS};
 use esr_line::{Line, Parsed, parse_line};
 use esr_lint::{End, Observer, Standing};
 use esr_report::{
-    LineError, Names, Subject, audit_line, error_line, item_line, reply_line, totals_line,
-    weighted_item_line,
+    LineError, Names, Subject, audit_line, error_line, item_line, totals_line, weighted_item_line,
 };
 use esr_telling::{Asked, Chronicle};
 use std::alloc::{AllocError, Global};
@@ -163,10 +166,17 @@ impl Script {
         line_or_fault(weighted_item_line(out, name, value, weight))
     }
 
-    /// Gives the machine an event, and answers with its reply.
+    /// Gives the machine an event, and answers with its reply. What it repeats of the line is copied from it.
     #[inline(always)]
-    fn ask(&mut self, subject: Subject<'_>, event: Event, out: &mut Vec<u8>) -> Result<(), RunFault>
-        requires { IsBegin event → position_of self.old.transactions subject.txn.now ≡ None }
+    fn ask(
+        &mut self,
+        subject: Subject<'_>,
+        echo: Echo<'_>,
+        event: Event,
+        out: &mut Vec<u8>,
+    ) -> Result<(), RunFault>
+        requires begin { IsBegin event → position_of self.old.transactions subject.txn.now ≡ None }
+        requires echo { IsEcho echo (named_by subject) }
         ensures { Obeys (ask self.old (named_by subject.entry) event) self.new out.old.items out.new.items result }
     {
         self.stage.close(self.alloc)?;
@@ -176,7 +186,7 @@ impl Script {
                 return Err(RunFault::NoMemory);
             }
         }
-        line_or_fault(reply_line(out, &self.transactions, subject, reply))
+        line_or_fault(push_reply(out, &self.transactions, subject, echo, reply))
     }
 
     /// Begins a transaction, whose name may not be bound already.
@@ -186,11 +196,18 @@ impl Script {
         if self.transactions.number_of(name).is_some() {
             return line_or_fault(error_line(out, LineError::NameInUse));
         }
-        self.ask(alone(name), event, out)
+        self.ask(alone(name), Echo::Nothing, event, out)
     }
 
     /// Reads an item.
-    fn read(&mut self, txn: &str, item: &str, out: &mut Vec<u8>) -> Result<(), RunFault>
+    fn read(
+        &mut self,
+        words: &[u8],
+        txn: &str,
+        item: &str,
+        out: &mut Vec<u8>,
+    ) -> Result<(), RunFault>
+        requires { words.now ≡ join_with_byte 32 (txn.now ∷ item.now ∷ []) }
         ensures { Obeys (obey self.old (command.read txn.now item.now)) self.new out.old.items out.new.items result }
     {
         let event = Event::Read {
@@ -202,17 +219,19 @@ impl Script {
             item,
             value: 0,
         };
-        self.ask(subject, event, out)
+        self.ask(subject, Echo::Read(words), event, out)
     }
 
     /// Writes an item.
     fn write(
         &mut self,
+        words: &[u8],
         txn: &str,
         item: &str,
         value: i64,
         out: &mut Vec<u8>,
     ) -> Result<(), RunFault>
+        requires { words.now ≡ join_with_byte 32 (txn.now ∷ item.now ∷ signed_decimal value ∷ []) }
         ensures { Obeys (obey self.old (command.write txn.now item.now value))
             self.new out.old.items out.new.items result }
     {
@@ -222,7 +241,7 @@ impl Script {
             value,
         };
         let subject = Subject { txn, item, value };
-        self.ask(subject, event, out)
+        self.ask(subject, Echo::Write(words), event, out)
     }
 
     /// Commits a transaction.
@@ -232,7 +251,7 @@ impl Script {
         let event = Event::Commit {
             txn: self.transaction(txn),
         };
-        self.ask(alone(txn), event, out)
+        self.ask(alone(txn), Echo::Nothing, event, out)
     }
 
     /// Aborts a transaction.
@@ -242,7 +261,7 @@ impl Script {
         let event = Event::Abort {
             txn: self.transaction(txn),
         };
-        self.ask(alone(txn), event, out)
+        self.ask(alone(txn), Echo::Nothing, event, out)
     }
 
     /// Sums the charges so far.
@@ -409,8 +428,9 @@ impl Script {
         }
     }
 
-    /// Obeys a command.
-    fn obey(&mut self, line: Line<'_>, out: &mut Vec<u8>) -> Result<(), RunFault>
+    /// Obeys the command that the text spells.
+    fn obey(&mut self, text: &[u8], line: Line<'_>, out: &mut Vec<u8>) -> Result<(), RunFault>
+        requires { Spells text.now (view line) }
         ensures { Obeys (obey self.old (view line.entry)) self.new out.old.items out.new.items result }
     {
         match line {
@@ -439,8 +459,8 @@ impl Script {
                 };
                 self.begin(name, event, out)
             }
-            Line::Read { txn, item } => self.read(txn, item, out),
-            Line::Write { txn, item, value } => self.write(txn, item, value, out),
+            Line::Read { txn, item } => self.read(&text[5..], txn, item, out),
+            Line::Write { txn, item, value } => self.write(&text[6..], txn, item, value, out),
             Line::Commit { txn } => self.commit(txn, out),
             Line::Abort { txn } => self.abort(txn, out),
             Line::Audit { txn } => self.audit(txn, out),
@@ -467,7 +487,7 @@ impl Script {
             Parsed::Command(Line::Audit { txn }) if audience == Audience::Nobody => {
                 self.pass_audit(txn, out)
             }
-            Parsed::Command(line) => self.obey(line, out),
+            Parsed::Command(command) => self.obey(line, command, out),
         }
     }
 }

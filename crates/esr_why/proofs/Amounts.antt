@@ -1,7 +1,9 @@
 -- What an event lacks, by the charges that are due.
-use Rattle.std.proofs.Common.{◌≡◌, ℕ, ℤ, ◌+◌, ◌*◌, ◌<◌, ◌==◌, List, [], ◌∷◌, ◌++◌, length, map, take, get_or, append_assoc, true, false, refl, sym, ◌∙◌, ap, ap₂, arith, Option, None, Some, sum_by, if◌then◌else◌}
+use Rattle.std.proofs.Common.{◌≡◌, ℕ, ℤ, ◌+◌, ◌*◌, ◌<◌, ◌==◌, List, [], ◌∷◌, ◌++◌, length, map, take, get_or, append_assoc, true, false, refl, sym, ◌∙◌, ap, ap₂, arith, Option, None, Some, sum_by, if◌then◌else◌, FitsSigned, w64}
 use Rattle.std.specs.List.{filter_map, cons_option}
 use Rattle.std.proofs.lemmas.Bool.{false≢true, eq-eqb, eqb-true}
+use Rattle.std.proofs.lemmas.Int.{ints}
+use Rattle.esr_items.specs.Values.{IsValue}
 use Rattle.std.proofs.lemmas.List.{take_more, map-append}
 use Rattle.std.proofs.lemmas.List.Elements.{filter_map-append}
 use Rattle.std.proofs.lemmas.List.Sums.{sum_by-cons}
@@ -93,3 +95,7 @@ module _ (d : Distance) (h : Schedule) where
       several u.0 (each x v) rs some
       ∙ (ap (λ (qs : List (ℕ × ℕ)). shortfalls_of d h (charges_by u.0 (charges_to (each x v) qs))) is
       ∙ sym (ap (shortfalls_of d h) (due_of_write u x v update)))
+
+-- a value of an item fits 64 bits
+pub value_fits : (v : ℤ) → IsValue v → FitsSigned w64 v
+value_fits v h = omega (arith, ints)

@@ -1,10 +1,10 @@
-//! Whether a bundle is about a query of a script, and the line that says so: what is claimed of a report can be checked by
-//! who has the script.
+//! Checks whether a bundle belongs to a query of a script, and formats the verdict. Anyone who has the script can verify a
+//! claim about a report in this way.
 //!
-//! A valid bundle shows the least cost of its own problem, and says not which report that is: the empty bundle is valid.
-//! So its problem is compared with the one that the script gives for the query, which stands for it. That the texts of two
-//! bundles be compared was rejected: a certificate with another flow shows the same. What is told of a fault beside its
-//! number is advice, and promised by no clause.
+//! A valid bundle proves the minimum cost of its own problem, but does not say which query the problem belongs to: the empty
+//! bundle is valid. Therefore its problem is compared with the one that the script yields for the query. Rejected: comparing
+//! the texts of two bundles, because a certificate with a different flow proves the same. The detail that is printed after a
+//! fault's number is advice; no clause specifies it.
 
 ghost use Rattle.std.specs.Prelude.{◌≡◌, ◌≢◌, ℕ, List, Ok, IfOk, IsOk};
 ghost use Rattle.esr_cert.specs.Faults.{bundle_fault_number};

@@ -1,4 +1,5 @@
-//! Whether two problems are the same. Proved is that those that are told to be are: what stands on it is a yes.
+//! Equality of problems. Only one direction is proved, namely that problems reported as equal are equal, because only a
+//! positive verdict depends on it.
 
 ghost use Rattle.std.specs.Prelude.{◌≡◌, ◌↔◌, IsTrue, map};
 ghost use Rattle.esr_cert.specs.Views.{chain_of};

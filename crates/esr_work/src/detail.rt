@@ -1,5 +1,5 @@
-//! What is told of a fault beside its number: the words of its first place, for people. It is advice: that it is safe is
-//! proved, and what it says is promised by no clause.
+//! The detail that is printed after the number of a fault of a bundle: a message about its first occurrence. It is advice,
+//! proved safe; no clause specifies its text.
 
 use esr_bundle::from_json;
 use esr_cert::{BundleFault, Certificate, Chain, Fault, Problem, check};

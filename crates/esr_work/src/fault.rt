@@ -1,4 +1,4 @@
-//! The words of a fault on standard error: where it is, what it is, and the limit that was passed.
+//! Error messages on standard error: location, error, and the limit that was exceeded.
 
 use esr_line::{Parsed, parse_line};
 use esr_lint::{NoQuery, Source, find_reason};

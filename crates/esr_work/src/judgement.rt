@@ -1,5 +1,5 @@
-//! What is judged of a bundle: on its own, or as what a script gives for a query. The second needs the script and the
-//! bundle; the script is a file, since the bundle may be standard input.
+//! The `check` subcommand: checks a bundle by itself, or against the problem of a query of a script. In the second case the
+//! script must be a file, because the bundle may be standard input.
 
 ghost use Rattle.std.specs.Prelude.{◌≡◌, false};
 ghost use Rattle.esr_base.specs.Watch.{failed};

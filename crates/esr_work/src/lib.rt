@@ -1,6 +1,8 @@
-//! What the program does with a script or a bundle, apart from the words that ask for it: it reads, has the work done, and
-//! tells how that ended, with the status. What is done with a script is a `Work`, so this crate knows none of the pictures,
-//! pages and sheets, and is proved beside them. A bundle is judged on its own, or beside the problem that a script gives.
+//! Executes the subcommands that take a script or a bundle: opens the input, runs the operation, reports the outcome on
+//! standard error, and returns the exit status. Parsing of arguments is in `esr_cli`.
+//!
+//! Operations on a script implement `Work`, so this crate does not depend on the crates for pictures, pages and tables, and is
+//! proved in parallel with them. A bundle is checked by itself, or against the problem of a query of a script.
 #![tactic(auto)]
 
 mod claim;

@@ -1,4 +1,4 @@
-//! The lines at fault of a script, listed.
+//! The `lint` subcommand: lists the faulty lines of a script.
 
 ghost use Rattle.std.specs.Prelude.{◌≡◌, false};
 ghost use Rattle.esr_base.specs.Watch.{failed};

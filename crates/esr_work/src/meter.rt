@@ -1,9 +1,9 @@
-//! How far a run is, on standard error: how many lines were read, then which audit of how many has begun.
+//! A progress indicator on standard error: the number of lines read, then the number of audits started, out of the total.
 //!
-//! It is one line that is rewritten, from two seconds on, five times a second at most, and gone before anything else is
-//! written. The clock is read at every 1,024th line and at each audit, so that a run that is not watched pays nothing it
-//! could notice. Whoever audits says so by a gate, since an observer is no thread's but the reader's. What is shown is
-//! promised by no clause, and a line that cannot be written is no fault of the run.
+//! It is a single line, rewritten in place. It appears after two seconds, is updated at most five times a second, and is erased
+//! before anything else is printed. The clock is read only once per 1,024 lines and once per audit, so that the cost is
+//! negligible when no progress is shown. Workers report audits through a gate, because an observer belongs to the reading
+//! thread alone. No clause specifies the text, and a failure to write it is not an error of the run.
 
 use esr_cli::Progress;
 use esr_lint::{NoQuery, Observer, Standing, Teller, is_error};

@@ -1,4 +1,4 @@
-//! The file that is read.
+//! Opens the input file.
 
 use std::rt::Files;
 use std::{fs, io};

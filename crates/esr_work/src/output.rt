@@ -1,4 +1,4 @@
-//! Standard output, or what is held back from it.
+//! Standard output, either direct or buffered until the outcome is known.
 
 use std::alloc::Global;
 use std::io;

@@ -1,9 +1,9 @@
-//! What is done with a script: its answers are written, or a text of what it leads to.
+//! Executes a subcommand over a script: prints the replies, or a text rendered from the final state.
 //!
-//! Whatever it is, but for an audit of the whole, it is a `Work` and done by one function: it reads through a reader that
-//! notes a failed read and writes through one that notes a failed write, and lets an observer see each line; how it ended
-//! is told in one place. With `--bail` what a script leads to is made first and written only where no line was at fault; a
-//! run answers each line as it comes.
+//! Every subcommand except `audit` implements `Work`, and `work_on` executes it. It wraps input and output so that I/O errors
+//! are remembered, passes each line to the observer, and turns the outcome into an exit status in one place (`conclude`). With
+//! `--bail`, output is buffered, and discarded if any line had an error. `run` is not buffered: it prints each reply as soon as
+//! its line has been read.
 
 ghost use Rattle.std.specs.Prelude.{◌≡◌, ◌≤◌, false};
 ghost use Rattle.esr_base.specs.Watch.{failed};

@@ -1,9 +1,9 @@
-//! Going on from the committed values with an empty history, where that of a long-lived engine is full.
+//! Restarting a machine with an empty history from its committed values, for long-lived engines whose history is full.
 //!
-//! What may fail comes before anything is changed, so an error leaves all as it was. The new history keeps the memory
-//! of the old one and has room for as many transactions: without it the lists grow again from nothing, and two
-//! histories of 30 MB take turns in the processor's cache. A history owns its metric and does not hand it out, so the
-//! caller gives it anew. An audit rests on a whole history, so there is no call that forgets a part of one.
+//! All fallible operations precede the first change, so an error leaves the machine unchanged. The new history reuses the
+//! memory of the old one and reserves capacity for the same number of transactions. Otherwise its lists would grow again from
+//! empty, and two histories of 30 MB would compete for the cache. The caller passes the metric in again, because a history
+//! owns its metric and does not return it. There is no call that truncates a history, because an audit needs all of it.
 ghost use Rattle.esr_base.specs.declared.limits.TheConstants.{MOST_ITEMS};
 ghost use Rattle.std.specs.Prelude.{◌≡◌, ◌<◌, ◌≤◌, ◌↔◌, true, [], length, List, All, IfOk, OnOk, OnErr, IsErrOf};
 ghost use Rattle.std.specs.List.{list_any};

@@ -8,8 +8,8 @@ use Rattle.esr_engine.specs.Standings.{standing_at}
 use Rattle.esr_engine.proofs.Standings.{account_from_facts}
 use Rattle.esr_engine.proofs.engine.Engine.account.Goals as goal
 
-pub returns-in-Some : goal.returns-in-Some
-returns-in-Some c =
+pub returns-in-Some-clause-account : goal.returns-in-Some-clause-account
+returns-in-Some-clause-account c =
     let history : c.history-history.result.now.schedule ≡ c.args.self.now = c.history-history.ensures.schedule ∙ c.self.view_is in
     let is : Some c.in-Some.facts ≡ facts_of c.args.self.now.entries c.args.t.0 = c.in-Some.ensures ∙ ap (λ (g : Schedule). facts_of g.entries c.args.t.0) history in
     let stands = c.standing_at.ensures ∙ ap (λ (es : List Entry). standing_at es c.in-Some.facts.end) (c.log.ensures.entries ∙ ap (λ (g : Schedule). g.entries) history) in

@@ -1,38 +1,37 @@
 -- Why `Names::bind` keeps its contract: the goals that are left to a proof of ours.
-use Rattle.std.proofs.Common.{◌≡◌, ◌≤◌, ◌<◌, ◌^◌, length-append, List, length, ◌∙◌, map, ap, ◌++◌, ◌∷◌, [], false, arith, rules, None, bytes_eq}
-use Rattle.std.specs.List.{list_any}
+use Rattle.std.proofs.Common.{◌≡◌, ℕ, ◌≤◌, ◌<◌, ◌^◌, length-append, List, length, ◌∙◌, sym, map, ap, ◌++◌, ◌∷◌, [], false, arith, rules, None, bytes_eq}
 use Rattle.arrayvec.specs.declared.array_string.ArrayString.{ArrayString}
-use Rattle.indexmap.specs.IndexSet.{insert_key}
 use Rattle.esr_report.specs.Names.{position_of}
-use Rattle.esr_report.proofs.Positions.{map_push, any_seen, nowhere, all_distinct-push, lengths, short_push}
+use Rattle.esr_report.specs.Keyed.{IsKeyOf}
+use Rattle.esr_report.proofs.Positions.{map_push, nowhere, all_distinct-push, lengths}
+use Rattle.esr_report.proofs.Keyed.{Entry, entered, keyed_push}
 use Rattle.esr_report.proofs.names.Names.bind.Goals as goal
-
-pushed : (keys : List (ArrayString 16)) (key : ArrayString 16) (after : List (ArrayString 16)) → position_of (map (λ k. k.bytes) keys) key.bytes ≡ None → after ≡ insert_key (λ s t. bytes_eq s.bytes t.bytes) keys key
-    → after ≡ keys ++ key ∷ []
-pushed keys key after unbound is =
-    let none : list_any (λ k. bytes_eq key.bytes k.bytes) keys ≡ false =
-    any_seen (λ k. k.bytes) (bytes_eq key.bytes) keys ∙ nowhere (map (λ k. k.bytes) keys) key.bytes unbound in
-    rw none at is
 
 pub returns-clause-bound : goal.returns-clause-bound
 returns-clause-bound c =
-    let keys = c.self.inside.names.keys in
+    let text : Entry → List ℕ = λ e. e.1.bytes in
+    let entries : List Entry = c.self.inside.names.entries in
     let spelled = c.in-Ok.ensures.ok in
-    let added = pushed keys c.in-Ok.key c.insert.new.self.keys (rw (c.self.view_is, spelled) c.requires.unbound) c.in_ok-insert.ensures.keys in
-    ap (map (λ k. k.bytes)) added
-    ∙ map_push (λ k. k.bytes) keys c.in-Ok.key
-    ∙ ap (λ l. l ++ c.in-Ok.key.bytes ∷ []) c.self.view_is ∙ ap (λ t. c.args.self.now ++ t ∷ []) spelled
+    let short : length c.args.name.now ≤ 16 = search rules in
+    let key : IsKeyOf c.key_of.result c.args.name.now = record { short = short; bytes = λ i. omega (arith, c.type_inv.name i); low = c.key_of.ensures.low; high = c.key_of.ensures.high; length = c.key_of.ensures.length } in
+    let unbound : position_of (map text entries) c.args.name.now ≡ None = rw c.self.view_is c.requires.unbound in
+    let added = c.in_ok-insert.ensures.entries ∙ entered c.key_of.result c.args.name.now c.in-Ok.text key entries c.self.invariant.2 (nowhere (map text entries) c.args.name.now unbound) in
+    ap (map text) added
+    ∙ map_push text entries (c.key_of.result, c.in-Ok.text)
+    ∙ ap (λ l. l ++ c.in-Ok.text.bytes ∷ []) c.self.view_is ∙ ap (λ t. c.args.self.now ++ t ∷ []) spelled
 
 pub invariant_of-self-2 : goal.invariant_of-self-2
 invariant_of-self-2 c =
-    let keys = c.self.inside.names.keys in
-    let names = map (λ (k : ArrayString 16). k.bytes) keys in
-    let key = c.in-Ok.key in
-    let unbound : position_of names key.bytes ≡ None = rw (c.self.view_is, c.in-Ok.ensures.ok) c.requires.unbound in
-    let added = pushed keys key c.insert.new.self.keys unbound c.in_ok-insert.ensures.keys in
-    let room : length names < 2 ^ 32 = rw c.self.view_is c.requires.room in
-    let short : length key.bytes ≤ 16 = search rules in (
-      omega (arith, room, ap length added, length-append keys (key ∷ []), lengths (λ (k : ArrayString 16). k.bytes) keys),
-      rw (added, map_push (λ (k : ArrayString 16). k.bytes) keys key) (all_distinct-push names key.bytes c.self.invariant.1 (nowhere names key.bytes unbound)),
-      rw added (short_push (λ (k : ArrayString 16). k.bytes) keys key 16 c.self.invariant.2 short),
+    let text : Entry → List ℕ = λ e. e.1.bytes in
+    let entries : List Entry = c.self.inside.names.entries in
+    let short : length c.args.name.now ≤ 16 = search rules in
+    let key : IsKeyOf c.key_of.result c.args.name.now = record { short = short; bytes = λ i. omega (arith, c.type_inv.name i); low = c.key_of.ensures.low; high = c.key_of.ensures.high; length = c.key_of.ensures.length } in
+    let held : IsKeyOf c.key_of.result c.in-Ok.text.bytes = rw c.in-Ok.ensures.ok key in
+    let unbound : position_of (map text entries) c.args.name.now ≡ None = rw c.self.view_is c.requires.unbound in
+    let none = nowhere (map text entries) c.args.name.now unbound in
+    let added = c.in_ok-insert.ensures.entries ∙ entered c.key_of.result c.args.name.now c.in-Ok.text key entries c.self.invariant.2 none in
+    let room : length (map text entries) < 2 ^ 32 = rw c.self.view_is c.requires.room in (
+      omega (arith, room, ap length added, length-append entries ((c.key_of.result, c.in-Ok.text) ∷ []), lengths text entries),
+      rw (added, map_push text entries (c.key_of.result, c.in-Ok.text), c.in-Ok.ensures.ok) (all_distinct-push (map text entries) c.args.name.now c.self.invariant.1 none),
+      rw added (keyed_push entries (c.key_of.result, c.in-Ok.text) c.self.invariant.2 held),
     )

@@ -7,7 +7,7 @@ use Rattle.esr_history.specs.Machine.{Schedule, done, writer}
 use Rattle.esr_why.specs.declared.shortfall.Shortfall.{Shortfall}
 use Rattle.esr_why.specs.Shortfalls.{import_lack, export_lack, listed}
 use Rattle.esr_why.proofs.Amounts.{read_some}
-use Rattle.esr_why.proofs.Noting.{value_fits}
+use Rattle.esr_why.proofs.Amounts.{value_fits}
 use Rattle.esr_why.proofs.replay.Replay.read_shortfalls.Goals as goal
 
 pub returns : goal.returns

@@ -10,7 +10,7 @@ use Rattle.esr_locks.specs.Rows.{query_and_count}
 use Rattle.esr_why.specs.declared.shortfall.Shortfall.{Shortfall}
 use Rattle.esr_why.specs.Shortfalls.{import_lack, export_lack, listed}
 use Rattle.esr_why.proofs.Amounts.{each, no_elements, some_elements, write_none, write_some}
-use Rattle.esr_why.proofs.Noting.{value_fits}
+use Rattle.esr_why.proofs.Amounts.{value_fits}
 use Rattle.esr_why.proofs.replay.Replay.write_shortfalls.Goals as goal
 
 pub returns-then-is_empty : goal.returns-then-is_empty

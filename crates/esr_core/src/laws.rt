@@ -1,0 +1,32 @@
+//! Laws of active reports, and of those that a renewal carries over. A law is the contract of a function with an empty
+//! body, since what stands in `specs/` alone is not proved.
+
+ghost use Rattle.esr_core.specs.Carried.{LawOfActiveQueries, LawOfActiveUpdates, LawOfCurrentValues, LawOfReports, LawOfRoom};
+
+/// What an active query has read is no farther from the committed values, or from any mixture of committed and current
+/// ones, than its import so far; and no more of that is open than was charged.
+pub fn active_reports_are_bounded()
+    ensures { LawOfActiveQueries }
+{}
+
+/// Over any number of renewals that carry it, what a report was told is within what it imported in all its histories
+/// together, and that is within the limit that it began with.
+pub fn carried_reports_are_bounded()
+    ensures { LawOfReports }
+{}
+
+/// A history that carries another has at most as many entries.
+pub fn carried_histories_fit()
+    ensures { LawOfRoom }
+{}
+
+/// What an active update has read still holds, whatever committed since: so its reads can be made again, with the
+/// replies that they had.
+pub fn active_updates_read_on()
+    ensures { LawOfActiveUpdates }
+{}
+
+/// The current values are the committed ones with what active updates have written.
+pub fn active_writes_are_current()
+    ensures { LawOfCurrentValues }
+{}

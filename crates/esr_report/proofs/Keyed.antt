@@ -1,0 +1,83 @@
+-- Where a name is in its table, seen through what it is looked up by.
+use Rattle.std.proofs.Common.{◌≡◌, ℕ, suc, ◌+◌, ◌<◌, ◌≤◌, List, [], ◌∷◌, ◌++◌, inl, inr, Bool, true, false, ◌&&◌, not, cond, nat_lt, map, length, All, refl, sym, ◌∙◌, ap, arith, rules, Some, None, nat_eq, bytes_eq, eqb-true, eq-eqb}
+use Rattle.std.specs.List.{position, position_or_len, list_any}
+use Rattle.std.proofs.lemmas.Bool.{cases_Bool, and_parts}
+use Rattle.std.proofs.lemmas.Slice.Eq.{bytes_eq-Decides}
+use Rattle.std.proofs.lemmas.List.Elements.{All-append, All-nil, All-cons}
+use Rattle.esr_report.specs.declared.key.Key.{Key}
+use Rattle.esr_report.specs.Keys.{low_of, high_of}
+use Rattle.esr_report.specs.Keyed.{IsKeyOf}
+use Rattle.esr_report.proofs.Keys.{same_name}
+use Rattle.esr_report.specs.Names.{position_of}
+use Rattle.esr_report.proofs.Positions.{longer, both_false}
+use Rattle.indexmap.specs.IndexMap.{insert_entry}
+use Rattle.arrayvec.specs.declared.array_string.ArrayString.{ArrayString}
+
+abbrev pub same_key : Key → Key → Bool
+same_key a b = nat_eq a.low b.low && (nat_eq a.high b.high && nat_eq a.length b.length)
+
+one_key : (k l : Key) (a b : List ℕ) → IsKeyOf k a → IsKeyOf l b → same_key k l ≡ true → a ≡ b
+one_key k l a b ka lb e =
+    let low = and_parts _ _ e in
+    let high = and_parts _ _ low.1 in
+    same_name a b (sym ka.length ∙ eqb-true _ _ high.1 ∙ lb.length) ka.short ka.bytes lb.bytes (sym ka.low ∙ eqb-true _ _ low.0 ∙ lb.low) (sym ka.high ∙ eqb-true _ _ high.0 ∙ lb.high)
+
+same_of : (k l : Key) (a b : List ℕ) → IsKeyOf k a → IsKeyOf l b → a ≡ b → same_key k l ≡ true
+same_of k l a b ka lb e =
+    rw (eq-eqb _ _ (ka.low ∙ ap low_of e ∙ sym lb.low), eq-eqb _ _ (ka.high ∙ ap high_of e ∙ sym lb.high), eq-eqb _ _ (ka.length ∙ ap length e ∙ sym lb.length)) refl
+
+-- keys are the same where the names are
+told_apart : (k l : Key) (a b : List ℕ) → IsKeyOf k a → IsKeyOf l b → same_key k l ≡ bytes_eq a b
+told_apart k l a b ka lb = elim (cases_Bool (same_key k l)) [
+  | inl t ↦ t ∙ sym ((bytes_eq-Decides a b).1 (one_key k l a b ka lb t))
+  | inr f ↦ elim (cases_Bool (bytes_eq a b)) [
+    | inl same ↦ let never : false ≡ true = sym f ∙ same_of k l a b ka lb ((bytes_eq-Decides a b).0 same) in cc
+    | inr apart ↦ f ∙ sym apart
+  ]
+]
+
+abbrev pub Entry : Type 0
+Entry = Key × ArrayString 16
+
+abbrev pub AreKeyed : List Entry → Type 0
+AreKeyed entries = All (λ (e : Entry). IsKeyOf e.0 e.1.bytes) entries
+
+place_of : (k : Key) (name : List ℕ) → IsKeyOf k name → (entries : List Entry) → AreKeyed entries
+    → position_or_len (same_key k) (map (λ (e : Entry). e.0) entries) ≡ position_or_len (bytes_eq name) (map (λ (e : Entry). e.1.bytes) entries)
+place_of k name is [] h = refl
+place_of k name is (e ∷ es) h =
+    let here : same_key k e.0 ≡ bytes_eq name e.1.bytes = told_apart k e.0 name e.1.bytes is (h 0 e (omega arith)) in
+    let later = place_of k name is es (λ i d l. h (suc i) d (omega (arith, l))) in
+    ap (λ v. cond (not v) (1 + position_or_len (same_key k) (map (λ (x : Entry). x.0) es)) 0) here
+    ∙ ap (λ n. cond (not (bytes_eq name e.1.bytes)) (1 + n) 0) later
+
+as_many : (entries : List Entry) → length (map (λ (e : Entry). e.0) entries) ≡ length (map (λ (e : Entry). e.1.bytes) entries)
+as_many [] = refl
+as_many (e ∷ es) = ap suc (as_many es)
+
+-- the place of a key is that of its name
+pub key_place : (k : Key) (name : List ℕ) → IsKeyOf k name → (entries : List Entry) → AreKeyed entries
+    → position (same_key k) (map (λ (e : Entry). e.0) entries) ≡ position_of (map (λ (e : Entry). e.1.bytes) entries) name
+key_place k name is entries h =
+    let at = position_or_len (bytes_eq name) (map (λ (e : Entry). e.1.bytes) entries) in
+    ap (λ n. cond (nat_lt n (length (map (λ (e : Entry). e.0) entries))) (Some n) None) (place_of k name is entries h)
+    ∙ ap (λ m. cond (nat_lt at m) (Some at) None) (as_many entries)
+
+-- a name of more than 16 bytes is none of them
+pub no_longer : (entries : List Entry) (name : List ℕ) → AreKeyed entries → 16 < length name → position_of (map (λ (e : Entry). e.1.bytes) entries) name ≡ None
+no_longer entries name h l = longer (λ (e : Entry). e.1.bytes) entries name 16 (λ i d m. (h i d m).short) l
+
+-- an entry more
+pub keyed_push : (entries : List Entry) (e : Entry) → AreKeyed entries → IsKeyOf e.0 e.1.bytes → AreKeyed (entries ++ e ∷ [])
+keyed_push entries e h k =
+    let one : AreKeyed (e ∷ []) = All-cons (λ (x : Entry). IsKeyOf x.0 x.1.bytes) e [] k (All-nil (λ (x : Entry). IsKeyOf x.0 x.1.bytes)) in
+    All-append (λ (x : Entry). IsKeyOf x.0 x.1.bytes) entries (e ∷ []) h one
+
+-- a name that is none of them goes last
+pub entered : (k : Key) (name : List ℕ) (text : ArrayString 16) → IsKeyOf k name → (entries : List Entry) → AreKeyed entries
+    → list_any (bytes_eq name) (map (λ (e : Entry). e.1.bytes) entries) ≡ false → insert_entry same_key entries k text ≡ entries ++ (k, text) ∷ []
+entered k name text is [] h none = refl
+entered k name text is (e ∷ es) h none =
+    let apart = both_false _ _ none in
+    let here : same_key k e.0 ≡ false = told_apart k e.0 name e.1.bytes is (h 0 e (omega arith)) ∙ apart.0 in
+    rw here (ap (λ l. e ∷ l) (entered k name text is es (λ i d l. h (suc i) d (omega (arith, l))) apart.1))

@@ -1,0 +1,12 @@
+-- What an answer may repeat of its line: the words of what the event names, separated by single blanks.
+use Rattle.std.specs.Prelude.{◌≡◌, ◌∷◌, []}
+use Rattle.std.specs.List.{join_with_byte}
+use Rattle.std.specs.Fmt.{signed_decimal}
+use Rattle.esr_report.specs.Lines.{Named}
+use Rattle.esr_script.specs.declared.echo.Echo.{Echo}
+use Rattle.esr_script.specs.declared.echo.Echo.TheVariants as echo
+
+abbrev pub IsEcho : Echo → Named → Type 0
+IsEcho echo.Nothing named = Unit {0}
+IsEcho (echo.Read words) named = words.now ≡ join_with_byte 32 (named.txn ∷ named.item ∷ [])
+IsEcho (echo.Write words) named = words.now ≡ join_with_byte 32 (named.txn ∷ named.item ∷ signed_decimal named.value ∷ [])

@@ -1,0 +1,90 @@
+//! Answers that repeat the words of their line: these are copied from it in one piece, and no number is made anew.
+
+ghost use Rattle.std.specs.Prelude.{◌≡◌, ◌≤◌, ◌∷◌, ◌++◌, [], OnOk, OnErr, codes, length, take};
+ghost use Rattle.esr_base.specs.Watch.{BeginsWith};
+ghost use Rattle.esr_report.specs.Lines.{reply_line};
+ghost use Rattle.esr_report.specs.Subjects.{named_by};
+ghost use Rattle.esr_script.specs.Echoes.{IsEcho};
+
+use esr_history::Reply;
+use esr_report::{Names, Subject, reply_line};
+use std::alloc::AllocError;
+
+/// What an answer may repeat of the line that it answers.
+#[derive(Clone, Copy)]
+pub enum Echo<'a> {
+    Nothing,
+    /// The names of a read.
+    Read(&'a [u8]),
+    /// The names and the value of a write.
+    Write(&'a [u8]),
+}
+
+/// Appends the answer to a write, of which these words were read.
+#[inline(always)]
+fn append_wrote(out: &mut Vec<u8>, words: &[u8]) -> Result<(), AllocError>
+    ensures ok { OnOk result (out.new.items ≡ out.old.items ++ (codes "wrote " ++ (words.now ++ 10 ∷ []))) }
+    ensures kept { BeginsWith out.new.items out.old.items }
+{
+    out.extend_from_slice(b"wrote ")?;
+    out.extend_from_slice(words)?;
+    out.push(b'\n')?;
+    Ok(())
+}
+
+/// Appends the answer to a read, of which these words were read.
+#[inline(always)]
+fn append_value(out: &mut Vec<u8>, words: &[u8], value: &[u8]) -> Result<(), AllocError>
+    ensures ok { OnOk result (out.new.items ≡ out.old.items ++ (words.now ++ (32 ∷ (value.now ++ 10 ∷ [])))) }
+    ensures kept { BeginsWith out.new.items out.old.items }
+{
+    out.extend_from_slice(words)?;
+    out.push(b' ')?;
+    out.extend_from_slice(value)?;
+    out.push(b'\n')?;
+    Ok(())
+}
+
+/// Takes away what was appended behind the mark, where memory was refused.
+#[inline(always)]
+fn whole(out: &mut Vec<u8>, mark: usize, appended: Result<(), AllocError>) -> Result<(), AllocError>
+    requires { mark ≤ length out.old.items }
+    ensures whole { result ≡ appended }
+    ensures ok { OnOk result (out.new.items ≡ out.old.items) }
+    ensures err { OnErr result (out.new.items ≡ take mark out.old.items) }
+{
+    if appended.is_err() {
+        out.truncate(mark);
+    }
+    appended
+}
+
+/// Appends the line of the machine's reply to an event that names the subject, of which these words were read.
+#[inline(always)]
+pub fn push_reply(
+    out: &mut Vec<u8>,
+    names: &Names,
+    subject: Subject<'_>,
+    echo: Echo<'_>,
+    reply: Reply,
+) -> Result<(), AllocError>
+    requires { IsEcho echo (named_by subject) }
+    ensures ok { OnOk result (out.new.items ≡ out.old.items ++ reply_line names.now (named_by subject.entry) reply) }
+    ensures err { OnErr result (out.new.items ≡ out.old.items) }
+{
+    match (reply, echo) {
+        (Reply::Wrote, Echo::Write(words)) => {
+            let mark = out.len();
+            let appended = append_wrote(out, words);
+            whole(out, mark, appended)
+        }
+        (Reply::Value(value), Echo::Read(words)) => {
+            let mut digits = itoa::Buffer::new();
+            let value = digits.format(value).as_bytes();
+            let mark = out.len();
+            let appended = append_value(out, words, value);
+            whole(out, mark, appended)
+        }
+        _ => reply_line(out, names, subject, reply),
+    }
+}
